@@ -1,0 +1,66 @@
+-- Entities: a kind and a key, and the text that names one.
+use Rattle.std.specs.Prelude.{◌≡◌, ◌≢◌, ℕ, ◌≤◌, Bool, true, false, ◌&&◌, ◌==◌, not, nat_lt, nat_le, List, [], ◌∷◌, ◌++◌, length, codes, Option, Some, None, Result, Ok, Err}
+use Rattle.std.specs.List.{list_any}
+use Rattle.std.specs.Str.{bytes_eq}
+use Rattle.base.specs.declared.limits.TheConstants.{MAX_KEY}
+use Rattle.base.specs.declared.entity.Kind.{Kind}
+use Rattle.base.specs.declared.entity.Kind.TheVariants.{Order, Stock, Account}
+use Rattle.base.specs.declared.fault.EntityFault.{EntityFault}
+use Rattle.base.specs.declared.fault.EntityFault.TheVariants.{BadKey, BadKind, Memory}
+
+-- an entity as contracts see it: its kind and the octets of its key
+pub record Name : Type 0 where
+  pub kind : Kind
+  pub key : List ℕ
+
+-- the order, the stock and the account of a key
+abbrev pub order_of : List ℕ → Name
+order_of key = record { kind = Order; key = key }
+
+abbrev pub stock_of : List ℕ → Name
+stock_of key = record { kind = Stock; key = key }
+
+abbrev pub account_of : List ℕ → Name
+account_of key = record { kind = Account; key = key }
+
+-- the word of a kind
+abbrev pub word_of : Kind → List ℕ
+word_of Order = codes "order"
+word_of Stock = codes "stock"
+word_of Account = codes "account"
+
+-- what the texts of a kind begin with
+abbrev pub prefix_of : Kind → List ℕ
+prefix_of kind = word_of kind ++ codes "/"
+
+-- an entity's text
+abbrev pub text_of : Name → List ℕ
+text_of e = prefix_of e.kind ++ e.key
+
+-- where messages to entities of a kind go
+abbrev pub queue_of : Kind → List ℕ
+queue_of Order = codes "/queue/purchasing"
+queue_of Stock = codes "/queue/warehouse"
+queue_of Account = codes "/queue/billing"
+
+-- 1 to MAX_KEY octets, none of them NUL
+abbrev pub is_key : List ℕ → Bool
+is_key key = nat_lt 0 (length key) && nat_le (length key) MAX_KEY && not (list_any (λ o. o == 0) key)
+
+-- what holds of every entity
+abbrev pub IsEntity : Name → Type 0
+IsEntity e = is_key e.key ≡ true
+
+-- what reading a text answers: the entity that it names; else it has no kind, or its key is none
+abbrev pub IsReading : List ℕ → Result Name EntityFault → Type 0
+IsReading text (Ok e) = (text_of e ≡ text) × IsEntity e
+IsReading text (Err BadKind) = (e : Name) → text_of e ≢ text
+IsReading text (Err BadKey) = (e : Name) × (text_of e ≡ text) × (is_key e.key ≡ false)
+IsReading text (Err Memory) = Unit {0}
+
+-- what reading a key answers
+abbrev pub IsKeyReading : List ℕ → Result (List ℕ) EntityFault → Type 0
+IsKeyReading text (Ok key) = (key ≡ text) × (is_key text ≡ true)
+IsKeyReading text (Err BadKey) = is_key text ≡ false
+IsKeyReading text (Err BadKind) = ⊥
+IsKeyReading text (Err Memory) = Unit {0}

@@ -1,0 +1,5 @@
+pub mod Entity
+pub mod EntityView
+pub mod Fault
+pub mod Number
+pub mod Order

@@ -1,0 +1,8 @@
+-- The numbers of letters.
+use Rattle.std.specs.Prelude.{ℕ, ◌<◌, ◌≤◌}
+use Rattle.base.specs.declared.limits.TheConstants.{MAX_NUMBER}
+
+-- from 1 to 2^40, which is MAX_NUMBER
+pub record IsNumber (n : ℕ) : Type 0 where
+  pub positive : 0 < n
+  pub small : n ≤ MAX_NUMBER

@@ -1,0 +1,214 @@
+//! Entities: a kind and a key.
+
+ghost use Rattle.std.specs.Prelude.{◌≡◌, ◌≢◌, IfOk, MatchOption};
+ghost use Rattle.base.specs.Entity.{word_of, prefix_of, text_of, queue_of, IsEntity, IsReading};
+ghost use Rattle.base.specs.declared.entity.Kind.{Kind};
+
+use crate::key::is_key;
+use crate::{EntityFault, Key};
+use std::alloc::{AllocError, Global};
+use std::cmp::Ordering;
+use std::marker::Model;
+
+/// What an entity is, and so which service has it.
+#[derive(Clone, Copy, Debug, PartialEq, Eq)]
+pub enum Kind {
+    /// An order, of the service purchasing.
+    Order,
+    /// A stock, of the service warehouse.
+    Stock,
+    /// An account, of the service billing.
+    Account,
+}
+
+impl Kind {
+    /// Its word in texts: `order`, `stock` or `account`.
+    pub fn word(self) -> &'static str
+        ensures { result.now ≡ word_of self }
+    {
+        match self {
+            Kind::Order => "order",
+            Kind::Stock => "stock",
+            Kind::Account => "account",
+        }
+    }
+
+    /// What the text of each entity of this kind begins with: the word and a slash.
+    pub fn prefix(self) -> &'static str
+        ensures { result.now ≡ prefix_of self }
+    {
+        match self {
+            Kind::Order => "order/",
+            Kind::Stock => "stock/",
+            Kind::Account => "account/",
+        }
+    }
+
+    /// The destination of the messages to entities of this kind.
+    pub fn queue(self) -> &'static str
+        ensures { result.now ≡ queue_of self }
+    {
+        match self {
+            Kind::Order => "/queue/purchasing",
+            Kind::Stock => "/queue/warehouse",
+            Kind::Account => "/queue/billing",
+        }
+    }
+
+    /// The kind of this word.
+    fn of_word(word: &str) -> Option<Kind>
+        ensures { MatchOption result ((k : Kind) → word_of k ≢ word.now) (λ k. word_of k ≡ word.now) }
+    {
+        if word == "order" {
+            Some(Kind::Order)
+        } else if word == "stock" {
+            Some(Kind::Stock)
+        } else if word == "account" {
+            Some(Kind::Account)
+        } else {
+            None
+        }
+    }
+}
+
+/// An entity: contracts see its kind and the octets of its key.
+///
+/// The key has 1 to 64 octets of UTF-8 and no NUL. Entities are ordered by the octets of their texts.
+#[derive(Debug, Drop)]
+pub struct Entity {
+    kind: Kind,
+    text: String,
+}
+
+impl Model for Entity {
+    ghost use Rattle.base.specs.Entity.{Name};
+
+    ghost Value = { Name };
+
+    ghost use Rattle.base.specs.EntityView.{name_of, IsWhole};
+
+    ghost view = { name_of };
+
+    ghost invariant = { IsWhole };
+}
+
+impl Entity {
+    /// The entity that a text names, as `order/o1`.
+    ///
+    /// # Errors
+    /// `BadKind` where the text begins with no kind's word and a slash; else `BadKey` where what follows is no key;
+    /// else `Memory` where a growth was refused.
+    pub fn read(alloc: Global, text: &str) -> Result<Entity, EntityFault>
+        ensures { IsReading text.now result }
+    {
+        let Some((word, key)) = text.split_once('/') else {
+            return Err(EntityFault::BadKind);
+        };
+        let Some(kind) = Kind::of_word(word) else {
+            return Err(EntityFault::BadKind);
+        };
+        if !is_key(key) {
+            return Err(EntityFault::BadKey);
+        }
+        let text = String::from_str(alloc, text)?;
+        Ok(Entity { kind, text })
+    }
+
+    /// The entity of a kind and a key.
+    ///
+    /// # Errors
+    /// Where a growth was refused.
+    pub fn new(alloc: Global, kind: Kind, key: &Key) -> Result<Entity, AllocError>
+        ensures { IfOk result (λ e. e ≡ record { kind = kind; key = key.now }) }
+    {
+        let key = key.as_str();
+        let mut text = String::from_str(alloc, kind.prefix())?;
+        text.push_str(key)?;
+        Ok(Entity { kind, text })
+    }
+
+    /// Its kind.
+    pub fn kind(&self) -> Kind
+        ensures kind { result ≡ self.now.kind }
+        ensures entity { IsEntity self.now }
+    {
+        self.kind
+    }
+
+    /// Its text: the kind's word, a slash and the key. `read` gives the entity back.
+    pub fn text(&self) -> &str
+        ensures text { result.now ≡ text_of self.now }
+        ensures entity { IsEntity self.now }
+    {
+        self.text.as_str()
+    }
+
+    /// Its key.
+    pub fn key(&self) -> &str
+        ensures key { result.now ≡ self.now.key }
+        ensures entity { IsEntity self.now }
+    {
+        let start = self.kind.prefix().len();
+        &self.text[start..]
+    }
+
+    /// An equal entity, in memory of its own.
+    pub fn copy(&self, alloc: Global) -> Result<Entity, AllocError>
+        ensures { IfOk result (λ e. e ≡ self.now) }
+    {
+        Ok(Entity {
+            kind: self.kind,
+            text: String::from_str(alloc, &self.text)?,
+        })
+    }
+}
+
+impl PartialEq for Entity {
+    ghost use Rattle.base.specs.Order.{same_entity, same_entity-equivalence};
+    ghost use Rattle.std.specs.Cmp.{partial_equiv_from_equiv};
+
+    ghost eq = { same_entity };
+
+    ghost laws = { partial_equiv_from_equiv same_entity-equivalence };
+
+    #[tactic(auto, unfolding(crate::specs::Order::same_entity))]
+    fn eq(&self, other: &Entity) -> bool {
+        self.text == other.text
+    }
+}
+
+impl Eq for Entity {
+    ghost use Rattle.base.specs.Order.{same_entity-equivalence};
+
+    ghost laws = { same_entity-equivalence };
+}
+
+impl PartialOrd for Entity {
+    ghost use Rattle.std.specs.Ordering.{as_partial_cmp};
+    ghost use Rattle.base.specs.Order.{entity_cmp, entity_cmp-partial};
+
+    ghost partial_cmp = { as_partial_cmp entity_cmp };
+
+    ghost laws = { entity_cmp-partial };
+
+    fn partial_cmp(&self, other: &Entity) -> Option<Ordering> {
+        Some(self.cmp(other))
+    }
+}
+
+impl Ord for Entity {
+    ghost use Rattle.std.specs.Prelude.{refl};
+    ghost use Rattle.base.specs.Order.{entity_cmp, entity_cmp-total, same_entity-ties};
+
+    ghost cmp = { entity_cmp };
+
+    ghost total = { entity_cmp-total };
+
+    ghost matches_partial_cmp = { λ a b. refl };
+
+    ghost matches_eq = { same_entity-ties };
+
+    fn cmp(&self, other: &Entity) -> Ordering {
+        self.text.cmp(&other.text)
+    }
+}
