@@ -1,0 +1,9 @@
+pub mod Escapes
+pub mod Extending
+pub mod Heads
+pub mod Scans
+pub mod Escaping
+pub mod HeaderLine
+pub mod Forward
+pub mod Canonical
+pub mod Refusals

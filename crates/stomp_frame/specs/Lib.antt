@@ -1,0 +1,9 @@
+pub mod Commands
+pub mod FaultNames
+pub mod Frames
+pub mod Building
+pub mod HeaderView
+pub mod FrameView
+pub mod Spelling
+pub mod FaultTable
+pub mod Reading
