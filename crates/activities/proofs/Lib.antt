@@ -1,0 +1,5 @@
+pub mod Sameness
+pub mod Prefixes
+pub mod Reactions
+pub mod Journals
+pub mod Legal

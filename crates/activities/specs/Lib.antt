@@ -1,0 +1,10 @@
+pub mod Faults
+pub mod Reaction
+pub mod Applied
+pub mod Numbered
+pub mod Journal
+pub mod Follow
+pub mod Orders
+pub mod Lines
+pub mod Stocks
+pub mod Accounts

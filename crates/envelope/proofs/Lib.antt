@@ -1,0 +1,6 @@
+pub mod Finding
+pub mod Bodies
+pub mod Values
+pub mod Texts
+pub mod Envelopes
+pub mod Headers

@@ -1,0 +1,172 @@
+//! The handler of the service purchasing.
+
+ghost use Rattle.std.specs.Prelude.{◌≡◌, ℕ, false, true, Some, MatchOption};
+ghost use Rattle.activities.specs.Applied.{IsApplied};
+ghost use Rattle.activities.specs.Orders.{in_range, on_order_message, order_table};
+ghost use Rattle.activities.specs.declared.input.Input.TheVariants.{FromSeat};
+ghost use Rattle.purchasing.specs.Answer.{IsDone};
+
+use crate::Order;
+use activities::{Handler, HandlerFault, Input, OrderCommand, Outs, Refusal};
+use base::{Entity, Key, Kind, Number};
+use envelope::Message;
+use std::alloc::{AllocError, Global};
+
+/// What purchasing does with what its orders take in.
+///
+/// An order is none until it is placed. Then it is open until all its partners hold what they were asked for, and is confirmed, or
+/// until a partner refuses or a seat gives it up, and is cancelled.
+pub struct Orders;
+
+impl Handler for Orders {
+    ghost use Rattle.std.specs.Prelude.{is_none};
+    ghost use Rattle.base.specs.declared.entity.Kind.TheVariants.{Order as OrderKind};
+    ghost use Rattle.activities.specs.Orders.{order_table};
+    ghost use Rattle.purchasing.specs.Answer.{none_is_none};
+
+    type State = Option<Order>;
+
+    type Command = OrderCommand;
+
+    ghost KIND = { OrderKind };
+
+    const KIND: Kind = Kind::Order;
+
+    ghost table = { order_table };
+
+    ghost is_none_state = { is_none };
+
+    fn opening(_alloc: Global) -> Result<Option<Order>, AllocError> {
+        Ok(None)
+    }
+
+    fn is_none(state: &Option<Order>) -> bool {
+        state.is_none()
+    }
+
+    fn copy_state(alloc: Global, state: &Option<Order>) -> Result<Option<Order>, AllocError> {
+        match state {
+            Some(order) => Ok(Some(order.copy(alloc)?)),
+            None => Ok(None),
+        }
+    }
+
+    fn copy_command(alloc: Global, command: &OrderCommand) -> Result<OrderCommand, AllocError> {
+        match command {
+            OrderCommand::Place {
+                stock,
+                quantity,
+                account,
+                amount,
+            } => Ok(OrderCommand::Place {
+                stock: stock.copy(alloc)?,
+                quantity: *quantity,
+                account: account.copy(alloc)?,
+                amount: *amount,
+            }),
+            OrderCommand::CancelOrder => Ok(OrderCommand::CancelOrder),
+        }
+    }
+
+    fn apply(
+        alloc: Global,
+        state: &mut Option<Order>,
+        input: &Input<OrderCommand>,
+        outs: &mut Outs,
+    ) -> Result<(), HandlerFault> {
+        match input {
+            Input::FromSeat(_, command) => take_command(alloc, state, command, outs),
+            Input::FromEntity(sender, _, message) => {
+                Ok(take_message(alloc, state, sender, *message, outs)?)
+            }
+        }
+    }
+
+    ghost none_is_opening = { none_is_none };
+}
+
+/// A seat's command: it is refused, or done.
+fn take_command(
+    alloc: Global,
+    state: &mut Option<Order>,
+    command: &OrderCommand,
+    outs: &mut Outs,
+) -> Result<(), HandlerFault>
+    ensures { (seat : ℕ) → IsApplied order_table state.old (FromSeat seat command.now) outs.old state.new outs.new result }
+{
+    match command {
+        OrderCommand::Place {
+            stock,
+            quantity,
+            account,
+            amount,
+        } => place(alloc, state, stock, *quantity, account, *amount, outs),
+        OrderCommand::CancelOrder => cancel(alloc, state, outs),
+    }
+}
+
+/// Places the order and asks its partners, if it wasn't placed before and both numbers are in range.
+fn place(
+    alloc: Global,
+    state: &mut Option<Order>,
+    stock: &Key,
+    quantity: u64,
+    account: &Key,
+    amount: u64,
+    outs: &mut Outs,
+) -> Result<(), HandlerFault>
+    ensures { (seat : ℕ) →
+        IsApplied order_table state.old (FromSeat seat (OrderCommand.Place stock.now quantity account.now amount)) outs.old state.new outs.new result }
+{
+    if state.is_some() {
+        return Err(HandlerFault::Business(Refusal::AlreadyPlaced));
+    }
+    let Some(quantity) = number_in_range(quantity) else {
+        return Err(HandlerFault::Business(Refusal::OutOfRange));
+    };
+    let Some(amount) = number_in_range(amount) else {
+        return Err(HandlerFault::Business(Refusal::OutOfRange));
+    };
+    let order = Order::open(alloc, stock, quantity, account, amount)?;
+    order.request(alloc, outs)?;
+    *state = Some(order);
+    Ok(())
+}
+
+/// A quantity or amount, if it is one that can be asked for: from 1 to 2^40.
+fn number_in_range(value: u64) -> Option<Number>
+    ensures { MatchOption result (in_range value ≡ false) (λ n. (n ≡ value) × (in_range value ≡ true)) }
+{
+    Number::new(value)
+}
+
+/// Cancels the order and tells its partners, if it is open.
+fn cancel(alloc: Global, state: &mut Option<Order>, outs: &mut Outs) -> Result<(), HandlerFault>
+    ensures { (seat : ℕ) →
+        IsApplied order_table state.old (FromSeat seat OrderCommand.CancelOrder) outs.old state.new outs.new result }
+{
+    match state {
+        Some(order) if order.is_open() => Ok(order.cancel(alloc, outs)?),
+        _ => Err(HandlerFault::Business(Refusal::NotOpen)),
+    }
+}
+
+/// A message: what isn't a partner's answer changes nothing.
+fn take_message(
+    alloc: Global,
+    state: &mut Option<Order>,
+    sender: &Entity,
+    message: Message,
+    outs: &mut Outs,
+) -> Result<(), AllocError>
+    ensures { IsDone (on_order_message state.old sender.now message) state.old outs.old state.new outs.new result }
+{
+    let Some(order) = state else {
+        return Ok(());
+    };
+    match message {
+        Message::Tentative => order.tentative(alloc, sender, outs),
+        Message::Refused => order.refused(alloc, sender, outs),
+        Message::Request(_) | Message::Confirm | Message::Cancel => Ok(()),
+    }
+}
