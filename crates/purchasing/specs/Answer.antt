@@ -1,5 +1,5 @@
 -- What a step that only memory can refuse does.
-use Rattle.std.specs.Prelude.{◌≡◌, Bool, true, List, ◌++◌, Option, Some, None, is_none, Result, Ok, Err, refl}
+use Rattle.std.specs.Prelude.{◌≡◌, true, List, ◌++◌, Option, Some, None, is_none, Result, Ok, Err, refl}
 use Rattle.std.specs.declared.alloc.AllocError.{AllocError}
 use Rattle.std.proofs.lemmas.Bool.{false≢true}
 use Rattle.activities.specs.declared.outs.Out.{Out}

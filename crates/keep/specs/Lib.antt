@@ -1,0 +1,7 @@
+pub mod Failing
+pub mod Fault
+pub mod Inside
+pub mod Law
+pub mod Listing
+pub mod Sorted
+pub mod Tables

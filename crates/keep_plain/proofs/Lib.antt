@@ -1,0 +1,4 @@
+pub mod Changes
+pub mod JournalRows
+pub mod Best
+pub mod BestPair
