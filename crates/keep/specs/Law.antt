@@ -9,15 +9,15 @@ MoreFailures before after = min (before + 1) (2 ^ 64 - 1) ≤ after
 
 -- what a read or a transaction says of the keep's use and of its failures, whatever the disk did
 abbrev pub IsCall : {R : Type 0} → Bool → ℕ → ℕ → Result R KeepFault → Type 0
-IsCall usable before after (Ok _) = (usable ≡ true) × (before ≤ after)
-IsCall usable before after (Err Memory) = (usable ≡ true) × (before ≤ after)
+IsCall usable before after (Ok _) = (usable ≡ true) × (after ≡ before)
+IsCall usable before after (Err Memory) = (usable ≡ true) × (after ≡ before)
 IsCall usable before after (Err Failed) = (usable ≡ false) × (before ≤ after) × MoreFailures before after
 IsCall usable before after (Err WrongFile) = ⊥
 
 -- what a reopening says of them: where it isn't Ok the keep isn't usable
 abbrev pub IsReopenCall : Bool → ℕ → ℕ → Result Unit KeepFault → Type 0
-IsReopenCall usable before after (Ok _) = (usable ≡ true) × (before ≤ after)
-IsReopenCall usable before after (Err Memory) = (usable ≡ false) × (before ≤ after)
+IsReopenCall usable before after (Ok _) = (usable ≡ true) × (after ≡ before)
+IsReopenCall usable before after (Err Memory) = (usable ≡ false) × (after ≡ before)
 IsReopenCall usable before after (Err Failed) = (usable ≡ false) × (before ≤ after) × MoreFailures before after
 IsReopenCall usable before after (Err WrongFile) = ⊥
 

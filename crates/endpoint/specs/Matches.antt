@@ -1,0 +1,35 @@
+-- When the tables of a service are those of its journal.
+use Rattle.std.specs.Prelude.{◌≡◌, ℕ, ◌+◌, ◌≤◌, ◌<◌, nat_lt, List, length, Bool, Option, None, IsSome, if◌then◌else◌}
+use Rattle.base.specs.Entity.{Name}
+use Rattle.base.specs.declared.entity.Kind.{Kind}
+use Rattle.base.specs.declared.pair.Pair.{Pair}
+use Rattle.envelope.specs.declared.message.Message.{Message}
+use Rattle.activities.specs.Numbered.{nth}
+use Rattle.activities.specs.declared.input.JournalRow.{JournalRow}
+use Rattle.activities.specs.Reaction.{Table}
+use Rattle.activities.specs.Journal.{IsLegal, part, state_of, sent_of, handled_of, row_of}
+use Rattle.keep.specs.Tables.{Tables, Messages}
+
+-- the messages by number, without those up to a mark
+abbrev pub above : ℕ → List Message → ℕ → Option Message
+above mark messages n = if nat_lt mark n then nth messages n else None
+
+-- what a journal sends and isn't settled by these marks
+abbrev pub unsettled_of : {S C : Type 0} → Table S C → List (JournalRow C) → (Pair → ℕ) → Messages
+unsettled_of table journal settled pair n = above (settled pair) (sent_of table journal pair) n
+
+-- The tables are those of their journal, which is legal. An entity has a row exactly where it took something in and its state isn't none,
+-- and the row is its state. Of a pair the last number sent is kept, and the messages that it was sent but those up to its settled mark;
+-- how many letters were handled; and held letters, with numbers from the one after that to `window` above it.
+pub record TablesMatchJournal {S C : Type 0} (table : Table S C) (is_none : S → Bool) (kind : Kind) (window : ℕ) (t : Tables S C) : Type 0 where
+  pub legal : IsLegal table kind t.journal
+  pub entities : (e : Name) → t.entity e ≡ row_of is_none (state_of table t.journal e) (part e t.journal)
+  pub sent : (p : Pair) → t.sent p ≡ length (sent_of table t.journal p)
+  pub settled : (p : Pair) → t.settled p ≤ length (sent_of table t.journal p)
+  pub unsettled : (p : Pair) (n : ℕ) → t.unsettled p n ≡ unsettled_of table t.journal t.settled p n
+  pub handled : (p : Pair) → t.handled p ≡ handled_of t.journal p
+  pub held : (p : Pair) (n : ℕ) → IsSome (t.held p n) → (handled_of t.journal p < n) × (n ≤ handled_of t.journal p + window)
+
+-- all that a stop may leave matches its journal
+abbrev pub AllMatch : {S C : Type 0} → Table S C → (S → Bool) → Kind → ℕ → (Tables S C → Type 0) → Type 0
+AllMatch {S} {C} table is_none kind window may_leave = (t : Tables S C) → may_leave t → TablesMatchJournal table is_none kind window t

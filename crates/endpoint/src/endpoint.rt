@@ -1,0 +1,120 @@
+//! One service over its store.
+
+ghost use Rattle.std.specs.Prelude.{◌≡◌, ◌≤◌, ◌<◌};
+ghost use Rattle.activities.specs.declared.input.Input.TheVariants.{FromSeat};
+ghost use Rattle.endpoint.specs.Matches.{AllMatch};
+ghost use Rattle.endpoint.specs.Calls.{IsCommitCall, IsReopenCall, IsReopened, IsCommit};
+
+use crate::handling::handle;
+use crate::{Committed, EndFault};
+use activities::{Handler, Input};
+use base::Entity;
+use base::limits::{HELD_WINDOW, SEATS};
+use keep::Keep;
+use std::alloc::Global;
+use std::marker::{Model, PhantomData};
+
+/// One service over its store: contracts see the store.
+#[derive(Drop)]
+pub struct Endpoint<H, K>
+where
+    H: Handler,
+    K: Keep<State = H::State, Command = H::Command> + Drop,
+{
+    pub(crate) keep: K,
+    handler: PhantomData<H>,
+}
+
+impl<H, K> Model for Endpoint<H, K>
+where
+    H: Handler,
+    K: Keep<State = H::State, Command = H::Command> + Drop,
+{
+    ghost Value = { K };
+
+    ghost view = { λ e. e.keep };
+}
+
+impl<H, K> Endpoint<H, K>
+where
+    H: Handler,
+    K: Keep<State = H::State, Command = H::Command> + Drop,
+{
+    /// The service of this store.
+    pub fn new(keep: K) -> Self
+        ensures { result ≡ keep }
+    {
+        Endpoint {
+            keep,
+            handler: PhantomData,
+        }
+    }
+
+    /// Whether calls may be made: else each answers `Unusable`, until a `reopen` is Ok.
+    pub fn usable(&self) -> bool
+        ensures { result ≡ K.is_usable self.now }
+    {
+        self.keep.usable()
+    }
+
+    /// Takes in a command of a seat, 0 to 15, in one transaction: the journal has one more row, the entity's row is its state then, and
+    /// what it sends stands in the outbox, with the next numbers of each pair.
+    ///
+    /// Calls of the store: `length`, `entity`, one `sent` for each message that is sent, and one `apply`.
+    ///
+    /// # Errors
+    /// In this order: `Unusable`; `NotMine` where the entity is of another service; `NumberLimit` where the journal has 2^40 rows;
+    /// `Business` where the reaction refuses the command; `NumberLimit` where a letter's number would be above 2^40. `StoreFailed` and
+    /// `Memory` may come at any call of the store and at any growth. After each of them nothing is changed, but after `StoreFailed` the
+    /// tables, once reopened, may also be those with the command taken in.
+    pub fn commit(
+        &mut self,
+        alloc: Global,
+        seat: u8,
+        entity: &Entity,
+        command: H::Command,
+    ) -> Result<Committed, EndFault>
+        requires { seat < SEATS }
+        ensures call { IsCommitCall K.is_usable K.failures self.old self.new H.KIND entity.now result }
+        ensures doubt { K.doubt self.old ≤ K.doubt self.new }
+        ensures answer { K.doubt self.new ≡ 0
+            → AllMatch H.table H.is_none_state H.KIND HELD_WINDOW (K.may_leave self.old)
+            → IsCommit H.table H.is_none_state H.KIND HELD_WINDOW (K.tables self.old) (record { entity = entity.now; input = FromSeat seat command })
+            (K.tables self.old).held (K.tables self.new) (K.may_leave self.new) result }
+        ensures matches { K.doubt self.new ≡ 0
+            → AllMatch H.table H.is_none_state H.KIND HELD_WINDOW (K.may_leave self.old)
+            → AllMatch H.table H.is_none_state H.KIND HELD_WINDOW (K.may_leave self.new) }
+    {
+        if !self.keep.usable() {
+            return Err(EndFault::Unusable);
+        }
+        if entity.kind() != H::KIND {
+            return Err(EndFault::NotMine);
+        }
+        let changes = Vec::new(alloc);
+        handle::<H, K>(
+            alloc,
+            &mut self.keep,
+            entity,
+            Input::FromSeat(seat, command),
+            changes,
+        )
+    }
+
+    /// Opens the store again: the tables then are some that a stop may have left, and match their journal where all of these did. A usable
+    /// endpoint may be reopened too.
+    ///
+    /// # Errors
+    /// `StoreFailed`, which is counted, or `Memory`. After either the endpoint isn't usable, a stop leaves nothing that it couldn't
+    /// leave before, and `reopen` may be called again.
+    pub fn reopen(&mut self) -> Result<(), EndFault>
+        ensures call { IsReopenCall K.is_usable K.failures self.old self.new result }
+        ensures doubt { K.doubt self.old ≤ K.doubt self.new }
+        ensures reopened { K.doubt self.new ≡ 0 → IsReopened (K.may_leave self.old) (K.tables self.new) (K.may_leave self.new) result }
+        ensures matches { K.doubt self.new ≡ 0
+            → AllMatch H.table H.is_none_state H.KIND HELD_WINDOW (K.may_leave self.old)
+            → AllMatch H.table H.is_none_state H.KIND HELD_WINDOW (K.may_leave self.new) }
+    {
+        Ok(self.keep.reopen()?)
+    }
+}

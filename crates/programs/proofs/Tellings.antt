@@ -1,0 +1,36 @@
+-- What the events of a run tell, one after another.
+use Rattle.std.proofs.Common.{◌≡◌, ℕ, suc, ◌+◌, ◌<◌, ◌≤◌, List, [], ◌∷◌, ◌++◌, length, get_or, drop, refl, sym, ap, subst, ◌∙◌, arith, append_assoc, add-one, drop-cons, Result, Ok, Err}
+use Rattle.std.specs.Prelude.{MatchResult, Option, Some, None, IfSome}
+use Rattle.std.specs.Global.{Vec}
+use Rattle.std.proofs.lemmas.List.{append-nil, drop_all}
+use Rattle.endpoint.specs.declared.fault.EndFault.{EndFault}
+use Rattle.programs.specs.declared.event.Event.{Event}
+use Rattle.programs.specs.declared.event.Event.TheVariants as event
+use Rattle.programs.specs.declared.event.Service.{Service}
+use Rattle.programs.specs.declared.event.Service.TheVariants.{Purchasing}
+use Rattle.programs.specs.declared.running.Outcome.{Outcome}
+use Rattle.programs.specs.declared.running.Outcome.TheVariants.{Committed, Refused, Shown}
+use Rattle.programs.specs.Runs.{Orders, IsShown, IsFrames, IsJournal, Tells, printed, IsRun}
+
+-- an answer, as the outcome that it is told by
+pub shown_told : (r : Result (Vec ℕ) EndFault) (outcome : Outcome) (Answers : Result (Vec ℕ) EndFault → Orders → Type 0) (after : Orders)
+    → MatchResult r (λ lines. outcome ≡ Shown lines) (λ fault. outcome ≡ Refused fault) → Answers r after → IsShown Answers outcome after
+shown_told (Ok lines) outcome Answers after is answer = subst (λ (o : Outcome). IsShown Answers o after) (sym is) answer
+shown_told (Err fault) outcome Answers after is answer = subst (λ (o : Outcome). IsShown Answers o after) (sym is) answer
+
+pub tells_frames : (journal : Orders) (outcome : Outcome) (after : Orders) (shown : Event) (service : Service) → shown ≡ event.Frames service → IsShown (IsFrames journal) outcome after → Tells shown journal outcome after
+tells_frames journal outcome after shown Purchasing is told = subst (λ (e : Event). Tells e journal outcome after) (sym is) told
+
+pub tells_journal : (journal : Orders) (outcome : Outcome) (after : Orders) (shown : Event) (service : Service) → shown ≡ event.Journal service → IsShown (IsJournal journal) outcome after → Tells shown journal outcome after
+tells_journal journal outcome after shown Purchasing is told = subst (λ (e : Event). Tells e journal outcome after) (sym is) told
+
+-- one event, and then the others
+pub run_step : (events : List Event) (i : ℕ) (event : Event) (outcome : Outcome) (journal between : Orders) (rest : List ℕ) (after : Orders)
+    → i < length events → event ≡ get_or events i event → Tells event journal outcome between → IsRun (drop (i + 1) events) between rest after → IsRun (drop i events) journal (printed outcome ++ rest) after
+run_step events i event outcome journal between rest after lt at tells run =
+    let first : drop i events ≡ event ∷ drop (i + 1) events = rw add-one (drop-cons events i event lt ∙ ap (λ e. e ∷ drop (suc i) events) (sym at)) in
+    subst (λ (es : List Event). IsRun es journal (printed outcome ++ rest) after) (sym first) (outcome, between, rest, tells, refl, run)
+
+-- no event is left
+pub run_end : (events : List Event) (i : ℕ) (journal : Orders) → length events ≤ i → IsRun (drop i events) journal [] journal
+run_end events i journal all = subst (λ (es : List Event). IsRun es journal [] journal) (sym (drop_all i events all)) (refl, refl)

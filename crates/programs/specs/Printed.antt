@@ -1,0 +1,95 @@
+-- What is printed of entities, orders, rows and frames.
+use Rattle.std.specs.Prelude.{ℕ, ◌/◌, ◌%◌, ◌+◌, ◌==◌, ◌&&◌, nat_le, false, List, [], ◌∷◌, ◌++◌, codes, decimal, Option, Some, None, if◌then◌else◌}
+use Rattle.std.specs.List.{flat_map}
+use Rattle.std.specs.Fmt.{digit_glyph}
+use Rattle.base.specs.Entity.{Name, text_of}
+use Rattle.envelope.specs.declared.message.Message.{Message}
+use Rattle.envelope.specs.declared.message.Message.TheVariants.{Request, Tentative, Refused, Confirm, Cancel}
+use Rattle.envelope.specs.declared.message.Letter.{Letter}
+use Rattle.envelope.specs.declared.message.Envelope.TheVariants as envelope
+use Rattle.envelope.specs.Written.{send_of}
+use Rattle.stomp_frame.specs.Frames.{canonical}
+use Rattle.activities.specs.declared.phase.Phase.{Phase}
+use Rattle.activities.specs.declared.phase.Phase.TheVariants as phase
+use Rattle.activities.specs.declared.phase.Status.{Status}
+use Rattle.activities.specs.declared.phase.Status.TheVariants as status
+use Rattle.activities.specs.declared.commands.OrderCommand.{OrderCommand}
+use Rattle.activities.specs.declared.commands.OrderCommand.TheVariants.{Place, CancelOrder}
+use Rattle.activities.specs.declared.input.Input.{Input}
+use Rattle.activities.specs.declared.input.Input.TheVariants.{FromSeat, FromEntity}
+use Rattle.activities.specs.declared.input.JournalRow.{JournalRow}
+use Rattle.activities.specs.Orders.{Partner, OrderState}
+use Rattle.programs.specs.Words.{spelled}
+
+-- a word with its escapes
+abbrev pub escaped : List ℕ → List ℕ
+escaped word = flat_map spelled word
+
+abbrev pub shown_entity : Name → List ℕ
+shown_entity e = escaped (text_of e)
+
+abbrev pub status_word : Status → List ℕ
+status_word status.Open = codes "open"
+status_word status.Confirmed = codes "confirmed"
+status_word status.Cancelled = codes "cancelled"
+
+abbrev pub phase_word : Phase → List ℕ
+phase_word phase.Requested = codes "requested"
+phase_word phase.Tentative = codes "tentative"
+phase_word phase.Refused = codes "refused"
+phase_word phase.Confirmed = codes "confirmed"
+phase_word phase.Cancelled = codes "cancelled"
+
+-- a partner of an order: whom it asked, for how much, and how far they are
+abbrev pub shown_partner : Partner → List ℕ
+shown_partner p = codes " " ++ shown_entity p.entity ++ codes " " ++ decimal p.n ++ codes " " ++ phase_word p.phase
+
+-- an order: how far it is, and its partners
+abbrev pub shown_order : Option OrderState → List ℕ
+shown_order None = codes " none"
+shown_order (Some order) = codes " " ++ status_word order.status ++ flat_map shown_partner order.partners
+
+-- the line of `show`
+abbrev pub show_line : Name → Option OrderState → List ℕ
+show_line e order = shown_entity e ++ shown_order order ++ 10 ∷ []
+
+abbrev pub shown_command : OrderCommand → List ℕ
+shown_command (Place stock n account amount) = codes "place " ++ escaped stock ++ codes " " ++ decimal n ++ codes " " ++ escaped account ++ codes " " ++ decimal amount
+shown_command CancelOrder = codes "cancel_order"
+
+abbrev pub shown_message : Message → List ℕ
+shown_message (Request n) = codes "request " ++ decimal n
+shown_message Tentative = codes "tentative"
+shown_message Refused = codes "refused"
+shown_message Confirm = codes "confirm"
+shown_message Cancel = codes "cancel"
+
+abbrev pub shown_input : Input OrderCommand → List ℕ
+shown_input (FromSeat seat command) = codes "seat " ++ decimal seat ++ codes " " ++ shown_command command
+shown_input (FromEntity sender number message) = codes "from " ++ shown_entity sender ++ codes " " ++ decimal number ++ codes " " ++ shown_message message
+
+-- the line of a journal's row at a position
+abbrev pub row_line : ℕ → JournalRow OrderCommand → List ℕ
+row_line pos row = decimal pos ++ codes " " ++ shown_entity row.entity ++ codes " " ++ shown_input row.input ++ 10 ∷ []
+
+-- the lines of `journal`: rows of which the first has this position
+abbrev pub row_lines : ℕ → List (JournalRow OrderCommand) → List ℕ
+row_lines pos [] = []
+row_lines pos (row ∷ rows) = row_line pos row ++ row_lines (pos + 1) rows
+
+-- an octet of a frame: two hexadecimal digits where it isn't printable
+abbrev pub shown_octet : ℕ → List ℕ
+shown_octet o =
+    if o == 92 then codes "\\\\" else
+    if o == 10 then codes "\\n" else
+    if o == 13 then codes "\\r" else
+    if nat_le 32 o && nat_le o 126 then o ∷ [] else
+    codes "\\x" ++ digit_glyph false (o / 16) ∷ digit_glyph false (o % 16) ∷ []
+
+-- the line of a letter that is to be sent: the canonical text of its SEND
+abbrev pub frame_line : Letter → List ℕ
+frame_line letter = flat_map shown_octet (canonical (send_of (envelope.Letter letter))) ++ 10 ∷ []
+
+-- the lines of `frames`
+abbrev pub frame_lines : List Letter → List ℕ
+frame_lines letters = flat_map frame_line letters

@@ -1,0 +1,9 @@
+-- What ends a run whose schedule can't be read.
+use Rattle.programs.specs.declared.fault.ScheduleFault.{ScheduleFault}
+use Rattle.programs.specs.declared.fault.ScheduleFault.TheVariants as read
+use Rattle.programs.specs.declared.fault.RunFault.{RunFault}
+use Rattle.programs.specs.declared.fault.RunFault.TheVariants as run
+
+abbrev pub run_fault_of : ScheduleFault → RunFault
+run_fault_of (read.BadEvent number) = run.BadEvent number
+run_fault_of read.Memory = run.Memory

@@ -1,0 +1,111 @@
+-- What running events tells, over the journal of purchasing.
+use Rattle.std.specs.Prelude.{◌≡◌, ◌≢◌, ℕ, ◌+◌, ◌-◌, ◌≤◌, ◌^◌, List, [], ◌∷◌, ◌++◌, codes, decimal, length, Option, Some, None, is_none, Result, Ok, Err, ⊤}
+use Rattle.std.specs.Global.{Vec}
+use Rattle.std.specs.Option.{option_flatten}
+use Rattle.base.specs.Entity.{Name}
+use Rattle.base.specs.declared.entity.Kind.TheVariants.{Order}
+use Rattle.envelope.specs.declared.message.Letter.{Letter}
+use Rattle.activities.specs.declared.commands.OrderCommand.{OrderCommand}
+use Rattle.activities.specs.declared.input.Input.TheVariants.{FromSeat}
+use Rattle.activities.specs.declared.input.JournalRow.{JournalRow}
+use Rattle.activities.specs.Orders.{OrderState, order_table}
+use Rattle.activities.specs.Faults.{number_of as refusal_number}
+use Rattle.keep.specs.declared.change.Change.{Change}
+use Rattle.keep.specs.Listing.{AreFirst}
+use Rattle.keep.specs.Tables.{Tables}
+use Rattle.keep_plain.specs.Log.{made_by}
+use Rattle.endpoint.specs.declared.fault.EndFault.{EndFault}
+use Rattle.endpoint.specs.declared.fault.EndFault.TheVariants.{NotMine, Business, TooEarly, StoreFailed, Memory, Unusable, NumberLimit, NotSent}
+use Rattle.endpoint.specs.Faults.{number_of}
+use Rattle.endpoint.specs.Matches.{TablesMatchJournal, unsettled_of}
+use Rattle.endpoint.specs.Answers.{CommitAt, ViewAt}
+use Rattle.programs.specs.declared.event.Event.{Event}
+use Rattle.programs.specs.declared.event.Event.TheVariants as event
+use Rattle.programs.specs.declared.event.Service.TheVariants.{Purchasing}
+use Rattle.programs.specs.declared.running.Outcome.{Outcome}
+use Rattle.programs.specs.declared.running.Outcome.TheVariants.{Committed, Refused, Shown}
+use Rattle.programs.specs.Printed.{show_line, row_lines, frame_lines}
+
+-- what purchasing took in, in order
+abbrev pub Orders : Type 0
+Orders = List (JournalRow OrderCommand)
+
+-- purchasing's tables in memory, as they are made by changes
+abbrev pub tables_of : List (Change (Option OrderState) OrderCommand) → Tables (Option OrderState) OrderCommand
+tables_of changes = made_by changes
+
+-- the tables are those of their journal, nothing is settled, and the journal is within its limit
+pub record IsSound (t : Tables (Option OrderState) OrderCommand) : Type 0 where
+  pub matches : TablesMatchJournal order_table is_none Order 64 t
+  pub unsettled : t.settled ≡ (λ _. 0)
+  pub few : length t.journal ≤ 2 ^ 40
+
+-- a seat's command to an order
+abbrev pub order_row : ℕ → Name → OrderCommand → JournalRow OrderCommand
+order_row seat order command = record { entity = order; input = FromSeat seat command }
+
+-- A command is taken in or refused, as the reaction of its order answers. Want of memory changes nothing; tables in memory don't fail.
+abbrev pub IsTaken : JournalRow OrderCommand → Orders → Result ℕ EndFault → Orders → Type 0
+IsTaken row journal (Ok pos) after = CommitAt order_table Order journal row (Ok (record { pos = pos })) after
+IsTaken row journal (Err StoreFailed) after = ⊥
+IsTaken row journal (Err Unusable) after = ⊥
+IsTaken row journal (Err Memory) after = after ≡ journal
+IsTaken row journal (Err fault) after = CommitAt order_table Order journal row (Err fault) after
+
+-- what is shown of an order is its row; an entity of another kind is none of purchasing's
+abbrev pub IsShow : Name → Orders → Result (Vec ℕ) EndFault → Orders → Type 0
+IsShow e journal (Ok line) after = (after ≡ journal) × (row : Option (Option OrderState)) × ViewAt order_table is_none Order journal e (Ok row) × (line.items ≡ show_line e (option_flatten row))
+IsShow e journal (Err NotMine) after = (after ≡ journal) × (e.kind ≢ Order)
+IsShow e journal (Err Memory) after = after ≡ journal
+IsShow e journal (Err _) after = ⊥
+
+-- the frames of all messages that the journal sends, in order of pair and number
+abbrev pub IsFrames : Orders → Result (Vec ℕ) EndFault → Orders → Type 0
+IsFrames journal (Ok lines) after = (after ≡ journal) × (letters : List Letter) × AreFirst (unsettled_of order_table journal (λ _. 0)) None (2 ^ 64 - 1) letters × (lines.items ≡ frame_lines letters)
+IsFrames journal (Err Memory) after = after ≡ journal
+IsFrames journal (Err _) after = ⊥
+
+-- all rows of the journal
+abbrev pub IsJournal : Orders → Result (Vec ℕ) EndFault → Orders → Type 0
+IsJournal journal (Ok lines) after = (after ≡ journal) × (lines.items ≡ row_lines 1 journal)
+IsJournal journal (Err Memory) after = after ≡ journal
+IsJournal journal (Err _) after = ⊥
+
+-- an outcome as the answer of a command, and as that of a look
+abbrev pub IsTakenAs : JournalRow OrderCommand → Orders → Outcome → Orders → Type 0
+IsTakenAs row journal (Committed pos) after = IsTaken row journal (Ok pos) after
+IsTakenAs row journal (Refused fault) after = IsTaken row journal (Err fault) after
+IsTakenAs row journal (Shown lines) after = ⊥
+
+abbrev pub IsShown : (Result (Vec ℕ) EndFault → Orders → Type 0) → Outcome → Orders → Type 0
+IsShown Answers (Committed pos) after = ⊥
+IsShown Answers (Refused fault) after = Answers (Err fault) after
+IsShown Answers (Shown lines) after = Answers (Ok lines) after
+
+-- what an event tells over the journal, and the journal after it
+abbrev pub Tells : Event → Orders → Outcome → Orders → Type 0
+Tells (event.Order seat order command) journal outcome after = IsTakenAs (order_row seat order command) journal outcome after
+Tells (event.Show e) journal outcome after = IsShown (IsShow e journal) outcome after
+Tells (event.Frames Purchasing) journal outcome after = IsShown (IsFrames journal) outcome after
+Tells (event.Journal Purchasing) journal outcome after = IsShown (IsJournal journal) outcome after
+
+-- the number of a refusal, and of the business refusal in it
+abbrev pub shown_fault : EndFault → List ℕ
+shown_fault (Business refusal) = codes "61 " ++ decimal (refusal_number refusal)
+shown_fault fault = decimal (number_of fault)
+
+-- the lines that tell an outcome
+abbrev pub printed : Outcome → List ℕ
+printed (Committed pos) = codes "committed " ++ decimal pos ++ 10 ∷ []
+printed (Refused fault) = codes "refused " ++ shown_fault fault ++ 10 ∷ []
+printed (Shown lines) = lines.items
+
+-- a run of events: each tells its lines over the journal that the one before it leaves
+abbrev pub IsRun : List Event → Orders → List ℕ → Orders → Type 0
+IsRun [] journal text after = (text ≡ []) × (after ≡ journal)
+IsRun (event ∷ events) journal text after = (outcome : Outcome) × (between : Orders) × (rest : List ℕ)
+    × Tells event journal outcome between × (text ≡ printed outcome ++ rest) × IsRun events between rest after
+
+-- a whole run, which begins with an empty journal
+abbrev pub Prints : List Event → List ℕ → Type 0
+Prints events text = (after : Orders) × IsRun events [] text after

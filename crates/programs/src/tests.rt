@@ -1,0 +1,4 @@
+//! Tests of schedules.
+
+mod reading;
+mod running;

@@ -1,0 +1,29 @@
+-- The numbers and names of the faults, and how they are counted.
+use Rattle.std.specs.Prelude.{◌≡◌, ℕ, ◌+◌, ◌-◌, ◌^◌, ◌≤◌, min, List, codes, Result, Ok, Err}
+use Rattle.stomp_wire.specs.declared.fault.LinkFault.{LinkFault}
+use Rattle.stomp_wire.specs.declared.fault.LinkFault.TheVariants.{Cut, Device, Memory}
+
+abbrev pub number_of : LinkFault → ℕ
+number_of Cut = 1
+number_of Device = 2
+number_of Memory = 3
+
+abbrev pub name_of : LinkFault → List ℕ
+name_of Cut = codes "Cut"
+name_of Device = codes "Device"
+name_of Memory = codes "Memory"
+
+-- one failure more; a count at its last value stays there
+abbrev pub next_count : ℕ → ℕ
+next_count count = min (count + 1) (2 ^ 64 - 1)
+
+-- at least one failure more was counted
+abbrev pub MoreFailures : ℕ → ℕ → Type 0
+MoreFailures before after = (before ≤ after) × (next_count before ≤ after)
+
+-- a failure was counted where the answer is `Cut` or `Device`, and else none
+abbrev pub IsCounted : {T : Type 0} → ℕ → ℕ → Result T LinkFault → Type 0
+IsCounted before after (Ok _) = after ≡ before
+IsCounted before after (Err Cut) = MoreFailures before after
+IsCounted before after (Err Device) = MoreFailures before after
+IsCounted before after (Err Memory) = after ≡ before
