@@ -1,6 +1,6 @@
 //! Each read and each change, over tables in memory and over a keep that fails where it is told to.
 
-ghost use Rattle.std.specs.Prelude.{◌≡◌, ◌≢◌, ◌⊎◌, true, Ok, Err, IfOk};
+ghost use Rattle.std.specs.Prelude.{◌≡◌, ◌≢◌, true, Ok, Err, IfOk};
 ghost use Rattle.keep.specs.Tables.{changed};
 ghost use Rattle.keep.specs.Failing.{LeavesOnly};
 ghost use Rattle.keep.specs.declared.fault.KeepFault.TheVariants.{Failed};
@@ -69,39 +69,6 @@ impl Handler for Notes {
 type Notebook = PlainKeep<Notes>;
 
 // ---- what callers see
-
-/// One transaction, and a reopening where it failed: a caller who knows the trait alone has the old tables or the new ones, whole.
-fn apply_and_reopen<K: Keep>(
-    keep: &mut K,
-    alloc: Global,
-    changes: &[Change<K::State, K::Command>],
-) -> Result<(), KeepFault>
-    requires { K.is_usable keep.old ≡ true }
-    ensures usable { IfOk result (λ _. K.is_usable keep.new ≡ true) }
-    ensures whole { K.doubt keep.new ≡ 0 → IfOk result
-        (λ _. ∥ (K.tables keep.new ≡ K.tables keep.old) ⊎ (K.tables keep.new ≡ changed changes.now (K.tables keep.old)) ∥₁) }
-{
-    match keep.apply(alloc, changes) {
-        Err(KeepFault::Failed) => keep.reopen(),
-        answer => answer,
-    }
-}
-
-/// The same, and then a read of the tables that stand now.
-fn apply_and_recover<K: Keep>(
-    keep: &mut K,
-    alloc: Global,
-    changes: &[Change<K::State, K::Command>],
-    pair: &Pair,
-) -> Result<u64, KeepFault>
-    requires { K.is_usable keep.old ≡ true }
-    ensures whole { K.doubt keep.new ≡ 0 → IfOk result
-        (λ _. ∥ (K.tables keep.new ≡ K.tables keep.old) ⊎ (K.tables keep.new ≡ changed changes.now (K.tables keep.old)) ∥₁) }
-    ensures read { K.doubt keep.new ≡ 0 → IfOk result (λ n. n ≡ (K.tables keep.new).sent pair.now) }
-{
-    apply_and_reopen(keep, alloc, changes)?;
-    keep.sent(alloc, pair)
-}
 
 /// A transaction that is armed fails, and where it is to leave the old tables a stop leaves them alone.
 fn apply_armed<K: Keep + Drop>(
@@ -491,24 +458,6 @@ fn an_arming_lasts_over_a_reopening(rt: HostRuntime) -> Result<(), Fail> {
     assert_eq!(rt; keep.length(alloc), Err(KeepFault::Failed));
     keep.reopen()?;
     assert_eq!(rt; keep.length(alloc), Ok(0));
-    Ok(())
-}
-
-#[test]
-fn callers_find_the_old_tables_or_the_new(rt: HostRuntime) -> Result<(), Fail> {
-    let alloc = rt.alloc();
-    let pair = pair(alloc, "order/o1", "stock/bolt")?;
-    let letter = letter(alloc, "order/o1", "stock/bolt", 3)?;
-    let changes = [Change::Sent(letter)];
-    for (leaves, want) in [(Leaves::Old, 0), (Leaves::New, 3)] {
-        let mut keep = Faulty::new(Notebook::new(alloc));
-        keep.arm(1, leaves);
-        assert_eq!(rt;
-            apply_and_recover(&mut keep, alloc, &changes, &pair),
-            Ok(want),
-            "{leaves:?}"
-        );
-    }
     Ok(())
 }
 
