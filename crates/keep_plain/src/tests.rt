@@ -1,7 +1,6 @@
 //! Each read and each change, over tables in memory and over a keep that fails where it is told to.
 
-ghost use Rattle.std.specs.Prelude.{◌≡◌, ◌≢◌, true, Ok, Err, IfOk};
-ghost use Rattle.keep.specs.Tables.{changed};
+ghost use Rattle.std.specs.Prelude.{◌≡◌, ◌≢◌, true, Ok, Err};
 ghost use Rattle.keep.specs.Failing.{LeavesOnly};
 ghost use Rattle.keep.specs.declared.fault.KeepFault.TheVariants.{Failed};
 ghost use Rattle.keep.specs.declared.faulty.Leaves.TheVariants.{Old};
