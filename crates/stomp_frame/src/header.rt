@@ -1,6 +1,7 @@
 //! Headers: names and values.
 
 ghost use Rattle.std.specs.Prelude.{◌≡◌, IfOk};
+ghost use Rattle.std.specs.String.{string_bytes};
 ghost use Rattle.stomp_frame.specs.Frames.{header};
 
 use std::alloc::{AllocError, Global};
@@ -32,6 +33,13 @@ impl Header {
             name: String::from_str(alloc, name)?,
             value: String::from_str(alloc, value)?,
         })
+    }
+
+    /// A header of this name and this value, which it takes over.
+    pub(crate) fn of(name: String, value: String) -> Header
+        ensures { result ≡ header (string_bytes name) (string_bytes value) }
+    {
+        Header { name, value }
     }
 
     /// An equal header, in memory of its own.

@@ -1,5 +1,6 @@
 //! Frames of STOMP 1.2's own text and their canonical spellings; the limits of a frame; refused growths.
 
+use crate::decoder_tests::is_read_at_each_cut;
 use crate::{Command, Frame, FrameFault, encode};
 use std::alloc::Global;
 use std::process::Abort;
@@ -22,6 +23,7 @@ fn spelling(
     Ok(out)
 }
 
+/// Encoded and decoded.
 fn spells(
     rt: &impl Abort,
     alloc: Global,
@@ -32,7 +34,7 @@ fn spells(
 ) -> Result<(), Fail> {
     let text = spelling(alloc, command, headers, body)?;
     assert_eq!(rt; text.as_slice(), want, "{command:?}");
-    Ok(())
+    is_read_at_each_cut(rt, alloc, want, command, headers, body)
 }
 
 /// The example frames of STOMP 1.2, sections "Connecting" and "Client Frames".

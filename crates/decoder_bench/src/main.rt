@@ -1,0 +1,105 @@
+//! How fast the decoder reads a stream of equal frames that comes in pieces of one size.
+//!
+//! Without arguments: a megabyte, and what was read of it. With `small`, `large` or `open`, the length of a piece and a number of
+//! megabytes: the same for that many, and the octets per second.
+#![tactic(auto)]
+
+use std::alloc::Global;
+use std::process::ExitCode;
+use std::time::Instant;
+use std::{env, io};
+use stomp_frame::{Command, Decoder, Frame, FrameFault, encode};
+
+/// About a megabyte of whole frames with the longest body, which ends at its NUL.
+fn open_stream(alloc: Global) -> Result<Vec<u8>, FrameFault> {
+    let body = vec![in alloc; b'x'; 65_536]?;
+    let mut text = Vec::new(alloc);
+    for _ in 0..16 {
+        text.extend_from_slice(b"SEND\n\n")?;
+        text.extend_from_slice(&body)?;
+        text.push(0)?;
+    }
+    Ok(text)
+}
+
+/// About a megabyte of whole frames: letters as an outbox sends them, or frames with the longest body and its length.
+fn stream(alloc: Global, large: bool) -> Result<Vec<u8>, FrameFault> {
+    let mut frame = Frame::new(alloc, Command::Send);
+    frame.push_header("destination", "/queue/warehouse")?;
+    frame.push_header("kind", "message")?;
+    frame.push_header("from", "order/o1")?;
+    frame.push_header("to", "stock/bolt")?;
+    frame.push_header("number", "1")?;
+    let count = if large {
+        let body = vec![in alloc; b'x'; 65_536]?;
+        frame.set_body(&body)?;
+        16
+    } else {
+        frame.set_body(b"{\"n\":3,\"op\":\"request\"}")?;
+        7_000
+    };
+    let mut text = Vec::new(alloc);
+    for _ in 0..count {
+        encode(&frame, &mut text)?;
+    }
+    Ok(text)
+}
+
+/// How many frames are read of the stream, `times` over, in pieces of this length.
+fn frames_read(alloc: Global, stream: &[u8], piece: usize, times: u64) -> Result<u64, FrameFault> {
+    let mut decoder = Decoder::new(alloc);
+    let mut frames: u64 = 0;
+    for _ in 0..times {
+        for octets in stream.chunks(piece.max(1)) {
+            decoder.feed(octets)?;
+            for _ in 0..u64::MAX {
+                if decoder.next()?.is_none() {
+                    break;
+                }
+                frames = frames.wrapping_add(1);
+            }
+        }
+    }
+    Ok(frames)
+}
+
+/// The stream is made and read: the frames, and the octets of the stream.
+fn read(alloc: Global, kind: &str, piece: usize, times: u64) -> Result<(u64, u64), FrameFault> {
+    let text = if kind == "open" {
+        open_stream(alloc)?
+    } else {
+        stream(alloc, kind == "large")?
+    };
+    let frames = frames_read(alloc, &text, piece, times)?;
+    Ok((frames, text.len() as u64))
+}
+
+fn main(rt: HostRuntime) -> io::Result<ExitCode> {
+    let mut words = Vec::new(rt.alloc());
+    for word in env::args(&rt)? {
+        words.push(word)?;
+    }
+    let kind = match words.get(1) {
+        Some(word) => word.as_str(),
+        None => "small",
+    };
+    let piece = words.get(2).and_then(|word| word.parse::<usize>().ok());
+    let times = words.get(3).and_then(|word| word.parse::<u64>().ok());
+    let times = times.unwrap_or(1);
+    let start = Instant::now(&rt)?;
+    match read(rt.alloc(), kind, piece.unwrap_or(1), times) {
+        Ok((frames, octets)) => {
+            println!(rt; "{frames} frames")?;
+            if words.len() > 1 {
+                let micros = u64::try_from(start.elapsed(&rt)?.as_micros()).unwrap_or(u64::MAX);
+                let rate = octets.saturating_mul(times).saturating_mul(1_000_000) / micros.max(1);
+                println!(rt; "{rate} octets per second")?;
+            }
+            Ok(ExitCode::SUCCESS)
+        }
+        Err(fault) => {
+            println!(rt; "{fault}")?;
+            Ok(ExitCode::FAILURE)
+        }
+    }
+}

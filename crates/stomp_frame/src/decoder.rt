@@ -1,0 +1,118 @@
+//! The decoder: frames from the pieces of a text.
+
+ghost use Rattle.std.specs.Prelude.{◌≡◌, [], false};
+ghost use Rattle.stomp_frame.specs.Decoding.{Nexts, Feeds};
+
+use crate::reading::{Begun, Found, after_gap, read_frame};
+use crate::{Frame, FrameFault};
+use std::alloc::Global;
+use std::marker::Model;
+
+/// Reads frames from the pieces of a text: contracts see the octets that it holds, and whether it has answered a fault.
+///
+/// However the text is cut into pieces, its frames are the same, and its fault is. While no frame is whole, at most 101,446 octets
+/// are held. Of a frame that isn't whole, `next` reads again only its last line, and a body without `content-length`.
+#[derive(Debug, Drop)]
+pub struct Decoder {
+    alloc: Global,
+    octets: Vec<u8>,
+    // where the octets begin that no frame was read from yet
+    start: usize,
+    // how far these are read
+    begun: Option<Begun>,
+    failed: bool,
+}
+
+impl Model for Decoder {
+    ghost use Rattle.stomp_frame.specs.Decoding.{Held};
+
+    ghost Value = { Held };
+
+    ghost use Rattle.stomp_frame.specs.DecoderView.{held_of};
+
+    ghost view = { held_of };
+
+    ghost use Rattle.stomp_frame.specs.DecoderView.{IsInside};
+
+    ghost invariant = { IsInside };
+}
+
+impl Decoder {
+    ghost use Rattle.base.specs.declared.limits.TheConstants.{MAX_BODY};
+
+    /// A decoder that holds nothing. It takes no memory.
+    pub fn new(alloc: Global) -> Decoder
+        ensures { result ≡ record { octets = []; failed = false } }
+    {
+        Decoder {
+            alloc,
+            octets: Vec::new(alloc),
+            start: 0,
+            begun: None,
+            failed: false,
+        }
+    }
+
+    /// Holds a piece of the text behind what it holds.
+    ///
+    /// # Errors
+    /// Nothing has changed then:
+    /// - `Memory` where a growth was refused;
+    /// - `Failed` where `next` has answered a fault of the text.
+    pub fn feed(&mut self, piece: &[u8]) -> Result<(), FrameFault>
+        ensures { Feeds self.old self.new piece.now result }
+    {
+        if self.failed {
+            return Err(FrameFault::Failed);
+        }
+        if self.start > self.octets.len() / 2 {
+            let held = self.octets.len() - self.start;
+            self.octets.copy_within(self.start.., 0);
+            self.octets.truncate(held);
+            self.start = 0;
+        }
+        self.octets.extend_from_slice(piece)?;
+        Ok(())
+    }
+
+    /// The next frame, and none where the text goes on. EOLs before a frame are passed over.
+    ///
+    /// # Errors
+    /// - `Memory` where a growth was refused, and then nothing has changed;
+    /// - the fault of the text, `UnknownCommand` to `BodyNotAllowed`, at the first octet at which no frame can go on;
+    /// - `Failed` at each call after that.
+    pub fn next(&mut self) -> Result<Option<Frame>, FrameFault>
+        ensures { Nexts MAX_BODY self.old self.new result }
+    {
+        if self.failed {
+            return Err(FrameFault::Failed);
+        }
+        let begun = self.begun.take();
+        let text = after_gap(self.held());
+        match read_frame(self.alloc, begun, text) {
+            Ok(Found::Whole(frame, left)) => {
+                self.start = self.octets.len() - left;
+                Ok(Some(frame))
+            }
+            Ok(Found::Waits(begun)) => {
+                self.start = self.octets.len() - text.len();
+                self.begun = begun;
+                Ok(None)
+            }
+            Err(fault) => {
+                if fault == FrameFault::Memory {
+                    return Err(fault);
+                }
+                self.failed = true;
+                Err(fault)
+            }
+        }
+    }
+
+    fn held(&self) -> &[u8]
+        ensures { result.now ≡ self.now.octets }
+    {
+        let (_, held) = self.octets.split_at(self.start);
+        held
+    }
+}
