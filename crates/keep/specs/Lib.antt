@@ -3,5 +3,6 @@ pub mod Fault
 pub mod Inside
 pub mod Law
 pub mod Listing
+pub mod Recovery
 pub mod Sorted
 pub mod Tables

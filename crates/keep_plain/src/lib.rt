@@ -14,4 +14,6 @@ mod rows;
 pub use plain::PlainKeep;
 
 #[cfg(test)]
+mod script;
+#[cfg(test)]
 mod tests;

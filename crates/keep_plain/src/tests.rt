@@ -9,13 +9,13 @@ use crate::PlainKeep;
 use activities::{Handler, HandlerFault, Input, JournalRow, Outs};
 use base::{Entity, EntityFault, Kind, Number, Pair};
 use envelope::{Letter, Message};
-use keep::{Change, Faulty, Keep, KeepFault, Leaves, Place};
+use keep::{Change, Faulty, Keep, KeepFault, Leaves, Outcome, Place, Recovered, apply_or_recover};
 use std::alloc::{AllocError, Global};
 use std::process::Abort;
 use std::test::Fail;
 
 /// A handler whose states are numbers: a command sets one, and a message does nothing.
-struct Notes;
+pub struct Notes;
 
 impl Handler for Notes {
     ghost use Rattle.std.specs.Prelude.{◌≡◌, [], Ok, false};
@@ -65,7 +65,7 @@ impl Handler for Notes {
     ghost none_is_opening = { Prim.search rules };
 }
 
-type Notebook = PlainKeep<Notes>;
+pub type Notebook = PlainKeep<Notes>;
 
 // ---- what callers see
 
@@ -99,7 +99,7 @@ fn read_disarmed<H: Handler>(
 
 // ---- what the tests go over
 
-fn pair(alloc: Global, from: &str, to: &str) -> Result<Pair, EntityFault> {
+pub fn pair(alloc: Global, from: &str, to: &str) -> Result<Pair, EntityFault> {
     let from = Entity::read(alloc, from)?;
     let to = Entity::read(alloc, to)?;
     Ok(Pair { from, to })
@@ -109,7 +109,7 @@ fn number(n: u64) -> Result<Number, Fail> {
     Ok(Number::new(n).ok_or("a number from 1 to 2^40")?)
 }
 
-fn letter(alloc: Global, from: &str, to: &str, n: u64) -> Result<Letter, Fail> {
+pub fn letter(alloc: Global, from: &str, to: &str, n: u64) -> Result<Letter, Fail> {
     let pair = pair(alloc, from, to)?;
     let number = number(n)?;
     Ok(Letter {
@@ -183,7 +183,7 @@ fn put_held(keep: &mut Notebook, alloc: Global) -> Result<(), Fail> {
 }
 
 /// Letters as text: their pairs and numbers.
-fn shown(alloc: Global, letters: &[Letter]) -> Result<String, Fail> {
+pub fn shown(alloc: Global, letters: &[Letter]) -> Result<String, Fail> {
     let mut text = String::new(alloc);
     for letter in letters {
         let line = format!(in alloc;
@@ -479,5 +479,63 @@ fn an_armed_transaction_leaves_what_was_chosen(rt: HostRuntime) -> Result<(), Fa
             "{leaves:?}"
         );
     }
+    Ok(())
+}
+
+/// A transaction that sends the third letter of order/o1 to stock/bolt, and this pair.
+fn third_letter(alloc: Global) -> Result<(Vec<Change<u64, u64>>, Pair), Fail> {
+    let letter = letter(alloc, "order/o1", "stock/bolt", 3)?;
+    let pair = pair(alloc, "order/o1", "stock/bolt")?;
+    Ok((vec![in alloc; Change::Sent(letter)]?, pair))
+}
+
+#[test]
+fn a_transaction_that_is_ok_is_made(rt: HostRuntime) -> Result<(), Fail> {
+    let alloc = rt.alloc();
+    let (changes, pair) = third_letter(alloc)?;
+    let mut keep = Notebook::new(alloc);
+    assert_eq!(rt;
+        apply_or_recover(&mut keep, alloc, &changes, &pair),
+        Ok(Recovered {
+            outcome: Outcome::Made,
+            sent: 3
+        })
+    );
+    Ok(())
+}
+
+#[test]
+fn a_failed_transaction_is_recovered_from(rt: HostRuntime) -> Result<(), Fail> {
+    let alloc = rt.alloc();
+    let (changes, pair) = third_letter(alloc)?;
+    for (leaves, sent) in [(Leaves::Old, 0), (Leaves::New, 3)] {
+        let mut keep = Faulty::new(Notebook::new(alloc));
+        keep.arm(1, leaves);
+        assert_eq!(rt;
+            apply_or_recover(&mut keep, alloc, &changes, &pair),
+            Ok(Recovered {
+                outcome: Outcome::MadeOrNot,
+                sent
+            }),
+            "{leaves:?}"
+        );
+        assert!(rt; keep.usable());
+    }
+    Ok(())
+}
+
+#[test]
+fn a_read_that_fails_afterwards_is_told(rt: HostRuntime) -> Result<(), Fail> {
+    let alloc = rt.alloc();
+    let (changes, pair) = third_letter(alloc)?;
+    let mut keep = Faulty::new(Notebook::new(alloc));
+    keep.arm(2, Leaves::Old);
+    assert_eq!(rt;
+        apply_or_recover(&mut keep, alloc, &changes, &pair),
+        Err(KeepFault::Failed)
+    );
+    assert!(rt; !keep.usable());
+    keep.reopen()?;
+    assert_eq!(rt; keep.sent(alloc, &pair)?, 3);
     Ok(())
 }
