@@ -1,0 +1,2 @@
+mod Sets
+mod Endings

@@ -1,0 +1,4 @@
+mod attempts;
+mod failing;
+mod operation;
+mod reads;
