@@ -2,17 +2,17 @@
 use Rattle.std.proofs.Common.{◌≡◌, ◌⊎◌, ℕ, List, [], Option, Some, None, Result, Ok, Err, inl, inr, refl, sym, ap, subst, ◌∙◌}
 use Rattle.std.specs.Prelude.{IfSome}
 use Rattle.std.specs.Global.{Vec}
-use Rattle.std.specs.Io.KnownBytes.{Appends, Keeps}
-use Rattle.programs.specs.declared.event.Event.{Event}
-use Rattle.programs.specs.declared.fault.ScheduleFault.{ScheduleFault}
-use Rattle.programs.specs.declared.fault.ScheduleFault.TheVariants as read
+use Rattle.std.specs.Io.KnownBytes.{Appends}
+use Rattle.schedules.specs.declared.event.Event.{Event}
+use Rattle.schedules.specs.declared.fault.ScheduleFault.{ScheduleFault}
+use Rattle.schedules.specs.declared.fault.ScheduleFault.TheVariants as read
 use Rattle.programs.specs.declared.fault.RunFault.{RunFault}
 use Rattle.programs.specs.declared.fault.RunFault.TheVariants.{BadEvent, Memory, Device}
 use Rattle.programs.specs.RunFaults.{run_fault_of}
-use Rattle.programs.specs.Faults.{IsRead}
-use Rattle.programs.specs.Events.{events_of}
-use Rattle.programs.specs.Runs.{Orders, IsRun, Prints}
-use Rattle.programs.specs.Ends.{fault_line, IsRunOf, IsRunFrom, IsFaultOf, IsLeft, IsEndOf}
+use Rattle.schedules.specs.Faults.{IsRead}
+use Rattle.schedules.specs.Events.{events_of}
+use Rattle.programs.specs.Runs.{Orders, IsRun}
+use Rattle.programs.specs.Ends.{IsRunOf, IsRunFrom}
 
 -- a schedule that can't be read
 pub unread : (text : List ℕ) (out : Option (List ℕ)) (fault : ScheduleFault) → IsRead text (Err fault) → IsRunOf text out out (Err (run_fault_of fault))

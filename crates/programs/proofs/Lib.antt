@@ -1,12 +1,6 @@
-pub mod Cuts
-pub mod Joins
-pub mod Numerals
-pub mod Named
-pub mod Faulty
-pub mod Utf8
 pub mod Shown
 pub mod Writes
 pub mod Taken
 pub mod Tellings
 pub mod Endings
-pub mod Again
+pub mod Examples

@@ -1,5 +1,5 @@
 -- What the service's answers say of a run.
-use Rattle.std.proofs.Common.{◌≡◌, ℕ, ◌+◌, ◌-◌, ◌≤◌, ◌<◌, ◌^◌, List, [], ◌∷◌, ◌++◌, length, take, drop, inl, inr, refl, sym, ap, subst, ◌∙◌, arith, Option, Some, None, Result, Ok, Err}
+use Rattle.std.proofs.Common.{◌≡◌, ◌+◌, ◌-◌, ◌≤◌, ◌<◌, ◌^◌, [], ◌∷◌, length, take, drop, inl, inr, refl, sym, ap, subst, ◌∙◌, arith, Option, Result, Ok, Err}
 use Rattle.std.specs.Prelude.{is_none}
 use Rattle.std.proofs.lemmas.List.{length-append, take_all}
 use Rattle.base.specs.declared.entity.Kind.TheVariants.{Order}
@@ -11,8 +11,7 @@ use Rattle.endpoint.specs.declared.answer.Committed.{Committed}
 use Rattle.endpoint.specs.declared.fault.EndFault.{EndFault}
 use Rattle.endpoint.specs.declared.fault.EndFault.TheVariants.{NotMine, Business, TooEarly, StoreFailed, Memory, Unusable, NumberLimit, NotSent}
 use Rattle.endpoint.specs.Matches.{TablesMatchJournal, AllMatch}
-use Rattle.endpoint.specs.Answers.{CommitAt}
-use Rattle.endpoint.specs.Calls.{IsCommit, IsCommitCall, Appends, HasFailed}
+use Rattle.endpoint.specs.Calls.{IsCommit, Appends}
 use Rattle.programs.specs.Runs.{Orders, IsSound, IsTaken}
 
 abbrev pub OrderTables : Type 0

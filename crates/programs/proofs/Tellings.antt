@@ -1,15 +1,15 @@
 -- What the events of a run tell, one after another.
-use Rattle.std.proofs.Common.{◌≡◌, ℕ, suc, ◌+◌, ◌<◌, ◌≤◌, List, [], ◌∷◌, ◌++◌, length, get_or, drop, refl, sym, ap, subst, ◌∙◌, arith, append_assoc, add-one, drop-cons, Result, Ok, Err}
-use Rattle.std.specs.Prelude.{MatchResult, Option, Some, None, IfSome}
+use Rattle.std.proofs.Common.{◌≡◌, ℕ, suc, ◌+◌, ◌<◌, ◌≤◌, List, [], ◌∷◌, ◌++◌, length, get_or, drop, refl, sym, ap, subst, ◌∙◌, add-one, drop-cons, Result, Ok, Err}
+use Rattle.std.specs.Prelude.{MatchResult}
 use Rattle.std.specs.Global.{Vec}
-use Rattle.std.proofs.lemmas.List.{append-nil, drop_all}
+use Rattle.std.proofs.lemmas.List.{drop_all}
 use Rattle.endpoint.specs.declared.fault.EndFault.{EndFault}
-use Rattle.programs.specs.declared.event.Event.{Event}
-use Rattle.programs.specs.declared.event.Event.TheVariants as event
-use Rattle.programs.specs.declared.event.Service.{Service}
-use Rattle.programs.specs.declared.event.Service.TheVariants.{Purchasing}
+use Rattle.schedules.specs.declared.event.Event.{Event}
+use Rattle.schedules.specs.declared.event.Event.TheVariants as event
+use Rattle.schedules.specs.declared.event.Service.{Service}
+use Rattle.schedules.specs.declared.event.Service.TheVariants.{Purchasing}
 use Rattle.programs.specs.declared.running.Outcome.{Outcome}
-use Rattle.programs.specs.declared.running.Outcome.TheVariants.{Committed, Refused, Shown}
+use Rattle.programs.specs.declared.running.Outcome.TheVariants.{Refused, Shown}
 use Rattle.programs.specs.Runs.{Orders, IsShown, IsFrames, IsJournal, Tells, printed, IsRun}
 
 -- an answer, as the outcome that it is told by

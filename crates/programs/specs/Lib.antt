@@ -1,11 +1,3 @@
-pub mod Lines
-pub mod Words
-pub mod Cuts
-pub mod Escapes
-pub mod Numbers
-pub mod Events
-pub mod Reading
-pub mod Faults
 pub mod Printed
 pub mod RunFaults
 pub mod Runs

@@ -19,11 +19,7 @@ use Rattle.activities.specs.declared.input.Input.{Input}
 use Rattle.activities.specs.declared.input.Input.TheVariants.{FromSeat, FromEntity}
 use Rattle.activities.specs.declared.input.JournalRow.{JournalRow}
 use Rattle.activities.specs.Orders.{Partner, OrderState}
-use Rattle.programs.specs.Words.{spelled}
-
--- a word with its escapes
-abbrev pub escaped : List ℕ → List ℕ
-escaped word = flat_map spelled word
+use Rattle.schedules.specs.Words.{escaped}
 
 abbrev pub shown_entity : Name → List ℕ
 shown_entity e = escaped (text_of e)
@@ -77,6 +73,10 @@ abbrev pub row_lines : ℕ → List (JournalRow OrderCommand) → List ℕ
 row_lines pos [] = []
 row_lines pos (row ∷ rows) = row_line pos row ++ row_lines (pos + 1) rows
 
+-- two hexadecimal digits
+abbrev pub hexadecimal_octet : ℕ → List ℕ
+hexadecimal_octet o = codes "\\x" ++ digit_glyph false (o / 16) ∷ digit_glyph false (o % 16) ∷ []
+
 -- an octet of a frame: two hexadecimal digits where it isn't printable
 abbrev pub shown_octet : ℕ → List ℕ
 shown_octet o =
@@ -84,7 +84,7 @@ shown_octet o =
     if o == 10 then codes "\\n" else
     if o == 13 then codes "\\r" else
     if nat_le 32 o && nat_le o 126 then o ∷ [] else
-    codes "\\x" ++ digit_glyph false (o / 16) ∷ digit_glyph false (o % 16) ∷ []
+    hexadecimal_octet o
 
 -- the line of a letter that is to be sent: the canonical text of its SEND
 abbrev pub frame_line : Letter → List ℕ

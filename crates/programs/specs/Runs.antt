@@ -1,5 +1,5 @@
 -- What running events tells, over the journal of purchasing.
-use Rattle.std.specs.Prelude.{◌≡◌, ◌≢◌, ℕ, ◌+◌, ◌-◌, ◌≤◌, ◌^◌, List, [], ◌∷◌, ◌++◌, codes, decimal, length, Option, Some, None, is_none, Result, Ok, Err, ⊤}
+use Rattle.std.specs.Prelude.{◌≡◌, ◌≢◌, ℕ, ◌-◌, ◌≤◌, ◌^◌, List, [], ◌∷◌, ◌++◌, codes, decimal, length, Option, None, is_none, Result, Ok, Err}
 use Rattle.std.specs.Global.{Vec}
 use Rattle.std.specs.Option.{option_flatten}
 use Rattle.base.specs.Entity.{Name}
@@ -15,13 +15,13 @@ use Rattle.keep.specs.Listing.{AreFirst}
 use Rattle.keep.specs.Tables.{Tables}
 use Rattle.keep_plain.specs.Log.{made_by}
 use Rattle.endpoint.specs.declared.fault.EndFault.{EndFault}
-use Rattle.endpoint.specs.declared.fault.EndFault.TheVariants.{NotMine, Business, TooEarly, StoreFailed, Memory, Unusable, NumberLimit, NotSent}
+use Rattle.endpoint.specs.declared.fault.EndFault.TheVariants.{NotMine, Business, StoreFailed, Memory, Unusable}
 use Rattle.endpoint.specs.Faults.{number_of}
 use Rattle.endpoint.specs.Matches.{TablesMatchJournal, unsettled_of}
 use Rattle.endpoint.specs.Answers.{CommitAt, ViewAt}
-use Rattle.programs.specs.declared.event.Event.{Event}
-use Rattle.programs.specs.declared.event.Event.TheVariants as event
-use Rattle.programs.specs.declared.event.Service.TheVariants.{Purchasing}
+use Rattle.schedules.specs.declared.event.Event.{Event}
+use Rattle.schedules.specs.declared.event.Event.TheVariants as event
+use Rattle.schedules.specs.declared.event.Service.TheVariants.{Purchasing}
 use Rattle.programs.specs.declared.running.Outcome.{Outcome}
 use Rattle.programs.specs.declared.running.Outcome.TheVariants.{Committed, Refused, Shown}
 use Rattle.programs.specs.Printed.{show_line, row_lines, frame_lines}

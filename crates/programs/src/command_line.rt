@@ -13,11 +13,28 @@ use std::convert::AsStr;
 use std::io;
 use std::io::{Read, Write};
 
+/// What a schedule may hold, for `--help`.
+const LINES: &str = "\
+Lines of a schedule:
+  place SEAT KEY STOCK N ACCOUNT AMOUNT  an order asks for N of a stock and AMOUNT of an account
+  cancel SEAT KEY                        cancels an order
+  show KIND/KEY                          shows an entity's row, as order/o1
+  frames purchasing                      shows the frames that purchasing is to send
+  journal purchasing                     shows what purchasing took in
+
+SEAT is 0 to 15. A key has 1 to 64 octets, with \\s for a space, \\n for LF, \\r for CR and \\\\ for a
+backslash. Empty lines and lines that begin with # are passed over.";
+
 /// Reads the words of the command line, the program's name first; there is no option but `--help`.
 fn read_words<S: AsStr>(alloc: Global, words: &[S]) -> Result<(), Error>
     ensures { IfErr result (λ e. takes (new_app (codes "outbox-schedule")) (map S.text words.now) ≡ true → kind_of e ≡ ErrorKind.OutOfMemory) }
 {
-    let command = Command::new(alloc, "outbox-schedule");
+    let command = Command::new(alloc, "outbox-schedule")
+        .about(
+            "Runs a schedule of events, read from standard input, and prints the outcome of each line.",
+        )
+        .override_usage("outbox-schedule < SCHEDULE")
+        .after_help(LINES);
     match command.try_get_matches_from(words) {
         Ok(_) => Ok(()),
         Err(error) => Err(error),

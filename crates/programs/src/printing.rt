@@ -4,8 +4,8 @@ ghost use Rattle.std.specs.Prelude.{◌≡◌, ◌++◌, ◌∷◌, [], ◌+◌,
 ghost use Rattle.std.specs.List.{flat_map};
 ghost use Rattle.std.specs.Fmt.{digit_glyph};
 ghost use Rattle.stomp_frame.specs.Frames.{canonical};
-ghost use Rattle.programs.specs.Words.{spelled};
-ghost use Rattle.programs.specs.Printed.{escaped, shown_entity, status_word, phase_word, shown_partner, shown_order, show_line, shown_command, shown_message, shown_input, row_line, row_lines, shown_octet, frame_line, frame_lines};
+ghost use Rattle.schedules.specs.Words.{spelled, escaped};
+ghost use Rattle.programs.specs.Printed.{shown_entity, status_word, phase_word, shown_partner, shown_order, show_line, shown_command, shown_message, shown_input, row_line, row_lines, hexadecimal_octet, shown_octet, frame_line, frame_lines};
 
 use activities::{Input, JournalRow, OrderCommand, Phase, Status};
 use base::Entity;
@@ -232,13 +232,19 @@ fn push_octet(line: &mut Vec<u8>, octet: u8) -> Result<(), AllocError>
         b'\n' => push_text(line, "\\n"),
         b'\r' => push_text(line, "\\r"),
         32..=126 => Ok(line.push(octet)?),
-        _ => Ok(line.extend_from_slice(&[
-            b'\\',
-            b'x',
-            hexadecimal(octet / 16),
-            hexadecimal(octet % 16),
-        ])?),
+        _ => push_hexadecimal(line, octet),
     }
+}
+
+/// Appends an octet as two hexadecimal digits behind `\x`.
+#[tactic(auto, using(std::proofs::Common::append_assoc))]
+fn push_hexadecimal(line: &mut Vec<u8>, octet: u8) -> Result<(), AllocError>
+    ensures { OnOk result (line.new.items ≡ line.old.items ++ hexadecimal_octet octet) }
+{
+    let digits = [hexadecimal(octet / 16), hexadecimal(octet % 16)];
+    push_text(line, "\\x")?;
+    line.extend_from_slice(&digits)?;
+    Ok(())
 }
 
 /// The lower-case hexadecimal digit of a number below 16.
@@ -249,7 +255,7 @@ fn hexadecimal(number: u8) -> u8
     if number < 10 {
         b'0' + number
     } else {
-        b'a' + (number - 10)
+        b'a' - 10 + number
     }
 }
 

@@ -3,13 +3,13 @@
 ghost use Rattle.std.specs.Prelude.{◌≡◌, [], MatchResult};
 ghost use Rattle.programs.specs.Runs.{IsSound, tables_of, order_row, IsTaken, IsShow, IsFrames, IsJournal, IsShown, Tells};
 
-use crate::event::{Event, SeatNumber, Service};
 use crate::printing::{push_frames, push_rows, push_show};
 use activities::{Handler, OrderCommand};
 use base::Entity;
 use endpoint::{EndFault, Endpoint, empty_tables_match};
 use keep_plain::PlainKeep;
 use purchasing::Orders;
+use schedules::{Event, SeatNumber, Service};
 use std::alloc::Global;
 
 /// The service purchasing, with its tables in memory.

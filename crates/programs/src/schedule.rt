@@ -5,12 +5,11 @@ ghost use Rattle.std.specs.Io.KnownBytes.{Appends};
 ghost use Rattle.programs.specs.Runs.{IsSound, tables_of, shown_fault, printed, IsRun};
 ghost use Rattle.programs.specs.Ends.{fault_line, IsRunOf, IsRunFrom, IsEndOf};
 
-use crate::event::Event;
-use crate::fault::{RunFault, ScheduleFault};
-use crate::reading::read_schedule;
+use crate::fault::RunFault;
 use crate::running::{Outcome, Purchasing, open_purchasing, run_event};
 use endpoint::EndFault;
 use itoa::Buffer;
+use schedules::{Event, read_schedule};
 use std::alloc::Global;
 use std::io;
 use std::io::{ErrorKind, Read, Write};

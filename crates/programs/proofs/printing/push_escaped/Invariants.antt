@@ -1,6 +1,6 @@
 use Rattle.std.proofs.Common.{◌≡◌, ◌++◌, take}
 use Rattle.std.specs.List.{flat_map}
-use Rattle.programs.specs.Words.{spelled}
+use Rattle.schedules.specs.Words.{spelled}
 use Rattle.programs.proofs.printing.push_escaped.Given as goal
 
 abbrev pub invariant-loop-octet : goal.invariant-loop-octet

@@ -1,4 +1,4 @@
-use Rattle.std.proofs.Common.{◌≡◌, ℕ, ◌-◌, ◌^◌, ap, subst, ◌∙◌, refl, None}
+use Rattle.std.proofs.Common.{ℕ, ◌-◌, ◌^◌, ap, subst, ◌∙◌, refl, None}
 use Rattle.base.specs.declared.pair.Pair.{Pair}
 use Rattle.activities.specs.Orders.{order_table}
 use Rattle.keep.specs.Listing.{AreFirst}

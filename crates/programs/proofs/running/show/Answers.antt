@@ -1,4 +1,4 @@
-use Rattle.std.proofs.Common.{◌≡◌, ap, ◌∙◌, refl}
+use Rattle.std.proofs.Common.{ap, ◌∙◌, refl}
 use Rattle.programs.specs.Runs.{tables_of}
 use Rattle.programs.proofs.Taken.{all_match, OrderTables}
 use Rattle.programs.proofs.running.show.Goals as goal

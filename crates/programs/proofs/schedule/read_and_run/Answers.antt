@@ -1,4 +1,3 @@
-use Rattle.std.proofs.Common.{◌≡◌}
 use Rattle.std.proofs.lemmas.Result.{err_from_is_err_and}
 use Rattle.programs.proofs.Endings.{from_nothing, from_text}
 use Rattle.programs.proofs.schedule.read_and_run.Goals as goal

@@ -1,4 +1,3 @@
-use Rattle.std.proofs.Common.{◌≡◌}
 use Rattle.std.proofs.lemmas.Result.{err_from_is_err_and}
 use Rattle.programs.specs.Runs.{tables_of}
 use Rattle.programs.proofs.Endings.{unread, ran_whole}

@@ -1,4 +1,4 @@
-use Rattle.std.proofs.Common.{◌≡◌, sym, subst, decimal}
+use Rattle.std.proofs.Common.{sym, subst, decimal}
 use Rattle.std.specs.Prelude.{OnOk, codes}
 use Rattle.std.specs.Io.KnownBytes.{Appends}
 use Rattle.std.proofs.lemmas.Result.{on_ok_weaker}

@@ -1,0 +1,16 @@
+//! What holds of all words and numbers: each law is the contract of a function with nothing to do.
+
+ghost use Rattle.std.specs.Prelude.{◌≡◌, ◌<◌, ◌^◌, ℕ, List, Some, length, decimal};
+ghost use Rattle.schedules.specs.Numbers.{number_of};
+ghost use Rattle.schedules.specs.Words.{word_of, escaped};
+
+/// A number below 2^64 has one word: its decimal digits. No other word is read as it.
+pub fn a_number_has_one_word()
+    ensures read { (n : ℕ) → n < 2 ^ 64 → number_of (decimal n) ≡ Some n }
+    ensures only { (word : List ℕ) (n : ℕ) → number_of word ≡ Some n → decimal n ≡ word }
+{}
+
+/// A word that is printed with its escapes is read again.
+pub fn a_printed_word_is_read_again()
+    ensures { (word : List ℕ) → 0 < length word → word_of (escaped word) ≡ Some word }
+{}
