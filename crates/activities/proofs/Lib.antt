@@ -3,3 +3,5 @@ pub mod Prefixes
 pub mod Reactions
 pub mod Journals
 pub mod Legal
+pub mod Examples
+pub mod StockExamples

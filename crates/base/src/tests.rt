@@ -68,7 +68,8 @@ fn other_texts_are_refused(rt: HostRuntime) -> Result<(), Fail> {
     }
     let mut text = String::from_str(rt.alloc(), "stock/")?;
     text.push_str(&longest)?;
-    assert_eq!(rt; fault_of(rt.alloc(), &text), 0, "a key of 64 octets");
+    let entity = Entity::read(rt.alloc(), &text)?;
+    assert_eq!(rt; entity.key(), longest.as_str(), "a key of 64 octets");
     text.push('x')?;
     assert_eq!(rt; fault_of(rt.alloc(), &text), 1, "a key of 65 octets");
     Ok(())

@@ -4,3 +4,4 @@ pub mod Values
 pub mod Texts
 pub mod Envelopes
 pub mod Headers
+pub mod Examples
