@@ -18,6 +18,7 @@ pub mod Gaps
 pub mod ReadHeaders
 pub mod Stepping
 pub mod Holding
+pub mod NoNul
 pub mod Resuming
 pub mod Streaming
 pub mod Cutting

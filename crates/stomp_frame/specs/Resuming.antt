@@ -1,5 +1,6 @@
 -- How far a frame is read that isn't whole, so that what was read needs no second look.
 use Rattle.std.specs.Prelude.{◌≡◌, ◌≤◌, ◌<◌, ◌-◌, if◌then◌else◌, ℕ, Bool, true, false, List, ◌∷◌, length, map, take, drop, Option, Some, None, Result, Ok, Err}
+use Rattle.std.specs.List.{prefix_len}
 use Rattle.stomp_frame.specs.declared.command.Command.{Command}
 use Rattle.stomp_frame.specs.declared.fault.FrameFault.{FrameFault}
 use Rattle.stomp_frame.specs.declared.reading.begun.Begun.{Begun}
@@ -16,9 +17,13 @@ abbrev pub IsFront : ℕ → Bool → Command → List Header → List ℕ → T
 IsFront limit false c hs front = Lines (word c ∷ map (line_of c) hs) front × AreHeaders limit c hs
 IsFront limit true c hs front = Lines (head_lines c hs) front × AreHeaders limit c hs
 
+-- what is read stands in the text, and behind it the octets that are known to hold no NUL
+abbrev pub IsLooked : List ℕ → Begun → Type 0
+IsLooked text b = (b.len ≤ length text) × (b.set ≤ prefix_len reading.is_set (drop b.len text))
+
 -- so far the text is read
 abbrev pub IsBegun : ℕ → List ℕ → Begun → Type 0
-IsBegun limit text b = (b.len ≤ length text) × IsFront limit b.all_headers b.command b.headers.items (take b.len text)
+IsBegun limit text b = IsLooked text b × IsFront limit b.all_headers b.command b.headers.items (take b.len text)
 
 abbrev pub MayBeBegun : ℕ → List ℕ → Option Begun → Type 0
 MayBeBegun limit text None = Unit {0}

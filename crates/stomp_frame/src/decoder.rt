@@ -11,7 +11,7 @@ use std::marker::Model;
 /// Reads frames from the pieces of a text: contracts see the octets that it holds, and whether it has answered a fault.
 ///
 /// However the text is cut into pieces, its frames are the same, and its fault is. While no frame is whole, at most 101,446 octets
-/// are held. Of a frame that isn't whole, `next` reads again only its last line, and a body without `content-length`.
+/// are held. Of a frame that isn't whole, `next` reads again only its last line.
 #[derive(Debug, Drop)]
 pub struct Decoder {
     alloc: Global,

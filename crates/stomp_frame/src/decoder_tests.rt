@@ -44,15 +44,17 @@ fn waits(rt: &impl Abort, decoder: &mut Decoder) -> Result<(), Fail> {
 }
 
 /// The decoder answers this fault, and from then on that it has failed.
-fn faults(rt: &impl Abort, decoder: &mut Decoder, fault: FrameFault) {
-    assert!(rt;
-        matches!(decoder.next(), Err(found) if found == fault),
-        "{fault:?}"
-    );
+fn faults(rt: &impl Abort, decoder: &mut Decoder, fault: FrameFault) -> Result<(), Fail> {
+    match decoder.next() {
+        Ok(_) => assert!(rt; false, "{fault:?}"),
+        Err(FrameFault::Memory) => Err(FrameFault::Memory)?,
+        Err(found) => assert_eq!(rt; found, fault),
+    }
     for _ in 0..2 {
         assert!(rt; matches!(decoder.next(), Err(FrameFault::Failed)));
         assert_eq!(rt; decoder.feed(b"ACK\n\n\0"), Err(FrameFault::Failed));
     }
+    Ok(())
 }
 
 /// Whatever two pieces the text is cut into, and octet by octet, this frame is read at its last octet and not before.
@@ -87,11 +89,11 @@ fn is_at_fault(rt: &impl Abort, alloc: Global, text: &[u8], fault: FrameFault) -
         waits(rt, &mut octets)?;
         octets.feed(&[*octet])?;
     }
-    faults(rt, &mut octets, fault);
+    faults(rt, &mut octets, fault)?;
     let mut whole = Decoder::new(alloc);
     whole.feed(text)?;
     whole.feed(b"\n\nACK\n\n\0")?;
-    faults(rt, &mut whole, fault);
+    faults(rt, &mut whole, fault)?;
     Ok(())
 }
 
@@ -108,7 +110,7 @@ fn is_at_fault_late(
         waits(rt, &mut decoder)?;
         decoder.feed(&[*last])?;
     }
-    faults(rt, &mut decoder, fault);
+    faults(rt, &mut decoder, fault)?;
     Ok(())
 }
 
@@ -282,7 +284,7 @@ fn frames_behind_one_another(rt: HostRuntime) -> Result<(), Fail> {
     decoder.feed(b"ACK\nid:1\n\n\0\nSEND\n\nx\0SENDX\n")?;
     gives(&rt, &mut decoder, Command::Ack, &[("id", "1")], b"")?;
     gives(&rt, &mut decoder, Command::Send, &[], b"x")?;
-    faults(&rt, &mut decoder, FrameFault::UnknownCommand);
+    faults(&rt, &mut decoder, FrameFault::UnknownCommand)?;
     let mut decoder = Decoder::new(alloc);
     for i in 0..200 {
         decoder.feed(b"\n\r")?;

@@ -10,12 +10,13 @@ use crate::{Command, FrameFault};
 use base::limits::MAX_BODY;
 use std::alloc::Global;
 
-/// How many octets from the front on aren't NUL.
-fn set_len(bytes: &[u8]) -> usize
+/// How many octets from the front on aren't NUL, where the first `from` are known not to be.
+fn set_len(bytes: &[u8], from: usize) -> usize
+    requires { from ≤ prefix_len is_set bytes.now }
     ensures value { result ≡ prefix_len is_set bytes.now }
     ensures within { result ≤ length bytes.now }
 {
-    let mut len = 0;
+    let mut len = from;
     while len < bytes.len() && bytes[len] != 0 {
         len += 1;
     }
@@ -40,16 +41,18 @@ fn read_given(
     Ok(Some((Vec::from_slice(alloc, &bytes[..len])?, rest)))
 }
 
-/// The body before the first NUL, and what follows that.
+/// The body before the first NUL, and what follows that; the first `set` octets aren't NUL.
 #[tactic(auto, unfolding(crate::specs::Reading::body_at))]
 fn read_open(
     alloc: Global,
     command: Command,
+    set: usize,
     bytes: &[u8],
 ) -> Result<Option<(Vec<u8>, &[u8])>, FrameFault>
+    requires { set ≤ prefix_len is_set bytes.now }
     ensures { Gives (λ v. v.items) result (body_at MAX_BODY command None bytes.now) }
 {
-    let len = set_len(bytes);
+    let len = set_len(bytes, set);
     let limit = if command.may_have_body() { MAX_BODY } else { 0 };
     if len > limit {
         return Err(if command.may_have_body() {
@@ -65,17 +68,19 @@ fn read_open(
     Ok(Some((body, &bytes[len + 1..])))
 }
 
-/// The body, of the given length or up to the first NUL, and what follows its NUL.
+/// The body, of the given length or up to the first NUL, and what follows its NUL; the first `set` octets aren't NUL.
 pub fn read_body(
     alloc: Global,
     command: Command,
     given: Option<usize>,
+    set: usize,
     bytes: &[u8],
 ) -> Result<Option<(Vec<u8>, &[u8])>, FrameFault>
+    requires { set ≤ prefix_len is_set bytes.now }
     ensures { Gives (λ v. v.items) result (any_body_at MAX_BODY command given bytes.now) }
 {
     match given {
         Some(len) => read_given(alloc, len, bytes),
-        None => read_open(alloc, command, bytes),
+        None => read_open(alloc, command, set, bytes),
     }
 }

@@ -133,11 +133,13 @@ fn read_next_line(alloc: Global, begun: &mut Begun, text: &[u8]) -> Result<bool,
     if line.is_empty() {
         begun.all_headers = true;
         begun.len = text.len() - rest.len();
+        begun.set = 0;
         return Ok(true);
     }
     let header = read_next(alloc, begun.command, &begun.headers, line)?;
     begun.headers.push(header)?;
     begun.len = text.len() - rest.len();
+    begun.set = 0;
     Ok(true)
 }
 
