@@ -73,12 +73,15 @@ first_numbers_fit done e r some =
 
 -- placing it is answered by its position, 1, and the journal has it then
 pub a_placed_order_is_committed : CommitAt order_table Order [] placing (Ok (record { pos = 1 })) (placing ∷ [])
-a_placed_order_is_committed = (record {
-  follows = record { of_kind = refl; seated = omega arith; accepted = refl; next = tt };
-  room = omega arith;
-  fits = first_numbers_fit;
-  appended = refl;
-}, refl)
+a_placed_order_is_committed = (
+  record {
+    follows = record { of_kind = refl; seated = omega arith; accepted = refl; next = tt };
+    room = omega arith;
+    fits = first_numbers_fit;
+    appended = refl;
+  },
+  refl,
+)
 
 -- placing it again is refused, and the journal stays
 pub it_is_placed_once : CommitAt order_table Order (placing ∷ []) placing (Err (Business AlreadyPlaced)) (placing ∷ [])
