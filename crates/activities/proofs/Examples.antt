@@ -1,6 +1,6 @@
 -- Examples: an order's life, and a journal of purchasing.
-use Rattle.std.proofs.Common.{◌≡◌, suc, List, [], ◌∷◌, ◌++◌, refl, arith}
-use Rattle.std.specs.Prelude.{codes, Option, Some, None, Ok, Err}
+use Rattle.std.proofs.Common.{◌≡◌, ◌<◌, suc, List, [], ◌∷◌, ◌++◌, refl, arith}
+use Rattle.std.specs.Prelude.{codes, Option, Some, None, Ok, Err, IsOk, is_none}
 use Rattle.base.specs.Entity.{Name, order_of, stock_of, account_of}
 use Rattle.base.specs.Order.{same_entity}
 use Rattle.envelope.specs.declared.message.Message.{Message}
@@ -16,7 +16,8 @@ use Rattle.activities.specs.declared.phase.Phase.{Phase}
 use Rattle.activities.specs.declared.phase.Status.{Status}
 use Rattle.activities.specs.declared.phase.Status.TheVariants.{Open, Confirmed, Cancelled}
 use Rattle.activities.specs.Follow.{MayFollow}
-use Rattle.activities.specs.Journal.{IsLegal, state_of, sent_of, letters_of, handled_of}
+use Rattle.activities.specs.Journal.{IsLegal, state_of, sent_of, letters_of, handled_of, row_of}
+use Rattle.activities.specs.Numbered.{numbered, nth}
 use Rattle.activities.specs.Orders.{OrderState, order_table}
 use Rattle.activities.specs.Reaction.{react}
 use Rattle.base.specs.declared.entity.Kind.TheVariants.{Order}
@@ -86,6 +87,21 @@ commands_are_refused : (react order_table (order Open Phase.Requested Phase.Requ
     × (react order_table None (FromSeat 0 CancelOrder) ≡ Err NotOpen)
 commands_are_refused = (refl, refl, refl)
 
+-- what is asked for is 1 to 2^40, of the stock and of the account
+amounts_are_in_range : (react order_table None (FromSeat 0 (Place (codes "bolts") 3 (codes "acme") 0)) ≡ Err OutOfRange)
+    × (react order_table None (FromSeat 0 (Place (codes "bolts") 1099511627777 (codes "acme") 500)) ≡ Err OutOfRange)
+    × (react order_table None (FromSeat 0 (Place (codes "bolts") 3 (codes "acme") 1099511627777)) ≡ Err OutOfRange)
+    × IsOk (react order_table None (FromSeat 0 (Place (codes "bolts") 1099511627776 (codes "acme") 1099511627776)))
+amounts_are_in_range = (refl, refl, refl, refl)
+
+-- a partner answers once: what it says behind its answer changes nothing
+second_answers_change_nothing :
+    (react order_table (order Open Phase.Tentative Phase.Requested) (FromEntity bolts 2 Refused) ≡ Ok (order Open Phase.Tentative Phase.Requested, []))
+    × (react order_table (order Open Phase.Tentative Phase.Requested) (FromEntity bolts 2 Tentative) ≡ Ok (order Open Phase.Tentative Phase.Requested, []))
+    × (react order_table (order Confirmed Phase.Confirmed Phase.Confirmed) (FromEntity acme 2 Refused) ≡ Ok (order Confirmed Phase.Confirmed Phase.Confirmed, []))
+unfolding same_entity
+second_answers_change_nothing = (refl, refl, refl)
+
 -- an answer that comes late, or from no partner, changes nothing
 late_answers_change_nothing :
     (react order_table (order Cancelled Phase.Cancelled Phase.Refused) (FromEntity bolts 1 Tentative) ≡ Ok (order Cancelled Phase.Cancelled Phase.Refused, []))
@@ -126,6 +142,30 @@ handled_letters_are_counted = (refl, refl, refl)
 the_next_letter_may_follow : MayFollow order_table Order rows (record { entity = o2; input = FromEntity bolts 1 Tentative })
 unfolding same_entity
 the_next_letter_may_follow = record { of_kind = refl; seated = tt; accepted = refl; next = refl }
+
+-- seats are numbered from 0 to 15: the last may place an order, and there is none behind it
+the_last_seat_may_command : MayFollow order_table Order [] (record { entity = o1; input = FromSeat 15 (Place (codes "bolts") 3 (codes "acme") 500) })
+the_last_seat_may_command = record { of_kind = refl; seated = omega arith; accepted = refl; next = tt }
+
+no_other_seat_may_command : MayFollow order_table Order [] (record { entity = o1; input = FromSeat 16 (Place (codes "bolts") 3 (codes "acme") 500) }) → ⊥
+no_other_seat_may_command may = apart may.seated
+  where
+    apart : 16 < 16 → ⊥
+    apart h = omega arith
+
+-- letters are numbered from 1, and none has the number 0
+letters_are_numbered : (numbered 0 (Request 3 ∷ Confirm ∷ []) ≡ (1, Request 3) ∷ (2, Confirm) ∷ [])
+    × (nth (Request 3 ∷ Confirm ∷ []) 0 ≡ None) × (nth (Request 3 ∷ Confirm ∷ []) 1 ≡ Some (Request 3)) × (nth (Request 3 ∷ Confirm ∷ []) 3 ≡ None)
+letters_are_numbered = (refl, refl, refl, refl)
+
+-- the row that stands for an order in this state that took in these inputs
+abbrev order_row : Option OrderState → List (Input OrderCommand) → Option (Option OrderState)
+order_row state inputs = row_of (λ s. is_none s) state inputs
+
+-- no row stands for an order that took nothing in, nor for one whose state is none
+rows_stand_for_states : (order_row (order Open Phase.Requested Phase.Requested) (placing ∷ []) ≡ Some (order Open Phase.Requested Phase.Requested))
+    × (order_row (order Open Phase.Requested Phase.Requested) [] ≡ None) × (order_row None (FromEntity bolts 1 Tentative ∷ []) ≡ None)
+rows_stand_for_states = (refl, refl, refl)
 
 -- so the journal of these rows is legal, row by row; one with a letter of a number that was handled is not
 placed_and_answered : IsLegal order_table Order (record { entity = o1; input = placing } ∷ record { entity = o1; input = FromEntity bolts 1 Tentative } ∷ [])

@@ -1,7 +1,7 @@
 -- Examples: a stock and an account, which hold, ship and bill.
 use Rattle.std.proofs.Common.{◌≡◌, ℕ, List, [], ◌∷◌, refl}
 use Rattle.std.specs.Prelude.{codes, Ok, Err}
-use Rattle.base.specs.Entity.{Name, order_of}
+use Rattle.base.specs.Entity.{Name, order_of, account_of}
 use Rattle.base.specs.Order.{same_entity}
 use Rattle.envelope.specs.declared.message.Message.{Message}
 use Rattle.envelope.specs.declared.message.Message.TheVariants.{Request, Tentative, Refused, Confirm, Cancel}
@@ -56,6 +56,25 @@ a_stock_ships_or_releases :
 unfolding same_entity
 a_stock_ships_or_releases = (refl, refl, refl)
 
+-- a request that comes again, or from an entity that is no order, changes nothing, and isn't answered
+a_stock_is_asked_once :
+    (react stock_table (stock 9 6 0 9 later_line) (FromEntity o2 2 (Request 1)) ≡ Ok (stock 9 6 0 9 later_line, []))
+    × (react stock_table (stock 9 0 0 9 []) (FromEntity (account_of (codes "acme")) 1 (Request 1)) ≡ Ok (stock 9 0 0 9 [], []))
+unfolding same_entity
+a_stock_is_asked_once = (refl, refl)
+
+-- what was refused or released isn't shipped, what was released isn't freed again, and an order that never asked has no line
+a_stock_ships_what_is_held :
+    (react stock_table (stock 9 0 0 9 (lines LinePhase.Refused LinePhase.Released)) (FromEntity o1 2 Confirm)
+    ≡ Ok (stock 9 0 0 9 (lines LinePhase.Refused LinePhase.Released), []))
+    × (react stock_table (stock 9 0 0 9 (lines LinePhase.Refused LinePhase.Released)) (FromEntity o2 3 Confirm)
+    ≡ Ok (stock 9 0 0 9 (lines LinePhase.Refused LinePhase.Released), []))
+    × (react stock_table (stock 9 3 0 9 (lines LinePhase.Held LinePhase.Released)) (FromEntity o2 3 Cancel)
+    ≡ Ok (stock 9 3 0 9 (lines LinePhase.Held LinePhase.Released), []))
+    × (react stock_table (stock 9 6 0 9 later_line) (FromEntity o1 1 Confirm) ≡ Ok (stock 9 6 0 9 later_line, []))
+unfolding same_entity
+a_stock_ships_what_is_held = (refl, refl, refl, refl)
+
 -- 1 at least comes in, and no more than 2^40 in all, shipped or not
 stock_comes_in : (react stock_table (stock 7 0 3 10 []) (FromSeat 0 (Receive 5)) ≡ Ok (stock 12 0 3 15 [], []))
     × (react stock_table (stock 7 0 3 10 []) (FromSeat 0 (Receive 0)) ≡ Err OutOfRange)
@@ -78,6 +97,26 @@ an_account_bills_or_releases :
     ≡ Ok (account 10 1 3 (lines LinePhase.Held LinePhase.Released), []))
 unfolding same_entity
 an_account_bills_or_releases = (refl, refl)
+
+-- a request that comes again, or from an entity that is no order, changes nothing, and isn't answered
+an_account_is_asked_once :
+    (react account_table (account 10 0 6 later_line) (FromEntity o2 2 (Request 1)) ≡ Ok (account 10 0 6 later_line, []))
+    × (react account_table (account 10 0 0 []) (FromEntity (account_of (codes "acme")) 1 (Request 1)) ≡ Ok (account 10 0 0 [], []))
+unfolding same_entity
+an_account_is_asked_once = (refl, refl)
+
+-- what was refused or released isn't billed, what was released isn't freed again, and what was billed stays so
+an_account_bills_what_is_held :
+    (react account_table (account 10 0 0 (lines LinePhase.Refused LinePhase.Released)) (FromEntity o1 2 Confirm)
+    ≡ Ok (account 10 0 0 (lines LinePhase.Refused LinePhase.Released), []))
+    × (react account_table (account 10 0 0 (lines LinePhase.Refused LinePhase.Released)) (FromEntity o2 3 Confirm)
+    ≡ Ok (account 10 0 0 (lines LinePhase.Refused LinePhase.Released), []))
+    × (react account_table (account 10 3 6 (lines LinePhase.Done LinePhase.Held)) (FromEntity o1 3 Cancel)
+    ≡ Ok (account 10 3 6 (lines LinePhase.Done LinePhase.Held), []))
+    × (react account_table (account 10 0 3 (lines LinePhase.Held LinePhase.Released)) (FromEntity o2 3 Cancel)
+    ≡ Ok (account 10 0 3 (lines LinePhase.Held LinePhase.Released), []))
+unfolding same_entity
+an_account_bills_what_is_held = (refl, refl, refl, refl)
 
 -- a limit is 2^40 at most, and not below what is billed and held
 limits_are_set : (react account_table (account 10 1 6 []) (FromSeat 0 (SetLimit 7)) ≡ Ok (account 7 1 6 [], []))

@@ -7,3 +7,4 @@ pub mod Partners
 pub mod Orders
 pub mod Agreement
 pub mod Example
+mod Examples

@@ -1,6 +1,6 @@
 -- Each event keeps a world good.
 use Rattle.std.proofs.Common.{◌≡◌, ℕ, zero, suc, ◌≤◌, List, [], ◌∷◌, ◌++◌, Bool, true, false, ◌⊎◌, refl, arith, sym, inl, inr, Option, Some, None, Result, Ok, Err, length, subst}
-use Rattle.std.specs.Prelude.{slice_get, ◌==◌, nat_le, nat_lt, if◌then◌else◌}
+use Rattle.std.specs.Prelude.{slice_get, max, ◌==◌, nat_le, nat_lt, if◌then◌else◌}
 use Rattle.std.proofs.lemmas.Bool.Decides.{nat_tests}
 use Rattle.base.specs.Entity.{Name, order_of, stock_of, account_of}
 use Rattle.base.specs.Order.{same_pair}
@@ -239,3 +239,44 @@ run_grows (e ∷ es) w = grows_trans _ _ _ (happens_grows w e) (run_grows es (ha
 
 pub run_authentic : (es : List Event) (w : World) (x : Envelope) → IsAuthentic w.journals x → IsAuthentic (run es w).journals x
 run_authentic es w x h = authentic-later w.journals (run es w).journals (run_grows es w) x h
+
+-- ---- no mark is taken back
+
+mark-rises : (of : Pair) (count : ℕ) (settled : Pair → ℕ) (pair : Pair) → settled pair ≤ with_mark of count settled pair
+mark-rises of count settled pair = by_case (same_pair pair of)
+  where
+    by_case : (b : Bool) → settled pair ≤ (if b then max (settled pair) count else settled pair)
+    by_case true = omega arith
+    by_case false = omega arith
+
+arrives_marks : (w : World) (e : Option Envelope) (pair : Pair) → w.settled pair ≤ (arrives w e).settled pair
+arrives_marks w None pair = omega arith
+arrives_marks w (Some (Letter l)) pair = by_case (l.number == suc (handled_in w.journals l.pair))
+  where
+    by_case : (b : Bool) → w.settled pair ≤ (if b then record w { journals = with_letter w.journals l.pair.to.kind l } else w).settled pair
+    by_case true = omega arith
+    by_case false = omega arith
+arrives_marks w (Some (Settle of count)) pair = by_case (nat_le count (length (sent_in w.journals of)))
+  where
+    by_case : (b : Bool) → w.settled pair ≤ (if b then record w { settled = with_mark of count w.settled } else w).settled pair
+    by_case true = mark-rises of count w.settled pair
+    by_case false = omega arith
+
+sends_marks : (w : World) (of : Pair) (number : ℕ) (m : Option Message) (pair : Pair) → w.settled pair ≤ (sends w of number m).settled pair
+sends_marks w of number None pair = omega arith
+sends_marks w of number (Some m) pair = omega arith
+
+happens_marks : (w : World) (e : Event) (pair : Pair) → w.settled pair ≤ (happens w e).settled pair
+happens_marks w (ToOrder key seat c) pair = omega arith
+happens_marks w (ToStock key seat c) pair = omega arith
+happens_marks w (ToAccount key seat c) pair = omega arith
+happens_marks w (SendsLetter of number) pair = sends_marks w of number (nth (sent_in w.journals of) number) pair
+happens_marks w (SendsSettle of) pair = omega arith
+happens_marks w (Arrives which) pair = arrives_marks w (slice_get w.bag which) pair
+
+pub run_marks : (es : List Event) (w : World) (pair : Pair) → w.settled pair ≤ (run es w).settled pair
+run_marks [] w pair = omega arith
+run_marks (e ∷ es) w pair =
+    let first = happens_marks w e pair in
+    let rest = run_marks es (happens w e) pair in
+    omega arith

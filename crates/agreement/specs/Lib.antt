@@ -5,3 +5,4 @@ pub mod Agreement
 pub mod World
 pub mod Failing
 pub mod Example
+pub mod Overtaken

@@ -1,6 +1,6 @@
 //! The laws: each is the contract of a function with nothing to do.
 
-ghost use Rattle.std.specs.Prelude.{◌≡◌, ℕ, List};
+ghost use Rattle.std.specs.Prelude.{◌≡◌, ◌≤◌, ℕ, List};
 ghost use Rattle.base.specs.Entity.{Name};
 ghost use Rattle.base.specs.declared.entity.Kind.TheVariants.{Order};
 ghost use Rattle.base.specs.declared.pair.Pair.{Pair};
@@ -11,6 +11,7 @@ ghost use Rattle.agreement.specs.Example.{IsConfirmed, IsOnItsWay, schedule};
 ghost use Rattle.agreement.specs.Failing.{AllMayStep, AreGood, Step, Worlds, run_steps};
 ghost use Rattle.agreement.specs.Growth.{AddsRow, Grows};
 ghost use Rattle.agreement.specs.Journals.{AreLawful, HandlesPrefixes, Journals};
+ghost use Rattle.agreement.specs.Overtaken.{IsCancelledByRefusal};
 ghost use Rattle.agreement.specs.World.{Event, IsGood, World, nothing, run};
 
 /// One row of one service, whichever it is, keeps lawful journals lawful, takes nothing away that was sent or handled, and so keeps
@@ -31,10 +32,12 @@ pub fn stays_lawful()
     ensures settled { (events : List Event) → SettledAreHandled (run events nothing).journals (run events nothing).settled }
 {}
 
-/// Nothing that was sent or handled goes away, and what was authentic once stays authentic.
+/// Nothing that was sent or handled goes away, what was authentic once stays authentic, and no mark is taken back, also where an
+/// older settle arrives behind a newer one.
 pub fn stays_authentic()
     ensures grows { (w : World) (events : List Event) → Grows w.journals (run events w).journals }
     ensures authentic { (w : World) (events : List Event) (e : Envelope) → IsAuthentic w.journals e → IsAuthentic (run events w).journals e }
+    ensures marks { (w : World) (events : List Event) (pair : Pair) → w.settled pair ≤ (run events w).settled pair }
 {}
 
 /// Where each receiver handled a beginning of what was sent to it, the partners of each order agree; and nothing that came into a
@@ -57,4 +60,9 @@ pub fn stays_lawful_in_each_content()
 pub fn an_order_is_confirmed()
     ensures on_its_way { IsOnItsWay }
     ensures confirmed { IsConfirmed (run schedule nothing) }
+{}
+
+/// An order whose account refuses: its cancel overtakes the request to the stock, waits for it, and frees what the stock held.
+pub fn an_order_is_cancelled()
+    ensures { IsCancelledByRefusal }
 {}

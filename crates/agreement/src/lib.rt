@@ -10,8 +10,8 @@
 mod laws;
 
 pub use laws::{
-    a_row_keeps_the_laws, agree, an_order_is_confirmed, stays_authentic, stays_lawful,
-    stays_lawful_in_each_content,
+    a_row_keeps_the_laws, agree, an_order_is_cancelled, an_order_is_confirmed, stays_authentic,
+    stays_lawful, stays_lawful_in_each_content,
 };
 
 #[cfg(test)]
@@ -26,5 +26,6 @@ mod tests {
         agree();
         stays_lawful_in_each_content();
         an_order_is_confirmed();
+        an_order_is_cancelled();
     }
 }

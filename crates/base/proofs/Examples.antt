@@ -1,9 +1,10 @@
 -- Examples: what the definitions are for one order, one stock and one account.
 use Rattle.std.proofs.Common.{◌≡◌, ◌∷◌, [], true, false, refl, arith}
-use Rattle.std.specs.Prelude.{◌^◌, codes, Ok, Err, replicate}
+use Rattle.std.specs.Prelude.{◌^◌, ◌+◌, codes, Ok, Err, replicate}
 use Rattle.std.specs.declared.cmp.Ordering.TheVariants.{Less, Greater}
 use Rattle.base.specs.declared.entity.Kind.TheVariants.{Order, Stock, Account}
 use Rattle.base.specs.declared.fault.EntityFault.TheVariants.{BadKey}
+use Rattle.base.specs.declared.limits.TheConstants.{MAX_NUMBER, SEATS, HELD_WINDOW}
 use Rattle.base.specs.Entity.{order_of, stock_of, account_of, text_of, queue_of, is_key, IsReading}
 use Rattle.base.specs.Number.{IsNumber}
 use Rattle.base.specs.Order.{same_entity, same_pair, entity_cmp, pair_cmp}
@@ -70,3 +71,14 @@ the_first_number = record { positive = omega arith; small = omega arith }
 
 the_last_number : IsNumber (2 ^ 40)
 the_last_number = record { positive = omega arith; small = omega arith }
+
+-- and no others are
+no_number_0 : IsNumber 0 → ⊥
+no_number_0 h = let positive = h.positive in omega arith
+
+no_number_above : IsNumber (2 ^ 40 + 1) → ⊥
+no_number_above h = let small = h.small in omega arith
+
+-- the limits that other layers count by
+limits_are_set : (MAX_NUMBER ≡ 2 ^ 40) × (SEATS ≡ 16) × (HELD_WINDOW ≡ 64)
+limits_are_set = (refl, refl, refl)

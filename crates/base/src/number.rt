@@ -48,3 +48,6 @@ impl Number {
         self.value
     }
 }
+
+// The first number is 1: letters are counted from it.
+const _: () = prove!(Number::FIRST.value == 1);

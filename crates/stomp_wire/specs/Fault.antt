@@ -17,13 +17,13 @@ name_of Memory = codes "Memory"
 abbrev pub next_count : ℕ → ℕ
 next_count count = min (count + 1) (2 ^ 64 - 1)
 
--- at least one failure more was counted
-abbrev pub MoreFailures : ℕ → ℕ → Type 0
-MoreFailures before after = (before ≤ after) × (next_count before ≤ after)
+-- a failure was counted, at least one; no count falls, and at its last value it stays
+abbrev pub CountsFailure : ℕ → ℕ → Type 0
+CountsFailure before after = (before ≤ after) × (next_count before ≤ after)
 
 -- a failure was counted where the answer is `Cut` or `Device`, and else none
 abbrev pub IsCounted : {T : Type 0} → ℕ → ℕ → Result T LinkFault → Type 0
 IsCounted before after (Ok _) = after ≡ before
-IsCounted before after (Err Cut) = MoreFailures before after
-IsCounted before after (Err Device) = MoreFailures before after
+IsCounted before after (Err Cut) = CountsFailure before after
+IsCounted before after (Err Device) = CountsFailure before after
 IsCounted before after (Err Memory) = after ≡ before

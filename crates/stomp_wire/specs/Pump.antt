@@ -1,5 +1,5 @@
 -- The puts of a pump, call by call.
-use Rattle.std.specs.Prelude.{◌≡◌, ◌⊎◌, ℕ, ◌+◌, List, [], drop, Option, Some, None, Result, Ok, Err}
+use Rattle.std.specs.Prelude.{◌≡◌, ◌⊎◌, ℕ, ◌+◌, ◌<◌, List, [], length, drop, Option, Some, None, Result, Ok, Err}
 use Rattle.stomp_wire.specs.Fault.{IsCounted}
 use Rattle.stomp_wire.specs.declared.fault.LinkFault.{LinkFault}
 use Rattle.stomp_wire.specs.declared.pump.Gone.{Gone}
@@ -10,10 +10,10 @@ pub data Puts {L : Type 0} (put_gives : L → List ℕ → Result ℕ LinkFault 
   no_put : Puts put_gives octets first gone first gone
   one_more : {before after : L} {count n : ℕ} → Puts put_gives octets first gone before count → put_gives before (drop count octets) (Ok n) after → Puts put_gives octets first gone after (count + n)
 
--- how a pump ends: nothing is left, the last put answered 0, or it answered the fault
+-- how a pump ends: nothing is left, and nothing more is put; or something is, and its put answered 0 or the fault
 abbrev pub IsEnd : {L : Type 0} → (L → List ℕ → Result ℕ LinkFault → L → Type 0) → (rest : List ℕ) → (last after : L) → Option LinkFault → Type 0
-IsEnd put_gives rest last after None = ((rest ≡ []) × (after ≡ last)) ⊎ put_gives last rest (Ok 0) after
-IsEnd put_gives rest last after (Some fault) = put_gives last rest (Err fault) after
+IsEnd put_gives rest last after None = ((rest ≡ []) × (after ≡ last)) ⊎ ((0 < length rest) × put_gives last rest (Ok 0) after)
+IsEnd put_gives rest last after (Some fault) = (0 < length rest) × put_gives last rest (Err fault) after
 
 -- a whole pump: its puts, and then its end
 pub record IsPumped {L : Type 0} (put_gives : L → List ℕ → Result ℕ LinkFault → L → Type 0) (octets : List ℕ) (first : L) (gone : ℕ) (after : L) (result : Gone) : Type 0 where

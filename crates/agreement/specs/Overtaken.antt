@@ -1,0 +1,53 @@
+-- One order whose account refuses, and a cancel that overtakes the request that it cancels: what the definitions give for it.
+use Rattle.std.specs.Prelude.{◌≡◌, ℕ, List, [], ◌∷◌, codes, take, Some}
+use Rattle.base.specs.declared.pair.Pair.{Pair}
+use Rattle.envelope.specs.declared.message.Message.TheVariants.{Request, Tentative, Refused, Cancel}
+use Rattle.activities.specs.declared.commands.OrderCommand.TheVariants.{Place}
+use Rattle.activities.specs.declared.commands.StockCommand.TheVariants.{Receive}
+use Rattle.activities.specs.declared.commands.AccountCommand.TheVariants.{SetLimit}
+use Rattle.activities.specs.declared.phase.Phase.{Phase}
+use Rattle.activities.specs.declared.phase.LinePhase.{LinePhase}
+use Rattle.activities.specs.declared.phase.LinePhase.TheVariants.{Held, Released}
+use Rattle.activities.specs.declared.phase.Status.TheVariants.{Cancelled}
+use Rattle.agreement.specs.Journals.{sent_in}
+use Rattle.agreement.specs.Agreement.{order_in, stock_in, account_in, HasRefused}
+use Rattle.agreement.specs.Example.{order, stock, account, from_to, stock_at}
+use Rattle.agreement.specs.World.{World, Event, ToOrder, ToStock, ToAccount, SendsLetter, SendsSettle, Arrives, run, nothing}
+
+-- ten bolts came in and the limit is 500; the order asks for 3 of them and for 501; the account refuses before the stock is asked,
+-- and the order's cancel arrives at the stock first; then the request arrives, the cancel again, two settles in the wrong order, and
+-- what the stock had answered
+abbrev pub schedule : List Event
+schedule =
+    ToStock (codes "bolts") 0 (Receive 10) ∷ ToAccount (codes "acme") 0 (SetLimit 500) ∷ ToOrder (codes "o1") 0 (Place (codes "bolts") 3 (codes "acme") 501)
+    ∷ SendsLetter (from_to order account) 1 ∷ Arrives 0 ∷ SendsLetter (from_to account order) 1 ∷ Arrives 0
+    ∷ SendsLetter (from_to order stock) 2 ∷ Arrives 0 ∷ SendsLetter (from_to order stock) 1 ∷ Arrives 0 ∷ SendsSettle (from_to order stock)
+    ∷ Arrives 2 ∷ SendsSettle (from_to order stock) ∷ Arrives 0 ∷ Arrives 1
+    ∷ SendsLetter (from_to stock order) 1 ∷ Arrives 0 ∷ []
+
+-- the world after the first of these events
+abbrev pub after_first : ℕ → World
+after_first count = run (take count schedule) nothing
+
+-- how the order comes to be cancelled
+pub record IsCancelledByRefusal : Type 0 where
+  pub refused : account_in (after_first 5).journals account
+      ≡ record { limit = 500; billed = 0; held = 0; lines = record { order = order; n = 501; phase = LinePhase.Refused } ∷ [] }
+  pub cancelled : order_in (after_first 7).journals order ≡ Some (record {
+    status = Cancelled;
+    partners = record { entity = stock; n = 3; phase = Phase.Cancelled } ∷ record { entity = account; n = 501; phase = Phase.Refused } ∷ [];
+  })
+  pub known : HasRefused (order_in (after_first 7).journals order) account
+  -- the cancel waits for the request
+  pub overtaken : (after_first 9).journals ≡ (after_first 7).journals
+  pub held : stock_in (after_first 11).journals stock ≡ stock_at 10 3 0 Held
+  pub released : stock_in (after_first 13).journals stock ≡ stock_at 10 0 0 Released
+  -- an older settle takes no mark back
+  pub settled : (after_first 15).settled (from_to order stock) ≡ 2
+  pub still_settled : (after_first 16).settled (from_to order stock) ≡ 2
+  -- a late answer changes nothing
+  pub late : order_in (after_first 18).journals order ≡ order_in (after_first 7).journals order
+  pub to_stock : sent_in (after_first 18).journals (from_to order stock) ≡ Request 3 ∷ Cancel ∷ []
+  pub to_account : sent_in (after_first 18).journals (from_to order account) ≡ Request 501 ∷ []
+  pub from_stock : sent_in (after_first 18).journals (from_to stock order) ≡ Tentative ∷ []
+  pub from_account : sent_in (after_first 18).journals (from_to account order) ≡ Refused ∷ []
