@@ -2,6 +2,8 @@ pub mod Escapes
 pub mod Extending
 pub mod Heads
 pub mod Scans
+pub mod Meaning
+pub mod Turns
 pub mod Escaping
 pub mod Unescaping
 pub mod HeaderLine
@@ -16,6 +18,7 @@ pub mod FrameFound
 pub mod Bound
 pub mod Gaps
 pub mod ReadHeaders
+pub mod Lengths
 pub mod Stepping
 pub mod Holding
 pub mod NoNul

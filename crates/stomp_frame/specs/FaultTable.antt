@@ -1,5 +1,5 @@
 -- The octets at which a text can't go on as a frame, and the fault that is found there.
-use Rattle.std.specs.Prelude.{◌≡◌, ◌≢◌, ℕ, ◌<◌, ◌≤◌, Bool, true, false, ◌&&◌, ◌||◌, if◌then◌else◌, ◌==◌, not, nat_lt, List, [], ◌∷◌, ◌++◌, length, map, replicate, Option, Some, None, is_some, unwrap_or}
+use Rattle.std.specs.Prelude.{◌≡◌, ◌≢◌, ℕ, ◌<◌, ◌≤◌, Bool, true, false, ◌&&◌, ◌||◌, if◌then◌else◌, ◌==◌, not, nat_lt, List, [], ◌∷◌, ◌++◌, length, map, replicate, Option, Some, None, is_some, is_none, unwrap_or}
 use Rattle.std.specs.List.{list_all, before_first, after_first}
 use Rattle.std.specs.Str.{is_utf8}
 use Rattle.std.specs.Str.Parse.{digits_value}
@@ -36,7 +36,7 @@ pub data LineFault (text : List ℕ) (fault : FrameFault) : Type 0 where
 
 -- ---- a header line
 
--- the octet that a letter behind a backslash stands for
+-- the octet that a letter behind a backslash means: r means CR, n LF, c a colon, a backslash itself
 abbrev pub meant_by : ℕ → Option ℕ
 meant_by letter = if letter == 114 then Some 13
     else if letter == 110 then Some 10
@@ -44,26 +44,28 @@ meant_by letter = if letter == 114 then Some 13
     else if letter == 92 then Some 92
     else None
 
--- behind a backslash (true) or not: a letter without meaning behind a backslash, or a backslash at the end
-abbrev pub wrong_from : Bool → List ℕ → Bool
-wrong_from b [] = b
-wrong_from b (o ∷ text) = if b then (if is_some (meant_by o) then wrong_from false text else true)
-    else wrong_from (o == 92) text
+-- an octet and what follows it, where both mean something
+abbrev pub octet_then : Option ℕ → Option (List ℕ) → Option (List ℕ)
+octet_then None rest = None
+octet_then (Some o) None = None
+octet_then (Some o) (Some rest) = Some (o ∷ rest)
 
--- whether a text has a wrong escape
+-- What a text with escapes means (STOMP 1.2, section "Value Encoding"). An empty text means itself; a backslash and a letter mean what
+-- the letter means, and what follows; any other octet means itself, and what follows. A backslash at the end or before another letter
+-- means nothing.
+unfoldable pub unescaped : List ℕ → Option (List ℕ)
+unescaped [] = Some []
+unescaped (o ∷ []) = if o == 92 then None else Some (o ∷ [])
+unescaped (o ∷ next ∷ text) = if o == 92 then octet_then (meant_by next) (unescaped text)
+    else octet_then (Some o) (unescaped (next ∷ text))
+
+-- whether a text means nothing
 abbrev pub wrong_escape : List ℕ → Bool
-wrong_escape text = wrong_from false text
+wrong_escape text = is_none (unescaped text)
 
--- behind a backslash (true) or not: what the text means
-abbrev pub unescape_from : Bool → List ℕ → List ℕ
-unescape_from b [] = []
-unescape_from b (o ∷ text) = if b then unwrap_or (meant_by o) o ∷ unescape_from false text
-    else if o == 92 then unescape_from true text
-    else o ∷ unescape_from false text
-
--- a name or a value as it is meant in frames of the command
+-- a name or a value as it is meant in frames of the command; that a wrong escape means nothing is told before
 abbrev pub unwritten : Command → List ℕ → List ℕ
-unwritten c text = if is_exempt c then text else unescape_from false text
+unwritten c text = if is_exempt c then text else unwrap_or (unescaped text) []
 
 -- a colon
 abbrev pub is_colon : ℕ → Bool
