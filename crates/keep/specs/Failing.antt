@@ -1,5 +1,5 @@
 -- A keep that fails where it is told to.
-use Rattle.std.specs.Prelude.{◌≡◌, ℕ, ◌-◌, nat_le, Bool, Option, Some, None, Result, Ok, Err, if◌then◌else◌, ⊤}
+use Rattle.std.specs.Prelude.{◌≡◌, ℕ, ◌+◌, ◌-◌, ◌^◌, min, nat_le, Bool, Option, Some, None, Result, Ok, Err, if◌then◌else◌, ⊤}
 use Rattle.keep.specs.declared.fault.KeepFault.{KeepFault}
 use Rattle.keep.specs.declared.fault.KeepFault.TheVariants.{Failed, Memory, WrongFile}
 use Rattle.keep.specs.declared.faulty.Arming.{Arming}
@@ -28,9 +28,13 @@ abbrev pub counted_down : Option Arming → Option Arming
 counted_down None = None
 counted_down (Some a) = if nat_le a.calls 1 then None else Some (record a { calls = a.calls - 1 })
 
--- the call failed, and the keep inside wasn't asked
+-- the call failed because it was armed, which is counted once; the count stays at 2^64 - 1
+abbrev pub FailsArmed : {K R : Type 0} → Failing K → Failing K → Result R KeepFault → Type 0
+FailsArmed old new result = (result ≡ Err Failed) × (new.failures ≡ min (old.failures + 1) (2 ^ 64 - 1))
+
+-- and the keep inside wasn't asked
 abbrev pub FailsUnasked : {K R : Type 0} → Failing K → Failing K → Result R KeepFault → Type 0
-FailsUnasked old new result = (result ≡ Err Failed) × (new.keep ≡ old.keep)
+FailsUnasked old new result = FailsArmed old new result × (new.keep ≡ old.keep)
 
 -- the call failed only if the keep inside did
 abbrev pub FailsAsInside : {K R : Type 0} → (K → Bool) → (K → ℕ) → Failing K → Failing K → Result R KeepFault → Type 0
@@ -44,7 +48,7 @@ IsReadDue usable failures None old new result = FailsAsInside usable failures ol
 -- what a transaction does: it asks the keep inside where it is to leave the new tables
 abbrev pub IsTransactionDue : {K : Type 0} → (K → Bool) → (K → ℕ) → Option Leaves → Failing K → Failing K → Result Unit KeepFault → Type 0
 IsTransactionDue usable failures (Some Old) old new result = FailsUnasked old new result
-IsTransactionDue usable failures (Some New) old new result = result ≡ Err Failed
+IsTransactionDue usable failures (Some New) old new result = FailsArmed old new result
 IsTransactionDue usable failures None old new result = FailsAsInside usable failures old new result
 
 -- a stop leaves these tables and no others

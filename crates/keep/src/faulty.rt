@@ -1,6 +1,6 @@
 //! A keep that fails where it is told to.
 
-ghost use Rattle.std.specs.Prelude.{◌≡◌, ◌≤◌, ◌+◌, ◌-◌, ◌&&◌, not, true, false, length, take, drop};
+ghost use Rattle.std.specs.Prelude.{◌≡◌, ◌≤◌, ◌+◌, ◌-◌, ◌^◌, ◌&&◌, min, not, true, false, length, take, drop};
 
 use crate::{Change, Keep, KeepFault, Place};
 use activities::JournalRow;
@@ -95,6 +95,7 @@ impl<K: Keep + Drop> Faulty<K> {
     /// Counts a failure.
     fn fail<R>(&mut self) -> Result<R, KeepFault>
         ensures failed { result ≡ Err Failed }
+        ensures once { self.new.failures ≡ min (self.old.failures + 1) (2 ^ 64 - 1) }
         ensures keep { self.new.keep ≡ self.old.keep }
         ensures armed { self.new.armed ≡ self.old.armed }
         ensures call { IsCall (not self.new.is_down && K.is_usable self.new.keep) (self.old.failures + K.failures self.old.keep) (self.new.failures + K.failures self.new.keep) result }

@@ -36,7 +36,7 @@ fn apply_or_reopen<K: Keep>(
     ensures call { IsOutcomeCall (K.is_usable keep.new) (K.failures keep.old) (K.failures keep.new) result }
     ensures doubt { K.doubt keep.old ≤ K.doubt keep.new }
     ensures outcome { K.doubt keep.new ≡ 0 →
-        IsOutcome (K.tables keep.old) (changed changes.now (K.tables keep.old))
+        IsOutcome (K.is_usable keep.new) (K.tables keep.old) (changed changes.now (K.tables keep.old))
         (K.tables keep.new) (K.may_leave keep.new) result }
 {
     match keep.apply(alloc, changes) {
@@ -56,7 +56,8 @@ fn apply_or_reopen<K: Keep>(
 ///
 /// # Errors
 /// `Failed` where the store failed at the reopening or at the read: the keep isn't usable. `Memory` where a growth was refused: ask
-/// `usable` whether the keep has to be reopened. After either a stop leaves the tables before or those with all changes.
+/// `usable` whether the keep has to be reopened, which it has only where a failure was counted. After either a stop leaves the tables
+/// before or those with all changes.
 pub fn apply_or_recover<K: Keep>(
     keep: &mut K,
     alloc: Global,

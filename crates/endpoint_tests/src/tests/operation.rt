@@ -41,12 +41,21 @@ pub(super) const OPERATIONS: [(Operation, u64, u8, u8); 10] = [
     (Operation::Length, 1, 0, 0),
 ];
 
-pub(super) fn plain(alloc: Global) -> Endpoint<Orders, Plain> {
-    Endpoint::new(PlainKeep::new(alloc))
+/// Empty tables.
+pub(super) fn stored(alloc: Global) -> Plain {
+    PlainKeep::new(alloc)
 }
 
-pub(super) fn faulty(alloc: Global) -> Endpoint<Orders, Faulty<Plain>> {
-    Endpoint::new(Faulty::new(PlainKeep::new(alloc)))
+pub(super) fn plain(alloc: Global) -> Endpoint<Orders, Plain> {
+    Endpoint::new(stored(alloc))
+}
+
+/// An endpoint over a store that fails where it is told to.
+pub(super) fn faulty<K>(keep: K) -> Endpoint<Orders, Faulty<K>>
+where
+    K: Keep<State = Option<Order>, Command = OrderCommand> + Drop,
+{
+    Endpoint::new(Faulty::new(keep))
 }
 
 pub(super) fn pair(alloc: Global, from: &str, to: &str) -> Result<Pair, EntityFault> {
@@ -74,17 +83,64 @@ pub(super) fn told<T: Drop>(answer: Result<T, EndFault>) -> u8 {
     }
 }
 
-/// Places an order.
+/// Places an order of this amount.
 pub(super) fn place_order<K>(
     alloc: Global,
     endpoint: &mut Endpoint<Orders, K>,
     order: &str,
+    amount: u64,
 ) -> Result<u8, EntityFault>
 where
     K: Keep<State = Option<Order>, Command = OrderCommand> + Drop,
 {
     let order = Entity::read(alloc, order)?;
-    Ok(told(endpoint.commit(alloc, 0, &order, place(alloc, 500)?)))
+    let command = place(alloc, amount)?;
+    Ok(told(endpoint.commit(alloc, 0, &order, command)))
+}
+
+/// Cancels order/o1.
+fn cancel_order<K>(alloc: Global, endpoint: &mut Endpoint<Orders, K>) -> Result<u8, EntityFault>
+where
+    K: Keep<State = Option<Order>, Command = OrderCommand> + Drop,
+{
+    let order = Entity::read(alloc, "order/o1")?;
+    Ok(told(endpoint.commit(alloc, 15, &order, OrderCommand::CancelOrder)))
+}
+
+/// Shows order/o1.
+fn view_order<K>(alloc: Global, endpoint: &mut Endpoint<Orders, K>) -> Result<u8, EntityFault>
+where
+    K: Keep<State = Option<Order>, Command = OrderCommand> + Drop,
+{
+    let order = Entity::read(alloc, "order/o1")?;
+    Ok(told(endpoint.view(alloc, &order)))
+}
+
+/// Reads the last number that order/o1 sent to its stock.
+fn read_sent<K>(alloc: Global, endpoint: &mut Endpoint<Orders, K>) -> Result<u8, EntityFault>
+where
+    K: Keep<State = Option<Order>, Command = OrderCommand> + Drop,
+{
+    let out = pair(alloc, "order/o1", "stock/bolt")?;
+    Ok(told(endpoint.sent(alloc, &out)))
+}
+
+/// Reads how far order/o1 was settled with its stock.
+fn read_settled<K>(alloc: Global, endpoint: &mut Endpoint<Orders, K>) -> Result<u8, EntityFault>
+where
+    K: Keep<State = Option<Order>, Command = OrderCommand> + Drop,
+{
+    let out = pair(alloc, "order/o1", "stock/bolt")?;
+    Ok(told(endpoint.settled(alloc, &out)))
+}
+
+/// Reads how many letters of its stock order/o1 handled.
+fn read_handled<K>(alloc: Global, endpoint: &mut Endpoint<Orders, K>) -> Result<u8, EntityFault>
+where
+    K: Keep<State = Option<Order>, Command = OrderCommand> + Drop,
+{
+    let back = pair(alloc, "stock/bolt", "order/o1")?;
+    Ok(told(endpoint.handled(alloc, &back)))
 }
 
 /// Does an operation over order/o1: what it told.
@@ -96,21 +152,18 @@ pub(super) fn perform<K>(
 where
     K: Keep<State = Option<Order>, Command = OrderCommand> + Drop,
 {
-    let order = Entity::read(alloc, "order/o1")?;
-    let out = pair(alloc, "order/o1", "stock/bolt")?;
-    let back = pair(alloc, "stock/bolt", "order/o1")?;
-    Ok(match operation {
-        Operation::Place => told(endpoint.commit(alloc, 0, &order, place(alloc, 500)?)),
-        Operation::Cancel => told(endpoint.commit(alloc, 15, &order, OrderCommand::CancelOrder)),
-        Operation::PlaceNothing => told(endpoint.commit(alloc, 0, &order, place(alloc, 0)?)),
-        Operation::View => told(endpoint.view(alloc, &order)),
-        Operation::Sent => told(endpoint.sent(alloc, &out)),
-        Operation::Settled => told(endpoint.settled(alloc, &out)),
-        Operation::Handled => told(endpoint.handled(alloc, &back)),
-        Operation::Unsettled => told(endpoint.unsettled(alloc, &None, 9)),
-        Operation::Journal => told(endpoint.journal(alloc, 1, 9)),
-        Operation::Length => told(endpoint.length(alloc)),
-    })
+    match operation {
+        Operation::Place => place_order(alloc, endpoint, "order/o1", 500),
+        Operation::Cancel => cancel_order(alloc, endpoint),
+        Operation::PlaceNothing => place_order(alloc, endpoint, "order/o1", 0),
+        Operation::View => view_order(alloc, endpoint),
+        Operation::Sent => read_sent(alloc, endpoint),
+        Operation::Settled => read_settled(alloc, endpoint),
+        Operation::Handled => read_handled(alloc, endpoint),
+        Operation::Unsettled => Ok(told(endpoint.unsettled(alloc, &None, 9))),
+        Operation::Journal => Ok(told(endpoint.journal(alloc, 1, 9))),
+        Operation::Length => Ok(told(endpoint.length(alloc))),
+    }
 }
 
 /// What stands before an operation: another order, and this one where the operation needs it.
@@ -122,14 +175,46 @@ pub(super) fn prepare<K>(
 where
     K: Keep<State = Option<Order>, Command = OrderCommand> + Drop,
 {
-    place_order(alloc, endpoint, "order/o2")?;
+    place_order(alloc, endpoint, "order/o2", 500)?;
     match operation {
         Operation::Place | Operation::PlaceNothing => {}
         _ => {
-            place_order(alloc, endpoint, "order/o1")?;
+            place_order(alloc, endpoint, "order/o1", 500)?;
         }
     }
     Ok(())
+}
+
+/// The journal, as a text.
+fn journal_text<K>(alloc: Global, endpoint: &mut Endpoint<Orders, K>) -> Result<String, Fail>
+where
+    K: Keep<State = Option<Order>, Command = OrderCommand> + Drop,
+{
+    let rows = endpoint.journal(alloc, 1, usize::MAX)?;
+    Ok(format!(in alloc; "{rows:?}")?)
+}
+
+/// The outbox, as a text.
+fn outbox_text<K>(alloc: Global, endpoint: &mut Endpoint<Orders, K>) -> Result<String, Fail>
+where
+    K: Keep<State = Option<Order>, Command = OrderCommand> + Drop,
+{
+    let letters = endpoint.unsettled(alloc, &None, usize::MAX)?;
+    Ok(format!(in alloc; "{letters:?}")?)
+}
+
+/// The row of an order, as a text.
+fn row_text<K>(
+    alloc: Global,
+    endpoint: &mut Endpoint<Orders, K>,
+    order: &str,
+) -> Result<String, Fail>
+where
+    K: Keep<State = Option<Order>, Command = OrderCommand> + Drop,
+{
+    let order = Entity::read(alloc, order)?;
+    let row = endpoint.view(alloc, &order)?;
+    Ok(format!(in alloc; "{row:?}")?)
 }
 
 /// The journal, the outbox and the rows of both orders, as one text.
@@ -140,9 +225,9 @@ pub(super) fn tables_text<K>(
 where
     K: Keep<State = Option<Order>, Command = OrderCommand> + Drop,
 {
-    let rows = endpoint.journal(alloc, 1, usize::MAX)?;
-    let letters = endpoint.unsettled(alloc, &None, usize::MAX)?;
-    let first = endpoint.view(alloc, &Entity::read(alloc, "order/o1")?)?;
-    let second = endpoint.view(alloc, &Entity::read(alloc, "order/o2")?)?;
-    Ok(format!(in alloc; "{rows:?}\n{letters:?}\n{first:?}\n{second:?}")?)
+    let mut text = journal_text(alloc, endpoint)?;
+    text.push_str(outbox_text(alloc, endpoint)?.as_str())?;
+    text.push_str(row_text(alloc, endpoint, "order/o1")?.as_str())?;
+    text.push_str(row_text(alloc, endpoint, "order/o2")?.as_str())?;
+    Ok(text)
 }

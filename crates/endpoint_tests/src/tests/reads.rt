@@ -1,13 +1,14 @@
 //! What commands leave, by each read, over tables in memory.
 
-use super::operation::{Operation, Plain, pair, perform, place_order, plain, tables_text};
+use super::operation::{Operation, pair, perform, place_order, plain, tables_text};
 use activities::{JournalRow, OrderCommand};
 use base::{Entity, Number};
 use endpoint::{EndFault, Endpoint, empty_tables_match};
 use envelope::{Letter, Message};
-use keep::Place;
-use purchasing::Orders;
+use keep::{Keep, Place};
+use purchasing::{Order, Orders};
 use std::alloc::Global;
+use std::process::Abort;
 use std::test::Fail;
 
 /// To whom letters are, with their numbers and words, one behind the other.
@@ -26,12 +27,15 @@ fn letters_text(alloc: Global, letters: &[Letter]) -> Result<String, Fail> {
     Ok(text)
 }
 
-#[test]
-fn commands_are_taken_in_or_refused(rt: HostRuntime) -> Result<(), Fail> {
-    let alloc = rt.alloc();
-    empty_tables_match::<Orders>();
-    let mut orders = plain(alloc);
-    assert!(rt; orders.usable());
+/// Places and cancels an order, each once in vain before and after.
+fn place_and_cancel<K>(
+    rt: &impl Abort,
+    alloc: Global,
+    orders: &mut Endpoint<Orders, K>,
+) -> Result<(), Fail>
+where
+    K: Keep<State = Option<Order>, Command = OrderCommand> + Drop,
+{
     for (operation, want) in [
         (Operation::Cancel, 71),
         (Operation::PlaceNothing, 72),
@@ -40,23 +44,44 @@ fn commands_are_taken_in_or_refused(rt: HostRuntime) -> Result<(), Fail> {
         (Operation::Cancel, 0),
         (Operation::Cancel, 71),
     ] {
-        assert_eq!(rt;
-            perform(alloc, &mut orders, operation)?,
-            want,
-            "{operation:?}"
-        );
+        let told = perform(alloc, orders, operation)?;
+        assert_eq!(rt; told, want, "{operation:?}");
     }
+    Ok(())
+}
+
+/// An endpoint is usable, and has two rows once an order was placed and cancelled.
+fn take_in_two<K>(
+    rt: &impl Abort,
+    alloc: Global,
+    orders: &mut Endpoint<Orders, K>,
+) -> Result<(), Fail>
+where
+    K: Keep<State = Option<Order>, Command = OrderCommand> + Drop,
+{
+    assert!(rt; orders.usable());
+    place_and_cancel(rt, alloc, orders)?;
     assert_eq!(rt; orders.length(alloc)?, 2);
     Ok(())
 }
 
+#[test]
+fn commands_are_taken_in_or_refused(rt: HostRuntime) -> Result<(), Fail> {
+    let alloc = rt.alloc();
+    empty_tables_match::<Orders>();
+    take_in_two(&rt, alloc, &mut plain(alloc))
+}
+
 /// Of a pair the last number sent, the settled mark, and how many letters were handled.
-fn numbers(
+fn numbers<K>(
     alloc: Global,
-    orders: &mut Endpoint<Orders, Plain>,
+    orders: &mut Endpoint<Orders, K>,
     from: &str,
     to: &str,
-) -> Result<(u64, u64, u64), Fail> {
+) -> Result<(u64, u64, u64), Fail>
+where
+    K: Keep<State = Option<Order>, Command = OrderCommand> + Drop,
+{
     let pair = pair(alloc, from, to)?;
     let sent = orders.sent(alloc, &pair)?;
     let settled = orders.settled(alloc, &pair)?;
@@ -64,13 +89,25 @@ fn numbers(
     Ok((sent, settled, handled))
 }
 
-#[test]
-fn numbers_show_what_was_sent(rt: HostRuntime) -> Result<(), Fail> {
-    let alloc = rt.alloc();
-    let mut orders = plain(alloc);
-    perform(alloc, &mut orders, Operation::Place)?;
-    perform(alloc, &mut orders, Operation::Cancel)?;
-    place_order(alloc, &mut orders, "order/o2")?;
+/// Places and cancels order/o1.
+fn send_four<K>(alloc: Global, orders: &mut Endpoint<Orders, K>) -> Result<(), Fail>
+where
+    K: Keep<State = Option<Order>, Command = OrderCommand> + Drop,
+{
+    perform(alloc, orders, Operation::Place)?;
+    perform(alloc, orders, Operation::Cancel)?;
+    Ok(())
+}
+
+/// The numbers of some pairs, where order/o1 sent two letters to each partner and order/o2 one.
+fn show_numbers<K>(
+    rt: &impl Abort,
+    alloc: Global,
+    orders: &mut Endpoint<Orders, K>,
+) -> Result<(), Fail>
+where
+    K: Keep<State = Option<Order>, Command = OrderCommand> + Drop,
+{
     for (from, to, want) in [
         ("order/o1", "stock/bolt", 2),
         ("order/o1", "account/ann", 2),
@@ -78,14 +115,26 @@ fn numbers_show_what_was_sent(rt: HostRuntime) -> Result<(), Fail> {
         ("order/o2", "stock/nut", 0),
         ("stock/bolt", "order/o1", 0),
     ] {
-        let told = numbers(alloc, &mut orders, from, to)?;
+        let told = numbers(alloc, orders, from, to)?;
         assert_eq!(rt; told, (want, 0, 0), "from {from} to {to}");
     }
     Ok(())
 }
 
+#[test]
+fn numbers_show_what_was_sent(rt: HostRuntime) -> Result<(), Fail> {
+    let alloc = rt.alloc();
+    let mut orders = plain(alloc);
+    send_four(alloc, &mut orders)?;
+    place_order(alloc, &mut orders, "order/o2", 500)?;
+    show_numbers(&rt, alloc, &mut orders)
+}
+
 /// An order's row, and its stock's, in words.
-fn row_text(alloc: Global, orders: &mut Endpoint<Orders, Plain>) -> Result<String, Fail> {
+fn row_text<K>(alloc: Global, orders: &mut Endpoint<Orders, K>) -> Result<String, Fail>
+where
+    K: Keep<State = Option<Order>, Command = OrderCommand> + Drop,
+{
     let order = Entity::read(alloc, "order/o1")?;
     let Some(row) = orders.view(alloc, &order)?.flatten() else {
         return Ok(format!(in alloc; "none")?);
@@ -96,50 +145,78 @@ fn row_text(alloc: Global, orders: &mut Endpoint<Orders, Plain>) -> Result<Strin
     Ok(format!(in alloc; "{:?} {key} {number} {:?}", row.status(), stock.phase())?)
 }
 
-#[test]
-fn rows_show_states(rt: HostRuntime) -> Result<(), Fail> {
-    let alloc = rt.alloc();
-    let mut orders = plain(alloc);
+/// The row of an order after each of some operations.
+fn show_rows<K>(
+    rt: &impl Abort,
+    alloc: Global,
+    orders: &mut Endpoint<Orders, K>,
+) -> Result<(), Fail>
+where
+    K: Keep<State = Option<Order>, Command = OrderCommand> + Drop,
+{
     for (operation, want) in [
         (Operation::PlaceNothing, "none"),
         (Operation::Place, "Open stock/bolt 3 Requested"),
         (Operation::Cancel, "Cancelled stock/bolt 3 Cancelled"),
     ] {
-        perform(alloc, &mut orders, operation)?;
-        let row = row_text(alloc, &mut orders)?;
+        perform(alloc, orders, operation)?;
+        let row = row_text(alloc, orders)?;
         assert_eq!(rt; row.as_str(), want, "{operation:?}");
     }
     Ok(())
 }
 
 #[test]
+fn rows_show_states(rt: HostRuntime) -> Result<(), Fail> {
+    let alloc = rt.alloc();
+    show_rows(&rt, alloc, &mut plain(alloc))
+}
+
+/// The first letters after a place.
+fn show_letters<K>(
+    rt: &impl Abort,
+    alloc: Global,
+    orders: &mut Endpoint<Orders, K>,
+    after: &Option<Place>,
+    limit: usize,
+    want: &str,
+) -> Result<(), Fail>
+where
+    K: Keep<State = Option<Order>, Command = OrderCommand> + Drop,
+{
+    let letters = orders.unsettled(alloc, after, limit)?;
+    let text = letters_text(alloc, letters.as_slice())?;
+    assert_eq!(rt; text.as_str(), want, "limit {limit}");
+    Ok(())
+}
+
+/// The outbox of an order that was placed and cancelled.
+fn show_outbox<K>(
+    rt: &impl Abort,
+    alloc: Global,
+    orders: &mut Endpoint<Orders, K>,
+) -> Result<(), Fail>
+where
+    K: Keep<State = Option<Order>, Command = OrderCommand> + Drop,
+{
+    let all =
+        "account/ann 1 Request, account/ann 2 Cancel, stock/bolt 1 Request, stock/bolt 2 Cancel, ";
+    show_letters(rt, alloc, orders, &None, 9, all)?;
+    let first = Some(Place {
+        pair: pair(alloc, "order/o1", "account/ann")?,
+        number: Number::FIRST,
+    });
+    let two = "account/ann 2 Cancel, stock/bolt 1 Request, ";
+    show_letters(rt, alloc, orders, &first, 2, two)?;
+    show_letters(rt, alloc, orders, &None, 0, "")
+}
+
+#[test]
 fn the_outbox_is_in_order(rt: HostRuntime) -> Result<(), Fail> {
     let alloc = rt.alloc();
     let mut orders = plain(alloc);
-    perform(alloc, &mut orders, Operation::Place)?;
-    perform(alloc, &mut orders, Operation::Cancel)?;
-    let first = Place {
-        pair: pair(alloc, "order/o1", "account/ann")?,
-        number: Number::FIRST,
-    };
-    for (after, limit, want) in [
-        (
-            None,
-            9,
-            "account/ann 1 Request, account/ann 2 Cancel, stock/bolt 1 Request, stock/bolt 2 Cancel, ",
-        ),
-        (
-            Some(first),
-            2,
-            "account/ann 2 Cancel, stock/bolt 1 Request, ",
-        ),
-        (None, 0, ""),
-    ] {
-        let letters = orders.unsettled(alloc, &after, limit)?;
-        let text = letters_text(alloc, letters.as_slice())?;
-        assert_eq!(rt; text.as_str(), want, "limit {limit}");
-    }
-    Ok(())
+    send_four(alloc, &mut orders)?;
+    show_outbox(&rt, alloc, &mut orders)
 }
 
 /// Whose rows of the journal these are, one behind the other.
@@ -152,38 +229,71 @@ fn rows_text(alloc: Global, rows: &[JournalRow<OrderCommand>]) -> Result<String,
     Ok(text)
 }
 
+/// Rows of the journal from a position on.
+fn show_journal<K>(
+    rt: &impl Abort,
+    alloc: Global,
+    orders: &mut Endpoint<Orders, K>,
+    from: u64,
+    limit: usize,
+    want: &str,
+) -> Result<(), Fail>
+where
+    K: Keep<State = Option<Order>, Command = OrderCommand> + Drop,
+{
+    let rows = orders.journal(alloc, from, limit)?;
+    let text = rows_text(alloc, rows.as_slice())?;
+    assert_eq!(rt; text.as_str(), want, "from {from}");
+    Ok(())
+}
+
+/// A journal of three rows from each position on.
+fn show_journals<K>(
+    rt: &impl Abort,
+    alloc: Global,
+    orders: &mut Endpoint<Orders, K>,
+) -> Result<(), Fail>
+where
+    K: Keep<State = Option<Order>, Command = OrderCommand> + Drop,
+{
+    for order in ["order/a", "order/b", "order/c"] {
+        place_order(alloc, orders, order, 500)?;
+    }
+    show_journal(rt, alloc, orders, 0, 9, "order/a order/b order/c ")?;
+    show_journal(rt, alloc, orders, 1, 1, "order/a ")?;
+    show_journal(rt, alloc, orders, 2, 9, "order/b order/c ")?;
+    show_journal(rt, alloc, orders, 3, 2, "order/c ")?;
+    show_journal(rt, alloc, orders, 4, 9, "")?;
+    show_journal(rt, alloc, orders, 1, 0, "")
+}
+
 #[test]
 fn the_journal_is_read_from_a_position_on(rt: HostRuntime) -> Result<(), Fail> {
     let alloc = rt.alloc();
-    let mut orders = plain(alloc);
-    for order in ["order/a", "order/b", "order/c"] {
-        place_order(alloc, &mut orders, order)?;
-    }
-    for (from, limit, want) in [
-        (0, 9, "order/a order/b order/c "),
-        (1, 1, "order/a "),
-        (2, 9, "order/b order/c "),
-        (3, 2, "order/c "),
-        (4, 9, ""),
-        (1, 0, ""),
-    ] {
-        let rows = orders.journal(alloc, from, limit)?;
-        let text = rows_text(alloc, rows.as_slice())?;
-        assert_eq!(rt; text.as_str(), want, "from {from}");
-    }
+    show_journals(&rt, alloc, &mut plain(alloc))
+}
+
+/// Reopens an endpoint that is usable: its tables are as they were.
+fn reopen_usable<K>(
+    rt: &impl Abort,
+    alloc: Global,
+    orders: &mut Endpoint<Orders, K>,
+) -> Result<(), Fail>
+where
+    K: Keep<State = Option<Order>, Command = OrderCommand> + Drop,
+{
+    perform(alloc, orders, Operation::Place)?;
+    let before = tables_text(alloc, orders)?;
+    orders.reopen()?;
+    assert!(rt; orders.usable());
+    assert_eq!(rt; tables_text(alloc, orders)?, before);
     Ok(())
 }
 
 #[test]
 fn a_usable_endpoint_may_be_reopened(rt: HostRuntime) -> Result<(), Fail> {
     let alloc = rt.alloc();
-    let mut orders = plain(alloc);
-    perform(alloc, &mut orders, Operation::Place)?;
-    let before = tables_text(alloc, &mut orders)?;
-    orders.reopen()?;
-    assert!(rt; orders.usable());
-    assert_eq!(rt; tables_text(alloc, &mut orders)?, before);
-    Ok(())
+    reopen_usable(&rt, alloc, &mut plain(alloc))
 }
 
 #[test]

@@ -1,15 +1,16 @@
 -- What a command comes to where its store may fail.
-use Rattle.std.specs.Prelude.{◌≡◌, ℕ, ◌⊎◌, length, nat_lt, Bool, true, false, Result, Ok, Err, ⊤}
+use Rattle.std.specs.Prelude.{◌≡◌, ℕ, ◌≤◌, ◌⊎◌, length, nat_lt, Bool, true, false, Result, Ok, Err, ⊤}
 use Rattle.base.specs.declared.entity.Kind.{Kind}
 use Rattle.activities.specs.declared.input.JournalRow.{JournalRow}
 use Rattle.activities.specs.Reaction.{Table}
 use Rattle.keep.specs.Tables.{Tables}
+use Rattle.keep.specs.Law.{MoreFailures}
 use Rattle.endpoint.specs.declared.fault.EndFault.{EndFault}
 use Rattle.endpoint.specs.declared.fault.EndFault.TheVariants.{NotMine, Business, TooEarly, StoreFailed, Memory, Unusable, NumberLimit, NotSent}
 use Rattle.endpoint.specs.Answers.{CommitAt}
 use Rattle.endpoint.specs.Calls.{Appends}
-use Rattle.endpoint_tests.specs.declared.attempt.Attempt.{Attempt}
-use Rattle.endpoint_tests.specs.declared.attempt.Attempt.TheVariants.{Taken, Left, Open}
+use Rattle.endpoint.specs.declared.attempt.Attempt.{Attempt}
+use Rattle.endpoint.specs.declared.attempt.Attempt.TheVariants.{Taken, Left, Open}
 
 -- The tables found are some that a stop may have `left`, and it is told whether their journal is longer than that. Else a stop leaves
 -- nothing that it couldn't leave before.
@@ -22,14 +23,33 @@ abbrev pub is_failure : EndFault → Bool
 is_failure StoreFailed = true
 is_failure _ = false
 
--- where the command was taken in, or refused, the endpoint is usable
-abbrev pub IsUseAfter : Bool → Attempt → Type 0
-IsUseAfter usable (Taken _) = usable ≡ true
-IsUseAfter usable (Left (Business refusal)) = usable ≡ true
-IsUseAfter usable (Left NotMine) = usable ≡ true
-IsUseAfter usable (Left NumberLimit) = usable ≡ true
-IsUseAfter usable (Left _) = ⊤
-IsUseAfter usable (Open _) = ⊤
+module _ {E : Type 0} (usable : E → Bool) (failures : E → ℕ) (old new : E) where
+  -- one failure more was counted at least
+  abbrev pub HasMoreFailures : Type 0
+  HasMoreFailures = (failures old ≤ failures new) × MoreFailures (failures old) (failures new)
+
+  -- What reopening and asking for the journal's length tells, whatever the disk did.
+  abbrev pub IsFindCall : Result Bool EndFault → Type 0
+  IsFindCall (Ok _) = (usable new ≡ true) × (failures new ≡ failures old)
+  IsFindCall (Err Memory) = failures new ≡ failures old
+  IsFindCall (Err StoreFailed) = (usable new ≡ false) × HasMoreFailures
+  IsFindCall (Err _) = ⊥
+
+  -- What a command that is given once tells, whatever the disk did: where it was taken in or refused the endpoint is usable, a fault of
+  -- the store is counted, and an endpoint that wasn't usable is as it was.
+  abbrev pub IsAttemptCall : Attempt → Type 0
+  IsAttemptCall (Taken _) = (usable new ≡ true) × (failures old ≤ failures new)
+  IsAttemptCall (Left NotMine) = (usable new ≡ true) × (failures new ≡ failures old)
+  IsAttemptCall (Left (Business refusal)) = (usable new ≡ true) × (failures new ≡ failures old)
+  IsAttemptCall (Left NumberLimit) = (usable new ≡ true) × (failures new ≡ failures old)
+  IsAttemptCall (Left Memory) = (usable new ≡ true) × (failures new ≡ failures old)
+  IsAttemptCall (Left StoreFailed) = (usable old ≡ true) × HasMoreFailures
+  IsAttemptCall (Left Unusable) = (usable old ≡ false) × (new ≡ old)
+  IsAttemptCall (Left TooEarly) = ⊥
+  IsAttemptCall (Left NotSent) = ⊥
+  IsAttemptCall (Open Memory) = (usable old ≡ true) × HasMoreFailures
+  IsAttemptCall (Open StoreFailed) = (usable old ≡ true) × (usable new ≡ false) × HasMoreFailures
+  IsAttemptCall (Open _) = ⊥
 
 module _ {S C : Type 0} (table : Table S C) (is_none : S → Bool) (kind : Kind) (window : ℕ) (old : Tables S C) (row : JournalRow C) where
   -- why nothing was done: the journal shows it, or memory was refused, or the store failed

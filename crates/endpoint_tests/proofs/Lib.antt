@@ -1,2 +1,0 @@
-mod Sets
-mod Endings
