@@ -1,24 +1,29 @@
 //! Runs a schedule, read from standard input, and prints the outcome of each line.
 #![tactic(auto)]
 
-use std::io::{BufReader, BufWriter};
+use programs::{RunFault, run_schedule, tell_fault};
+use std::io::{BufReader, BufWriter, ErrorKind, Write};
 use std::process::ExitCode;
 use std::{env, io};
 
-fn main(rt: HostRuntime) -> io::Result<ExitCode> {
+/// Runs the program over the words of its command line and the standard streams. The answer is the status.
+fn run<E: Write>(rt: &HostRuntime, err: &mut E) -> io::Result<u8> {
     let mut words = Vec::new(rt.alloc());
-    for word in env::args(&rt)? {
+    for word in env::args(rt)? {
         words.push(word)?;
     }
     let mut input = BufReader::new(rt.alloc(), rt.reader())?;
-    let mut out = BufWriter::new(rt.alloc(), io::writer(&rt))?;
+    let mut out = BufWriter::new(rt.alloc(), io::writer(rt))?;
+    Ok(run_schedule(rt.alloc(), words.as_slice(), &mut input, &mut out, err))
+}
+
+fn main(rt: HostRuntime) -> io::Result<ExitCode> {
     let mut err = rt.stderr();
-    let status = programs::run_schedule(
-        rt.alloc(),
-        words.as_slice(),
-        &mut input,
-        &mut out,
-        &mut err,
-    );
+    let status = match run(&rt, &mut err) {
+        Err(error) if error.kind() == ErrorKind::OutOfMemory => {
+            tell_fault(&mut err, RunFault::Memory)?
+        }
+        answer => answer?,
+    };
     Ok(ExitCode::from(status))
 }

@@ -4,6 +4,7 @@ use Rattle.std.specs.Prelude.{MatchResult}
 use Rattle.std.specs.Global.{Vec}
 use Rattle.std.proofs.lemmas.List.{drop_all}
 use Rattle.endpoint.specs.declared.fault.EndFault.{EndFault}
+use Rattle.endpoint.specs.declared.fault.EndFault.TheVariants.{Memory}
 use Rattle.schedules.specs.declared.event.Event.{Event}
 use Rattle.schedules.specs.declared.event.Event.TheVariants as event
 use Rattle.schedules.specs.declared.event.Service.{Service}
@@ -34,3 +35,17 @@ run_step events i event outcome journal between rest after lt at tells run =
 -- no event is left
 pub run_end : (events : List Event) (i : ℕ) (journal : Orders) → length events ≤ i → IsRun (drop i events) journal [] journal
 run_end events i journal all = subst (λ (es : List Event). IsRun es journal [] journal) (sym (drop_all i events all)) (refl, refl)
+
+-- where memory is refused, each event tells that alone
+refused_for_memory : (event : Event) (journal : Orders) → Tells event journal (Refused Memory) journal
+refused_for_memory (event.Order seat order command) journal = refl
+refused_for_memory (event.Show e) journal = refl
+refused_for_memory (event.Frames Purchasing) journal = refl
+refused_for_memory (event.Journal Purchasing) journal = refl
+
+-- events can always be run
+pub any_run : (events : List Event) (journal : Orders) → (text : List ℕ) × (after : Orders) × IsRun events journal text after
+any_run [] journal = ([], journal, (refl, refl))
+any_run (event ∷ events) journal =
+    let rest = any_run events journal in
+    (printed (Refused Memory) ++ rest.0, rest.1, (Refused Memory, journal, rest.0, refused_for_memory event journal, refl, rest.2))

@@ -1,8 +1,9 @@
 -- Octets that a writer takes piece by piece.
-use Rattle.std.proofs.Common.{ℕ, List, [], ◌++◌, Option, Some, None, sym, ap, ◌∙◌, append_assoc}
-use Rattle.std.specs.Prelude.{Result, Ok, Err, OnOk}
+use Rattle.std.proofs.Common.{◌≡◌, ℕ, List, [], ◌++◌, Option, Some, None, sym, ap, ◌∙◌, append_assoc}
+use Rattle.std.specs.Prelude.{Result, Ok, Err, OnOk, OnErr}
 use Rattle.std.proofs.lemmas.List.{append-nil}
 use Rattle.std.specs.Io.KnownBytes.{Appends, Keeps}
+use Rattle.programs.specs.Written.{AppendsPart}
 
 -- two pieces are one
 pub appends_then : (a b c : Option (List ℕ)) (x y : List ℕ) → Appends a b x → Appends b c y → Appends a c (x ++ y)
@@ -31,3 +32,29 @@ appends_three a b c d x y z first second third = appends_then a c d (x ++ y) z (
 pub on_ok_always : {T E P : Type 0} (r : Result T E) → P → OnOk r P
 on_ok_always (Ok x) p = p
 on_ok_always (Err e) p = tt
+
+-- a beginning of the octets is one of more octets
+pub part_first : (a b : Option (List ℕ)) (x y : List ℕ) → AppendsPart a b x → AppendsPart a b (x ++ y)
+part_first a b x y p = record { part = p.part; rest = p.rest ++ y; whole = ap (λ t. t ++ y) p.whole ∙ append_assoc p.part p.rest y; appended = p.appended }
+
+-- octets, and then a beginning of others
+pub part_then : (a b c : Option (List ℕ)) (x y : List ℕ) → Appends a b x → AppendsPart b c y → AppendsPart a c (x ++ y)
+part_then a b c x y first p = record {
+  part = x ++ p.part;
+  rest = p.rest;
+  whole = ap (λ t. x ++ t) p.whole ∙ sym (append_assoc x p.part p.rest);
+  appended = appends_then a b c x p.part first p.appended;
+}
+
+-- all of the octets
+pub part_whole : (a b : Option (List ℕ)) (x : List ℕ) → Appends a b x → AppendsPart a b x
+part_whole a b x p = record { part = x; rest = []; whole = sym (append-nil x); appended = p }
+
+-- a part, and then nothing more
+pub part_keeps : (a b c : Option (List ℕ)) (x : List ℕ) → AppendsPart a b x → Keeps b c → AppendsPart a c x
+part_keeps a b c x p kept = record { part = p.part; rest = p.rest; whole = p.whole; appended = appends_keeps a b c p.part p.appended kept }
+
+-- what holds anyway holds of an Err
+pub on_err_always : {T E P : Type 0} (r : Result T E) → P → OnErr r P
+on_err_always (Ok x) p = tt
+on_err_always (Err e) p = p

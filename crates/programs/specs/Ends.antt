@@ -1,11 +1,12 @@
 -- How a whole schedule ends.
-use Rattle.std.specs.Prelude.{◌≡◌, ◌⊎◌, ℕ, List, ◌++◌, codes, decimal, Option, Result, Ok, Err, IfSome, ⊤}
+use Rattle.std.specs.Prelude.{◌≡◌, ◌⊎◌, ℕ, List, ◌++◌, codes, decimal, Option, Result, Ok, Err, IfSome}
 use Rattle.std.specs.Io.KnownBytes.{Appends}
 use Rattle.schedules.specs.declared.event.Event.{Event}
 use Rattle.programs.specs.declared.fault.RunFault.{RunFault}
 use Rattle.programs.specs.declared.fault.RunFault.TheVariants.{BadEvent, Memory, Device}
 use Rattle.schedules.specs.Events.{events_of}
-use Rattle.programs.specs.Runs.{Prints}
+use Rattle.programs.specs.Runs.{Orders, IsRun, Prints}
+use Rattle.programs.specs.Written.{AppendsPart}
 
 -- the line that tells a fault
 abbrev pub fault_line : RunFault → List ℕ
@@ -13,29 +14,28 @@ fault_line (BadEvent number) = codes "line " ++ decimal number ++ codes ": bad e
 fault_line Memory = codes "fault 81 Memory\n"
 fault_line Device = codes "fault 2 Device\n"
 
+-- the writer took a beginning of what a run of these events tells
+abbrev pub IsCutRun : List Event → Orders → Option (List ℕ) → Option (List ℕ) → Type 0
+IsCutRun events journal old new = (told : List ℕ) × (after : Orders) × IsRun events journal told after × AppendsPart old new told
+
 -- What running a text answers, over the known octets of the writer before it and after it: the events of the text are run and what they
--- print is written; or the first faulty line is told, and nothing is written; or memory was refused before the first line ran.
+-- print is written, or a beginning of it where the writer failed; or the first faulty line is told, and nothing is written; or memory was
+-- refused before the first line ran.
 abbrev pub IsRunOf : List ℕ → Option (List ℕ) → Option (List ℕ) → Result Unit RunFault → Type 0
 IsRunOf text old new (Ok _) = (events : List Event) × (told : List ℕ) × (events_of text ≡ Ok events) × Prints events told × Appends old new told
 IsRunOf text old new (Err (BadEvent number)) = (events_of text ≡ Err number) × (new ≡ old)
 IsRunOf text old new (Err Memory) = new ≡ old
-IsRunOf text old new (Err Device) = (events : List Event) × (events_of text ≡ Ok events)
+IsRunOf text old new (Err Device) = (events : List Event) × (told : List ℕ) × (events_of text ≡ Ok events) × Prints events told × AppendsPart old new told
 
--- why a run of what the reader had left ended early, where that is known
-abbrev pub IsFaultOf : Option (List ℕ) → RunFault → Type 0
-IsFaultOf input (BadEvent number) = IfSome input (λ text. events_of text ≡ Err number)
-IsFaultOf input Memory = ⊤
-IsFaultOf input Device = ⊤
+-- nothing was read, for want of memory or since the reader failed; nothing is written
+abbrev pub IsUnread : Option (List ℕ) → Option (List ℕ) → Result Unit RunFault → Type 0
+IsUnread old new (Err Memory) = new ≡ old
+IsUnread old new (Err Device) = new ≡ old
+IsUnread old new _ = ⊥
 
--- what such a run leaves of the writer: only a failed device leaves a part of the lines
-abbrev pub IsLeft : RunFault → Option (List ℕ) → Option (List ℕ) → Type 0
-IsLeft Device old new = ⊤
-IsLeft _ old new = new ≡ old
-
--- the same of what a reader has left, where that is known
+-- a run of what the reader had left, where that is known; or nothing was read
 abbrev pub IsRunFrom : Option (List ℕ) → Option (List ℕ) → Option (List ℕ) → Result Unit RunFault → Type 0
-IsRunFrom input old new (Ok u) = IfSome input (λ text. IsRunOf text old new (Ok u))
-IsRunFrom input old new (Err fault) = IsFaultOf input fault × IsLeft fault old new
+IsRunFrom input old new r = ((text : List ℕ) × IfSome input (λ xs. text ≡ xs) × IsRunOf text old new r) ⊎ IsUnread old new r
 
 -- With status 0 the schedule was run whole: what its events print is written to `out`, and nothing to `err`. With status 1 a fault is
 -- told on `err`, and unless the device failed nothing is written to `out`.
@@ -43,3 +43,7 @@ abbrev pub IsEndOf : Option (List ℕ) → Option (List ℕ) → Option (List �
 IsEndOf input out out' err err' status =
     ((status ≡ 0) × (err' ≡ err) × IsRunFrom input out out' (Ok tt))
     ⊎ ((status ≡ 1) × (fault : RunFault) × IsRunFrom input out out' (Err fault) × Appends err err' (fault_line fault))
+
+-- the same where `err` failed while a fault was told: it took a beginning of the fault's line
+abbrev pub IsUntold : Option (List ℕ) → Option (List ℕ) → Option (List ℕ) → Option (List ℕ) → Option (List ℕ) → Type 0
+IsUntold input out out' err err' = (fault : RunFault) × IsRunFrom input out out' (Err fault) × AppendsPart err err' (fault_line fault)

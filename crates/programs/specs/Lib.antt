@@ -1,4 +1,6 @@
 pub mod Printed
 pub mod RunFaults
 pub mod Runs
+pub mod Written
 pub mod Ends
+pub mod Usage

@@ -1,11 +1,11 @@
 //! The words of the command lines.
 
-ghost use Rattle.std.specs.Prelude.{◌≡◌, ◌⊎◌, true, codes, map, IfErr};
-ghost use Rattle.clap.specs.Words.{kind_of, new_app, takes};
-ghost use Rattle.programs.specs.Ends.{IsEndOf};
+ghost use Rattle.std.specs.Prelude.{◌≡◌, true, map, IfOk, IfErr, OnErr, MatchResult};
+ghost use Rattle.clap.specs.Words.{FailsBy, fault_of, kind_of, takes};
+ghost use Rattle.programs.specs.Usage.{command_line, IsStatusOf, IsUsage, IsOneKept, IsAnswered};
 
 use crate::fault::RunFault;
-use crate::schedule::{run_input, write_run_fault};
+use crate::schedule::{run_input, tell_fault};
 use clap::error::ErrorKind;
 use clap::{Command, Error};
 use std::alloc::Global;
@@ -27,7 +27,8 @@ backslash. Empty lines and lines that begin with # are passed over.";
 
 /// Reads the words of the command line, the program's name first; there is no option but `--help`.
 fn read_words<S: AsStr>(alloc: Global, words: &[S]) -> Result<(), Error>
-    ensures { IfErr result (λ e. takes (new_app (codes "outbox-schedule")) (map S.text words.now) ≡ true → kind_of e ≡ ErrorKind.OutOfMemory) }
+    ensures takes { IfErr result (λ e. takes command_line (map S.text words.now) ≡ true → kind_of e ≡ ErrorKind.OutOfMemory) }
+    ensures fails { FailsBy (fault_of command_line (map S.text words.now)) result }
 {
     let command = Command::new(alloc, "outbox-schedule")
         .about(
@@ -42,16 +43,26 @@ fn read_words<S: AsStr>(alloc: Global, words: &[S]) -> Result<(), Error>
 }
 
 /// Writes what `clap` says of the words: help to `out`, a fault of usage to `err`. Answers the status.
-fn write_usage<W: Write, E: Write>(out: &mut W, err: &mut E, error: &Error) -> io::Result<u8> {
-    if error.use_stderr() {
-        write!(err, "{error}")?;
-        err.flush()?;
-        Ok(2)
-    } else {
+fn write_usage<W: Write, E: Write>(out: &mut W, err: &mut E, error: &Error) -> io::Result<u8>
+    ensures told { IfOk result (IsUsage (kind_of error.now) (W.contents out.old) (W.contents out.new) (E.contents err.old) (E.contents err.new)) }
+    ensures untold { OnErr result (IsOneKept (W.contents out.old) (W.contents out.new) (E.contents err.old) (E.contents err.new)) }
+{
+    if error.kind() == ErrorKind::DisplayHelp {
         write!(out, "{error}")?;
         out.flush()?;
         Ok(0)
+    } else {
+        write!(err, "{error}")?;
+        err.flush()?;
+        Ok(2)
     }
+}
+
+/// The status that an answer comes to: 1 where a writer failed.
+fn status_of(answer: io::Result<u8>) -> u8
+    ensures { MatchResult answer (λ status. result ≡ status) (λ _. result ≡ 1) }
+{
+    answer.unwrap_or(1)
 }
 
 /// The program `outbox-schedule`: reads the words of its command line, the program's name first, and a schedule from `input`, runs
@@ -59,7 +70,7 @@ fn write_usage<W: Write, E: Write>(out: &mut W, err: &mut E, error: &Error) -> i
 ///
 /// The answer is the status: 0, 2 for a fault of usage, which is told on `err` as `clap` words it, and 1 for another fault, which is
 /// told on `err` too. With words that the command line takes it ends as `run_input` says, or with 1 where memory was refused over
-/// the words or `err` failed.
+/// the words or `err` failed. With others nothing is run.
 pub fn run_schedule<S: AsStr, R: Read, W: Write, E: Write>(
     alloc: Global,
     words: &[S],
@@ -67,22 +78,16 @@ pub fn run_schedule<S: AsStr, R: Read, W: Write, E: Write>(
     out: &mut W,
     err: &mut E,
 ) -> u8
-    ensures { takes (new_app (codes "outbox-schedule")) (map S.text words.now) ≡ true
-        → (result ≡ 1) ⊎ IsEndOf (R.remaining input.old) (W.contents out.old) (W.contents out.new) (E.contents err.old) (E.contents err.new) result }
+    ensures taken { takes command_line (map S.text words.now) ≡ true
+        → IsStatusOf (R.remaining input.old) (W.contents out.old) (W.contents out.new) (E.contents err.old) (E.contents err.new) result }
+    ensures answered { IsAnswered (fault_of command_line (map S.text words.now))
+        (R.remaining input.old) (W.contents out.old) (W.contents out.new) (E.contents err.old) (E.contents err.new) result }
 {
-    let status = match read_words(alloc, words) {
-        Ok(()) => run_input(alloc, input, out, err),
-        Err(error) => {
-            if error.kind() == ErrorKind::OutOfMemory {
-                return match write_run_fault(err, RunFault::Memory) {
-                    Ok(()) | Err(_) => 1,
-                };
-            }
-            write_usage(out, err, &error)
-        }
+    let Err(error) = read_words(alloc, words) else {
+        return status_of(run_input(alloc, input, out, err));
     };
-    match status {
-        Ok(status) => status,
-        Err(_) => 1,
+    if error.kind() == ErrorKind::OutOfMemory {
+        return status_of(tell_fault(err, RunFault::Memory));
     }
+    status_of(write_usage(out, err, &error))
 }

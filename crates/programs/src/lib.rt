@@ -11,4 +11,4 @@ mod tests;
 
 pub use command_line::run_schedule;
 pub use fault::RunFault;
-pub use schedule::{run_input, run_text};
+pub use schedule::{run_input, run_text, tell_fault};

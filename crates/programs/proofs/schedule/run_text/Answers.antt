@@ -1,6 +1,6 @@
 use Rattle.std.proofs.lemmas.Result.{err_from_is_err_and}
 use Rattle.programs.specs.Runs.{tables_of}
-use Rattle.programs.proofs.Endings.{unread, ran_whole}
+use Rattle.programs.proofs.Endings.{unread, ran_whole, ran_cut}
 use Rattle.programs.proofs.schedule.run_text.Goals as goal
 
 pub returns-in_err-events : goal.returns-in_err-events
@@ -10,7 +10,13 @@ returns-in_err-events g c =
 
 pub returns-in-Ok : goal.returns-in-Ok
 returns-in-Ok g c =
-    let run = rw c.as_slice.ensures.value at c.in-Ok.ensures in
+    let run = rw c.as_slice.ensures.value at c.in-Ok.ensures.ok in
     ran_whole c.args.text.now c.in_ok-events.events (g.W.Write.contents c.args.out.now) (g.W.Write.contents c.run_events.new.out)
     (tables_of c.open_purchasing-purchasing.result).journal (tables_of c.run_events.new.purchasing).journal run.0
     c.in_ok-events.ensures c.open_purchasing-purchasing.ensures.empty run.1 run.2
+
+pub returns : goal.returns
+returns g c =
+    let cut = rw c.as_slice.ensures.value at c.in-Err.ensures.err in
+    ran_cut c.args.text.now c.in_ok-events.events (g.W.Write.contents c.args.out.now) (g.W.Write.contents c.run_events.new.out)
+    (tables_of c.open_purchasing-purchasing.result).journal c.in_ok-events.ensures c.open_purchasing-purchasing.ensures.empty cut

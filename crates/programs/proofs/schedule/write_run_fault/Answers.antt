@@ -1,27 +1,22 @@
-use Rattle.std.proofs.Common.{sym, subst, decimal}
-use Rattle.std.specs.Prelude.{OnOk, codes}
+use Rattle.std.proofs.Common.{sym, subst}
+use Rattle.std.specs.Prelude.{OnOk, OnErr}
 use Rattle.std.specs.Io.KnownBytes.{Appends}
-use Rattle.std.proofs.lemmas.Result.{on_ok_weaker}
 use Rattle.programs.specs.declared.fault.RunFault.{RunFault}
 use Rattle.programs.specs.Ends.{fault_line}
-use Rattle.programs.proofs.Writes.{appends_three}
+use Rattle.programs.specs.Written.{AppendsPart}
 use Rattle.programs.proofs.schedule.write_run_fault.Goals as goal
 
-pub returns-in_ok-write_number-in-BadEvent : goal.returns-in_ok-write_number-in-BadEvent
-returns-in_ok-write_number-in-BadEvent g c =
+pub returns-in-Memory-clause-ok : goal.returns-in-Memory-clause-ok
+returns-in-Memory-clause-ok g c =
     let at = g.E.Write.contents in
-    subst (λ (f : RunFault). OnOk c.write_all-in-BadEvent.result (Appends (at c.args.err.now) (at c.write_all-in-BadEvent.new.self) (fault_line f))) (sym c.in-BadEvent.is)
-    (on_ok_weaker c.write_all-in-BadEvent.result
-    (λ third. appends_three (at c.args.err.now) (at c.write_all.new.self) (at c.write_number.new.out) (at c.write_all-in-BadEvent.new.self) (codes "line ") (decimal c.in-BadEvent.number) (codes ": bad event\n")
-    c.in_ok-write_all-in-BadEvent.ensures.bytes c.in_ok-write_number-in-BadEvent.ensures third)
-    c.write_all-in-BadEvent.ensures.bytes)
+    subst (λ (f : RunFault). OnOk c.write_octets.result (Appends (at c.args.err.now) (at c.write_octets.new.out) (fault_line f))) (sym c.in-Memory.is) c.write_octets.ensures.ok
 
-pub returns-in-Memory : goal.returns-in-Memory
-returns-in-Memory g c =
+pub returns-in-Device-clause-ok : goal.returns-in-Device-clause-ok
+returns-in-Device-clause-ok g c =
     let at = g.E.Write.contents in
-    subst (λ (f : RunFault). OnOk c.write_all-in-Memory.result (Appends (at c.args.err.now) (at c.write_all-in-Memory.new.self) (fault_line f))) (sym c.in-Memory.is) c.write_all-in-Memory.ensures.bytes
+    subst (λ (f : RunFault). OnOk c.write_octets-in-Device.result (Appends (at c.args.err.now) (at c.write_octets-in-Device.new.out) (fault_line f))) (sym c.in-Device.is) c.write_octets-in-Device.ensures.ok
 
-pub returns-in-Device : goal.returns-in-Device
-returns-in-Device g c =
+pub returns-in-BadEvent-clause-err : goal.returns-in-BadEvent-clause-err
+returns-in-BadEvent-clause-err g c =
     let at = g.E.Write.contents in
-    subst (λ (f : RunFault). OnOk c.write_all-in-Device.result (Appends (at c.args.err.now) (at c.write_all-in-Device.new.self) (fault_line f))) (sym c.in-Device.is) c.write_all-in-Device.ensures.bytes
+    subst (λ (f : RunFault). OnErr c.write_numbered.result (AppendsPart (at c.args.err.now) (at c.write_numbered.new.out) (fault_line f))) (sym c.in-BadEvent.is) c.write_numbered.ensures.err
