@@ -16,6 +16,9 @@ use Rattle.activities.specs.Lines.{Line, is_before}
 use Rattle.agreement.specs.Agreement.{PartnersAgree, IsStockSound, IsAccountSound}
 use Rattle.agreement.specs.Envelopes.{IsAuthentic, SettledAreHandled}
 use Rattle.agreement.specs.Example.{order, stock, account, from_to, after_first}
+use Rattle.std.specs.Prelude.{Contains}
+use Rattle.std.specs.List.{AllByRecursion}
+use Rattle.std.proofs.lemmas.List.Elements.{All-contains_itself, recursion_from_All}
 use Rattle.agreement.specs.Failing.{Content, Worlds, content_of, Step, Does, Fails, Finds, Posts, run_steps, MayStep, AllMayStep, AreGood}
 use Rattle.agreement.specs.Growth.{AddsRow, AddsOrder, AddsStock, AddsAccount}
 use Rattle.agreement.specs.Journals.{Journals, HandlesPrefixes}
@@ -154,12 +157,15 @@ receives = ToStock (codes "bolts") 0 (Receive 10)
 abbrev received : Content
 received = content_of (happens nothing receives)
 
+either : AllByRecursion (Contains (content_of nothing ∷ received ∷ [])) (content_of nothing ∷ received ∷ [])
+either = recursion_from_All (Contains (content_of nothing ∷ received ∷ [])) (content_of nothing ∷ received ∷ []) (All-contains_itself (content_of nothing ∷ received ∷ []))
+
 -- a call that failed has happened or hasn't, and a reopening finds one of the two
 a_failed_call_is_open : ((run_steps (Does receives ∷ []) start).could ≡ received ∷ [])
     × ((run_steps (Fails receives ∷ []) start).could ≡ content_of nothing ∷ received ∷ [])
-    × ((run_steps (Fails receives ∷ Finds (false ∷ true ∷ []) ∷ []) start).could ≡ received ∷ [])
-    × ((run_steps (Fails receives ∷ Finds (true ∷ false ∷ []) ∷ []) start).could ≡ content_of nothing ∷ [])
-a_failed_call_is_open = (refl, refl, refl, refl)
+    × AllMayStep (Fails receives ∷ Finds (received ∷ []) ∷ []) start
+    × AllMayStep (Fails receives ∷ Finds (content_of nothing ∷ []) ∷ []) start
+a_failed_call_is_open = (refl, refl, (tt, ((either.1.0, tt), tt)), (tt, ((either.0, tt), tt)))
 
 -- an order that was placed may ask, and one that may not have been placed may not
 abbrev places : Event

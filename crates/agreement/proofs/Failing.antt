@@ -1,8 +1,11 @@
 -- Each content stays good, whichever store calls fail.
-use Rattle.std.proofs.Common.{Bool, true, false, List, [], ◌∷◌, ◌++◌}
+use Rattle.std.proofs.Common.{List, [], ◌∷◌, ◌++◌}
+use Rattle.std.specs.Prelude.{Contains}
+use Rattle.std.specs.List.{AllByRecursion}
+use Rattle.std.proofs.lemmas.List.Elements.{All-contains, All-from_recursion}
 use Rattle.envelope.specs.declared.message.Envelope.{Envelope}
 use Rattle.agreement.specs.World.{Event, happens, IsGood}
-use Rattle.agreement.specs.Failing.{Content, Worlds, world_of, content_of, after_each, chosen, Step, Does, Fails, Finds, Posts, after_step, run_steps, IsAuthenticInEach, MayStep, AllMayStep, AreGood}
+use Rattle.agreement.specs.Failing.{Content, Worlds, world_of, content_of, after_each, Step, Does, Fails, Finds, Posts, after_step, run_steps, IsAuthenticInEach, MayStep, AllMayStep, AreGood}
 use Rattle.agreement.proofs.Machine.{happens_good, happens_grows, all_authentic-later}
 
 -- beside the envelopes from before
@@ -19,11 +22,12 @@ good_append : (bag : List Envelope) (cs ds : List Content) → AreGood bag cs �
 good_append bag [] ds h k = k
 good_append bag (c ∷ cs) ds h k = (h.0, good_append bag cs ds h.1 k)
 
-good_chosen : (bag : List Envelope) (bs : List Bool) (cs : List Content) → AreGood bag cs → AreGood bag (chosen bs cs)
-good_chosen bag [] cs h = tt
-good_chosen bag (b ∷ bs) [] h = tt
-good_chosen bag (true ∷ bs) (c ∷ cs) h = (h.0, good_chosen bag bs cs h.1)
-good_chosen bag (false ∷ bs) (c ∷ cs) h = good_chosen bag bs cs h.1
+good_found : (bag : List Envelope) (cs found : List Content) → AllByRecursion (λ c. Contains cs c) found → AreGood bag cs → AreGood bag found
+good_found bag cs [] among h = tt
+good_found bag cs (c ∷ found) among h = (
+  All-contains (λ d. IsGood (world_of bag d)) cs c (All-from_recursion (λ d. IsGood (world_of bag d)) cs h) among.0,
+  good_found bag cs found among.1 h,
+)
 
 good_posted : (bag : List Envelope) (e : Envelope) (cs : List Content) → IsAuthenticInEach cs e → AreGood bag cs → AreGood (e ∷ bag) cs
 good_posted bag e [] a h = tt
@@ -32,7 +36,7 @@ good_posted bag e (c ∷ cs) a h = (record { lawful = h.0.lawful; settled = h.0.
 step_good : (w : Worlds) (s : Step) → MayStep w s → AreGood w.bag w.could → AreGood (after_step w s).bag (after_step w s).could
 step_good w (Does e) m h = good_each w.bag e w.could h
 step_good w (Fails e) m h = good_append w.bag w.could _ h (good_each w.bag e w.could h)
-step_good w (Finds marks) m h = good_chosen w.bag marks w.could h
+step_good w (Finds found) m h = good_found w.bag w.could found m h
 step_good w (Posts envelope) m h = good_posted w.bag envelope w.could m h
 
 pub steps_good : (ss : List Step) (w : Worlds) → AllMayStep ss w → AreGood w.bag w.could → AreGood (run_steps ss w).bag (run_steps ss w).could

@@ -1,6 +1,6 @@
 -- What an order has told its partners, by its status and what it heard of them.
 use Rattle.std.proofs.Common.{◌≡◌, ℕ, List, [], ◌∷◌, ◌++◌, Bool, true, false, ◌⊎◌, refl, arith, sym, Option, Some, None, inl, inr, subst}
-use Rattle.std.specs.Prelude.{if◌then◌else◌, ◌&&◌, ⊤}
+use Rattle.std.specs.Prelude.{if◌then◌else◌, ◌&&◌, not, filter, ⊤}
 use Rattle.std.proofs.lemmas.List.{append-nil}
 use Rattle.envelope.specs.declared.message.Message.{Message}
 use Rattle.envelope.specs.declared.message.Message.TheVariants.{Request, Tentative, Refused, Confirm, Cancel}
@@ -15,7 +15,8 @@ use Rattle.activities.specs.declared.input.Input.{Input}
 use Rattle.activities.specs.declared.input.Input.TheVariants.{FromSeat, FromEntity}
 use Rattle.activities.specs.declared.outs.Out.{Out}
 use Rattle.activities.specs.Reaction.{after, course, state, messages_to, letters_from}
-use Rattle.activities.specs.Orders.{Partner, OrderState, is_open, is_tentative, in_range, awaits, with_phase, all_tentative, all_in, to_all, to_others, requests, placed, partners_of, tentative_from, refused_by, on_order_message, order_table}
+use Rattle.envelope.specs.Reading.{is_number}
+use Rattle.activities.specs.Orders.{Partner, OrderState, is_open, is_tentative, awaits, with_phase, all_tentative, all_in, to_all, to_others, requests, placed, partners_of, tentative_from, refused_by, on_order_message, order_table}
 use Rattle.agreement.specs.Agreement.{IsAmong, IsPartner, IsRefusing, HasRefused}
 use Rattle.activities.proofs.Sameness.{Tells, same_entity-tells, same_entity-same, either}
 use Rattle.activities.proofs.Reactions.{holds_along, messages_to-append, letters_from-append}
@@ -137,11 +138,15 @@ to_all-partners : (m : Message) (ps : List Partner) → ToPartners ps (to_all m 
 to_all-partners m [] = tt
 to_all-partners m (p ∷ ps) = (inl refl, among-tail p ps (to_all m ps) (to_all-partners m ps))
 
+-- the partners but one
+abbrev others : Name → List Partner → List Partner
+others s ps = filter (λ (p : Partner). not (same_entity s p.entity)) ps
+
 to_others-partners : (s : Name) (m : Message) (ps : List Partner) → ToPartners ps (to_others s m ps)
 to_others-partners s m [] = tt
 to_others-partners s m (p ∷ ps) = by_case (same_entity s p.entity) (among-tail p ps (to_others s m ps) (to_others-partners s m ps))
   where
-    by_case : (t : Bool) → ToPartners (p ∷ ps) (to_others s m ps) → ToPartners (p ∷ ps) (if t then to_others s m ps else record { receiver = p.entity; message = m } ∷ to_others s m ps)
+    by_case : (t : Bool) → ToPartners (p ∷ ps) (to_others s m ps) → ToPartners (p ∷ ps) (to_all m (if not t then p ∷ others s ps else others s ps))
     by_case true h = h
     by_case false h = (inl refl, h)
 
@@ -153,7 +158,7 @@ to_others-never : (s : Name) (m k : Message) (ps : List Partner) → (m ≡ k �
 to_others-never s m k [] ne = tt
 to_others-never s m k (p ∷ ps) ne = by_case (same_entity s p.entity) (to_others-never s m k ps ne)
   where
-    by_case : (t : Bool) → Never k (to_others s m ps) → Never k (if t then to_others s m ps else record { receiver = p.entity; message = m } ∷ to_others s m ps)
+    by_case : (t : Bool) → Never k (to_others s m ps) → Never k (to_all m (if not t then p ∷ others s ps else others s ps))
     by_case true h = h
     by_case false h = (ne, h)
 
@@ -316,9 +321,9 @@ command_keeps inputs (o, outs) seat c h = by_state o c (by_order-more o inputs (
     now = inputs ++ FromSeat seat c ∷ []
 
     by_state : (o : Option OrderState) (k : OrderCommand) → ByOrder o now outs → ByOrder (after order_table (o, outs) (FromSeat seat k)).0 now (after order_table (o, outs) (FromSeat seat k)).1
-    by_state None (Place stock n account amount) h = by_case (in_range n && in_range amount) refl
+    by_state None (Place stock n account amount) h = by_case (is_number n && is_number amount) refl
       where
-        by_case : (t : Bool) → (in_range n && in_range amount) ≡ t → ByOrder (after order_table (None, outs) (FromSeat seat (Place stock n account amount))).0 now (after order_table (None, outs) (FromSeat seat (Place stock n account amount))).1
+        by_case : (t : Bool) → (is_number n && is_number amount) ≡ t → ByOrder (after order_table (None, outs) (FromSeat seat (Place stock n account amount))).0 now (after order_table (None, outs) (FromSeat seat (Place stock n account amount))).1
         by_case true e = rw e (placed_keeps now outs (partners_of stock n account amount) (refl, (refl, tt)) h)
         by_case false e = rw e h
     by_state None CancelOrder h = h

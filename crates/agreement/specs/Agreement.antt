@@ -13,13 +13,15 @@ use Rattle.activities.specs.Stocks.{StockState, stock_table}
 use Rattle.activities.specs.Accounts.{AccountState, account_table}
 use Rattle.agreement.specs.Journals.{Journals, sent_in}
 
--- the states of an order, a stock and an account
+-- the state of an order
 abbrev pub order_in : Journals → Name → Option OrderState
 order_in js e = state_of order_table js.orders e
 
+-- the state of a stock
 abbrev pub stock_in : Journals → Name → StockState
 stock_in js e = state_of stock_table js.stocks e
 
+-- the state of an account
 abbrev pub account_in : Journals → Name → AccountState
 account_in js e = state_of account_table js.accounts e
 
@@ -43,6 +45,7 @@ abbrev pub IsUndone : Option Line → Type 0
 IsUndone None = ⊥
 IsUndone (Some l) = (l.phase ≡ Released) ⊎ (l.phase ≡ Refused)
 
+-- it is one of these partners
 abbrev pub IsAmong : Name → List Partner → Type 0
 IsAmong e [] = ⊥
 IsAmong e (p ∷ ps) = (e ≡ p.entity) ⊎ IsAmong e ps
@@ -52,6 +55,7 @@ abbrev pub IsPartner : Option OrderState → Name → Type 0
 IsPartner None e = ⊥
 IsPartner (Some o) e = IsAmong e o.partners
 
+-- it is one of these partners, and its phase is refused
 abbrev pub IsRefusing : Name → List Partner → Type 0
 IsRefusing e [] = ⊥
 IsRefusing e (p ∷ ps) = ((e ≡ p.entity) × (p.phase ≡ Phase.Refused)) ⊎ IsRefusing e ps
@@ -73,7 +77,7 @@ abbrev pub HasOneLineEach : List Line → Type 0
 HasOneLineEach [] = ⊤
 HasOneLineEach (l ∷ ls) = (line_of l.order ls ≡ None) × HasOneLineEach ls
 
--- of a stock: what came in is there or was shipped, what is held is there, and what is held and shipped are the totals over its lines
+-- of a stock: what came in is there or was shipped, what is held is there, held and shipped are the totals over its lines, one an order
 pub record IsStockSound (x : StockState) : Type 0 where
   pub conserved : x.on_hand + x.shipped ≡ x.received
   pub covered : x.held ≤ x.on_hand
@@ -81,14 +85,14 @@ pub record IsStockSound (x : StockState) : Type 0 where
   pub shipped : x.shipped ≡ total Done x.lines
   pub one_each : HasOneLineEach x.lines
 
--- of an account: the limit covers what is billed and held, and these are the totals over its lines
+-- of an account: the limit covers what is billed and held, these are the totals over its lines, one an order
 pub record IsAccountSound (x : AccountState) : Type 0 where
   pub covered : x.billed + x.held ≤ x.limit
   pub held : x.held ≡ total Held x.lines
   pub billed : x.billed ≡ total Done x.lines
   pub one_each : HasOneLineEach x.lines
 
--- all orders, stocks and accounts
+-- the partners of each order agree, and each stock and each account is sound
 pub record AreSound (js : Journals) : Type 0 where
   pub orders : (order : Name) → order.kind ≡ Order → PartnersAgree js order
   pub stocks : (e : Name) → IsStockSound (stock_in js e)

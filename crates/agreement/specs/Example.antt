@@ -29,6 +29,7 @@ stock = stock_of (codes "bolts")
 abbrev pub account : Name
 account = account_of (codes "acme")
 
+-- a pair
 abbrev pub from_to : Name → Name → Pair
 from_to sender receiver = record { from = sender; to = receiver }
 

@@ -1,5 +1,6 @@
 -- Stores that may fail: each content that may be found, beside the same envelopes.
-use Rattle.std.specs.Prelude.{ℕ, Bool, List, [], ◌∷◌, ◌++◌, if◌then◌else◌, ⊤}
+use Rattle.std.specs.Prelude.{ℕ, List, [], ◌∷◌, ◌++◌, map, Contains, ⊤}
+use Rattle.std.specs.List.{AllByRecursion}
 use Rattle.base.specs.declared.pair.Pair.{Pair}
 use Rattle.envelope.specs.declared.message.Envelope.{Envelope}
 use Rattle.agreement.specs.Journals.{Journals}
@@ -20,50 +21,49 @@ pub record Worlds : Type 0 where
 abbrev pub world_of : List Envelope → Content → World
 world_of bag c = record { journals = c.journals; settled = c.settled; bag = bag }
 
+-- what the stores of a world have
 abbrev pub content_of : World → Content
 content_of w = record { journals = w.journals; settled = w.settled }
 
 -- the contents after the event, in each of them
 abbrev pub after_each : List Envelope → Event → List Content → List Content
-after_each bag e [] = []
-after_each bag e (c ∷ cs) = content_of (happens (world_of bag c) e) ∷ after_each bag e cs
+after_each bag e contents = map (λ c. content_of (happens (world_of bag c) e)) contents
 
--- those of the contents that are marked true
-abbrev pub chosen : List Bool → List Content → List Content
-chosen (b ∷ bs) (c ∷ cs) = if b then c ∷ chosen bs cs else chosen bs cs
-chosen bs cs = []
-
--- A call that succeeds, one that fails (it happened or it didn't), a reopening that finds some of the contents, an envelope that is sent.
+-- A call that succeeds, one that fails (it happened or it didn't), a reopening after which only these contents may be found, an envelope
+-- that is sent. An event of sending changes no content: envelopes are sent by `Posts`.
 pub data Step : Type 0 where
   Does : Event → Step
   Fails : Event → Step
-  Finds : List Bool → Step
+  Finds : List Content → Step
   Posts : Envelope → Step
 
+-- the contents and envelopes after one step
 abbrev pub after_step : Worlds → Step → Worlds
 after_step w (Does e) = record w { could = after_each w.bag e w.could }
 after_step w (Fails e) = record w { could = w.could ++ after_each w.bag e w.could }
-after_step w (Finds marks) = record w { could = chosen marks w.could }
+after_step w (Finds found) = record w { could = found }
 after_step w (Posts envelope) = record w { bag = envelope ∷ w.bag }
 
+-- after all these steps
 abbrev pub run_steps : List Step → Worlds → Worlds
 run_steps [] w = w
 run_steps (s ∷ ss) w = run_steps ss (after_step w s)
 
+-- the envelope is authentic in each content
 abbrev pub IsAuthenticInEach : List Content → Envelope → Type 0
-IsAuthenticInEach [] e = ⊤
-IsAuthenticInEach (c ∷ cs) e = IsAuthentic c.journals e × IsAuthenticInEach cs e
+IsAuthenticInEach contents e = AllByRecursion (λ c. IsAuthentic c.journals e) contents
 
--- an envelope is sent only where it is authentic in each content: it comes from a store that didn't fail
+-- what a reopening finds could be there; an envelope is sent only where it is authentic in each content: its store didn't fail
 abbrev pub MayStep : Worlds → Step → Type 0
+MayStep w (Finds found) = AllByRecursion (λ c. Contains w.could c) found
 MayStep w (Posts envelope) = IsAuthenticInEach w.could envelope
 MayStep w _ = ⊤
 
+-- each step may be made where the ones before it lead
 abbrev pub AllMayStep : List Step → Worlds → Type 0
 AllMayStep [] w = ⊤
 AllMayStep (s ∷ ss) w = MayStep w s × AllMayStep ss (after_step w s)
 
 -- each content is good
 abbrev pub AreGood : List Envelope → List Content → Type 0
-AreGood bag [] = ⊤
-AreGood bag (c ∷ cs) = IsGood (world_of bag c) × AreGood bag cs
+AreGood bag contents = AllByRecursion (λ c. IsGood (world_of bag c)) contents

@@ -1,6 +1,5 @@
 -- One order whose account refuses, and a cancel that overtakes the request that it cancels: what the definitions give for it.
 use Rattle.std.specs.Prelude.{◌≡◌, ℕ, List, [], ◌∷◌, codes, take, Some}
-use Rattle.base.specs.declared.pair.Pair.{Pair}
 use Rattle.envelope.specs.declared.message.Message.TheVariants.{Request, Tentative, Refused, Cancel}
 use Rattle.activities.specs.declared.commands.OrderCommand.TheVariants.{Place}
 use Rattle.activities.specs.declared.commands.StockCommand.TheVariants.{Receive}

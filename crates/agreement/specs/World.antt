@@ -1,9 +1,11 @@
 -- What may happen to three services and the envelopes between them, as a machine of events.
 use Rattle.std.specs.Prelude.{ℕ, suc, max, ◌==◌, nat_le, nat_lt, List, [], ◌∷◌, ◌++◌, length, Option, Some, None, Result, Ok, Err, slice_get, if◌then◌else◌, ⊤}
+use Rattle.std.specs.List.{AllByRecursion}
 use Rattle.base.specs.Entity.{Name, order_of, stock_of, account_of}
 use Rattle.base.specs.Order.{same_pair}
 use Rattle.base.specs.declared.entity.Kind.{Kind}
 use Rattle.base.specs.declared.entity.Kind.TheVariants.{Order, Stock, Account}
+use Rattle.base.specs.declared.limits.TheConstants.{SEATS}
 use Rattle.base.specs.declared.pair.Pair.{Pair}
 use Rattle.envelope.specs.declared.message.Message.{Message}
 use Rattle.envelope.specs.declared.message.Letter.{Letter as LetterOf}
@@ -25,14 +27,15 @@ use Rattle.activities.specs.Accounts.{account_table}
 use Rattle.agreement.specs.Journals.{Journals, sent_in, handled_in, AreLawful}
 use Rattle.agreement.specs.Envelopes.{IsAuthentic, SettledAreHandled}
 
--- the journals, what each sender marked settled, and every envelope that was ever sent
+-- the journals, what each sender marked settled, and every envelope that was ever sent, the newest first
 pub record World : Type 0 where
   pub journals : Journals
   pub settled : Pair → ℕ
   pub bag : List Envelope
 
 -- What may happen next: a seat's command to an entity, an envelope that a service sends (again), or one that arrives. An envelope is
--- lost where it never arrives; each may arrive many times, and in any order.
+-- lost where it never arrives; each may arrive many times, and in any order. `which` is its place among those that were sent, where the
+-- newest is 0. Positions and numbers have no limit here: where a service refuses at one, the event didn't happen.
 pub data Event : Type 0 where
   ToOrder : (key : List ℕ) → (seat : ℕ) → OrderCommand → Event
   ToStock : (key : List ℕ) → (seat : ℕ) → StockCommand → Event
@@ -49,7 +52,7 @@ unless_refused (Err refusal) rows row = rows
 -- a journal after a command, from one of the seats 0 to 15
 abbrev pub with_command : {S C : Type 0} → Table S C → Name → ℕ → C → List (JournalRow C) → List (JournalRow C)
 with_command t e seat command rows =
-    if nat_lt seat 16
+    if nat_lt seat SEATS
     then unless_refused (react t (state_of t rows e) (FromSeat seat command)) rows (record { entity = e; input = FromSeat seat command })
     else rows
 
@@ -63,7 +66,8 @@ with_letter js Account l = record js { accounts = js.accounts ++ record { entity
 abbrev pub with_mark : Pair → ℕ → (Pair → ℕ) → Pair → ℕ
 with_mark of count settled pair = if same_pair pair of then max (settled pair) count else settled pair
 
--- an envelope arrives: a letter is handled if it is the next of its pair, a settle is taken if so much was sent
+-- An envelope arrives: a letter is handled if it is the next of its pair, a settle is taken if so much was sent. A letter that comes too
+-- early changes nothing, and may arrive again, as one that was held does when its turn comes.
 abbrev pub arrives : World → Option Envelope → World
 arrives w None = w
 arrives w (Some (Letter l)) = if l.number == suc (handled_in w.journals l.pair) then record w { journals = with_letter w.journals l.pair.to.kind l } else w
@@ -74,6 +78,7 @@ abbrev pub sends : World → Pair → ℕ → Option Message → World
 sends w pair number None = w
 sends w pair number (Some m) = record w { bag = Letter (record { pair = pair; number = number; message = m }) ∷ w.bag }
 
+-- the world after one event
 abbrev pub happens : World → Event → World
 happens w (ToOrder key seat c) = record w { journals = record w.journals { orders = with_command order_table (order_of key) seat c w.journals.orders } }
 happens w (ToStock key seat c) = record w { journals = record w.journals { stocks = with_command stock_table (stock_of key) seat c w.journals.stocks } }
@@ -91,9 +96,9 @@ run (e ∷ es) w = run es (happens w e)
 abbrev pub nothing : World
 nothing = record { journals = record { orders = []; stocks = []; accounts = [] }; settled = λ pair. 0; bag = [] }
 
+-- each of these envelopes is authentic
 abbrev pub AreAuthentic : Journals → List Envelope → Type 0
-AreAuthentic js [] = ⊤
-AreAuthentic js (e ∷ es) = IsAuthentic js e × AreAuthentic js es
+AreAuthentic js envelopes = AllByRecursion (IsAuthentic js) envelopes
 
 -- the journals are lawful, marks are not ahead of handling, and all that was ever sent is authentic
 pub record IsGood (w : World) : Type 0 where

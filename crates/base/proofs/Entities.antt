@@ -1,9 +1,8 @@
 -- A text names one entity, and the tests for sameness decide equality.
-use Rattle.std.proofs.Common.{ℕ, List, ◌++◌, get_or, arith, ◌≡◌, refl, Bool, true, Result, Ok, Err, ap, sym, ◌∙◌}
+use Rattle.std.proofs.Common.{ℕ, List, ◌++◌, get_or, arith, ◌≡◌, refl, true, Result, Ok, Err, ap, sym, ◌∙◌}
 use Rattle.std.specs.Prelude.{IfOk, IsOkUnless}
 use Rattle.std.proofs.lemmas.Bool.{true≢false}
 use Rattle.std.specs.Bool.{Decides}
-use Rattle.std.specs.Str.{bytes_eq}
 use Rattle.std.proofs.lemmas.Bool.Decides.{Decides-and, Decides-like}
 use Rattle.std.proofs.lemmas.Slice.Eq.{bytes_eq-Decides}
 use Rattle.base.specs.declared.entity.Kind.{Kind}

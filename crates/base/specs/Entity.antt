@@ -1,7 +1,6 @@
 -- Entities: a kind and a key, and the text that names one.
-use Rattle.std.specs.Prelude.{◌≡◌, ◌≢◌, ℕ, ◌≤◌, Bool, true, false, ◌&&◌, ◌==◌, not, nat_lt, nat_le, List, [], ◌∷◌, ◌++◌, length, codes, Option, Some, None, Result, Ok, Err}
+use Rattle.std.specs.Prelude.{◌≡◌, ◌≢◌, ℕ, Bool, true, false, ◌&&◌, ◌==◌, not, nat_lt, nat_le, List, ◌++◌, length, codes, Result, Ok, Err}
 use Rattle.std.specs.List.{list_any}
-use Rattle.std.specs.Str.{bytes_eq}
 use Rattle.base.specs.declared.limits.TheConstants.{MAX_KEY}
 use Rattle.base.specs.declared.entity.Kind.{Kind}
 use Rattle.base.specs.declared.entity.Kind.TheVariants.{Order, Stock, Account}
@@ -51,14 +50,14 @@ is_key key = nat_lt 0 (length key) && nat_le (length key) MAX_KEY && not (list_a
 abbrev pub IsEntity : Name → Type 0
 IsEntity e = is_key e.key ≡ true
 
--- what reading a text answers: the entity that it names; else it has no kind, or its key is none
+-- what reading a text may answer: the entity that it names; or that it names none, for its key or for its kind; or want of memory
 abbrev pub IsReading : List ℕ → Result Name EntityFault → Type 0
 IsReading text (Ok e) = (text_of e ≡ text) × IsEntity e
 IsReading text (Err BadKind) = (e : Name) → text_of e ≢ text
 IsReading text (Err BadKey) = (e : Name) × (text_of e ≡ text) × (is_key e.key ≡ false)
 IsReading text (Err Memory) = Unit {0}
 
--- what reading a key answers
+-- what reading a key alone may answer: the text itself; or that it is none; or want of memory
 abbrev pub IsKeyReading : List ℕ → Result (List ℕ) EntityFault → Type 0
 IsKeyReading text (Ok key) = (key ≡ text) × (is_key text ≡ true)
 IsKeyReading text (Err BadKey) = is_key text ≡ false

@@ -1,7 +1,7 @@
 -- When entities and pairs are the same, and their order.
-use Rattle.std.specs.Prelude.{◌≡◌, ℕ, Bool, ◌&&◌, List, refl}
+use Rattle.std.specs.Prelude.{◌≡◌, Bool, ◌&&◌, refl}
 use Rattle.std.specs.declared.cmp.Ordering.{Ordering}
-use Rattle.std.specs.Ordering.{nat_cmp, then_cmp, on, is_eq, ordering_then, as_partial_cmp, eq_by_cmp}
+use Rattle.std.specs.Ordering.{nat_cmp, then_cmp, on, is_eq, as_partial_cmp}
 use Rattle.std.specs.Cmp.{IsEquivalence, IsPartialOrder, IsTotalOrder, on_equiv, and_equiv, then_total, on_total, both_tied, partial_order_from_agreeing_total}
 use Rattle.std.specs.Cmp.Lexicographic.{slice_cmp, on_texts, on_texts_equal, texts_ties}
 use Rattle.std.specs.Str.{bytes_eq}

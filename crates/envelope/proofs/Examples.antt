@@ -87,7 +87,7 @@ messages_are_read : (read_message (codes "{\"op\":\"confirm\"}") ≡ Some Confir
 unfolding digits
 messages_are_read = (refl, refl, refl)
 
--- an added header has a name of 1 to 128 octets, and doesn't tell the body's length
+-- a header of a SEND has a name of 1 to 128 octets, and doesn't tell the body's length
 names_are_short : (is_name (codes "receipt") ≡ true) × (is_name (codes "content-length") ≡ false) × (is_name [] ≡ false)
     × (is_name (replicate 128 97) ≡ true) × (is_name (replicate 129 97) ≡ false)
 names_are_short = (refl, refl, refl, refl, refl)

@@ -5,6 +5,7 @@ use Rattle.stomp_frame.specs.declared.fault.FrameFault.TheVariants as frame
 use Rattle.envelope.specs.declared.fault.EnvelopeFault.{EnvelopeFault}
 use Rattle.envelope.specs.declared.fault.EnvelopeFault.TheVariants.{BadEnvelope, Memory}
 
+-- a fault's number
 abbrev pub fault_number : EnvelopeFault → ℕ
 fault_number BadEnvelope = 50
 fault_number Memory = 51

@@ -7,7 +7,7 @@ use thiserror::Error;
 /// Why an envelope can't be sent or read.
 #[derive(Clone, Copy, Debug, PartialEq, Eq, Error)]
 pub enum EnvelopeFault {
-    /// A frame that carries no envelope, or a settle whose number isn't 1 to 2^40.
+    /// No envelope that a frame may carry: a settle whose number isn't 1 to 2^40.
     #[error("50 BadEnvelope: no letter and no settle with a number from 1 to 2^40")]
     BadEnvelope,
     /// A growth was refused.

@@ -13,7 +13,7 @@ pub record Failing (K : Type 0) : Type 0 where
   pub keep : K
   -- which call from now on fails, if one does
   pub armed : Option Arming
-  -- whether a call failed since the last reopening
+  -- whether a call failed because it was armed, since a reopening was last asked for
   pub is_down : Bool
   -- how many calls failed because they were armed
   pub failures : ℕ

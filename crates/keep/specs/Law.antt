@@ -3,11 +3,11 @@ use Rattle.std.specs.Prelude.{ℕ, ◌+◌, ◌-◌, ◌^◌, ◌≡◌, ◌≤�
 use Rattle.keep.specs.declared.fault.KeepFault.{KeepFault}
 use Rattle.keep.specs.declared.fault.KeepFault.TheVariants.{Failed, Memory, WrongFile}
 
--- a failure was counted; a count stays at 2^64 - 1, its last value
+-- a failure was counted, one at least; a count may stay at 2^64 - 1
 abbrev pub MoreFailures : ℕ → ℕ → Type 0
 MoreFailures before after = min (before + 1) (2 ^ 64 - 1) ≤ after
 
--- what a read or a transaction says of the keep's use and of its failures, whatever the disk did
+-- what a read or a transaction tells, whatever the disk did: whether the keep is usable then, and the counts of failures before and after
 abbrev pub IsCall : {R : Type 0} → Bool → ℕ → ℕ → Result R KeepFault → Type 0
 IsCall usable before after (Ok _) = (usable ≡ true) × (after ≡ before)
 IsCall usable before after (Err Memory) = (usable ≡ true) × (after ≡ before)
@@ -32,7 +32,7 @@ IsTransaction old new now may_leave (Err Memory) = now ≡ old
 IsTransaction old new now may_leave (Err Failed) = LeavesEither old new may_leave
 IsTransaction old new now may_leave (Err WrongFile) = ⊥
 
--- a read of what `gives` says; the tables stay
+-- a read answers a value of which `gives` holds, and the tables stay; where it failed, a stop leaves no others
 abbrev pub IsRead : {T R : Type 0} → T → (R → Type 0) → T → (T → Type 0) → Result R KeepFault → Type 0
 IsRead old gives now may_leave (Ok r) = gives r × (now ≡ old)
 IsRead old gives now may_leave (Err Memory) = now ≡ old

@@ -41,7 +41,8 @@ IsRecoveredCall usable before after (Err Memory) = (before ≤ after) × (usable
 IsRecoveredCall usable before after (Err Failed) = (usable ≡ false) × (before ≤ after) × MoreFailures before after
 IsRecoveredCall usable before after (Err WrongFile) = ⊥
 
--- the number is the one `sent` of the tables now
+-- the tables now are those of the outcome, and the number that was read is their `sent`; with an error a stop leaves the old ones or the
+-- new ones
 abbrev pub IsRecovered : {T : Type 0} → T → T → T → (T → Type 0) → ℕ → Result Recovered KeepFault → Type 0
 IsRecovered old new now may_leave sent (Ok r) = AreBy r.outcome old new now × (r.sent ≡ sent)
 IsRecovered {T} old new now may_leave sent (Err _) = (t : T) → may_leave t → AreEither old new t

@@ -111,7 +111,7 @@ impl<K: Keep + Drop> Keep for Faulty<K> {
     ghost use Rattle.keep.specs.Tables.{changed};
     ghost use Rattle.keep.specs.Law.{IsCall, IsReopenCall, IsTransaction, IsRead, IsReopening};
     ghost use Rattle.keep.specs.Listing.{AreFirst, IsDrainable, next_held};
-    ghost use Rattle.keep.specs.Failing.{due, counted_down, IsReadDue, IsTransactionDue, IsLeft, FailsAsInside};
+    ghost use Rattle.keep.specs.Failing.{due, counted_down, IsReadDue, IsTransactionDue, IsLeft};
     ghost use Rattle.keep.specs.Inside.{inside};
 
     type State = K::State;

@@ -2,7 +2,8 @@
 
 ghost use Rattle.std.specs.Prelude.{◌≡◌, ℕ, false, true, Some, MatchOption};
 ghost use Rattle.activities.specs.Applied.{IsApplied};
-ghost use Rattle.activities.specs.Orders.{in_range, on_order_message, order_table};
+ghost use Rattle.envelope.specs.Reading.{is_number};
+ghost use Rattle.activities.specs.Orders.{on_order_message, order_table};
 ghost use Rattle.activities.specs.declared.input.Input.TheVariants.{FromSeat};
 ghost use Rattle.purchasing.specs.Answer.{IsDone};
 
@@ -135,7 +136,7 @@ fn place(
 
 /// A quantity or amount, if it is one that can be asked for: from 1 to 2^40.
 fn number_in_range(value: u64) -> Option<Number>
-    ensures { MatchOption result (in_range value ≡ false) (λ n. (n ≡ value) × (in_range value ≡ true)) }
+    ensures { MatchOption result (is_number value ≡ false) (λ n. (n ≡ value) × (is_number value ≡ true)) }
 {
     Number::new(value)
 }

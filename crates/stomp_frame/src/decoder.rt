@@ -10,8 +10,8 @@ use std::marker::Model;
 
 /// Reads frames from the pieces of a text: contracts see the octets that it holds, and whether it has answered a fault.
 ///
-/// However the text is cut into pieces, its frames are the same, and its fault is. While no frame is whole, at most 101,446 octets
-/// are held. Of a frame that isn't whole, `next` reads again only its last line.
+/// However the text is cut into pieces, its frames are the same, and its fault is. Where `next` finds no whole frame, it leaves at
+/// most 101,446 octets held. Of a frame that isn't whole, `next` reads again only its last line.
 #[derive(Debug, Drop)]
 pub struct Decoder {
     alloc: Global,
@@ -79,7 +79,7 @@ impl Decoder {
     ///
     /// # Errors
     /// - `Memory` where a growth was refused, and then nothing has changed;
-    /// - the fault of the text, `UnknownCommand` to `BodyNotAllowed`, at the first octet at which no frame can go on;
+    /// - the fault of the text, `UnknownCommand` to `BodyNotAllowed`, once the octet is held at which it is found;
     /// - `Failed` at each call after that.
     pub fn next(&mut self) -> Result<Option<Frame>, FrameFault>
         ensures { Nexts MAX_BODY self.old self.new result }

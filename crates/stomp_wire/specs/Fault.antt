@@ -3,11 +3,13 @@ use Rattle.std.specs.Prelude.{◌≡◌, ℕ, ◌+◌, ◌-◌, ◌^◌, ◌≤�
 use Rattle.stomp_wire.specs.declared.fault.LinkFault.{LinkFault}
 use Rattle.stomp_wire.specs.declared.fault.LinkFault.TheVariants.{Cut, Device, Memory}
 
+-- a fault's number
 abbrev pub number_of : LinkFault → ℕ
 number_of Cut = 1
 number_of Device = 2
 number_of Memory = 3
 
+-- a fault's name
 abbrev pub name_of : LinkFault → List ℕ
 name_of Cut = codes "Cut"
 name_of Device = codes "Device"

@@ -17,7 +17,7 @@ is_passing WouldBlock = true
 is_passing Interrupted = true
 is_passing _ = false
 
--- an error other than those
+-- what an error means: nothing now where it is passing, and else that the device failed
 abbrev pub meaning_of_error : Error → Result ℕ LinkFault
 meaning_of_error error = if is_passing (error_kind error) then Ok 0 else Err Device
 

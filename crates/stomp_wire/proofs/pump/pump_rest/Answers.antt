@@ -12,7 +12,7 @@ loop-count-preserved g c =
     record {
       least = omega (arith, so_far.least);
       most = grind (arith, common_steps);
-      run = λ first start earlier. one_more (so_far.run first start earlier) (rw rest at put.gives);
+      run = λ first start earlier. one_more (so_far.run first start earlier) (rw rest at put.gives) (omega arith);
       outgoing = Appends-more c.args.gone c.loop-count.count so_far.least c.args.bytes.now c.in-Ok.some (g.L.Link.outgoing c.args.link.now) (g.L.Link.outgoing c.loop-count.link) (g.L.Link.outgoing c.put.new.self) so_far.outgoing (rw rest at put.outgoing.1);
       incoming = Keeps-twice _ _ _ so_far.incoming put.incoming;
       counted = put.counted ∙ so_far.counted;

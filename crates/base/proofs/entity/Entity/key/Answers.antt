@@ -1,4 +1,4 @@
-use Rattle.std.proofs.Common.{sym, ◌∙◌}
+use Rattle.std.proofs.Common.{◌∙◌}
 use Rattle.base.proofs.Texts.{cut_after_prefix}
 use Rattle.base.proofs.entity.Entity.key.Goals as goal
 
