@@ -1,7 +1,7 @@
 -- What is printed, piece by piece.
 use Rattle.std.proofs.Common.{◌≡◌, ℕ, suc, ◌+◌, ◌<◌, List, [], ◌∷◌, ◌++◌, length, get_or, take, drop, sym, ap, ◌∙◌, arith, add-one, drop-cons}
 use Rattle.std.specs.Prelude.{slice_get, Option, Some, None}
-use Rattle.std.specs.List.{flat_map}
+use Rattle.std.specs.List.{flat_map, enumerate_from}
 use Rattle.std.proofs.lemmas.List.{take_more, append-nil}
 use Rattle.std.proofs.lemmas.List.Concat.{flat_map-append}
 use Rattle.std.proofs.lemmas.Option.{get_or_from_slice_get, slice_get-get_or}
@@ -9,7 +9,7 @@ use Rattle.envelope.specs.declared.message.Letter.{Letter}
 use Rattle.activities.specs.declared.commands.OrderCommand.{OrderCommand}
 use Rattle.activities.specs.declared.input.JournalRow.{JournalRow}
 use Rattle.activities.specs.Orders.{Partner}
-use Rattle.programs.specs.Printed.{shown_partner, row_line, row_lines, frame_line}
+use Rattle.programs.specs.Printed.{shown_partner, row_line, frame_line}
 
 -- one item more
 pub flat_more : {X : Type 0} (f : X → List ℕ) (xs : List X) (i : ℕ) (d : X) → i < length xs → flat_map f (take (i + 1) xs) ≡ flat_map f (take i xs) ++ f (get_or xs i d)
@@ -34,9 +34,13 @@ partner_is (p ∷ ps) i lt none = no_none _ (get_or (p ∷ ps) i p) (slice_get-g
 pub letters_more : (ls : List Letter) (i : ℕ) (l : Letter) → i < length ls → l ≡ get_or ls i l → flat_map frame_line (take (i + 1) ls) ≡ flat_map frame_line (take i ls) ++ frame_line l
 letters_more ls i l lt at = flat_more frame_line ls i l lt ∙ ap (λ q. flat_map frame_line (take i ls) ++ frame_line q) (sym at)
 
+-- the lines of rows of which the first has this position
+abbrev pub lines_from : ℕ → List (JournalRow OrderCommand) → List ℕ
+lines_from pos rows = flat_map (λ at. row_line at.0 at.1) (enumerate_from pos rows)
+
 -- one row more
 pub rows_more : (pos : ℕ) (rows : List (JournalRow OrderCommand)) (i : ℕ) (row : JournalRow OrderCommand) → i < length rows → row ≡ get_or rows i row
-    → row_lines pos (drop i rows) ≡ row_line pos row ++ row_lines (pos + 1) (drop (i + 1) rows)
+    → lines_from pos (drop i rows) ≡ row_line pos row ++ lines_from (pos + 1) (drop (i + 1) rows)
 rows_more pos rows i row lt at =
     let first : drop i rows ≡ row ∷ drop (i + 1) rows = rw add-one (drop-cons rows i row lt ∙ ap (λ r. r ∷ drop (suc i) rows) (sym at)) in
-    ap (row_lines pos) first
+    ap (lines_from pos) first

@@ -1,6 +1,6 @@
 -- What is printed of entities, orders, rows and frames.
 use Rattle.std.specs.Prelude.{ℕ, ◌/◌, ◌%◌, ◌+◌, ◌==◌, ◌&&◌, nat_le, false, List, [], ◌∷◌, ◌++◌, codes, decimal, Option, Some, None, if◌then◌else◌}
-use Rattle.std.specs.List.{flat_map}
+use Rattle.std.specs.List.{flat_map, enumerate_from}
 use Rattle.std.specs.Fmt.{digit_glyph}
 use Rattle.base.specs.Entity.{Name, text_of}
 use Rattle.envelope.specs.declared.message.Message.{Message}
@@ -68,10 +68,9 @@ shown_input (FromEntity sender number message) = codes "from " ++ shown_entity s
 abbrev pub row_line : ℕ → JournalRow OrderCommand → List ℕ
 row_line pos row = decimal pos ++ codes " " ++ shown_entity row.entity ++ codes " " ++ shown_input row.input ++ 10 ∷ []
 
--- the lines of `journal`: rows of which the first has this position
-abbrev pub row_lines : ℕ → List (JournalRow OrderCommand) → List ℕ
-row_lines pos [] = []
-row_lines pos (row ∷ rows) = row_line pos row ++ row_lines (pos + 1) rows
+-- the lines of `journal`: of its rows, whose positions are 1, 2, ..
+abbrev pub row_lines : List (JournalRow OrderCommand) → List ℕ
+row_lines rows = flat_map (λ at. row_line at.0 at.1) (enumerate_from 1 rows)
 
 -- two hexadecimal digits
 abbrev pub hexadecimal_octet : ℕ → List ℕ

@@ -67,7 +67,7 @@ IsFrames journal (Err _) after = ⊥
 
 -- all rows of the journal
 abbrev pub IsJournal : Orders → Result (Vec ℕ) EndFault → Orders → Type 0
-IsJournal journal (Ok lines) after = (after ≡ journal) × (lines.items ≡ row_lines 1 journal)
+IsJournal journal (Ok lines) after = (after ≡ journal) × (lines.items ≡ row_lines journal)
 IsJournal journal (Err Memory) after = after ≡ journal
 IsJournal journal (Err _) after = ⊥
 

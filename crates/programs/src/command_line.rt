@@ -2,7 +2,7 @@
 
 ghost use Rattle.std.specs.Prelude.{◌≡◌, true, map, IfOk, IfErr, OnErr, MatchResult};
 ghost use Rattle.clap.specs.Words.{FailsBy, fault_of, kind_of, takes};
-ghost use Rattle.programs.specs.Usage.{command_line, IsStatusOf, IsUsage, IsOneKept, IsAnswered};
+ghost use Rattle.programs.specs.Usage.{command_line, IsStatusOf, IsUsage, IsCutUsage, IsAnswered};
 
 use crate::fault::RunFault;
 use crate::schedule::{run_input, tell_fault};
@@ -45,7 +45,7 @@ fn read_words<S: AsStr>(alloc: Global, words: &[S]) -> Result<(), Error>
 /// Writes what `clap` says of the words: help to `out`, a fault of usage to `err`. Answers the status.
 fn write_usage<W: Write, E: Write>(out: &mut W, err: &mut E, error: &Error) -> io::Result<u8>
     ensures told { IfOk result (IsUsage (kind_of error.now) (W.contents out.old) (W.contents out.new) (E.contents err.old) (E.contents err.new)) }
-    ensures untold { OnErr result (IsOneKept (W.contents out.old) (W.contents out.new) (E.contents err.old) (E.contents err.new)) }
+    ensures untold { OnErr result (IsCutUsage (kind_of error.now) (W.contents out.old) (W.contents out.new) (E.contents err.old) (E.contents err.new)) }
 {
     if error.kind() == ErrorKind::DisplayHelp {
         write!(out, "{error}")?;
@@ -70,7 +70,7 @@ fn status_of(answer: io::Result<u8>) -> u8
 ///
 /// The answer is the status: 0, 2 for a fault of usage, which is told on `err` as `clap` words it, and 1 for another fault, which is
 /// told on `err` too. With words that the command line takes it ends as `run_input` says, or with 1 where memory was refused over
-/// the words or `err` failed. With others nothing is run.
+/// the words or `err` failed. With others nothing is run: `input` isn't read. Help is told on `out`, with status 0.
 pub fn run_schedule<S: AsStr, R: Read, W: Write, E: Write>(
     alloc: Global,
     words: &[S],
@@ -81,7 +81,7 @@ pub fn run_schedule<S: AsStr, R: Read, W: Write, E: Write>(
     ensures taken { takes command_line (map S.text words.now) ≡ true
         → IsStatusOf (R.remaining input.old) (W.contents out.old) (W.contents out.new) (E.contents err.old) (E.contents err.new) result }
     ensures answered { IsAnswered (fault_of command_line (map S.text words.now))
-        (R.remaining input.old) (W.contents out.old) (W.contents out.new) (E.contents err.old) (E.contents err.new) result }
+        (R.remaining input.old) (R.remaining input.new) (W.contents out.old) (W.contents out.new) (E.contents err.old) (E.contents err.new) result }
 {
     let Err(error) = read_words(alloc, words) else {
         return status_of(run_input(alloc, input, out, err));

@@ -214,7 +214,7 @@ pub(crate) fn push_rows(
     rows: &[JournalRow<OrderCommand>],
 ) -> Result<(), AllocError>
     requires { length rows.now < 2 ^ 63 }
-    ensures { OnOk result (line.new.items ≡ line.old.items ++ row_lines 1 rows.now) }
+    ensures { OnOk result (line.new.items ≡ line.old.items ++ row_lines rows.now) }
 {
     let mut pos: u64 = 1;
     for row in rows {

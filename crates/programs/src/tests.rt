@@ -149,20 +149,56 @@ fn runs_ten_thousand_lines(rt: HostRuntime) -> Result<(), Fail> {
     Ok(())
 }
 
+const HELP: &str =
+    r"Runs a schedule of events, read from standard input, and prints the outcome of each line.
+
+Usage: outbox-schedule < SCHEDULE
+
+Options:
+  -h, --help  Print help
+
+Lines of a schedule:
+  place SEAT KEY STOCK N ACCOUNT AMOUNT  an order asks for N of a stock and AMOUNT of an account
+  cancel SEAT KEY                        cancels an order
+  show KIND/KEY                          shows an entity's row, as order/o1
+  frames purchasing                      shows the frames that purchasing is to send
+  journal purchasing                     shows what purchasing took in
+
+SEAT is 0 to 15. A key has 1 to 64 octets, with \s for a space, \n for LF, \r for CR and \\ for a
+backslash. Empty lines and lines that begin with # are passed over.
+";
+
+const UNKNOWN_OPTION: &str = "error: unexpected argument '--no-such-option' found
+
+Usage: outbox-schedule < SCHEDULE
+
+For more information, try '--help'.
+";
+
+const UNKNOWN_WORD: &str = "error: unexpected argument 'word' found
+
+Usage: outbox-schedule < SCHEDULE
+
+For more information, try '--help'.
+";
+
 #[test]
 fn reads_its_words(rt: HostRuntime) -> Result<(), Fail> {
-    for (words, status, told) in [
-        (["outbox-schedule", "--help"], 0, true),
-        (["outbox-schedule", "--no-such-option"], 2, false),
-        (["outbox-schedule", "word"], 2, false),
+    for (word, status, told, faulted) in [
+        ("--help", 0, HELP, ""),
+        ("-h", 0, HELP, ""),
+        ("--no-such-option", 2, "", UNKNOWN_OPTION),
+        ("word", 2, "", UNKNOWN_WORD),
     ] {
         let mut input: &[u8] = b"cancel 0 o1\n";
         let mut out = Vec::new(rt.alloc());
         let mut err = Vec::new(rt.alloc());
-        let answer = run_schedule(rt.alloc(), words.as_slice(), &mut input, &mut out, &mut err);
+        let words = ["outbox-schedule", word];
+        let answer = run_schedule(rt.alloc(), &words, &mut input, &mut out, &mut err);
         assert_eq!(rt; answer, status);
-        assert_eq!(rt; !out.is_empty(), told);
-        assert_eq!(rt; err.is_empty(), told);
+        assert_eq!(rt; str::from_utf8(out.as_slice())?, told);
+        assert_eq!(rt; str::from_utf8(err.as_slice())?, faulted);
+        assert_eq!(rt; input, b"cancel 0 o1\n".as_slice());
     }
     Ok(())
 }

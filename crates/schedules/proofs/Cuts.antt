@@ -1,20 +1,25 @@
 -- Texts that are cut at an octet.
-use Rattle.std.proofs.Common.{◌≡◌, ◌<◌, ◌≤◌, ◌-◌, ℕ, suc, ◌+◌, List, [], ◌∷◌, ◌++◌, length, get_or, take, drop, Bool, true, false, cond, eqb, refl, ap, ◌∙◌, arith, Option, Some, None, rules, ltb, inl, inr}
+use Rattle.std.proofs.Common.{◌≡◌, ◌<◌, ◌≤◌, ◌-◌, ℕ, zero, suc, ◌+◌, List, [], ◌∷◌, ◌++◌, length, get_or, take, drop, Bool, true, false, cond, eqb, refl, ap, ◌∙◌, arith, Option, Some, None, rules, ltb, inl, inr}
 use Rattle.std.specs.List.{slice_split, onto_first, position, position_or_len, before_first, after_first}
 use Rattle.std.specs.Option.{option_map}
 use Rattle.std.proofs.lemmas.Bool.{ne_eqb, eqb-false, eqb-true, ltb-true, ltb-false, cases_Bool}
 use Rattle.std.proofs.lemmas.Option.{cond_some}
 use Rattle.std.proofs.lemmas.List.Sums.{split_at_first, fails_before_first, passes_at_first}
+use Rattle.std.proofs.lemmas.List.Splits.{length-slice_split}
 use Rattle.std.proofs.lemmas.Grind.{common_steps}
 use Rattle.schedules.specs.Cuts.{Lacks}
-use Rattle.schedules.specs.Lines.{lines_of}
-use Rattle.schedules.specs.Words.{◌>>=◌, unescaped, octet_of}
+use Rattle.schedules.specs.Lines.{lines_in, lines_of}
+use Rattle.schedules.specs.Words.{meant_by, octet_then, unescaped}
 
 Lacks-head : (o x : ℕ) (xs : List ℕ) → Lacks o (x ∷ xs) → eqb x o ≡ false
 Lacks-head o x xs h = ne_eqb x o (h 0 (omega arith))
 
 Lacks-tail : (o x : ℕ) (xs : List ℕ) → Lacks o (x ∷ xs) → Lacks o xs
 Lacks-tail o x xs h = λ i l. h (suc i) (omega arith)
+
+pub Lacks-cons : (o x : ℕ) (xs : List ℕ) → eqb x o ≡ false → Lacks o xs → Lacks o (x ∷ xs)
+Lacks-cons o x xs other h zero l = eqb-false x o other
+Lacks-cons o x xs other h (suc i) l = h i (omega arith)
 
 -- the first part ends at the first such octet
 pub split_at : (o : ℕ) (xs ys : List ℕ) → Lacks o xs → slice_split (λ x. eqb x o) (xs ++ o ∷ ys) ≡ xs ∷ slice_split (λ x. eqb x o) ys
@@ -33,19 +38,19 @@ split_none o (x ∷ xs) h =
     ap (λ b. cond b ([] ∷ slice_split (λ x. eqb x o) xs) (onto_first x (slice_split (λ x. eqb x o) xs))) (Lacks-head o x xs h)
     ∙ ap (onto_first x) (split_none o xs (Lacks-tail o x xs h))
 
--- the same of lines
+-- where more parts follow, the first is a line
+line_of_part : (xs : List ℕ) (parts : List (List ℕ)) → 0 < length parts → lines_in (xs ∷ parts) ≡ xs ∷ lines_in parts
+line_of_part xs [] some = absurd (omega arith)
+line_of_part xs (part ∷ parts) some = refl
+
+some_part : (xs : List ℕ) → 0 < length (slice_split (λ x. eqb x 10) xs)
+some_part xs = omega (arith, length-slice_split (λ x. eqb x 10) xs)
+
 pub lines_at : (xs ys : List ℕ) → Lacks 10 xs → lines_of (xs ++ 10 ∷ ys) ≡ xs ∷ lines_of ys
-lines_at [] ys h = refl
-lines_at (x ∷ xs) ys h =
-    ap (λ b. cond b ([] ∷ lines_of (xs ++ 10 ∷ ys)) (onto_first x (lines_of (xs ++ 10 ∷ ys)))) (Lacks-head 10 x xs h)
-    ∙ ap (onto_first x) (lines_at xs ys (Lacks-tail 10 x xs h))
+lines_at xs ys h = ap lines_in (split_at 10 xs ys h) ∙ line_of_part xs (slice_split (λ x. eqb x 10) ys) (some_part ys)
 
 pub lines_none : (xs : List ℕ) → 0 < length xs → Lacks 10 xs → lines_of xs ≡ xs ∷ []
-lines_none [] some h = absurd (omega arith)
-lines_none (x ∷ []) some h = ap (λ b. cond b ([] ∷ []) ((x ∷ []) ∷ [])) (Lacks-head 10 x [] h)
-lines_none (x ∷ y ∷ xs) some h =
-    ap (λ b. cond b ([] ∷ lines_of (y ∷ xs)) (onto_first x (lines_of (y ∷ xs)))) (Lacks-head 10 x (y ∷ xs) h)
-    ∙ ap (onto_first x) (lines_none (y ∷ xs) (omega arith) (Lacks-tail 10 x (y ∷ xs) h))
+lines_none xs some h = ap lines_in (split_none 10 xs h) ∙ ap (λ b. cond b [] (xs ∷ [])) (ne_eqb (length xs) 0 (λ none. omega arith))
 
 front_lacks : (text : List ℕ) → Lacks 10 (before_first (λ x. eqb x 10) text)
 front_lacks text = λ i l same.
@@ -99,23 +104,28 @@ option_map-nothing : (o : Option (List ℕ)) → o ≡ option_map (λ w. [] ++ w
 option_map-nothing None = refl
 option_map-nothing (Some w) = refl
 
-pub unescaped_front : (xs ys : List ℕ) → Lacks 92 xs → unescaped false (xs ++ ys) ≡ option_map (λ w. xs ++ w) (unescaped false ys)
-unescaped_front [] ys h = option_map-nothing (unescaped false ys)
-unescaped_front (x ∷ xs) ys h =
-    ap (λ b. cond b (unescaped true (xs ++ ys)) (option_map (λ w. x ∷ w) (unescaped false (xs ++ ys)))) (Lacks-head 92 x xs h)
-    ∙ ap (option_map (λ w. x ∷ w)) (unescaped_front xs ys (Lacks-tail 92 x xs h))
-    ∙ option_map-cons x xs (unescaped false ys)
+then_is : (o : ℕ) (rest : Option (List ℕ)) → octet_then (Some o) rest ≡ option_map (λ w. o ∷ w) rest
+then_is o None = refl
+then_is o (Some rest) = refl
 
-pub unescaped_plain : (xs : List ℕ) → Lacks 92 xs → unescaped false xs ≡ Some xs
+pub unescaped_octet : (o : ℕ) (text : List ℕ) → eqb o 92 ≡ false → unescaped (o ∷ text) ≡ option_map (λ w. o ∷ w) (unescaped text)
+unescaped_octet o [] other = ap (λ b. cond b None (Some (o ∷ []))) other
+unescaped_octet o (next ∷ text) other =
+    ap (λ b. cond b (octet_then (meant_by next) (unescaped text)) (octet_then (Some o) (unescaped (next ∷ text)))) other ∙ then_is o (unescaped (next ∷ text))
+
+pub unescaped_front : (xs ys : List ℕ) → Lacks 92 xs → unescaped (xs ++ ys) ≡ option_map (λ w. xs ++ w) (unescaped ys)
+unescaped_front [] ys h = option_map-nothing (unescaped ys)
+unescaped_front (x ∷ xs) ys h =
+    unescaped_octet x (xs ++ ys) (Lacks-head 92 x xs h) ∙ ap (option_map (λ w. x ∷ w)) (unescaped_front xs ys (Lacks-tail 92 x xs h)) ∙ option_map-cons x xs (unescaped ys)
+
+pub unescaped_plain : (xs : List ℕ) → Lacks 92 xs → unescaped xs ≡ Some xs
 unescaped_plain [] h = refl
-unescaped_plain (x ∷ xs) h =
-    ap (λ b. cond b (unescaped true xs) (option_map (λ w. x ∷ w) (unescaped false xs))) (Lacks-head 92 x xs h)
-    ∙ ap (option_map (λ w. x ∷ w)) (unescaped_plain xs (Lacks-tail 92 x xs h))
+unescaped_plain (x ∷ xs) h = unescaped_octet x xs (Lacks-head 92 x xs h) ∙ ap (option_map (λ w. x ∷ w)) (unescaped_plain xs (Lacks-tail 92 x xs h))
 
 -- an escape
-pub unescaped_escape : (letter o : ℕ) (ys : List ℕ) → octet_of letter ≡ Some o → unescaped false (92 ∷ letter ∷ ys) ≡ option_map (λ w. o ∷ w) (unescaped false ys)
-unescaped_escape letter o ys e = ap (λ found. found >>= λ o. option_map (λ w. o ∷ w) (unescaped false ys)) e
+pub unescaped_escape : (letter o : ℕ) (ys : List ℕ) → meant_by letter ≡ Some o → unescaped (92 ∷ letter ∷ ys) ≡ option_map (λ w. o ∷ w) (unescaped ys)
+unescaped_escape letter o ys e = ap (λ found. octet_then found (unescaped ys)) e ∙ then_is o (unescaped ys)
 
-pub unescaped_bad : (after : List ℕ) → ((letter : ℕ) (rest : List ℕ) → after ≡ letter ∷ rest → octet_of letter ≡ None) → unescaped false (92 ∷ after) ≡ None
+pub unescaped_bad : (after : List ℕ) → ((letter : ℕ) (rest : List ℕ) → after ≡ letter ∷ rest → meant_by letter ≡ None) → unescaped (92 ∷ after) ≡ None
 unescaped_bad [] bad = refl
-unescaped_bad (letter ∷ rest) bad = ap (λ found. found >>= λ o. option_map (λ w. o ∷ w) (unescaped false rest)) (bad letter rest refl)
+unescaped_bad (letter ∷ rest) bad = ap (λ found. octet_then found (unescaped rest)) (bad letter rest refl)

@@ -1,5 +1,5 @@
 -- Examples: the lines of a schedule, their words and numbers, and the events that they are.
-use Rattle.std.proofs.Common.{◌≡◌, ℕ, List, [], ◌∷◌, ◌++◌, refl}
+use Rattle.std.proofs.Common.{◌≡◌, ℕ, true, false, List, [], ◌∷◌, ◌++◌, refl}
 use Rattle.std.specs.Prelude.{codes, Option, Some, None, Ok, Err}
 use Rattle.std.specs.Str.{is_utf8, chars}
 use Rattle.base.specs.Entity.{order_of, stock_of}
@@ -7,20 +7,29 @@ use Rattle.activities.specs.declared.commands.OrderCommand.TheVariants.{Place, C
 use Rattle.schedules.specs.declared.event.Event.{Event}
 use Rattle.schedules.specs.declared.event.Event.TheVariants.{Order, Show, Frames, Journal}
 use Rattle.schedules.specs.declared.event.Service.TheVariants.{Purchasing}
-use Rattle.schedules.specs.Events.{event_in, event_on, events_of}
-use Rattle.schedules.specs.Lines.{lines_of}
+use Rattle.schedules.specs.Events.{event_in, event_on, is_faulty, events_on, events_of}
+use Rattle.schedules.specs.Lines.{lines_of, ended}
 use Rattle.schedules.specs.Numbers.{number_of, seat_number}
-use Rattle.schedules.specs.Words.{word_of, words_of, escaped}
+use Rattle.schedules.specs.Words.{unescaped, word_of, words_of, escaped}
 
--- the last line may lack its LF, and an empty line is one
+-- the last line may lack its LF, and an empty line is one where LF ends it
 lines_end_in_lf : (lines_of (codes "a\n\nbc\n") ≡ codes "a" ∷ [] ∷ codes "bc" ∷ []) × (lines_of (codes "a\n\nbc") ≡ codes "a" ∷ [] ∷ codes "bc" ∷ [])
-    × (lines_of [] ≡ [])
-lines_end_in_lf = (refl, refl, refl)
+    × (lines_of (codes "\n") ≡ [] ∷ []) × (lines_of [] ≡ [])
+lines_end_in_lf = (refl, refl, refl, refl)
+
+-- lines are written with LF behind each
+lines_are_ended : (ended (codes "a" ∷ [] ∷ codes "bc" ∷ []) ≡ codes "a\n\nbc\n") × (ended [] ≡ [])
+lines_are_ended = (refl, refl)
 
 -- \\ is a backslash, \n is LF, \r is CR, \s is a space
 escapes_are_four : (word_of (codes "a\\\\b\\nc\\rd\\se") ≡ Some (codes "a\\b\nc" ++ 13 ∷ codes "d e"))
     × (escaped (codes "a\\b\nc" ++ 13 ∷ codes "d e") ≡ codes "a\\\\b\\nc\\rd\\se")
 escapes_are_four = (refl, refl)
+
+-- a backslash behind a backslash begins no escape
+escapes_are_read_in_turn : (unescaped (codes "\\\\n") ≡ Some (codes "\\n")) × (unescaped (codes "\\\\\\n") ≡ Some (codes "\\\n"))
+    × (unescaped (codes "\\\\\\") ≡ None) × (unescaped [] ≡ Some [])
+escapes_are_read_in_turn = (refl, refl, refl, refl)
 
 -- there is no escape \t, a backslash doesn't end a word, and no word is empty
 wrong_words_are_none : (word_of (codes "a\\tb") ≡ None) × (word_of (codes "a\\") ≡ None) × (word_of [] ≡ None)
@@ -73,13 +82,19 @@ lines_are_utf8 : (event_on (codes "# " ++ 195 ∷ 169 ∷ []) ≡ Some None) × 
 unfolding is_utf8 chars lib.Utf8.encode
 lines_are_utf8 = (refl, refl)
 
+-- lines that are quiet have no event, and aren't faulty
+quiet_lines_are_passed : (events_on (codes "# two events" ∷ codes "cancel 0 o1" ∷ [] ∷ codes "journal purchasing" ∷ []) ≡ Order 0 (order_of (codes "o1")) CancelOrder ∷ Journal Purchasing ∷ [])
+    × (is_faulty [] ≡ false) × (is_faulty (codes "# a") ≡ false) × (is_faulty (codes "journal") ≡ true)
+unfolding is_utf8 chars lib.Utf8.encode
+quiet_lines_are_passed = (refl, refl, refl, refl)
+
 -- a schedule is its events in order
 a_schedule_is_read : events_of (codes "# two events\ncancel 0 o1\n\njournal purchasing\n")
     ≡ Ok (Order 0 (order_of (codes "o1")) CancelOrder ∷ Journal Purchasing ∷ [])
 unfolding is_utf8 chars lib.Utf8.encode
 a_schedule_is_read = refl
 
--- the first faulty line is told by its number, which counts from 1
-the_first_fault_is_told : events_of (codes "cancel 0 o1\ncancel 0\njournal\n") ≡ Err 2
+-- the first faulty line is told by its number, which counts from 1, also over quiet lines
+the_first_fault_is_told : (events_of (codes "cancel 0 o1\ncancel 0\njournal\ncancel 1 o1\n") ≡ Err 2) × (events_of (codes "journal") ≡ Err 1) × (events_of (codes "\n# a\ncancel 0 o1\njournal\n") ≡ Err 4)
 unfolding is_utf8 chars lib.Utf8.encode
-the_first_fault_is_told = refl
+the_first_fault_is_told = (refl, refl, refl)

@@ -5,7 +5,7 @@ use Rattle.schedules.specs.declared.fault.LineFault.{LineFault}
 use Rattle.schedules.specs.declared.fault.LineFault.TheVariants.{Bad, Memory}
 use Rattle.schedules.specs.Reading.{Fails}
 use Rattle.schedules.specs.Cuts.{Lacks}
-use Rattle.schedules.specs.Words.{◌>>=◌, octet_of, unescaped, word_of, words_in, words_of}
+use Rattle.schedules.specs.Words.{◌>>=◌, meant_by, unescaped, word_of, words_in, words_of}
 use Rattle.schedules.proofs.Cuts.{split_at, split_none, unescaped_front, unescaped_plain, unescaped_escape, unescaped_bad}
 
 joined : {A : Type 0} (xs ys : List A) (o : Option (List A)) → option_map (λ w. xs ++ w) (option_map (λ w. ys ++ w) o) ≡ option_map (λ w. (xs ++ ys) ++ w) o
@@ -13,7 +13,7 @@ joined xs ys None = refl
 joined xs ys (Some w) = ap Some (sym (append_assoc xs ys w))
 
 -- a part that isn't empty is read octet by octet
-pub word_is : (part : List ℕ) → eqb (length part) 0 ≡ false → word_of part ≡ unescaped false part
+pub word_is : (part : List ℕ) → eqb (length part) 0 ≡ false → word_of part ≡ unescaped part
 word_is [] some = absurd cc
 word_is (o ∷ os) some = refl
 
@@ -23,22 +23,22 @@ nothing_read done None empty = refl
 nothing_read done (Some w) empty = ap (λ d. Some (d ++ w)) empty
 
 -- one escape more
-pub word_goes_on : (done before more rest after : List ℕ) (letter o : ℕ) (whole : Option (List ℕ)) → Lacks 92 before → rest ≡ before ++ 92 ∷ after → after ≡ letter ∷ more → octet_of letter ≡ Some o
-    → option_map (λ w. done ++ w) (unescaped false rest) ≡ whole → option_map (λ w. ((done ++ before) ++ o ∷ []) ++ w) (unescaped false more) ≡ whole
+pub word_goes_on : (done before more rest after : List ℕ) (letter o : ℕ) (whole : Option (List ℕ)) → Lacks 92 before → rest ≡ before ++ 92 ∷ after → after ≡ letter ∷ more → meant_by letter ≡ Some o
+    → option_map (λ w. done ++ w) (unescaped rest) ≡ whole → option_map (λ w. ((done ++ before) ++ o ∷ []) ++ w) (unescaped more) ≡ whole
 word_goes_on done before more rest after letter o whole lacks cut first known told =
-    let here : unescaped false rest ≡ option_map (λ w. before ++ w) (option_map (λ w. o ∷ w) (unescaped false more)) =
-    ap (unescaped false) (cut ∙ ap (λ t. before ++ 92 ∷ t) first) ∙ unescaped_front before (92 ∷ letter ∷ more) lacks ∙ ap (option_map (λ w. before ++ w)) (unescaped_escape letter o more known) in
-    sym (joined (done ++ before) (o ∷ []) (unescaped false more)) ∙ sym (joined done before (option_map (λ w. o ∷ w) (unescaped false more))) ∙ ap (option_map (λ w. done ++ w)) (sym here) ∙ told
+    let here : unescaped rest ≡ option_map (λ w. before ++ w) (option_map (λ w. o ∷ w) (unescaped more)) =
+    ap unescaped (cut ∙ ap (λ t. before ++ 92 ∷ t) first) ∙ unescaped_front before (92 ∷ letter ∷ more) lacks ∙ ap (option_map (λ w. before ++ w)) (unescaped_escape letter o more known) in
+    sym (joined (done ++ before) (o ∷ []) (unescaped more)) ∙ sym (joined done before (option_map (λ w. o ∷ w) (unescaped more))) ∙ ap (option_map (λ w. done ++ w)) (sym here) ∙ told
 
 -- no escape is left
-pub word_ends : (done rest : List ℕ) (whole : Option (List ℕ)) → Lacks 92 rest → option_map (λ w. done ++ w) (unescaped false rest) ≡ whole → whole ≡ Some (done ++ rest)
+pub word_ends : (done rest : List ℕ) (whole : Option (List ℕ)) → Lacks 92 rest → option_map (λ w. done ++ w) (unescaped rest) ≡ whole → whole ≡ Some (done ++ rest)
 word_ends done rest whole lacks told = sym told ∙ ap (option_map (λ w. done ++ w)) (unescaped_plain rest lacks)
 
 -- a backslash begins no escape
-pub word_is_bad : (done before rest after : List ℕ) (whole : Option (List ℕ)) → Lacks 92 before → rest ≡ before ++ 92 ∷ after → ((letter : ℕ) (more : List ℕ) → after ≡ letter ∷ more → octet_of letter ≡ None)
-    → option_map (λ w. done ++ w) (unescaped false rest) ≡ whole → whole ≡ None
+pub word_is_bad : (done before rest after : List ℕ) (whole : Option (List ℕ)) → Lacks 92 before → rest ≡ before ++ 92 ∷ after → ((letter : ℕ) (more : List ℕ) → after ≡ letter ∷ more → meant_by letter ≡ None)
+    → option_map (λ w. done ++ w) (unescaped rest) ≡ whole → whole ≡ None
 word_is_bad done before rest after whole lacks cut bad told =
-    sym told ∙ ap (option_map (λ w. done ++ w)) (ap (unescaped false) cut ∙ unescaped_front before (92 ∷ after) lacks ∙ ap (option_map (λ w. before ++ w)) (unescaped_bad after bad))
+    sym told ∙ ap (option_map (λ w. done ++ w)) (ap unescaped cut ∙ unescaped_front before (92 ∷ after) lacks ∙ ap (option_map (λ w. before ++ w)) (unescaped_bad after bad))
 
 -- the words of a line that a space cuts
 words_at : (part after : List ℕ) → Lacks 32 part → words_of (part ++ 32 ∷ after) ≡ (word_of part >>= λ word. option_map (λ words. word ∷ words) (words_of after))

@@ -1,7 +1,7 @@
 -- The events of a schedule, and the first line that is none.
-use Rattle.std.specs.Prelude.{ℕ, ◌+◌, nat_eq, ◌==◌, Bool, List, [], ◌∷◌, ◌++◌, codes, drop, length, slice_index, ◌||◌, Option, Some, None, Result, Ok, Err, if◌then◌else◌}
-use Rattle.std.specs.List.{starts_with}
-use Rattle.std.specs.Option.{option_map}
+use Rattle.std.specs.Prelude.{ℕ, ◌+◌, nat_eq, ◌==◌, Bool, List, [], ◌∷◌, codes, drop, length, slice_index, ◌||◌, Option, Some, None, is_none, Result, Ok, Err, if◌then◌else◌}
+use Rattle.std.specs.List.{starts_with, list_any, before_first, filter_map}
+use Rattle.std.specs.Option.{option_map, option_flatten}
 use Rattle.std.specs.Str.{is_utf8, bytes_eq}
 use Rattle.base.specs.Entity.{Name, order_of, stock_of, account_of, is_key, prefix_of}
 use Rattle.base.specs.declared.entity.Kind.TheVariants.{Order, Stock, Account}
@@ -94,25 +94,15 @@ event_in line = if is_quiet line then Some None else option_map Some (words_of l
 abbrev pub event_on : List ℕ → Option (Option Event)
 event_on line = if is_utf8 line then event_in line else None
 
--- the event, where there is one
-abbrev pub option_to_events : Option Event → List Event
-option_to_events None = []
-option_to_events (Some event) = event ∷ []
+-- whether a line is faulty: it isn't UTF-8, or is neither quiet nor an event
+abbrev pub is_faulty : List ℕ → Bool
+is_faulty line = is_none (event_on line)
 
-abbrev pub with_front : {A B : Type 0} → List A → Result (List A) B → Result (List A) B
-with_front front (Ok xs) = Ok (front ++ xs)
-with_front front (Err e) = Err e
+-- the events of lines in order, of which quiet ones have none
+abbrev pub events_on : List (List ℕ) → List Event
+events_on lines = filter_map (λ line. option_flatten (event_on line)) lines
 
--- what a line of this number has, and what the lines behind it have; a faulty line is told first
-abbrev pub events_then : ℕ → Option (Option Event) → Result (List Event) ℕ → Result (List Event) ℕ
-events_then number None rest = Err number
-events_then number (Some found) rest = with_front (option_to_events found) rest
-
--- the events on lines of which the first has this number, or the number of the first faulty one
-abbrev pub events_from : ℕ → List (List ℕ) → Result (List Event) ℕ
-events_from number [] = Ok []
-events_from number (line ∷ lines) = events_then number (event_on line) (events_from (number + 1) lines)
-
--- the events of a schedule, or the number of its first faulty line; lines are counted from 1
+-- the events of a schedule; where a line is faulty, the number of the first such line: one more than there are lines before it
 abbrev pub events_of : List ℕ → Result (List Event) ℕ
-events_of text = events_from 1 (lines_of text)
+events_of text = if list_any is_faulty (lines_of text) then Err (length (before_first is_faulty (lines_of text)) + 1)
+    else Ok (events_on (lines_of text))

@@ -1,5 +1,5 @@
 -- The words of a line: what is read, and what is printed.
-use Rattle.std.specs.Prelude.{ℕ, ◌==◌, Bool, true, false, List, [], ◌∷◌, codes, Option, Some, None, if◌then◌else◌}
+use Rattle.std.specs.Prelude.{ℕ, ◌==◌, List, [], ◌∷◌, codes, Option, Some, None, if◌then◌else◌}
 use Rattle.std.specs.List.{slice_split, flat_map}
 use Rattle.std.specs.Option.{option_map}
 
@@ -9,25 +9,31 @@ abbrev pub ◌>>=◌ : {A B : Type 0} → Option A → (A → Option B) → Opti
 (Some x) >>= f = f x
 None >>= f = None
 
--- what stands for an octet behind a backslash
-abbrev pub octet_of : ℕ → Option ℕ
-octet_of letter =
+-- the octet that a letter behind a backslash means: n means LF, r CR, s a space, a backslash itself
+abbrev pub meant_by : ℕ → Option ℕ
+meant_by letter =
     if letter == 92 then Some 92 else
     if letter == 110 then Some 10 else
     if letter == 114 then Some 13 else
     if letter == 115 then Some 32 else None
 
--- what octets stand for, right behind a backslash or not; nothing where a backslash begins no escape
-abbrev pub unescaped : Bool → List ℕ → Option (List ℕ)
-unescaped false [] = Some []
-unescaped false (o ∷ os) = if o == 92 then unescaped true os else option_map (λ w. o ∷ w) (unescaped false os)
-unescaped true [] = None
-unescaped true (letter ∷ os) = octet_of letter >>= λ o. option_map (λ w. o ∷ w) (unescaped false os)
+-- an octet and what follows it, where both mean something
+abbrev pub octet_then : Option ℕ → Option (List ℕ) → Option (List ℕ)
+octet_then None rest = None
+octet_then (Some o) None = None
+octet_then (Some o) (Some rest) = Some (o ∷ rest)
 
--- the word that stands between two spaces
+-- What a text with escapes means. An empty text means itself; a backslash and a letter mean what the letter means, and what follows; any
+-- other octet means itself, and what follows. A backslash at the end or before another letter means nothing.
+abbrev pub unescaped : List ℕ → Option (List ℕ)
+unescaped [] = Some []
+unescaped (o ∷ []) = if o == 92 then None else Some (o ∷ [])
+unescaped (o ∷ next ∷ text) = if o == 92 then octet_then (meant_by next) (unescaped text) else octet_then (Some o) (unescaped (next ∷ text))
+
+-- the word that stands between two spaces: what the text there means; an empty text is no word
 abbrev pub word_of : List ℕ → Option (List ℕ)
 word_of [] = None
-word_of (o ∷ os) = unescaped false (o ∷ os)
+word_of (o ∷ os) = unescaped (o ∷ os)
 
 -- the words of the parts of a line
 abbrev pub words_in : List (List ℕ) → Option (List (List ℕ))

@@ -1,6 +1,8 @@
-//! What holds of all words and numbers: each law is the contract of a function with nothing to do.
+//! What holds of all lines, words and numbers: each law is the contract of a function with nothing to do.
 
-ghost use Rattle.std.specs.Prelude.{◌≡◌, ◌<◌, ◌^◌, ℕ, List, Some, length, decimal};
+ghost use Rattle.std.specs.Prelude.{◌≡◌, ◌<◌, ◌^◌, ◌∷◌, [], ◌++◌, ℕ, List, All, Some, length, decimal};
+ghost use Rattle.schedules.specs.Cuts.{Lacks};
+ghost use Rattle.schedules.specs.Lines.{lines_of, ended};
 ghost use Rattle.schedules.specs.Numbers.{number_of};
 ghost use Rattle.schedules.specs.Words.{word_of, escaped};
 
@@ -13,4 +15,12 @@ pub fn a_number_has_one_word()
 /// A word that is printed with its escapes is read again.
 pub fn a_printed_word_is_read_again()
     ensures { (word : List ℕ) → 0 < length word → word_of (escaped word) ≡ Some word }
+{}
+
+/// Lines without LF that are written one after another, each ended by LF, are read again; so are those whose last, which isn't empty, lacks
+/// its LF. Each text is written so.
+pub fn written_lines_are_read_again()
+    ensures ended { (lines : List (List ℕ)) → All (Lacks 10) lines → lines_of (ended lines) ≡ lines }
+    ensures unended { (lines : List (List ℕ)) (last : List ℕ) → All (Lacks 10) lines → Lacks 10 last → 0 < length last → lines_of (ended lines ++ last) ≡ lines ++ last ∷ [] }
+    ensures each { (text : List ℕ) → (lines : List (List ℕ)) × (last : List ℕ) × All (Lacks 10) lines × Lacks 10 last × (text ≡ ended lines ++ last) }
 {}

@@ -1,7 +1,7 @@
 //! Schedules, read from text.
 
-ghost use Rattle.std.specs.Prelude.{◌≡◌, ◌<◌, ◌∷◌, ◌++◌, ◌==◌, length, position, OnOk};
-ghost use Rattle.schedules.specs.Events.{seat_of, key_of, entity_of, service_of, placing_of, place_of, cancel_of, show_of, the_service, event_of, is_quiet, event_in, event_on, option_to_events};
+ghost use Rattle.std.specs.Prelude.{◌≡◌, ◌<◌, ◌∷◌, ◌++◌, ◌==◌, length, position, option_to_list, OnOk};
+ghost use Rattle.schedules.specs.Events.{seat_of, key_of, entity_of, service_of, placing_of, place_of, cancel_of, show_of, the_service, event_of, is_quiet, event_in, event_on};
 ghost use Rattle.schedules.specs.Numbers.{number_of};
 ghost use Rattle.schedules.specs.Lines.{lines_of};
 ghost use Rattle.schedules.specs.Reading.{Reads};
@@ -208,7 +208,7 @@ fn first_line(text: &[u8]) -> (&[u8], &[u8])
 
 /// Puts the event of a line behind the others, where it has one.
 fn add(events: &mut Vec<Event>, found: Option<Event>) -> Result<(), AllocError>
-    ensures { OnOk result (events.new.items ≡ events.old.items ++ option_to_events found) }
+    ensures { OnOk result (events.new.items ≡ events.old.items ++ option_to_list found) }
 {
     if let Some(event) = found {
         events.push(event)?;
