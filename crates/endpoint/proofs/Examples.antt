@@ -17,11 +17,13 @@ use Rattle.activities.specs.declared.phase.Phase.TheVariants.{Requested}
 use Rattle.activities.specs.declared.phase.Status.TheVariants.{Open}
 use Rattle.activities.specs.Orders.{OrderState, order_table}
 use Rattle.activities.specs.Reaction.{messages_to}
+use Rattle.keep.specs.declared.change.Change.TheVariants.{Sent}
 use Rattle.endpoint.specs.declared.fault.EndFault.TheVariants.{NotMine, Business, TooEarly, StoreFailed, Memory, Unusable, NumberLimit, NotSent}
 use Rattle.endpoint.specs.Answers.{CommitAt, ViewAt, NumbersFit, sent_counts, reaction}
 use Rattle.endpoint.specs.Calls.{HasFailed, IsServed}
 use Rattle.endpoint.specs.Faults.{number_of}
 use Rattle.endpoint.specs.Matches.{unsettled_of}
+use Rattle.endpoint.specs.Steps.{numbering}
 
 abbrev pub o1 : Name
 o1 = order_of (codes "o1")
@@ -54,6 +56,15 @@ both_requests_are_unsettled = (refl, refl, refl, refl)
 a_settled_request_is_gone : unsettled_of order_table (placing ∷ []) (λ _. 1) (from_order bolts) 1 ≡ None
 unfolding same_entity
 a_settled_request_is_gone = refl
+
+abbrev requests : List Out
+requests = record { receiver = bolts; message = Request 1 } ∷ record { receiver = acme; message = Request 2 } ∷ record { receiver = bolts; message = Request 3 } ∷ []
+
+-- where 5 were sent on each pair, two more to one receiver have the numbers 6 and 7, and the one between them, to another, has 6
+each_letter_has_the_next_number : numbering {S = OrderState} {C = OrderCommand} (λ _. 5) o1 requests
+    ≡ Sent (record { pair = from_order bolts; number = 6; message = Request 1 }) ∷ Sent (record { pair = from_order acme; number = 6; message = Request 2 }) ∷ Sent (record { pair = from_order bolts; number = 7; message = Request 3 }) ∷ []
+unfolding same_entity
+each_letter_has_the_next_number = refl
 
 -- to one receiver go no more messages than are sent
 few : (r : Name) (outs : List Out) → length (messages_to r outs) ≤ length outs

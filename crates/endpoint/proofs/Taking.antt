@@ -55,7 +55,7 @@ state_or-row_of table is_none law (input ∷ inputs) = row_state table.opening (
 module _ {S C : Type 0} (table : Table S C) (is_none : S → Bool) (kind : Kind) (window : ℕ) (old : Tables S C) (row : JournalRow C) (first : List (Change S C)) (done : S × List Out) where
   -- the tables after all changes of a row that is taken in
   abbrev pub taken : Tables S C
-  taken = changed ((first ++ numbering old.sent row.entity [] done.1) ++ State row.entity (row_for is_none done.0) ∷ Journal row ∷ []) old
+  taken = changed ((first ++ numbering old.sent row.entity done.1) ++ State row.entity (row_for is_none done.0) ∷ Journal row ∷ []) old
 
   -- tables that match this journal
   record Matches (j : List (JournalRow C)) (t : Tables S C) : Type 0 where
@@ -101,18 +101,18 @@ module _ {S C : Type 0} (table : Table S C) (is_none : S → Bool) (kind : Kind)
         let j = old.journal in
         let f = sent_of table j in
         let ready : Tables S C = changed first old in
-        let letters : List (Change S C) = numbering old.sent e [] done.1 in
+        let letters : List (Change S C) = numbering old.sent e done.1 in
         let rest : List (Change S C) = State e (row_for is_none done.0) ∷ Journal row ∷ [] in
         let u : Tables S C = changed letters ready in
         let v : Tables S C = changed rest u in
         let split : taken ≡ v = changed-append (first ++ letters) rest old ∙ ap (changed rest) (changed-append first letters old) in
-        let journal : u.journal ≡ j = numbering-keeps (λ (t : Tables S C). t.journal) (λ _ _. refl) old.sent e [] done.1 ready ∙ prep.journal in
-        let entity : u.entity ≡ old.entity = numbering-keeps (λ (t : Tables S C). t.entity) (λ _ _. refl) old.sent e [] done.1 ready ∙ prep.entity in
-        let settled : u.settled ≡ old.settled = numbering-keeps (λ (t : Tables S C). t.settled) (λ _ _. refl) old.sent e [] done.1 ready ∙ prep.settled in
-        let handled : u.handled ≡ ready.handled = numbering-keeps (λ (t : Tables S C). t.handled) (λ _ _. refl) old.sent e [] done.1 ready in
-        let held : u.held ≡ ready.held = numbering-keeps (λ (t : Tables S C). t.held) (λ _ _. refl) old.sent e [] done.1 ready in
+        let journal : u.journal ≡ j = numbering-keeps (λ (t : Tables S C). t.journal) (λ _ _. refl) old.sent e done.1 ready ∙ prep.journal in
+        let entity : u.entity ≡ old.entity = numbering-keeps (λ (t : Tables S C). t.entity) (λ _ _. refl) old.sent e done.1 ready ∙ prep.entity in
+        let settled : u.settled ≡ old.settled = numbering-keeps (λ (t : Tables S C). t.settled) (λ _ _. refl) old.sent e done.1 ready ∙ prep.settled in
+        let handled : u.handled ≡ ready.handled = numbering-keeps (λ (t : Tables S C). t.handled) (λ _ _. refl) old.sent e done.1 ready in
+        let held : u.held ≡ ready.held = numbering-keeps (λ (t : Tables S C). t.held) (λ _ _. refl) old.sent e done.1 ready in
         let before : IsOutbox ready (λ q. f q ++ own e [] q) = outbox-same ready f (λ q. f q ++ own e [] q) (λ q. none_sent (f q) (same_entity q.from e)) (ready_outbox h prep) in
-        let numbered : IsOutbox u (λ q. f q ++ own e done.1 q) = numbering-outbox old.sent e f h.sent [] done.1 ready before in
+        let numbered : IsOutbox u (λ q. f q ++ own e done.1 q) = numbering-outbox old.sent e f h.sent done.1 ready before in
         let after : List (JournalRow C) = j ++ row ∷ [] in
         let outbox : IsOutbox u (sent_of table after) = outbox-same u (λ q. f q ++ own e done.1 q) (sent_of table after) (λ q. sym (sent_of-more table j row done accepted q)) numbered in
         let longer : v.journal ≡ after = ap (λ l. l ++ row ∷ []) journal in

@@ -8,7 +8,7 @@ use Rattle.keep.specs.Law.{MoreFailures}
 use Rattle.endpoint.specs.declared.fault.EndFault.{EndFault}
 use Rattle.endpoint.specs.declared.fault.EndFault.TheVariants.{NotMine, Business, TooEarly, StoreFailed, Memory, Unusable, NumberLimit, NotSent}
 use Rattle.endpoint.specs.Answers.{CommitAt}
-use Rattle.endpoint.specs.Calls.{Appends}
+use Rattle.endpoint.specs.Calls.{IsServed, IsRefusedFailed, Appends}
 use Rattle.endpoint.specs.declared.attempt.Attempt.{Attempt}
 use Rattle.endpoint.specs.declared.attempt.Attempt.TheVariants.{Taken, Left, Open}
 
@@ -35,16 +35,16 @@ module _ {E : Type 0} (usable : E → Bool) (failures : E → ℕ) (old new : E)
   IsFindCall (Err StoreFailed) = (usable new ≡ false) × HasMoreFailures
   IsFindCall (Err _) = ⊥
 
-  -- What a command that is given once tells, whatever the disk did: where it was taken in or refused the endpoint is usable, a fault of
-  -- the store is counted, and an endpoint that wasn't usable is as it was.
+  -- What a command that is given once tells, whatever the disk did: where it was taken in or refused the endpoint was usable and is, a
+  -- fault of the store is counted, and an endpoint that wasn't usable is as it was.
   abbrev pub IsAttemptCall : Attempt → Type 0
-  IsAttemptCall (Taken _) = (usable new ≡ true) × (failures old ≤ failures new)
-  IsAttemptCall (Left NotMine) = (usable new ≡ true) × (failures new ≡ failures old)
-  IsAttemptCall (Left (Business refusal)) = (usable new ≡ true) × (failures new ≡ failures old)
-  IsAttemptCall (Left NumberLimit) = (usable new ≡ true) × (failures new ≡ failures old)
-  IsAttemptCall (Left Memory) = (usable new ≡ true) × (failures new ≡ failures old)
+  IsAttemptCall (Taken _) = (usable old ≡ true) × (usable new ≡ true) × (failures old ≤ failures new)
+  IsAttemptCall (Left NotMine) = IsServed usable failures old new
+  IsAttemptCall (Left (Business refusal)) = IsServed usable failures old new
+  IsAttemptCall (Left NumberLimit) = IsServed usable failures old new
+  IsAttemptCall (Left Memory) = IsServed usable failures old new
   IsAttemptCall (Left StoreFailed) = (usable old ≡ true) × HasMoreFailures
-  IsAttemptCall (Left Unusable) = (usable old ≡ false) × (new ≡ old)
+  IsAttemptCall (Left Unusable) = IsRefusedFailed usable failures old new
   IsAttemptCall (Left TooEarly) = ⊥
   IsAttemptCall (Left NotSent) = ⊥
   IsAttemptCall (Open Memory) = (usable old ≡ true) × HasMoreFailures

@@ -14,13 +14,13 @@ use Rattle.keep.specs.Tables.{Tables, Messages}
 abbrev pub above : ℕ → List Message → ℕ → Option Message
 above mark messages n = if nat_lt mark n then nth messages n else None
 
--- what a journal sends and isn't settled by these marks
+-- what a journal sends and isn't settled by these marks, by pair and number
 abbrev pub unsettled_of : {S C : Type 0} → Table S C → List (JournalRow C) → (Pair → ℕ) → Messages
 unsettled_of table journal settled pair n = above (settled pair) (sent_of table journal pair) n
 
 -- The tables are those of their journal, which is legal. An entity has a row exactly where it took something in and its state isn't none,
--- and the row is its state. Of a pair the last number sent is kept, and the messages that it was sent but those up to its settled mark;
--- how many letters were handled; and held letters, with numbers from the one after that to `window` above it.
+-- and the row is its state. Of a pair the last number sent is kept; a settled mark that isn't above it, and the messages sent but those up
+-- to the mark; how many letters were handled; and held letters, with numbers from the one after that to `window` above it.
 pub record TablesMatchJournal {S C : Type 0} (table : Table S C) (is_none : S → Bool) (kind : Kind) (window : ℕ) (t : Tables S C) : Type 0 where
   pub legal : IsLegal table kind t.journal
   pub entities : (e : Name) → t.entity e ≡ row_of is_none (state_of table t.journal e) (part e t.journal)

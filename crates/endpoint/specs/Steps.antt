@@ -1,5 +1,6 @@
 -- What the parts of a call do: reads of the store, and one transaction.
-use Rattle.std.specs.Prelude.{◌≡◌, ℕ, ◌+◌, ◌≤◌, ◌<◌, List, [], ◌∷◌, ◌++◌, length, Bool, true, false, Option, Some, None, IsSome, Result, Ok, Err, if◌then◌else◌}
+use Rattle.std.specs.Prelude.{◌≡◌, ℕ, ◌+◌, ◌≤◌, ◌<◌, List, [], ◌∷◌, ◌++◌, length, map, take, Bool, true, false, Option, Some, None, IsSome, Result, Ok, Err, if◌then◌else◌}
+use Rattle.std.specs.List.{enumerate_from}
 use Rattle.base.specs.Entity.{Name}
 use Rattle.base.specs.declared.pair.Pair.{Pair}
 use Rattle.envelope.specs.declared.message.Letter.{Letter}
@@ -27,6 +28,7 @@ IsPartFault usable before after TooEarly = ⊥
 IsPartFault usable before after Unusable = ⊥
 IsPartFault usable before after NotSent = ⊥
 
+-- the same of its whole answer
 abbrev pub IsPartCall : {R : Type 0} → Bool → ℕ → ℕ → Result R EndFault → Type 0
 IsPartCall usable before after (Ok _) = (usable ≡ true) × (after ≡ before)
 IsPartCall usable before after (Err fault) = IsPartFault usable before after fault
@@ -42,6 +44,7 @@ IsReadFault old now may_leave Passes TooEarly = ⊥
 IsReadFault old now may_leave Passes Unusable = ⊥
 IsReadFault old now may_leave Passes NotSent = ⊥
 
+-- the same of its whole answer: a value of which something holds, and the tables as they were
 abbrev pub IsPartRead : {T R : Type 0} → T → T → (T → Type 0) → (R → Type 0) → Type 0 → Result R EndFault → Type 0
 IsPartRead old now may_leave gives Passes (Ok value) = gives value × (now ≡ old)
 IsPartRead old now may_leave gives Passes (Err fault) = IsReadFault old now may_leave Passes fault
@@ -67,17 +70,18 @@ state_or opening None = opening
 abbrev pub row_for : {S : Type 0} → (S → Bool) → S → Option S
 row_for is_none s = if is_none s then None else Some s
 
--- the letter of a message that an entity sends, where so many were sent on each pair and it sends `done` before
+-- The letter of a message that an entity sends, where so many were sent on each pair and it sends `before` first: its number is one
+-- more than what went to its receiver so far.
 abbrev pub letter_to : (Pair → ℕ) → Name → List Out → Out → Letter
-letter_to sent e done o = record { pair = pair_of e o.receiver; number = sent (pair_of e o.receiver) + length (messages_to o.receiver done) + 1; message = o.message }
+letter_to sent e before o = record { pair = pair_of e o.receiver; number = sent (pair_of e o.receiver) + length (messages_to o.receiver before) + 1; message = o.message }
 
--- the changes that put what it sends into the outbox
-abbrev pub numbering : {S C : Type 0} → (Pair → ℕ) → Name → List Out → List Out → List (Change S C)
-numbering sent e done [] = []
-numbering sent e done (o ∷ os) = Sent (letter_to sent e done o) ∷ numbering sent e (done ++ o ∷ []) os
+-- the changes that put what it sends into the outbox: for each message, in order, its letter where it sends those before it first
+abbrev pub numbering : {S C : Type 0} → (Pair → ℕ) → Name → List Out → List (Change S C)
+numbering sent e outs = map (λ at. Sent (letter_to sent e (take at.0 outs) at.1)) (enumerate_from 0 outs)
 
--- The first changes of a row that is taken in touch handled marks and held letters alone, and make them those of the journal with the
--- row. A command is from a seat, and a letter is the next of its pair.
+-- The first changes of a row that is taken in touch handled marks and held letters alone. The marks are then those of the journal with
+-- the row, and held letters have numbers from the one after that to `window` above it. A command is from a seat, and a letter is the
+-- next of its pair.
 pub record Prepares {S C : Type 0} (window : ℕ) (old : Tables S C) (row : JournalRow C) (first : List (Change S C)) : Type 0 where
   pub seated : IsSeated row.input
   pub next : IsNext old.journal row.entity row.input

@@ -119,7 +119,7 @@ where
     ensures doubt { K.doubt keep.old ≤ K.doubt keep.new }
     ensures read { K.doubt keep.new ≡ 0 →
         IsPartRead (K.tables keep.old) (K.tables keep.new) (K.may_leave keep.new)
-        (λ _. (changes.new.items ≡ changes.old.items ++ numbering (K.tables keep.old).sent entity.now [] outs.now)
+        (λ _. (changes.new.items ≡ changes.old.items ++ numbering (K.tables keep.old).sent entity.now outs.now)
         × NumbersFit (K.tables keep.old).sent entity.now outs.now)
         (NumbersPass (K.tables keep.old).sent entity.now outs.now) result }
 {

@@ -12,7 +12,7 @@ abbrev pub IsNextLetter : Messages → Option Place → Option Letter → Type 0
 IsNextLetter messages after None = IsNoneAfter messages after
 IsNextLetter messages after (Some l) = IsNext messages after l
 
--- a change puts a letter at this place
+-- a change puts a letter at this place of the outbox
 abbrev pub Names : {S C : Type 0} → Change S C → Place → Type 0
 Names (Sent l) x = place_of l ≡ x
 Names _ x = ⊥
@@ -27,7 +27,7 @@ abbrev pub IsBeforeBest : Option Letter → Place → Type 0
 IsBeforeBest None x = ⊤
 IsBeforeBest (Some best) x = IsBefore x (place_of best)
 
--- the letter at a place, where one stands there that comes before the best
+-- the letter at a place, if one stands there and the place comes after that one and before the best; else none
 abbrev pub IsCandidate : Messages → Option Place → Option Letter → Place → Option Letter → Type 0
 IsCandidate messages after best x None = IsAfter after x → IsBeforeBest best x → messages x.pair x.number ≡ None
 IsCandidate messages after best x (Some l) = (place_of l ≡ x) × (messages l.pair l.number ≡ Some l.message) × IsAfter after x × IsBeforeBest best x
@@ -37,7 +37,7 @@ abbrev pub IsBetter : {S C : Type 0} → Messages → Option Place → Option Le
 IsBetter messages after best (Sent l) r = IsCandidate messages after best (place_of l) r
 IsBetter messages after best _ r = r ≡ None
 
--- the first letter among some places
+-- a letter that stands after that place, and no later than any that does so at these places
 pub record IsBestLetter (messages : Messages) (after : Option Place) (among : Place → Type 0) (l : Letter) : Type 0 where
   pub stands : messages l.pair l.number ≡ Some l.message
   pub later : IsAfter after (place_of l)

@@ -26,7 +26,7 @@ abbrev pub row_in : {S C : Type 0} → Change S C → Option S
 row_in (State e row) = row
 row_in _ = None
 
--- a mark of pairs
+-- of each pair the last number sent, the settled mark or the handled mark
 abbrev pub mark_of : {S C : Type 0} → Mark → Tables S C → Pair → ℕ
 mark_of mark.Sent t = t.sent
 mark_of mark.Settled t = t.settled
@@ -39,12 +39,12 @@ mark_set mark.Settled (Settled p n) x = then_some (same_pair p x) n
 mark_set mark.Handled (Handled p n) x = then_some (same_pair p x) n
 mark_set _ _ x = None
 
--- where messages are kept
+-- the messages of the outbox, or those that are held
 abbrev pub messages_of : {S C : Type 0} → declared.Store → Tables S C → Messages
 messages_of store.Outbox t = t.unsettled
 messages_of store.Waiting t = t.held
 
--- what a change makes of the message of a pair and number, if it does
+-- what a change makes of the message with this pair and number, if it does: a message, or none where it is taken away
 abbrev pub message_set : {S C : Type 0} → declared.Store → Change S C → Pair → ℕ → Option (Option Message)
 message_set store.Outbox (Sent l) x k = then_some (same_pair l.pair x && l.number == k) (Some l.message)
 message_set store.Outbox (Settled p n) x k = then_some (same_pair p x && nat_le k n) None

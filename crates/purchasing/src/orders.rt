@@ -1,11 +1,12 @@
 //! The handler of the service purchasing.
 
-ghost use Rattle.std.specs.Prelude.{◌≡◌, ℕ, false, true, Some, MatchOption};
+ghost use Rattle.std.specs.Prelude.{◌≡◌, ℕ, false, true, Some, None, Ok, Err, IfOk, MatchOption};
 ghost use Rattle.activities.specs.Applied.{IsApplied};
 ghost use Rattle.envelope.specs.Reading.{is_number};
 ghost use Rattle.activities.specs.Orders.{on_order_message, order_table};
+ghost use Rattle.activities.specs.Reaction.{react};
 ghost use Rattle.activities.specs.declared.input.Input.TheVariants.{FromSeat};
-ghost use Rattle.purchasing.specs.Answer.{IsDone};
+ghost use Rattle.purchasing.specs.Answer.{IsDone, IsSending};
 
 use crate::Order;
 use activities::{Handler, HandlerFault, Input, OrderCommand, Outs, Refusal};
@@ -16,7 +17,7 @@ use std::alloc::{AllocError, Global};
 /// What purchasing does with what its orders take in.
 ///
 /// An order is none until it is placed. Then it is open until all its partners hold what they were asked for, and is confirmed, or
-/// until a partner refuses or a seat gives it up, and is cancelled.
+/// until a partner refuses or a seat gives it up, and is cancelled. An input that sends nothing never wants memory.
 pub struct Orders;
 
 impl Handler for Orders {
@@ -37,7 +38,9 @@ impl Handler for Orders {
 
     ghost is_none_state = { is_none };
 
-    fn opening(_alloc: Global) -> Result<Option<Order>, AllocError> {
+    fn opening(_alloc: Global) -> Result<Option<Order>, AllocError>
+        ensures { result ≡ Ok None }
+    {
         Ok(None)
     }
 
@@ -45,14 +48,20 @@ impl Handler for Orders {
         state.is_none()
     }
 
-    fn copy_state(alloc: Global, state: &Option<Order>) -> Result<Option<Order>, AllocError> {
+    fn copy_state(alloc: Global, state: &Option<Order>) -> Result<Option<Order>, AllocError>
+        ensures copy { IfOk result (λ s. s ≡ state.now) }
+        ensures none { state.now ≡ None → result ≡ Ok None }
+    {
         match state {
             Some(order) => Ok(Some(order.copy(alloc)?)),
             None => Ok(None),
         }
     }
 
-    fn copy_command(alloc: Global, command: &OrderCommand) -> Result<OrderCommand, AllocError> {
+    fn copy_command(alloc: Global, command: &OrderCommand) -> Result<OrderCommand, AllocError>
+        ensures copy { IfOk result (λ c. c ≡ command.now) }
+        ensures cancel { command.now ≡ OrderCommand.CancelOrder → result ≡ Ok OrderCommand.CancelOrder }
+    {
         match command {
             OrderCommand::Place {
                 stock,
@@ -74,7 +83,10 @@ impl Handler for Orders {
         state: &mut Option<Order>,
         input: &Input<OrderCommand>,
         outs: &mut Outs,
-    ) -> Result<(), HandlerFault> {
+    ) -> Result<(), HandlerFault>
+        ensures applied { IsApplied order_table state.old input.now outs.old state.new outs.new result }
+        ensures memory { result ≡ Err HandlerFault.Memory → IsSending (react order_table state.old input.now) }
+    {
         match input {
             Input::FromSeat(_, command) => take_command(alloc, state, command, outs),
             Input::FromEntity(sender, _, message) => {
@@ -93,7 +105,8 @@ fn take_command(
     command: &OrderCommand,
     outs: &mut Outs,
 ) -> Result<(), HandlerFault>
-    ensures { (seat : ℕ) → IsApplied order_table state.old (FromSeat seat command.now) outs.old state.new outs.new result }
+    ensures applied { (seat : ℕ) → IsApplied order_table state.old (FromSeat seat command.now) outs.old state.new outs.new result }
+    ensures memory { result ≡ Err HandlerFault.Memory → IsSending (order_table.on_command state.old command.now) }
 {
     match command {
         OrderCommand::Place {
@@ -116,8 +129,10 @@ fn place(
     amount: u64,
     outs: &mut Outs,
 ) -> Result<(), HandlerFault>
-    ensures { (seat : ℕ) →
+    ensures applied { (seat : ℕ) →
         IsApplied order_table state.old (FromSeat seat (OrderCommand.Place stock.now quantity account.now amount)) outs.old state.new outs.new result }
+    ensures memory { result ≡ Err HandlerFault.Memory →
+        IsSending (order_table.on_command state.old (OrderCommand.Place stock.now quantity account.now amount)) }
 {
     if state.is_some() {
         return Err(HandlerFault::Business(Refusal::AlreadyPlaced));
@@ -143,8 +158,9 @@ fn number_in_range(value: u64) -> Option<Number>
 
 /// Cancels the order and tells its partners, if it is open.
 fn cancel(alloc: Global, state: &mut Option<Order>, outs: &mut Outs) -> Result<(), HandlerFault>
-    ensures { (seat : ℕ) →
+    ensures applied { (seat : ℕ) →
         IsApplied order_table state.old (FromSeat seat OrderCommand.CancelOrder) outs.old state.new outs.new result }
+    ensures memory { result ≡ Err HandlerFault.Memory → IsSending (order_table.on_command state.old OrderCommand.CancelOrder) }
 {
     match state {
         Some(order) if order.is_open() => Ok(order.cancel(alloc, outs)?),
