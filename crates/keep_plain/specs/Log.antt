@@ -17,11 +17,12 @@ use Rattle.keep_plain.specs.declared.messages.Store.TheVariants as store
 abbrev pub made_by : {S C : Type 0} → List (Change S C) → Tables S C
 made_by changes = changed changes empty
 
--- whether a change sets the row of an entity, and the row that it sets
+-- whether a change sets the row of an entity
 abbrev pub sets_row : {S C : Type 0} → Change S C → Name → Bool
 sets_row (State e row) x = same_entity e x
 sets_row _ x = false
 
+-- the row that a change sets, if it does
 abbrev pub row_in : {S C : Type 0} → Change S C → Option S
 row_in (State e row) = row
 row_in _ = None

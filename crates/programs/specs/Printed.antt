@@ -21,14 +21,17 @@ use Rattle.activities.specs.declared.input.JournalRow.{JournalRow}
 use Rattle.activities.specs.Orders.{Partner, OrderState}
 use Rattle.schedules.specs.Words.{escaped}
 
+-- an entity's text, escaped as a word
 abbrev pub shown_entity : Name → List ℕ
 shown_entity e = escaped (text_of e)
 
+-- the word of an order's status
 abbrev pub status_word : Status → List ℕ
 status_word status.Open = codes "open"
 status_word status.Confirmed = codes "confirmed"
 status_word status.Cancelled = codes "cancelled"
 
+-- the word of a partner's phase
 abbrev pub phase_word : Phase → List ℕ
 phase_word phase.Requested = codes "requested"
 phase_word phase.Tentative = codes "tentative"
@@ -49,10 +52,12 @@ shown_order (Some order) = codes " " ++ status_word order.status ++ flat_map sho
 abbrev pub show_line : Name → Option OrderState → List ℕ
 show_line e order = shown_entity e ++ shown_order order ++ 10 ∷ []
 
+-- a command as the journal shows it
 abbrev pub shown_command : OrderCommand → List ℕ
 shown_command (Place stock n account amount) = codes "place " ++ escaped stock ++ codes " " ++ decimal n ++ codes " " ++ escaped account ++ codes " " ++ decimal amount
 shown_command CancelOrder = codes "cancel_order"
 
+-- a message as the journal shows it
 abbrev pub shown_message : Message → List ℕ
 shown_message (Request n) = codes "request " ++ decimal n
 shown_message Tentative = codes "tentative"
@@ -60,6 +65,7 @@ shown_message Refused = codes "refused"
 shown_message Confirm = codes "confirm"
 shown_message Cancel = codes "cancel"
 
+-- a command with its seat, or a message with its sender and number
 abbrev pub shown_input : Input OrderCommand → List ℕ
 shown_input (FromSeat seat command) = codes "seat " ++ decimal seat ++ codes " " ++ shown_command command
 shown_input (FromEntity sender number message) = codes "from " ++ shown_entity sender ++ codes " " ++ decimal number ++ codes " " ++ shown_message message

@@ -4,6 +4,7 @@ use Rattle.schedules.specs.declared.fault.ScheduleFault.TheVariants as read
 use Rattle.programs.specs.declared.fault.RunFault.{RunFault}
 use Rattle.programs.specs.declared.fault.RunFault.TheVariants as run
 
+-- a fault of reading a schedule as the run's
 abbrev pub run_fault_of : ScheduleFault → RunFault
 run_fault_of (read.BadEvent number) = run.BadEvent number
 run_fault_of read.Memory = run.Memory

@@ -71,12 +71,13 @@ IsJournal journal (Ok lines) after = (after ≡ journal) × (lines.items ≡ row
 IsJournal journal (Err Memory) after = after ≡ journal
 IsJournal journal (Err _) after = ⊥
 
--- an outcome as the answer of a command, and as that of a look
+-- an outcome as the answer of a command: committed or refused
 abbrev pub IsTakenAs : JournalRow OrderCommand → Orders → Outcome → Orders → Type 0
 IsTakenAs row journal (Committed pos) after = IsTaken row journal (Ok pos) after
 IsTakenAs row journal (Refused fault) after = IsTaken row journal (Err fault) after
 IsTakenAs row journal (Shown lines) after = ⊥
 
+-- an outcome as the answer of a look: refused or shown
 abbrev pub IsShown : (Result (Vec ℕ) EndFault → Orders → Type 0) → Outcome → Orders → Type 0
 IsShown Answers (Committed pos) after = ⊥
 IsShown Answers (Refused fault) after = Answers (Err fault) after

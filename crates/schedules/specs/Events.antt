@@ -15,10 +15,11 @@ use Rattle.schedules.specs.Lines.{lines_of}
 use Rattle.schedules.specs.Words.{◌>>=◌, words_of}
 use Rattle.schedules.specs.Numbers.{number_of, seat_number}
 
--- a seat, a key, an entity, a service, of a word
+-- the seat that a word is
 abbrev pub seat_of : List ℕ → Option ℕ
 seat_of word = number_of word >>= seat_number
 
+-- the key that a word is
 abbrev pub key_of : List ℕ → Option (List ℕ)
 key_of word = if is_key word then Some word else None
 
@@ -26,12 +27,14 @@ key_of word = if is_key word then Some word else None
 abbrev pub named : (List ℕ → Name) → List ℕ → List ℕ → Option Name
 named entity prefix word = option_map entity (key_of (drop (length prefix) word))
 
+-- the entity that a word is
 abbrev pub entity_of : List ℕ → Option Name
 entity_of word =
     if starts_with nat_eq word (prefix_of Order) then named order_of (prefix_of Order) word else
     if starts_with nat_eq word (prefix_of Stock) then named stock_of (prefix_of Stock) word else
     if starts_with nat_eq word (prefix_of Account) then named account_of (prefix_of Account) word else None
 
+-- the service that a word is
 abbrev pub service_of : List ℕ → Option Service
 service_of word = if bytes_eq word (codes "purchasing") then Some Purchasing else None
 
