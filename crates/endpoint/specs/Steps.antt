@@ -21,7 +21,7 @@ use Rattle.endpoint.specs.Answers.{pair_of}
 abbrev pub IsPartFault : Bool → ℕ → ℕ → EndFault → Type 0
 IsPartFault usable before after Memory = (usable ≡ true) × (after ≡ before)
 IsPartFault usable before after NumberLimit = (usable ≡ true) × (after ≡ before)
-IsPartFault usable before after StoreFailed = (usable ≡ false) × (before ≤ after) × MoreFailures before after
+IsPartFault usable before after StoreFailed = (usable ≡ false) × MoreFailures before after
 IsPartFault usable before after NotMine = ⊥
 IsPartFault usable before after (Business refusal) = ⊥
 IsPartFault usable before after TooEarly = ⊥

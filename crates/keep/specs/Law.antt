@@ -3,22 +3,22 @@ use Rattle.std.specs.Prelude.{ℕ, ◌+◌, ◌-◌, ◌^◌, ◌≡◌, ◌≤�
 use Rattle.keep.specs.declared.fault.KeepFault.{KeepFault}
 use Rattle.keep.specs.declared.fault.KeepFault.TheVariants.{Failed, Memory, WrongFile}
 
--- a failure was counted, one at least; a count may stay at 2^64 - 1
+-- a failure was counted, one at least: the count rose, but may stay at 2^64 - 1; it never falls
 abbrev pub MoreFailures : ℕ → ℕ → Type 0
-MoreFailures before after = min (before + 1) (2 ^ 64 - 1) ≤ after
+MoreFailures before after = (before ≤ after) × (min (before + 1) (2 ^ 64 - 1) ≤ after)
 
 -- what a read or a transaction tells, whatever the disk did: whether the keep is usable then, and the counts of failures before and after
 abbrev pub IsCall : {R : Type 0} → Bool → ℕ → ℕ → Result R KeepFault → Type 0
 IsCall usable before after (Ok _) = (usable ≡ true) × (after ≡ before)
 IsCall usable before after (Err Memory) = (usable ≡ true) × (after ≡ before)
-IsCall usable before after (Err Failed) = (usable ≡ false) × (before ≤ after) × MoreFailures before after
+IsCall usable before after (Err Failed) = (usable ≡ false) × MoreFailures before after
 IsCall usable before after (Err WrongFile) = ⊥
 
 -- what a reopening says of them: where it isn't Ok the keep isn't usable
 abbrev pub IsReopenCall : Bool → ℕ → ℕ → Result Unit KeepFault → Type 0
 IsReopenCall usable before after (Ok _) = (usable ≡ true) × (after ≡ before)
 IsReopenCall usable before after (Err Memory) = (usable ≡ false) × (after ≡ before)
-IsReopenCall usable before after (Err Failed) = (usable ≡ false) × (before ≤ after) × MoreFailures before after
+IsReopenCall usable before after (Err Failed) = (usable ≡ false) × MoreFailures before after
 IsReopenCall usable before after (Err WrongFile) = ⊥
 
 -- a stop leaves the old tables or the new ones, whole

@@ -19,14 +19,14 @@ AreBy MadeOrNot old new now = AreEither old new now
 -- a failure was counted exactly where the keep was reopened
 abbrev pub IsCountedBy : Outcome → ℕ → ℕ → Type 0
 IsCountedBy Made before after = after ≡ before
-IsCountedBy MadeOrNot before after = (before ≤ after) × MoreFailures before after
+IsCountedBy MadeOrNot before after = MoreFailures before after
 
 -- what a transaction and its reopening say of the keep's use and of its failures, whatever the disk did. Where memory was refused at
 -- the transaction, it is usable and nothing was counted; at the reopening, the failure before that was
 abbrev pub IsOutcomeCall : Bool → ℕ → ℕ → Result Outcome KeepFault → Type 0
 IsOutcomeCall usable before after (Ok outcome) = (usable ≡ true) × IsCountedBy outcome before after
 IsOutcomeCall usable before after (Err Memory) = (before ≤ after) × (usable ≡ true → after ≡ before) × (usable ≡ false → MoreFailures before after)
-IsOutcomeCall usable before after (Err Failed) = (usable ≡ false) × (before ≤ after) × MoreFailures before after
+IsOutcomeCall usable before after (Err Failed) = (usable ≡ false) × MoreFailures before after
 IsOutcomeCall usable before after (Err WrongFile) = ⊥
 
 -- the tables now are those of the outcome; with an error a stop leaves the old ones or the new ones, and a keep that is usable has the old
@@ -38,7 +38,7 @@ IsOutcome {T} usable old new now may_leave (Err _) = (usable ≡ true → now �
 abbrev pub IsRecoveredCall : Bool → ℕ → ℕ → Result Recovered KeepFault → Type 0
 IsRecoveredCall usable before after (Ok r) = (usable ≡ true) × IsCountedBy r.outcome before after
 IsRecoveredCall usable before after (Err Memory) = (before ≤ after) × (usable ≡ false → MoreFailures before after)
-IsRecoveredCall usable before after (Err Failed) = (usable ≡ false) × (before ≤ after) × MoreFailures before after
+IsRecoveredCall usable before after (Err Failed) = (usable ≡ false) × MoreFailures before after
 IsRecoveredCall usable before after (Err WrongFile) = ⊥
 
 -- the tables now are those of the outcome, and the number that was read is their `sent`; with an error a stop leaves the old ones or the

@@ -6,7 +6,7 @@ use crate::drains::first_drainable;
 use crate::entities::find_row;
 use crate::log::add_all;
 use crate::marks::{Mark, find_mark};
-use crate::messages::{Store, find_message};
+use crate::messages::{MessageTable, find_message};
 use crate::outbox::first_letters;
 use crate::rows::{journal_length, journal_rows};
 use activities::{Handler, JournalRow};
@@ -90,7 +90,7 @@ impl<H: Handler> Keep for PlainKeep<H> {
         pair: &Pair,
         number: Number,
     ) -> Result<Option<Message>, KeepFault> {
-        Ok(find_message(Store::Waiting, &self.log, pair, number.get() - 1))
+        Ok(find_message(MessageTable::Held, &self.log, pair, number.get() - 1))
     }
 
     fn drainable(&mut self, alloc: Global) -> Result<Option<Pair>, KeepFault> {
