@@ -8,3 +8,4 @@ pub mod Orders
 pub mod Agreement
 pub mod Example
 mod Examples
+mod SoundExamples

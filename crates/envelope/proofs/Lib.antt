@@ -5,3 +5,4 @@ pub mod Texts
 pub mod Envelopes
 pub mod Headers
 pub mod Examples
+pub mod CallExamples

@@ -4,3 +4,4 @@ pub mod Taken
 pub mod Tellings
 pub mod Endings
 pub mod Examples
+pub mod EndExamples

@@ -6,3 +6,4 @@ pub mod Faulty
 pub mod Utf8
 pub mod Again
 pub mod Examples
+pub mod CallExamples

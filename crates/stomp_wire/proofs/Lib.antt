@@ -1,3 +1,4 @@
 pub mod Known
 pub mod Journeys
 pub mod Examples
+pub mod CallExamples

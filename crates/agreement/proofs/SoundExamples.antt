@@ -1,0 +1,74 @@
+-- Examples: journals that grow, and others that lost something; journals that are sound, and others that aren't.
+use Rattle.std.proofs.Common.{[], ◌∷◌, refl, arith, inl, inr}
+use Rattle.std.specs.Prelude.{codes, IsNone}
+use Rattle.base.specs.Entity.{Name}
+use Rattle.base.specs.Order.{same_entity, same_pair}
+use Rattle.base.specs.declared.entity.Kind.{Kind}
+use Rattle.base.specs.declared.entity.Kind.TheVariants.{Order, Stock, Account}
+use Rattle.envelope.specs.declared.message.Message.TheVariants.{Request, Confirm, Cancel}
+use Rattle.activities.specs.declared.commands.OrderCommand.TheVariants.{Place}
+use Rattle.activities.specs.declared.commands.StockCommand.TheVariants.{Receive}
+use Rattle.activities.specs.declared.commands.AccountCommand.TheVariants.{SetLimit}
+use Rattle.activities.specs.declared.input.Input.TheVariants.{FromSeat, FromEntity}
+use Rattle.agreement.specs.Agreement.{AreSound, line_by}
+use Rattle.agreement.specs.Example.{order, stock, account, from_to, after_first}
+use Rattle.agreement.specs.Growth.{Grows, AddsOrder, AddsStock}
+use Rattle.agreement.specs.Journals.{Journals}
+use Rattle.agreement.specs.World.{nothing}
+use Rattle.agreement.proofs.Growth.{grows}
+
+-- the order is placed, and so it has sent its requests; the stock takes the first of them in: nothing is lost
+a_placed_order_grows : Grows (after_first 2).journals (after_first 3).journals
+a_placed_order_grows = grows _ _ (AddsOrder _ (record { of_kind = refl; seated = omega arith; accepted = refl; next = tt }) tt refl)
+
+a_handled_request_grows : Grows (after_first 4).journals (after_first 5).journals
+unfolding same_entity same_pair
+a_handled_request_grows = grows _ _ (AddsStock _ (record { of_kind = refl; seated = tt; accepted = refl; next = refl }) refl refl)
+
+-- without the order's row its request is lost, and without the stock's row the request's handling is
+lost_rows_are_no_growth : (Grows (after_first 3).journals nothing.journals → ⊥)
+    × (Grows (after_first 5).journals (after_first 3).journals → ⊥)
+unfolding same_entity same_pair
+lost_rows_are_no_growth = (
+  λ h. let sent = (h.sent (from_to order stock)).1 in absurd (cc),
+  λ h. let handled = h.handled (from_to order stock) in omega arith,
+)
+
+-- where no service did anything, all is sound
+nothing_is_sound : AreSound nothing.journals
+nothing_is_sound = record {
+  orders = λ e kind. record { one_way = λ p q partner other done undone. partner; nowhere_else = λ at none. no_line at.kind at e; left_alone = λ p refused told. refused };
+  stocks = λ e. record { conserved = refl; covered = omega arith; held = refl; shipped = refl; one_each = tt };
+  accounts = λ e. record { covered = omega arith; held = refl; billed = refl; one_each = tt };
+}
+  where
+    no_line : (kind : Kind) (at e : Name) → IsNone (line_by nothing.journals kind at e)
+    no_line Order at e = refl
+    no_line Stock at e = refl
+    no_line Account at e = refl
+
+-- it isn't sound that a stock shipped to an order that nobody placed, though its own numbers are right
+abbrev unasked : Journals
+unasked = record {
+  orders = [];
+  stocks = record { entity = stock; input = FromSeat 0 (Receive 10) } ∷ record { entity = stock; input = FromEntity order 1 (Request 3) }
+      ∷ record { entity = stock; input = FromEntity order 2 Confirm } ∷ [];
+  accounts = [];
+}
+
+shipped_to_nobody : AreSound unasked → ⊥
+unfolding same_entity
+shipped_to_nobody h = let none = (h.orders order refl).nowhere_else stock (λ no. no) in absurd (cc)
+
+-- nor is it sound that the bolts are shipped and the account gave back what it held
+abbrev apart : Journals
+apart = record {
+  orders = record { entity = order; input = FromSeat 0 (Place (codes "bolts") 3 (codes "acme") 500) } ∷ [];
+  stocks = unasked.stocks;
+  accounts = record { entity = account; input = FromSeat 0 (SetLimit 500) } ∷ record { entity = account; input = FromEntity order 1 (Request 500) }
+      ∷ record { entity = account; input = FromEntity order 2 Cancel } ∷ [];
+}
+
+shipped_and_unbilled : AreSound apart → ⊥
+unfolding same_entity
+shipped_and_unbilled h = (h.orders order refl).one_way stock account (inl refl) (inr (inl refl)) refl (inl refl)
