@@ -57,13 +57,16 @@ impl Decoder {
     ///
     /// # Errors
     /// Nothing has changed then:
-    /// - `Memory` where a growth was refused;
+    /// - `Memory` where a growth was refused, never for a piece of no octets;
     /// - `Failed` where `next` has answered a fault of the text.
     pub fn feed(&mut self, piece: &[u8]) -> Result<(), FrameFault>
         ensures { Feeds self.old self.new piece.now result }
     {
         if self.failed {
             return Err(FrameFault::Failed);
+        }
+        if piece.is_empty() {
+            return Ok(());
         }
         if self.start > self.octets.len() / 2 {
             let held = self.octets.len() - self.start;

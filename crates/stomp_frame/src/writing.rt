@@ -2,7 +2,7 @@
 
 ghost use Rattle.std.specs.Prelude.{◌≡◌, ◌++◌, ◌∷◌, [], if◌then◌else◌, is_ok, OnOk, OnErr, IsOkUnless};
 ghost use Rattle.stomp_frame.specs.Frames.{canonical, written, line_of, with_lf, header};
-ghost use Rattle.stomp_frame.specs.Building.{start_of, lines_of, Extends};
+ghost use Rattle.stomp_frame.specs.Inner.Writing.{start_of, lines_of, Extends};
 
 use crate::octets::push_escaped;
 use crate::{Command, Frame, FrameFault, Header};

@@ -7,7 +7,7 @@ use Rattle.stomp_wire.specs.declared.pump.Gone.{Gone}
 use Rattle.stomp_wire.specs.declared.stream.StreamLink.{StreamLink}
 use Rattle.stomp_wire.specs.declared.wire.MemoryWire.{MemoryWire}
 use Rattle.stomp_wire.specs.declared.wire.Way.TheVariants.{Up, Down}
-use Rattle.stomp_wire.specs.Fault.{name_of}
+use Rattle.stomp_wire.specs.Fault.{link_fault_name}
 use Rattle.stomp_wire.specs.Link.{answer_of}
 use Rattle.stomp_wire.specs.Pump.{Puts, no_put, one_more, IsEnd, IsPumped, IsPumpCounted}
 use Rattle.stomp_wire.specs.Stream.{StreamPuts, StreamTakes}
@@ -88,7 +88,7 @@ pumps_are_counted : (IsPumpCounted 4 4 None) × (IsPumpCounted 4 4 (Some Memory)
 pumps_are_counted = (refl, refl, (omega arith, omega arith))
 
 -- the faults' names
-faults_are_named : (name_of Cut ≡ codes "Cut") × (name_of Device ≡ codes "Device") × (name_of Memory ≡ codes "Memory")
+faults_are_named : (link_fault_name Cut ≡ codes "Cut") × (link_fault_name Device ≡ codes "Device") × (link_fault_name Memory ≡ codes "Memory")
 faults_are_named = (refl, refl, refl)
 
 -- ---- a wire

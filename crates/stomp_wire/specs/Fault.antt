@@ -4,16 +4,16 @@ use Rattle.stomp_wire.specs.declared.fault.LinkFault.{LinkFault}
 use Rattle.stomp_wire.specs.declared.fault.LinkFault.TheVariants.{Cut, Device, Memory}
 
 -- a fault's number
-abbrev pub number_of : LinkFault → ℕ
-number_of Cut = 1
-number_of Device = 2
-number_of Memory = 3
+abbrev pub link_fault_number : LinkFault → ℕ
+link_fault_number Cut = 1
+link_fault_number Device = 2
+link_fault_number Memory = 3
 
 -- a fault's name
-abbrev pub name_of : LinkFault → List ℕ
-name_of Cut = codes "Cut"
-name_of Device = codes "Device"
-name_of Memory = codes "Memory"
+abbrev pub link_fault_name : LinkFault → List ℕ
+link_fault_name Cut = codes "Cut"
+link_fault_name Device = codes "Device"
+link_fault_name Memory = codes "Memory"
 
 -- one failure more; a count at its last value stays there
 abbrev pub next_count : ℕ → ℕ

@@ -19,11 +19,11 @@ pub enum LinkFault {
 
 impl LinkFault {
     ghost use Rattle.std.specs.Prelude.{◌≡◌};
-    ghost use Rattle.stomp_wire.specs.Fault.{number_of, name_of};
+    ghost use Rattle.stomp_wire.specs.Fault.{link_fault_number, link_fault_name};
 
     /// The number of the fault, 1 to 3.
     pub fn number(self) -> u8
-        ensures { result ≡ number_of self }
+        ensures { result ≡ link_fault_number self }
     {
         match self {
             LinkFault::Cut => 1,
@@ -34,7 +34,7 @@ impl LinkFault {
 
     /// The name of the fault: `Cut`, `Device` or `Memory`.
     pub fn name(self) -> &'static str
-        ensures { result.now ≡ name_of self }
+        ensures { result.now ≡ link_fault_name self }
     {
         match self {
             LinkFault::Cut => "Cut",

@@ -54,12 +54,22 @@ impl MemoryLink {
         self.carried.as_slice()
     }
 
-    /// Takes away the first `count` of the octets that were carried to this end, which its owner looked at in place.
+    /// Takes away the first `count` of the octets that were carried to this end, which its owner looked at in place. It
+    /// takes no memory.
     pub fn taken(&mut self, count: usize)
         requires { count ≤ length self.old.carried }
         ensures { self.new ≡ record self.old { carried = drop count self.old.carried } }
     {
         drop(self.carried.drain(..count));
+    }
+
+    /// Takes away the first `count` of the octets that wait here, which went out from where they stood, as `waiting` shows them. It
+    /// takes no memory.
+    pub fn sent(&mut self, count: usize)
+        requires { count ≤ length self.old.waiting }
+        ensures { self.new ≡ record self.old { waiting = drop count self.old.waiting } }
+    {
+        drop(self.waiting.drain(..count));
     }
 
     /// Carries to `to` what waits here: exactly the lesser of `most` and what waits, from the front of what waits to
@@ -70,7 +80,7 @@ impl MemoryLink {
     {
         let count = most.min(self.waiting.len());
         to.carried.extend_from_slice(&self.waiting[..count])?;
-        drop(self.waiting.drain(..count));
+        self.sent(count);
         Ok(count)
     }
 }

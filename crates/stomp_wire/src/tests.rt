@@ -285,6 +285,10 @@ fn a_carry_moves_the_lesser_and_nothing_on_the_other_way(rt: HostRuntime) -> Res
     assert_eq!(rt; wire.near.carried(), b"dow".as_slice());
     wire.near.taken(2);
     assert_eq!(rt; wire.near.carried(), b"w".as_slice());
+    assert_eq!(rt; wire.near.put(b"more")?, 4);
+    wire.near.sent(3);
+    assert_eq!(rt; wire.near.waiting(), b"e".as_slice());
+    wire.near.sent(1);
     assert_eq!(rt; wire.near.failures(), 0);
     assert_eq!(rt; wire.near.carry_to(&mut wire.far, 1)?, 0);
     Ok(())
