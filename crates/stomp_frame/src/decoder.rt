@@ -3,15 +3,18 @@
 ghost use Rattle.std.specs.Prelude.{◌≡◌, [], false};
 ghost use Rattle.stomp_frame.specs.Decoding.{Nexts, Feeds};
 
-use crate::reading::{Begun, Found, after_gap, read_frame};
+use crate::reading::{Found, Parts, Progress, after_gap, read_frame};
 use crate::{Frame, FrameFault};
+use base::limits::MAX_BODY;
 use std::alloc::Global;
 use std::marker::Model;
+use std::mem::replace;
 
 /// Reads frames from the pieces of a text: contracts see the octets that it holds, and whether it has answered a fault.
 ///
 /// However the text is cut into pieces, its frames are the same, and its fault is. Where `next` finds no whole frame, it leaves at
-/// most 101,446 octets held. Of a frame that isn't whole, `next` reads again only its last line.
+/// most 101,446 octets held. Of a frame that isn't whole, `next` reads no octet
+/// again but for one.
 #[derive(Debug, Drop)]
 pub struct Decoder {
     alloc: Global,
@@ -19,7 +22,7 @@ pub struct Decoder {
     // where the octets begin that no frame was read from yet
     start: usize,
     // how far these are read
-    begun: Option<Begun>,
+    progress: Progress,
     failed: bool,
 }
 
@@ -48,7 +51,7 @@ impl Decoder {
             alloc,
             octets: Vec::new(alloc),
             start: 0,
-            begun: None,
+            progress: Progress::Line(0),
             failed: false,
         }
     }
@@ -90,16 +93,21 @@ impl Decoder {
         if self.failed {
             return Err(FrameFault::Failed);
         }
-        let begun = self.begun.take();
+        let progress = replace(&mut self.progress, Progress::Line(0));
         let text = after_gap(self.held());
-        match read_frame(self.alloc, begun, text) {
-            Ok(Found::Whole(frame, left)) => {
+        match read_frame(self.alloc, MAX_BODY, progress, text) {
+            Ok(Found::Whole(parts, left)) => {
                 self.start = self.octets.len() - left;
-                Ok(Some(frame))
+                let Parts {
+                    command,
+                    headers,
+                    body,
+                } = parts;
+                Ok(Some(Frame::of(self.alloc, command, headers, body)))
             }
-            Ok(Found::Waits(begun)) => {
+            Ok(Found::Waits(progress)) => {
                 self.start = self.octets.len() - text.len();
-                self.begun = begun;
+                self.progress = progress;
                 Ok(None)
             }
             Err(fault) => {
