@@ -4,7 +4,7 @@ ghost use Rattle.std.specs.Prelude.{◌≡◌, ◌++◌, ◌∷◌, [], if◌the
 ghost use Rattle.stomp_frame.specs.Frames.{canonical, written, line_of, with_lf, header};
 ghost use Rattle.stomp_frame.specs.Inner.Writing.{start_of, lines_of, Extends};
 
-use crate::octets::push_escaped;
+use crate::octets::{is_written_as_is, push_escaped};
 use crate::{Command, Frame, FrameFault, Header};
 use itoa::Buffer;
 use std::alloc::AllocError;
@@ -21,7 +21,7 @@ fn push_written(out: &mut Vec<u8>, command: Command, text: &str) -> Result<(), A
     }
 }
 
-/// Appends a header's line and its LF.
+/// Appends the line of a name and a value, and its LF.
 #[tactic(auto, using(crate::proofs::Heads::line_parts, crate::proofs::Extending::extends_more))]
 fn push_line(out: &mut Vec<u8>, command: Command, name: &str, value: &str) -> Result<(), AllocError>
     ensures ok { OnOk result (out.new.items ≡ out.old.items ++ with_lf (line_of command (header name.now value.now))) }
@@ -34,6 +34,21 @@ fn push_line(out: &mut Vec<u8>, command: Command, name: &str, value: &str) -> Re
     Ok(())
 }
 
+/// Appends a header's line and its LF: where nothing is escaped it is the header's own text.
+fn push_header(out: &mut Vec<u8>, command: Command, header: &Header) -> Result<(), AllocError>
+    ensures ok { OnOk result (out.new.items ≡ out.old.items ++ with_lf (line_of command header.now)) }
+    ensures err { OnErr result (Extends out.old.items out.new.items) }
+{
+    let (name, value) = (header.name(), header.value());
+    if is_written_as_is(command, name.as_bytes()) && is_written_as_is(command, value.as_bytes()) {
+        out.extend_from_slice(header.text().as_bytes())?;
+        out.push(b'\n')?;
+        Ok(())
+    } else {
+        push_line(out, command, name, value)
+    }
+}
+
 /// Appends the lines of some headers.
 #[tactic(auto, using(crate::proofs::Extending::extends_more))]
 fn push_lines(out: &mut Vec<u8>, command: Command, headers: &[Header]) -> Result<(), AllocError>
@@ -41,7 +56,7 @@ fn push_lines(out: &mut Vec<u8>, command: Command, headers: &[Header]) -> Result
     ensures err { OnErr result (Extends out.old.items out.new.items) }
 {
     for header in headers {
-        push_line(out, command, header.name(), header.value())?;
+        push_header(out, command, header)?;
     }
     Ok(())
 }
@@ -61,12 +76,23 @@ fn push_start(out: &mut Vec<u8>, command: Command, body: &[u8]) -> Result<(), Al
     Ok(())
 }
 
+/// How long the spelling is where nothing is escaped, or a little less than so much: the command's line, that of the length and the
+/// empty one have at most 64 octets.
+fn room_of(frame: &Frame) -> usize {
+    let mut room = frame.body().len().saturating_add(64);
+    for header in frame.headers() {
+        room = room.saturating_add(header.text().len()).saturating_add(1);
+    }
+    room
+}
+
 /// Appends a frame's canonical spelling.
 #[tactic(auto, using(crate::proofs::Extending::extends_more))]
 fn push_frame(out: &mut Vec<u8>, frame: &Frame) -> Result<(), AllocError>
     ensures ok { OnOk result (out.new.items ≡ out.old.items ++ canonical frame.now) }
     ensures err { OnErr result (Extends out.old.items out.new.items) }
 {
+    out.reserve(room_of(frame))?;
     push_start(out, frame.command(), frame.body())?;
     push_lines(out, frame.command(), frame.headers())?;
     out.push(b'\n')?;

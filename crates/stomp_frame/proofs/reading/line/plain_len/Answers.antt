@@ -5,15 +5,14 @@ use Rattle.stomp_frame.specs.FaultTable.{is_plain}
 use Rattle.stomp_frame.proofs.Searches.{prefix_from}
 use Rattle.stomp_frame.proofs.reading.line.plain_len.Goals as goal
 
-pub loop-len-init : goal.loop-len-init
-loop-len-init c = record {
-  value = prefix_from is_plain c.args.bytes.now c.args.from c.requires;
-  within = omega (arith, c.requires, prefix_len-le-length is_plain c.args.bytes.now);
-  near = omega (arith, c.min-near.ensures);
-}
+pub split_at-requires : goal.split_at-requires
+split_at-requires c = omega (arith, c.requires, prefix_len-le-length is_plain c.args.bytes.now)
+
+whole : (c : goal.After-line_len) → c.args.from + c.line_len.result ≡ prefix_len is_plain c.args.bytes.now
+whole c = ap (λ n. c.args.from + n) (c.line_len.ensures.value ∙ ap (prefix_len is_plain) c.split_at.ensures.back) ∙ prefix_from is_plain c.args.bytes.now c.args.from c.requires
+
+pub overflow_add-result : goal.overflow_add-result
+overflow_add-result c = omega (arith, whole c, prefix_len-le-length is_plain c.args.bytes.now, c.split_at.ensures.back_len)
 
 pub returns : goal.returns
-returns c =
-    let whole : c.loop-len.len + c.line_len.result ≡ prefix_len is_plain c.args.bytes.now
-    = ap (λ n. c.loop-len.len + n) (c.line_len.ensures.value ∙ ap (prefix_len is_plain) c.split_at.ensures.back) ∙ c.loop-len.invariant.value in
-    record { value = whole; within = omega (arith, whole, prefix_len-le-length is_plain c.args.bytes.now) }
+returns c = record { value = whole c; within = omega (arith, whole c, prefix_len-le-length is_plain c.args.bytes.now) }
