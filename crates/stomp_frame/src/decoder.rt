@@ -10,6 +10,9 @@ use std::alloc::Global;
 use std::marker::Model;
 use std::mem::replace;
 
+/// No more room than this is kept where no frame is whole: twice what is held then fits, and a piece.
+const ROOM: usize = 262_144;
+
 /// Reads frames from the pieces of a text: contracts see the octets that it holds, and whether it has answered a fault.
 ///
 /// However the text is cut into pieces, its frames are the same, and its fault is. Where `next` finds no whole frame, it leaves at
@@ -72,10 +75,7 @@ impl Decoder {
             return Ok(());
         }
         if self.start > self.octets.len() / 2 {
-            let held = self.octets.len() - self.start;
-            self.octets.copy_within(self.start.., 0);
-            self.octets.truncate(held);
-            self.start = 0;
+            self.move_to_front();
         }
         self.octets.extend_from_slice(piece)?;
         Ok(())
@@ -108,6 +108,7 @@ impl Decoder {
             Ok(Found::Waits(progress)) => {
                 self.start = self.octets.len() - text.len();
                 self.progress = progress;
+                self.shrink();
                 Ok(None)
             }
             Err(fault) => {
@@ -117,6 +118,26 @@ impl Decoder {
                 self.failed = true;
                 Err(fault)
             }
+        }
+    }
+
+    /// Moves what it holds to the front of its memory.
+    fn move_to_front(&mut self)
+        ensures { self.new ≡ self.old }
+    {
+        let held = self.octets.len() - self.start;
+        self.octets.copy_within(self.start.., 0);
+        self.octets.truncate(held);
+        self.start = 0;
+    }
+
+    /// Gives memory back where it has much more than it holds.
+    fn shrink(&mut self)
+        ensures { self.new ≡ self.old }
+    {
+        if self.octets.capacity() > ROOM {
+            self.move_to_front();
+            self.octets.shrink_to(ROOM / 2);
         }
     }
 
