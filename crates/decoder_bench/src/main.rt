@@ -1,7 +1,8 @@
 //! How fast the decoder reads a stream of equal frames that comes in pieces of one size.
 //!
-//! Without arguments: a megabyte, and what was read of it. With `small`, `large` or `open`, the length of a piece and a number of
-//! megabytes: the same for that many, and the octets per second.
+//! Without arguments: a megabyte, and what was read of it. With a kind of stream, the length of a piece and a number of megabytes: the
+//! same for that many, and the octets per second. The kinds are `small`, `lines`, `headers`, `large` and `open`; `encode` writes the
+//! frames of `small` in place of reading them.
 #![tactic(auto)]
 
 use std::alloc::Global;
@@ -22,27 +23,71 @@ fn open_stream(alloc: Global) -> Result<Vec<u8>, FrameFault> {
     Ok(text)
 }
 
-/// About a megabyte of whole frames: letters as an outbox sends them, or frames with the longest body and its length.
-fn stream(alloc: Global, large: bool) -> Result<Vec<u8>, FrameFault> {
+/// A letter as an outbox sends it.
+fn letter(alloc: Global) -> Result<Frame, FrameFault> {
     let mut frame = Frame::new(alloc, Command::Send);
     frame.push_header("destination", "/queue/warehouse")?;
     frame.push_header("kind", "message")?;
     frame.push_header("from", "order/o1")?;
     frame.push_header("to", "stock/bolt")?;
     frame.push_header("number", "1")?;
-    let count = if large {
-        let body = vec![in alloc; b'x'; 65_536]?;
-        frame.set_body(&body)?;
-        16
-    } else {
-        frame.set_body(b"{\"n\":3,\"op\":\"request\"}")?;
-        7_000
-    };
-    let mut text = Vec::new(alloc);
-    for _ in 0..count {
-        encode(&frame, &mut text)?;
+    frame.set_body(b"{\"n\":3,\"op\":\"request\"}")?;
+    Ok(frame)
+}
+
+/// A frame of this kind, and how many of them are about a megabyte: a letter; one with a header line of 1,000 octets; one with 32
+/// headers; one with the longest body and its length.
+fn frame_of(alloc: Global, kind: &str) -> Result<(Frame, usize), FrameFault> {
+    let mut frame = letter(alloc)?;
+    match kind {
+        "lines" => {
+            let value = "0123456789abcdef".repeat(alloc, 62)?;
+            frame.push_header("long", value.as_str())?;
+            Ok((frame, 900))
+        }
+        "headers" => {
+            for _ in 5..32 {
+                frame.push_header("header", "value of 16 chars")?;
+            }
+            Ok((frame, 1_200))
+        }
+        "large" => {
+            let body = vec![in alloc; b'x'; 65_536]?;
+            frame.set_body(&body)?;
+            Ok((frame, 16))
+        }
+        _ => Ok((frame, 7_000)),
     }
+}
+
+/// Appends the frame's text so many times.
+fn write_all(frame: &Frame, count: usize, text: &mut Vec<u8>) -> Result<(), FrameFault> {
+    for _ in 0..count {
+        encode(frame, text)?;
+    }
+    Ok(())
+}
+
+/// About a megabyte of whole frames of this kind.
+fn stream(alloc: Global, kind: &str) -> Result<Vec<u8>, FrameFault> {
+    if kind == "open" {
+        return open_stream(alloc);
+    }
+    let (frame, count) = frame_of(alloc, kind)?;
+    let mut text = Vec::new(alloc);
+    write_all(&frame, count, &mut text)?;
     Ok(text)
+}
+
+/// The letters of about a megabyte are written so many times: the frames, and the octets of one time.
+fn write(alloc: Global, times: u64) -> Result<(u64, u64), FrameFault> {
+    let (frame, count) = frame_of(alloc, "small")?;
+    let mut text = Vec::new(alloc);
+    for _ in 0..times {
+        text.clear();
+        write_all(&frame, count, &mut text)?;
+    }
+    Ok((times.saturating_mul(count as u64), text.len() as u64))
 }
 
 /// How many frames are read of the stream, `times` over, in pieces of this length.
@@ -65,11 +110,10 @@ fn frames_read(alloc: Global, stream: &[u8], piece: usize, times: u64) -> Result
 
 /// The stream is made and read: the frames, and the octets of the stream.
 fn read(alloc: Global, kind: &str, piece: usize, times: u64) -> Result<(u64, u64), FrameFault> {
-    let text = if kind == "open" {
-        open_stream(alloc)?
-    } else {
-        stream(alloc, kind == "large")?
-    };
+    if kind == "encode" {
+        return write(alloc, times);
+    }
+    let text = stream(alloc, kind)?;
     let frames = frames_read(alloc, &text, piece, times)?;
     Ok((frames, text.len() as u64))
 }

@@ -14,7 +14,7 @@ fn push_written(out: &mut Vec<u8>, command: Command, text: &str) -> Result<(), A
     ensures ok { OnOk result (out.new.items ≡ out.old.items ++ written command text.now) }
     ensures err { OnErr result (Extends out.old.items out.new.items) }
 {
-    if command.is_exempt() {
+    if is_written_as_is(command, text.as_bytes()) {
         out.extend_from_slice(text.as_bytes())
     } else {
         push_escaped(out, text.as_bytes())
