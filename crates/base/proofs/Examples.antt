@@ -6,7 +6,7 @@ use Rattle.base.specs.declared.entity.Kind.TheVariants.{Order, Stock, Account}
 use Rattle.base.specs.declared.fault.EntityFault.TheVariants.{BadKey}
 use Rattle.base.specs.declared.limits.TheConstants.{MAX_NUMBER, SEATS, HELD_WINDOW}
 use Rattle.base.specs.Entity.{order_of, stock_of, account_of, text_of, queue_of, is_key, IsReading}
-use Rattle.base.specs.Number.{IsNumber}
+use Rattle.base.specs.Number.{IsNumber, is_number}
 use Rattle.base.specs.Order.{same_entity, same_pair, entity_cmp, pair_cmp}
 
 -- the text of an entity is the word of its kind, a slash and its key
@@ -82,3 +82,7 @@ no_number_above h = let small = h.small in omega arith
 -- the limits that other layers count by
 limits_are_set : (MAX_NUMBER ≡ 2 ^ 40) × (SEATS ≡ 16) × (HELD_WINDOW ≡ 64)
 limits_are_set = (refl, refl, refl)
+
+-- numbers are 1 to 2^40
+numbers_are_tested : (is_number 0 ≡ false) × (is_number 1 ≡ true) × (is_number 1099511627776 ≡ true) × (is_number 1099511627777 ≡ false)
+numbers_are_tested = (refl, refl, refl, refl)

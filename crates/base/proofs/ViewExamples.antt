@@ -5,10 +5,10 @@ use Rattle.std.specs.String.{string_bytes}
 use Rattle.base.specs.declared.entity.Entity.TheInside.{Inside}
 use Rattle.base.specs.declared.entity.Kind.TheVariants.{Order}
 use Rattle.base.specs.Entity.{order_of}
-use Rattle.base.specs.EntityView.{name_of, IsWhole}
+use Rattle.base.specs.EntityView.{entity_of, IsWhole}
 
 -- the kind Order with the text `order/o1` is the order of `o1`
-an_order_is_whole : (e : Inside) → e.kind ≡ Order → string_bytes e.text ≡ codes "order/o1" → (name_of e ≡ order_of (codes "o1")) × IsWhole e
+an_order_is_whole : (e : Inside) → e.kind ≡ Order → string_bytes e.text ≡ codes "order/o1" → (entity_of e ≡ order_of (codes "o1")) × IsWhole e
 an_order_is_whole e kind text = (rw (kind, text) refl, record { text = rw (kind, text) refl; entity = rw (kind, text) refl })
 
 -- with the text of a stock it's no entity

@@ -5,10 +5,10 @@ use Rattle.base.specs.declared.entity.Entity.TheInside.{Inside}
 use Rattle.base.specs.Entity.{Name, prefix_of, text_of, IsEntity}
 
 -- the kind, and as key what follows the kind's prefix in the text
-abbrev pub name_of : Inside → Name
-name_of e = record { kind = e.kind; key = drop (length (prefix_of e.kind)) (string_bytes e.text) }
+abbrev pub entity_of : Inside → Name
+entity_of e = record { kind = e.kind; key = drop (length (prefix_of e.kind)) (string_bytes e.text) }
 
 -- the text is that of the entity, and its key is a key
 pub record IsWhole (e : Inside) : Type 0 where
-  pub text : string_bytes e.text ≡ text_of (name_of e)
-  pub entity : IsEntity (name_of e)
+  pub text : string_bytes e.text ≡ text_of (entity_of e)
+  pub entity : IsEntity (entity_of e)

@@ -4,7 +4,7 @@ use Rattle.base.specs.declared.fault.EntityFault.{EntityFault}
 use Rattle.base.specs.declared.fault.EntityFault.TheVariants.{BadKey, BadKind, Memory}
 
 -- a fault's number
-abbrev pub number_of : EntityFault → ℕ
-number_of BadKey = 1
-number_of BadKind = 2
-number_of Memory = 3
+abbrev pub entity_fault_number : EntityFault → ℕ
+entity_fault_number BadKey = 1
+entity_fault_number BadKind = 2
+entity_fault_number Memory = 3

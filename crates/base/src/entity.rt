@@ -85,9 +85,9 @@ impl Model for Entity {
 
     ghost Value = { Name };
 
-    ghost use Rattle.base.specs.EntityView.{name_of, IsWhole};
+    ghost use Rattle.base.specs.EntityView.{entity_of, IsWhole};
 
-    ghost view = { name_of };
+    ghost view = { entity_of };
 
     ghost invariant = { IsWhole };
 }

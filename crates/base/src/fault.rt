@@ -19,11 +19,11 @@ pub enum EntityFault {
 
 impl EntityFault {
     ghost use Rattle.std.specs.Prelude.{◌≡◌};
-    ghost use Rattle.base.specs.Fault.{number_of};
+    ghost use Rattle.base.specs.Fault.{entity_fault_number};
 
     /// The number of the fault, 1 to 3.
     pub fn number(self) -> u8
-        ensures { result ≡ number_of self }
+        ensures { result ≡ entity_fault_number self }
     {
         match self {
             EntityFault::BadKey => 1,

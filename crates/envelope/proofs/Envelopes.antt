@@ -8,7 +8,7 @@ use Rattle.base.specs.Entity.{Name, text_of, IsEntity}
 use Rattle.base.specs.Number.{IsNumber}
 use Rattle.base.specs.declared.pair.Pair.{Pair}
 use Rattle.stomp_frame.specs.Frames.{Header, Content, value_of}
-use Rattle.envelope.specs.Written.{pair_of, number_of, kind_word, content_of, headers_of, send_of, HasMessage, IsNumbered, IsEnvelope}
+use Rattle.envelope.specs.Written.{pair_of, envelope_number, kind_word, content_of, headers_of, send_of, HasMessage, IsNumbered, IsEnvelope}
 use Rattle.envelope.specs.Reading.{read_entity, read_number, read_message, read_content, envelope_of, read_envelope, Carries}
 use Rattle.envelope.specs.declared.fault.EnvelopeFault.{EnvelopeFault}
 use Rattle.envelope.specs.declared.message.Message.{Message}
@@ -52,7 +52,7 @@ parts_of _ _ _ _ body e h = absurd cc
 record Says (word : List ℕ) (p : Pair) (n : ℕ) (body : List ℕ) (e : Envelope) : Type 0 where
   kind : kind_word e ≡ word
   whose : pair_of e ≡ p
-  number : number_of e ≡ n
+  number : envelope_number e ≡ n
   content : body ≡ content_of e
   message : HasMessage e
 
@@ -122,7 +122,7 @@ joined : (kind : Option (List ℕ)) (from to : Option Name) (number : Option ℕ
 joined kind from to number word sender receiver count body answer p q r s h = rw (p, q, r, s) h
 
 -- the body of an envelope is read as that envelope
-content_written : (e : Envelope) → HasMessage e → read_content (kind_word e) (pair_of e) (number_of e) (content_of e) ≡ Some e
+content_written : (e : Envelope) → HasMessage e → read_content (kind_word e) (pair_of e) (envelope_number e) (content_of e) ≡ Some e
 content_written (Letter l) is = ap (option_map (letter l.pair l.number)) (read_message-body_of l.message is)
 content_written (Settle p n) is = refl
 
@@ -131,12 +131,12 @@ read_back : (headers : List Header) (body : List ℕ) (e : Envelope) → Carries
 unfolding read_envelope
 read_back headers body e c =
     joined (value_of (codes "kind") headers) (option_and_then read_entity (value_of (codes "from") headers)) (option_and_then read_entity (value_of (codes "to") headers)) (option_and_then read_number (value_of (codes "number") headers))
-    (kind_word e) (pair_of e).from (pair_of e).to (number_of e) body (Some e)
+    (kind_word e) (pair_of e).from (pair_of e).to (envelope_number e) body (Some e)
     c.kind
     (ap (option_and_then read_entity) c.from ∙ read_entity-text_of (pair_of e).from c.envelope.numbered.from)
     (ap (option_and_then read_entity) c.to ∙ read_entity-text_of (pair_of e).to c.envelope.numbered.to)
-    (ap (option_and_then read_number) c.number ∙ read_number-decimal (number_of e) c.envelope.numbered.number)
-    (ap (read_content (kind_word e) (pair_of e) (number_of e)) c.content ∙ content_written e c.envelope.message)
+    (ap (option_and_then read_number) c.number ∙ read_number-decimal (envelope_number e) c.envelope.numbered.number)
+    (ap (read_content (kind_word e) (pair_of e) (envelope_number e)) c.content ∙ content_written e c.envelope.message)
 
 -- both ways
 pub read_envelope-exact : (headers : List Header) (body : List ℕ) (e : Envelope) → (read_envelope headers body ≡ Some e) ↔ Carries headers body e
@@ -156,6 +156,6 @@ written_once a b p q heads bodies =
     cc
 
 -- the SEND of an envelope reads as that envelope
-pub read_back_of : (answer : Result Content EnvelopeFault) (e : Envelope) → HasMessage e → IfOk answer (λ f. f ≡ send_of e) → OnOk answer (IsNumbered (pair_of e) (number_of e)) → IfOk answer (λ f. read_envelope f.headers f.body ≡ Some e)
+pub read_back_of : (answer : Result Content EnvelopeFault) (e : Envelope) → HasMessage e → IfOk answer (λ f. f ≡ send_of e) → OnOk answer (IsNumbered (pair_of e) (envelope_number e)) → IfOk answer (λ f. read_envelope f.headers f.body ≡ Some e)
 read_back_of (Ok f) e message is numbered = subst (λ (f : Content). read_envelope f.headers f.body ≡ Some e) (sym is) (read_envelope-written e (record { numbered = numbered; message = message }))
 read_back_of (Err fault) e message is numbered = tt

@@ -11,12 +11,12 @@ use Rattle.std.proofs.lemmas.Slice.Eq.{bytes_eq-Decides}
 use Rattle.std.proofs.lemmas.List.{take_at, append_cancel_right}
 use Rattle.std.proofs.lemmas.Fmt.{decimal_is_IsNumeral, decimal_injective}
 use Rattle.base.specs.Entity.{Name, text_of, is_key, IsEntity}
-use Rattle.base.specs.Number.{IsNumber}
+use Rattle.base.specs.Number.{IsNumber, is_number}
 use Rattle.base.specs.declared.entity.Kind.{Kind}
 use Rattle.base.specs.declared.entity.Kind.TheVariants.{Order, Stock, Account}
 use Rattle.base.proofs.Entities.{text_of-injective}
 use Rattle.envelope.specs.Bodies.{body_of, IsMessage}
-use Rattle.envelope.specs.Reading.{entity_in, read_entity, is_number, read_number, is_message, asked_in, read_message}
+use Rattle.envelope.specs.Reading.{entity_in, read_entity, read_number, is_message, asked_in, read_message}
 use Rattle.envelope.specs.declared.message.Message.{Message}
 use Rattle.envelope.specs.declared.message.Message.TheVariants.{Request, Tentative, Refused, Confirm, Cancel}
 use Rattle.envelope.proofs.Finding.{both, and_both, find-passes, find-only, IsAmong}

@@ -1,5 +1,5 @@
 -- What envelope some headers and a body stand for.
-use Rattle.std.specs.Prelude.{◌≡◌, ℕ, Bool, true, ◌&&◌, ◌==◌, nat_lt, nat_le, if◌then◌else◌, List, [], ◌∷◌, map, length, drop, find, take_while, codes, decimal, Option, Some, None, option_map, option_and_then}
+use Rattle.std.specs.Prelude.{◌≡◌, ℕ, Bool, true, ◌&&◌, ◌==◌, if◌then◌else◌, List, [], ◌∷◌, map, length, drop, find, take_while, codes, decimal, Option, Some, None, option_map, option_and_then}
 use Rattle.std.specs.List.{list_any}
 use Rattle.std.specs.Char.{is_ascii_digit}
 use Rattle.std.specs.Str.{bytes_eq}
@@ -7,11 +7,11 @@ use Rattle.std.specs.Str.Parse.{digits_value}
 use Rattle.base.specs.Entity.{Name, prefix_of, text_of, is_key}
 use Rattle.base.specs.declared.entity.Kind.{Kind}
 use Rattle.base.specs.declared.entity.Kind.TheVariants.{Order, Stock, Account}
-use Rattle.base.specs.declared.limits.TheConstants.{MAX_NUMBER}
+use Rattle.base.specs.Number.{is_number}
 use Rattle.base.specs.declared.pair.Pair.{Pair}
 use Rattle.stomp_frame.specs.Frames.{Header, value_of}
 use Rattle.envelope.specs.Bodies.{body_of}
-use Rattle.envelope.specs.Written.{pair_of, number_of, kind_word, content_of, IsEnvelope}
+use Rattle.envelope.specs.Written.{pair_of, envelope_number, kind_word, content_of, IsEnvelope}
 use Rattle.envelope.specs.declared.message.Message.{Message}
 use Rattle.envelope.specs.declared.message.Message.TheVariants.{Request, Tentative, Refused, Confirm, Cancel}
 use Rattle.envelope.specs.declared.message.Envelope.{Envelope}
@@ -26,10 +26,6 @@ entity_in text kind = record { kind = kind; key = drop (length (prefix_of kind))
 -- the entity whose text this is
 abbrev pub read_entity : List ℕ → Option Name
 read_entity text = find (λ e. is_key e.key && bytes_eq (text_of e) text) (map (entity_in text) (Order ∷ Stock ∷ Account ∷ []))
-
--- 1 to 2^40
-abbrev pub is_number : ℕ → Bool
-is_number n = nat_lt 0 n && nat_le n MAX_NUMBER
 
 -- the number from 1 to 2^40 that is written so, without leading zeros
 abbrev pub read_number : List ℕ → Option ℕ
@@ -76,7 +72,7 @@ pub record Carries (headers : List Header) (body : List ℕ) (e : Envelope) : Ty
   pub kind : value_of (codes "kind") headers ≡ Some (kind_word e)
   pub from : value_of (codes "from") headers ≡ Some (text_of (pair_of e).from)
   pub to : value_of (codes "to") headers ≡ Some (text_of (pair_of e).to)
-  pub number : value_of (codes "number") headers ≡ Some (decimal (number_of e))
+  pub number : value_of (codes "number") headers ≡ Some (decimal (envelope_number e))
   pub content : body ≡ content_of e
   pub envelope : IsEnvelope e
 
