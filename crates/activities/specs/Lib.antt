@@ -8,3 +8,5 @@ pub mod Orders
 pub mod Lines
 pub mod Stocks
 pub mod Accounts
+pub mod Service
+pub mod Sound

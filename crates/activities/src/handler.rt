@@ -1,8 +1,7 @@
 //! What a service does with what it takes in.
 
-ghost use Rattle.std.specs.Prelude.{◌≡◌, Bool, true, IfOk};
-ghost use Rattle.base.specs.declared.entity.Kind.{Kind};
-ghost use Rattle.activities.specs.Reaction.{Table};
+ghost use Rattle.std.specs.Prelude.{◌≡◌, true, IfOk};
+ghost use Rattle.activities.specs.Service.{Service};
 ghost use Rattle.activities.specs.Applied.{IsApplied};
 
 use crate::{Input, Outs};
@@ -28,11 +27,11 @@ pub enum Refusal {
 }
 
 impl Refusal {
-    ghost use Rattle.activities.specs.Faults.{number_of};
+    ghost use Rattle.activities.specs.Faults.{refusal_number};
 
     /// The number of the refusal, 70 to 73.
     pub fn number(self) -> u8
-        ensures { result ≡ number_of self }
+        ensures { result ≡ refusal_number self }
     {
         match self {
             Refusal::AlreadyPlaced => 70,
@@ -65,29 +64,27 @@ impl From<AllocError> for HandlerFault {
     }
 }
 
-/// What a service does with what its entities take in: one reaction, given as a table.
+/// What a service does with what its entities take in: its reactions.
 pub trait Handler {
     /// What is kept of an entity.
     type State: Drop;
     /// What its seats can ask for.
     type Command: Drop;
 
-    ghost KIND: { Kind };
+    /// The kind of its entities, its reactions, and which states are none.
+    ghost service: { Service Self.State Self.Command };
 
     /// The kind of its entities.
-    const KIND: Kind;
-
-    ghost table: { Table Self.State Self.Command };
-
-    ghost is_none_state: { Self.State → Bool };
+    fn kind() -> Kind
+        ensures { result ≡ service.kind };
 
     /// The state of an entity that took in nothing.
     fn opening(alloc: Global) -> Result<Self::State, AllocError>
-        ensures { IfOk result (λ s. s ≡ table.opening) };
+        ensures { IfOk result (λ s. s ≡ service.reactions.opening) };
 
     /// Whether a state is none, so that no row stands for it.
     fn is_none(state: &Self::State) -> bool
-        ensures { result ≡ is_none_state state.now };
+        ensures { result ≡ service.is_none state.now };
 
     /// An equal state, in memory of its own.
     fn copy_state(alloc: Global, state: &Self::State) -> Result<Self::State, AllocError>
@@ -100,7 +97,7 @@ pub trait Handler {
     /// Takes an input in: the state becomes the one after it, and what it sends goes behind `outs`.
     ///
     /// # Errors
-    /// `Business` exactly where the table refuses the command, `Memory` where a growth was refused; after either the state and `outs`
+    /// `Business` exactly where the reactions refuse the command, `Memory` where a growth was refused; after either the state and `outs`
     /// are as they were. A message is never refused as business.
     fn apply(
         alloc: Global,
@@ -108,8 +105,8 @@ pub trait Handler {
         input: &Input<Self::Command>,
         outs: &mut Outs,
     ) -> Result<(), HandlerFault>
-        ensures { IsApplied table state.old input.now outs.old state.new outs.new result };
+        ensures { IsApplied service.reactions state.old input.now outs.old state.new outs.new result };
 
     /// A none state is the opening one, so that nothing is lost where no row stands.
-    ghost none_is_opening: { (s : Self.State) → is_none_state s ≡ true → s ≡ table.opening };
+    ghost none_is_opening: { (s : Self.State) → service.is_none s ≡ true → s ≡ service.reactions.opening };
 }

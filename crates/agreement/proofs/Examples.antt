@@ -1,28 +1,29 @@
--- Examples: rows that a service adds, what the laws deny, and stores that fail.
-use Rattle.std.proofs.Common.{◌≡◌, ℕ, suc, ◌≤◌, ◌+◌, List, [], ◌∷◌, Bool, true, false, refl, arith, inl, inr}
-use Rattle.std.specs.Prelude.{codes, Some, None}
+-- Examples: rows that a service adds, what the laws deny, and steps.
+use Rattle.std.proofs.Common.{◌≡◌, ℕ, [], ◌∷◌, length, refl, ap, arith, inl, inr, Some}
+use Rattle.std.specs.Prelude.{codes, Contains, if◌then◌else◌}
 use Rattle.base.specs.Entity.{Name}
 use Rattle.base.specs.Order.{same_entity, same_pair}
+use Rattle.base.specs.declared.entity.Kind.TheVariants.{Stock, Account}
 use Rattle.envelope.specs.declared.message.Envelope.{Envelope}
 use Rattle.envelope.specs.declared.message.Envelope.TheVariants.{Letter, Settle}
 use Rattle.envelope.specs.declared.message.Message.{Message}
-use Rattle.envelope.specs.declared.message.Message.TheVariants.{Request, Tentative, Confirm, Cancel}
+use Rattle.envelope.specs.declared.message.Message.TheVariants.{Request, Confirm, Cancel}
 use Rattle.activities.specs.declared.commands.OrderCommand.TheVariants.{Place}
+use Rattle.activities.specs.declared.commands.StockCommand.{StockCommand}
 use Rattle.activities.specs.declared.commands.StockCommand.TheVariants.{Receive}
 use Rattle.activities.specs.declared.commands.AccountCommand.TheVariants.{SetLimit}
+use Rattle.activities.specs.declared.input.Input.{Input}
 use Rattle.activities.specs.declared.input.Input.TheVariants.{FromSeat, FromEntity}
-use Rattle.activities.specs.declared.phase.LinePhase.{LinePhase}
-use Rattle.activities.specs.Lines.{Line, is_before}
-use Rattle.agreement.specs.Agreement.{PartnersAgree, IsStockSound, IsAccountSound}
-use Rattle.agreement.specs.Envelopes.{IsAuthentic, SettledAreHandled}
-use Rattle.agreement.specs.Example.{order, stock, account, from_to, after_first}
-use Rattle.std.specs.Prelude.{Contains}
-use Rattle.std.specs.List.{AllByRecursion}
-use Rattle.std.proofs.lemmas.List.Elements.{All-contains_itself, recursion_from_All}
-use Rattle.agreement.specs.Failing.{Content, Worlds, content_of, Step, Does, Fails, Finds, Posts, run_steps, MayStep, AllMayStep, AreGood}
-use Rattle.agreement.specs.Growth.{AddsRow, AddsOrder, AddsStock, AddsAccount}
+use Rattle.activities.specs.declared.phase.Phase.{Phase}
+use Rattle.activities.specs.declared.phase.Status.TheVariants.{Cancelled}
+use Rattle.activities.specs.Lines.{is_before}
+use Rattle.agreement.specs.Agreement.{states_in, line_at, HasRefused, PartnersAgree, RefusedAreLeftAlone}
+use Rattle.agreement.specs.Envelopes.{IsAuthentic, SettledAreHandled, Raises}
+use Rattle.agreement.specs.Growth.{IsFrom, AddsRow, AddsOrder, AddsStock, AddsAccount}
 use Rattle.agreement.specs.Journals.{Journals, HandlesPrefixes}
-use Rattle.agreement.specs.World.{Event, ToOrder, ToStock, arrives, happens, nothing}
+use Rattle.agreement.specs.Steps.{start, Step, Writes, Sends, IsPath, IsGood}
+use Rattle.agreement.proofs.ConfirmedExamples.{order, stock, account, from_to, after_first, order_at}
+use Rattle.agreement.proofs.Machine.{ToStock, act, arrives, with_mark, mark_raises}
 
 -- ---- rows
 
@@ -43,8 +44,16 @@ unfolding same_entity same_pair is_before
 an_answer_adds_a_row = AddsOrder _ (record { of_kind = refl; seated = tt; accepted = refl; next = refl }) refl refl
 
 -- there is no seat 16, and what it asks for changes nothing
-a_wrong_seat_adds_nothing : (happens nothing (ToStock (codes "bolts") 16 (Receive 10))).journals ≡ nothing.journals
+a_wrong_seat_adds_nothing : (act start (ToStock (codes "bolts") 16 (Receive 10))).journals ≡ start.journals
 a_wrong_seat_adds_nothing = refl
+
+-- a letter is taken in where it is known, and not where nothing was sent
+abbrev request : Input StockCommand
+request = FromEntity order 1 (Request 3)
+
+a_letter_is_known : IsFrom (Contains (Letter (record { pair = from_to order stock; number = 1; message = Request 3 }) ∷ [])) stock request
+    × (IsFrom (Contains []) stock request → ⊥)
+a_letter_is_known = ((0, omega arith, refl), λ h. let none = h.1 in omega arith)
 
 -- ---- envelopes and marks
 
@@ -74,7 +83,7 @@ unfolding same_entity
 a_mark_is_not_ahead h = let l = h (from_to order stock) in omega arith
 
 -- a settle of more than was sent is not taken
-a_wrong_settle_marks_nothing : (arrives nothing (Some (Settle (from_to order stock) 1))).settled (from_to order stock) ≡ 0
+a_wrong_settle_marks_nothing : (arrives start (Some (Settle (from_to order stock) 1))).settled (from_to order stock) ≡ 0
 a_wrong_settle_marks_nothing = refl
 
 -- ---- journals that don't fit each other
@@ -91,7 +100,7 @@ nobody_asked : HandlesPrefixes unasked → ⊥
 unfolding same_entity
 nobody_asked h = let l = h (from_to order stock) in absurd (cc)
 
-a_line_of_no_partner : PartnersAgree unasked order → ⊥
+a_line_of_no_partner : PartnersAgree ((states_in unasked).orders order) (line_at (states_in unasked) order) → ⊥
 unfolding same_entity
 a_line_of_no_partner h = let none = h.nowhere_else stock (λ no. no) in absurd (cc)
 
@@ -105,83 +114,62 @@ apart limit = record {
       ∷ record { entity = account; input = FromEntity order 2 Cancel } ∷ [];
 }
 
-shipped_and_refused : PartnersAgree (apart 499) order → ⊥
+shipped_and_refused : PartnersAgree ((states_in (apart 499)).orders order) (line_at (states_in (apart 499)) order) → ⊥
 unfolding same_entity
 shipped_and_refused h = h.one_way stock account (inl refl) (inr (inl refl)) refl (inr refl)
 
-shipped_and_released : PartnersAgree (apart 500) order → ⊥
+shipped_and_released : PartnersAgree ((states_in (apart 500)).orders order) (line_at (states_in (apart 500)) order) → ⊥
 unfolding same_entity
 shipped_and_released h = h.one_way stock account (inl refl) (inr (inl refl)) refl (inl refl)
 
--- ---- stocks and accounts that are not sound
-
-abbrev line : LinePhase → ℕ → Line
-line phase n = record { order = order; n = n; phase = phase }
-
--- a bolt is gone; more is held than is there; more is held, or shipped, than the lines say; an order has two lines
-stocks_are_unsound :
-    (IsStockSound (record { on_hand = 9; held = 0; shipped = 0; received = 10; lines = [] }) → ⊥)
-    × (IsStockSound (record { on_hand = 2; held = 3; shipped = 0; received = 2; lines = line LinePhase.Held 3 ∷ [] }) → ⊥)
-    × (IsStockSound (record { on_hand = 9; held = 3; shipped = 1; received = 10; lines = line LinePhase.Done 1 ∷ [] }) → ⊥)
-    × (IsStockSound (record { on_hand = 9; held = 0; shipped = 1; received = 10; lines = [] }) → ⊥)
-    × (IsStockSound (record { on_hand = 10; held = 0; shipped = 0; received = 10; lines = line LinePhase.Refused 1 ∷ line LinePhase.Released 1 ∷ [] }) → ⊥)
+-- an order that knows that its account refused has told its stock to cancel; it may not have told the account too
+the_refused_is_left_alone : RefusedAreLeftAlone (order_at Cancelled Phase.Cancelled Phase.Refused) (λ p. if same_entity p stock then Cancel ∷ [] else [])
+    × (RefusedAreLeftAlone (order_at Cancelled Phase.Cancelled Phase.Refused) (λ p. Cancel ∷ []) → ⊥)
 unfolding same_entity
-stocks_are_unsound = (
-  λ h. let e = h.conserved in omega arith,
-  λ h. let e = h.covered in omega arith,
-  λ h. let e = h.held in omega arith,
-  λ h. let e = h.shipped in omega arith,
-  λ h. let e = h.one_each.0 in absurd (cc),
+the_refused_is_left_alone = (alone, λ h. h account (inr (inl (refl, refl))) (0, omega arith, refl))
+  where
+    alone : (p : Name) → HasRefused (order_at Cancelled Phase.Cancelled Phase.Refused) p → Contains (if same_entity p stock then Cancel ∷ [] else []) Cancel → ⊥
+    alone p (inl e) told = let phases = e.1 in absurd (cc)
+    alone p (inr (inl e)) told = let none : Contains [] Cancel = rw e.0 at told in let short = none.1 in omega arith
+    alone p (inr (inr e)) told = e
+
+-- ---- steps
+
+-- a mark rises, and an older settle leaves it; none is taken back, and no other pair's is raised
+a_mark_is_raised :
+    Raises (from_to order stock) 2 (λ pair. 1) (with_mark (from_to order stock) 2 (λ pair. 1))
+    × Raises (from_to order stock) 1 (λ pair. 2) (λ pair. 2)
+    × (Raises (from_to order stock) 1 (λ pair. 2) (λ pair. 1) → ⊥)
+    × (Raises (from_to order stock) 2 (λ pair. 1) (λ pair. 2) → ⊥)
+a_mark_is_raised = (
+  mark_raises (from_to order stock) 2 (λ pair. 1),
+  record { own = refl; others = λ other apart. refl },
+  λ h. let own = h.own in omega arith,
+  λ h. let other = h.others (from_to order account) (λ same. let kinds : Account ≡ Stock = ap (λ pair. pair.to.kind) same in absurd (cc)) in omega arith,
 )
 
--- the limit leaves too little for what is billed and held together
-accounts_are_unsound :
-    (IsAccountSound (record { limit = 5; billed = 3; held = 3; lines = line LinePhase.Done 3 ∷ record { order = stock; n = 3; phase = LinePhase.Held } ∷ [] }) → ⊥)
-    × (IsAccountSound (record { limit = 5; billed = 0; held = 3; lines = [] }) → ⊥)
-    × (IsAccountSound (record { limit = 5; billed = 3; held = 0; lines = [] }) → ⊥)
-accounts_are_unsound = (
-  λ h. let e = h.covered in omega arith,
-  λ h. let e = h.held in omega arith,
-  λ h. let e = h.billed in omega arith,
-)
+-- a command is a step from the beginning on; nothing is reached without one
+a_command_is_a_step : Step start (after_first 1) × (IsPath start [] (after_first 1) → ⊥) × IsPath start (after_first 1 ∷ []) (after_first 1)
+a_command_is_a_step = (commanded, (λ h. let none : 1 ≡ 0 = ap (λ x. length x.journals.stocks) h in omega arith), (commanded, refl))
+  where
+    commanded : Step start (after_first 1)
+    commanded = Writes (AddsStock _ (record { of_kind = refl; seated = omega arith; accepted = refl; next = tt }) tt refl) refl refl
 
--- ---- stores that fail
-
-abbrev start : Worlds
-start = record { could = content_of nothing ∷ []; bag = [] }
-
-abbrev receives : Event
-receives = ToStock (codes "bolts") 0 (Receive 10)
-
--- bolts came in
-abbrev received : Content
-received = content_of (happens nothing receives)
-
-either : AllByRecursion (Contains (content_of nothing ∷ received ∷ [])) (content_of nothing ∷ received ∷ [])
-either = recursion_from_All (Contains (content_of nothing ∷ received ∷ [])) (content_of nothing ∷ received ∷ []) (All-contains_itself (content_of nothing ∷ received ∷ []))
-
--- a call that failed has happened or hasn't, and a reopening finds one of the two
-a_failed_call_is_open : ((run_steps (Does receives ∷ []) start).could ≡ received ∷ [])
-    × ((run_steps (Fails receives ∷ []) start).could ≡ content_of nothing ∷ received ∷ [])
-    × AllMayStep (Fails receives ∷ Finds (received ∷ []) ∷ []) start
-    × AllMayStep (Fails receives ∷ Finds (content_of nothing ∷ []) ∷ []) start
-a_failed_call_is_open = (refl, refl, (tt, ((either.1.0, tt), tt)), (tt, ((either.0, tt), tt)))
-
--- an order that was placed may ask, and one that may not have been placed may not
-abbrev places : Event
-places = ToOrder (codes "o1") 0 (Place (codes "bolts") 3 (codes "acme") 500)
-
-a_placed_order_may_ask : AllMayStep (Does places ∷ Posts (letter order stock 1 (Request 3)) ∷ []) start
+-- an order that was placed may ask, and nothing may be said in its name before
+only_the_authentic_is_sent :
+    Step (after_first 3) (after_first 4)
+    × (IsAuthentic (after_first 2).journals (letter order stock 1 (Request 3)) → ⊥)
 unfolding same_entity
-a_placed_order_may_ask = (tt, ((refl, tt), tt))
+only_the_authentic_is_sent = (Sends (letter order stock 1 (Request 3)) refl refl, λ h. absurd (cc))
 
-an_open_call_posts_nothing : MayStep (run_steps (Fails places ∷ []) start) (Posts (letter order stock 1 (Request 3))) → ⊥
-unfolding same_entity
-an_open_call_posts_nothing h = let none = h.0 in absurd (cc)
-
--- contents with a mark ahead of the handling, or beside an envelope that nobody sent, are not good
+-- a mark ahead of the handling isn't good, nor is an envelope that nobody sent, nor are journals that don't fit each other
 others_are_not_good :
-    (AreGood [] (received ∷ record { journals = received.journals; settled = λ pair. 1 } ∷ []) → ⊥)
-    × (AreGood (letter order stock 1 (Request 3) ∷ []) (received ∷ []) → ⊥)
+    (IsGood (record { journals = (after_first 1).journals; settled = λ pair. 1; sent = [] }) → ⊥)
+    × (IsGood (record { journals = (after_first 1).journals; settled = λ pair. 0; sent = letter order stock 1 (Request 3) ∷ [] }) → ⊥)
+    × (IsGood (record { journals = unasked; settled = λ pair. 0; sent = [] }) → ⊥)
 unfolding same_entity
-others_are_not_good = (λ h. let ahead = h.1.0.settled (from_to order stock) in omega arith, λ h. let sent = h.0.authentic.0 in absurd (cc))
+others_are_not_good = (
+  λ h. let ahead = h.settled (from_to order stock) in omega arith,
+  λ h. let sent = h.authentic.0 in absurd (cc),
+  λ h. nobody_asked h.lawful.prefixes,
+)

@@ -1,11 +1,12 @@
--- Each event keeps a world good.
-use Rattle.std.proofs.Common.{◌≡◌, ℕ, zero, suc, ◌≤◌, List, [], ◌∷◌, ◌++◌, Bool, true, false, ◌⊎◌, refl, arith, sym, inl, inr, Option, Some, None, Result, Ok, Err, length, subst}
-use Rattle.std.specs.Prelude.{slice_get, max, ◌==◌, nat_le, nat_lt, if◌then◌else◌}
+-- A machine of actions, by which the examples compute: what each does is a step, or nothing.
+use Rattle.std.proofs.Common.{◌≡◌, ℕ, zero, suc, ◌≤◌, List, [], ◌∷◌, ◌++◌, Bool, true, false, ◌⊎◌, ◌≢◌, refl, ap, arith, inl, inr, Option, Some, None, Result, Ok, Err, length}
+use Rattle.std.specs.Prelude.{Contains, slice_get, max, ◌==◌, nat_le, nat_lt, if◌then◌else◌}
 use Rattle.std.proofs.lemmas.Bool.Decides.{nat_tests}
 use Rattle.base.specs.Entity.{Name, order_of, stock_of, account_of}
 use Rattle.base.specs.Order.{same_pair}
 use Rattle.base.specs.declared.entity.Kind.{Kind}
 use Rattle.base.specs.declared.entity.Kind.TheVariants.{Order, Stock, Account}
+use Rattle.base.specs.declared.limits.TheConstants.{SEATS}
 use Rattle.base.specs.declared.pair.Pair.{Pair}
 use Rattle.base.proofs.Entities.{same_pair-Decides}
 use Rattle.envelope.specs.declared.message.Message.{Message}
@@ -16,53 +17,94 @@ use Rattle.activities.specs.declared.commands.OrderCommand.{OrderCommand}
 use Rattle.activities.specs.declared.commands.StockCommand.{StockCommand}
 use Rattle.activities.specs.declared.commands.AccountCommand.{AccountCommand}
 use Rattle.activities.specs.declared.handler.Refusal.{Refusal}
-use Rattle.activities.specs.declared.input.Input.TheVariants.{FromSeat}
+use Rattle.activities.specs.declared.input.Input.TheVariants.{FromSeat, FromEntity}
 use Rattle.activities.specs.declared.input.JournalRow.{JournalRow}
 use Rattle.activities.specs.declared.outs.Out.{Out}
-use Rattle.activities.specs.Reaction.{Table, react}
+use Rattle.activities.specs.Reaction.{Reactions, react}
 use Rattle.activities.specs.Journal.{state_of}
 use Rattle.activities.specs.Follow.{MayFollow}
-use Rattle.activities.specs.Numbered.{nth, numbered, IsPrefixOf}
-use Rattle.activities.specs.Orders.{order_table}
-use Rattle.activities.specs.Stocks.{stock_table}
-use Rattle.activities.specs.Accounts.{account_table}
+use Rattle.activities.specs.Numbered.{nth}
+use Rattle.activities.specs.Orders.{order_reactions}
+use Rattle.activities.specs.Stocks.{stock_reactions}
+use Rattle.activities.specs.Accounts.{account_reactions}
 use Rattle.activities.proofs.Sameness.{either}
-use Rattle.activities.proofs.Prefixes.{prefix-same}
-use Rattle.activities.proofs.Journals.{command_row, sent_of-grows, handled_of-grows}
-use Rattle.activities.proofs.Legal.{legal-none}
-use Rattle.agreement.specs.Journals.{Journals, sent_by, sent_in, letters_by, handled_in}
-use Rattle.agreement.specs.Envelopes.{IsAuthentic, SettledAreHandled}
-use Rattle.agreement.specs.Growth.{AddsRow, AddsOrder, AddsStock, AddsAccount, Grows}
-use Rattle.agreement.specs.World.{World, Event, ToOrder, ToStock, ToAccount, SendsLetter, SendsSettle, Arrives, unless_refused, with_command, with_letter, with_mark, arrives, sends, happens, run, nothing, AreAuthentic, IsGood}
-use Rattle.agreement.proofs.Growth.{lawful-later, grows, grows-same, grows_trans, authentic-later, settled-later}
+use Rattle.activities.proofs.Journals.{command_row}
+use Rattle.agreement.specs.Journals.{Journals, sent_in, letters_by, handled_in}
+use Rattle.agreement.specs.Envelopes.{Raises}
+use Rattle.agreement.specs.Growth.{AddsRowFrom, AddsOrder, AddsStock, AddsAccount}
+use Rattle.agreement.specs.Steps.{Configuration, Step, Writes, Marks, Sends, Reaches}
 
-pub all_authentic-later : (js later : Journals) → Grows js later → (es : List Envelope) → AreAuthentic js es → AreAuthentic later es
-all_authentic-later js later g [] h = tt
-all_authentic-later js later g (e ∷ es) h = (authentic-later js later g e h.0, all_authentic-later js later g es h.1)
+-- a seat's command to an entity, an envelope that a service sends (again), or one that arrives, told by its place among those that were
+-- sent, where the newest is 0
+pub data Action : Type 0 where
+  ToOrder : (key : List ℕ) → (seat : ℕ) → OrderCommand → Action
+  ToStock : (key : List ℕ) → (seat : ℕ) → StockCommand → Action
+  ToAccount : (key : List ℕ) → (seat : ℕ) → AccountCommand → Action
+  SendsLetter : Pair → (number : ℕ) → Action
+  SendsSettle : Pair → Action
+  Arrives : (which : ℕ) → Action
 
--- a world with one more row, and the same marks and envelopes
-with_row : (w : World) (later : Journals) → AddsRow w.journals later → IsGood w → IsGood (record w { journals = later })
-with_row w later adds h =
-    let g = grows w.journals later adds in
-    record {
-      lawful = lawful-later w.journals later adds h.lawful;
-      settled = settled-later w.journals later g w.settled h.settled;
-      authentic = all_authentic-later w.journals later g w.bag h.authentic;
-    }
+-- the rows with one more, unless it is refused
+abbrev pub unless_refused : {S C : Type 0} → Result (S × List Out) Refusal → List (JournalRow C) → JournalRow C → List (JournalRow C)
+unless_refused (Ok done) rows row = rows ++ row ∷ []
+unless_refused (Err refusal) rows row = rows
+
+-- a journal after a command, from one of the seats 0 to 15
+abbrev pub with_command : {S C : Type 0} → Reactions S C → Name → ℕ → C → List (JournalRow C) → List (JournalRow C)
+with_command t e seat command rows =
+    if nat_lt seat SEATS
+    then unless_refused (react t (state_of t rows e) (FromSeat seat command)) rows (record { entity = e; input = FromSeat seat command })
+    else rows
+
+-- the journals after a receiver of this kind took a letter in
+abbrev pub with_letter : Journals → Kind → LetterOf → Journals
+with_letter js Order l = record js { orders = js.orders ++ record { entity = l.pair.to; input = FromEntity l.pair.from l.number l.message } ∷ [] }
+with_letter js Stock l = record js { stocks = js.stocks ++ record { entity = l.pair.to; input = FromEntity l.pair.from l.number l.message } ∷ [] }
+with_letter js Account l = record js { accounts = js.accounts ++ record { entity = l.pair.to; input = FromEntity l.pair.from l.number l.message } ∷ [] }
+
+-- the marks with one pair's at least this
+abbrev pub with_mark : Pair → ℕ → (Pair → ℕ) → Pair → ℕ
+with_mark of count settled pair = if same_pair pair of then max (settled pair) count else settled pair
+
+-- An envelope arrives: a letter is handled if it is the next of its pair, a settle is taken if so much was sent. A letter that comes too
+-- early changes nothing, and may arrive again, as one that was held does when its turn comes.
+abbrev pub arrives : Configuration → Option Envelope → Configuration
+arrives w None = w
+arrives w (Some (Letter l)) = if l.number == suc (handled_in w.journals l.pair) then record w { journals = with_letter w.journals l.pair.to.kind l } else w
+arrives w (Some (Settle pair count)) = if nat_le count (length (sent_in w.journals pair)) then record w { settled = with_mark pair count w.settled } else w
+
+-- a letter with this number is sent, if there is such a message
+abbrev pub sends : Configuration → Pair → ℕ → Option Message → Configuration
+sends w pair number None = w
+sends w pair number (Some m) = record w { sent = Letter (record { pair = pair; number = number; message = m }) ∷ w.sent }
+
+-- the configuration after one action
+abbrev pub act : Configuration → Action → Configuration
+act w (ToOrder key seat c) = record w { journals = record w.journals { orders = with_command order_reactions (order_of key) seat c w.journals.orders } }
+act w (ToStock key seat c) = record w { journals = record w.journals { stocks = with_command stock_reactions (stock_of key) seat c w.journals.stocks } }
+act w (ToAccount key seat c) = record w { journals = record w.journals { accounts = with_command account_reactions (account_of key) seat c w.journals.accounts } }
+act w (SendsLetter pair number) = sends w pair number (nth (sent_in w.journals pair) number)
+act w (SendsSettle pair) = record w { sent = Settle pair (handled_in w.journals pair) ∷ w.sent }
+act w (Arrives which) = arrives w (slice_get w.sent which)
+
+-- a whole schedule
+abbrev pub act_all : List Action → Configuration → Configuration
+act_all [] w = w
+act_all (a ∷ actions) w = act_all actions (act w a)
 
 -- ---- commands
 
 -- a command changes nothing, or adds a row that may follow
-abbrev Commanded : {S C : Type 0} → Table S C → Kind → List (JournalRow C) → JournalRow C → List (JournalRow C) → Type 0
+abbrev Commanded : {S C : Type 0} → Reactions S C → Kind → List (JournalRow C) → JournalRow C → List (JournalRow C) → Type 0
 Commanded t kind rows row later = (later ≡ rows) ⊎ (MayFollow t kind rows row × (later ≡ rows ++ row ∷ []))
 
-answered : {S C : Type 0} (t : Table S C) (kind : Kind) (e : Name) (seat : ℕ) (c : C) (rows : List (JournalRow C)) (answer : Result (S × List Out) Refusal)
+answered : {S C : Type 0} (t : Reactions S C) (kind : Kind) (e : Name) (seat : ℕ) (c : C) (rows : List (JournalRow C)) (answer : Result (S × List Out) Refusal)
     → e.kind ≡ kind → nat_lt seat 16 ≡ true → react t (state_of t rows e) (FromSeat seat c) ≡ answer
     → Commanded t kind rows (command_row e seat c) (unless_refused answer rows (command_row e seat c))
 answered t kind e seat c rows (Err refusal) k seated is = inl refl
 answered t kind e seat c rows (Ok done) k seated is = inr (record { of_kind = k; seated = grind (arith, nat_tests); accepted = rw is refl; next = tt }, refl)
 
-commanded : {S C : Type 0} (t : Table S C) (kind : Kind) (e : Name) (seat : ℕ) (c : C) (rows : List (JournalRow C))
+commanded : {S C : Type 0} (t : Reactions S C) (kind : Kind) (e : Name) (seat : ℕ) (c : C) (rows : List (JournalRow C))
     → e.kind ≡ kind → Commanded t kind rows (command_row e seat c) (with_command t e seat c rows)
 commanded t kind e seat c rows k = by_case (nat_lt seat 16) refl
   where
@@ -70,213 +112,75 @@ commanded t kind e seat c rows k = by_case (nat_lt seat 16) refl
     by_case true seated = rw seated (answered t kind e seat c rows _ k seated refl)
     by_case false seated = rw seated (inl refl)
 
--- ---- letters
+-- ---- each action is a step, or nothing
 
--- the next letter of its pair adds a row, if it is authentic
-pub letter-adds : (js : Journals) (k : Kind) (l : LetterOf) → l.pair.to.kind ≡ k → IsAuthentic js (Letter l) → l.number ≡ suc (length (letters_by js k l.pair)) → AddsRow js (with_letter js k l)
-letter-adds js Order l k authentic next = AddsOrder _ (record { of_kind = k; seated = tt; accepted = refl; next = next }) authentic refl
-letter-adds js Stock l k authentic next = AddsStock _ (record { of_kind = k; seated = tt; accepted = refl; next = next }) authentic refl
-letter-adds js Account l k authentic next = AddsAccount _ (record { of_kind = k; seated = tt; accepted = refl; next = next }) authentic refl
+-- nothing is changed, or a step is made
+abbrev Does : Configuration → Configuration → Type 0
+Does old new = (new ≡ old) ⊎ Step old new
 
-letter_good : (w : World) (l : LetterOf) → IsAuthentic w.journals (Letter l) → IsGood w → IsGood (arrives w (Some (Letter l)))
-letter_good w l a h = by_case (l.number == suc (handled_in w.journals l.pair)) refl
+-- the next letter of its pair adds a row, if it is known
+letter_adds : (known : Envelope → Type 0) (js : Journals) (k : Kind) (l : LetterOf) → l.pair.to.kind ≡ k → known (Letter l) → l.number ≡ suc (length (letters_by js k l.pair)) → AddsRowFrom known js (with_letter js k l)
+letter_adds known js Order l k from next = AddsOrder _ (record { of_kind = k; seated = tt; accepted = refl; next = next }) from refl
+letter_adds known js Stock l k from next = AddsStock _ (record { of_kind = k; seated = tt; accepted = refl; next = next }) from refl
+letter_adds known js Account l k from next = AddsAccount _ (record { of_kind = k; seated = tt; accepted = refl; next = next }) from refl
+
+letter_does : (w : Configuration) (l : LetterOf) → Contains w.sent (Letter l) → Does w (arrives w (Some (Letter l)))
+letter_does w l there = by_case (l.number == suc (handled_in w.journals l.pair)) refl
   where
-    by_case : (b : Bool) → (l.number == suc (handled_in w.journals l.pair)) ≡ b → IsGood (arrives w (Some (Letter l)))
+    by_case : (b : Bool) → (l.number == suc (handled_in w.journals l.pair)) ≡ b → Does w (arrives w (Some (Letter l)))
     by_case true e =
         let next : l.number ≡ suc (handled_in w.journals l.pair) = grind (arith, nat_tests) in
-        rw e (with_row w (with_letter w.journals l.pair.to.kind l) (letter-adds w.journals l.pair.to.kind l refl a next) h)
-    by_case false e = rw e h
+        rw e (inr (Writes (letter_adds (Contains w.sent) w.journals l.pair.to.kind l refl there next) refl refl))
+    by_case false e = rw e (inl refl)
 
--- ---- settles
-
-marks_behind : (js : Journals) (settled : Pair → ℕ) (of : Pair) (count : ℕ) → count ≤ handled_in js of → SettledAreHandled js settled → SettledAreHandled js (with_mark of count settled)
-marks_behind js settled of count a h pair = by_case (same_pair pair of) refl
-  where
-    by_case : (b : Bool) → same_pair pair of ≡ b → with_mark of count settled pair ≤ handled_in js pair
-    by_case true e =
-        let same : pair ≡ of = (same_pair-Decides pair of).0 e in
-        let here : count ≤ handled_in js pair = rw same a in
-        let old = h pair in
-        rw e (omega arith)
-    by_case false e = rw e (h pair)
-
-settle_good : (w : World) (pair : Pair) (count : ℕ) → IsAuthentic w.journals (Settle pair count) → IsGood w → IsGood (arrives w (Some (Settle pair count)))
-settle_good w pair count a h = by_case (nat_le count (length (sent_in w.journals pair))) refl
-  where
-    by_case : (b : Bool) → nat_le count (length (sent_in w.journals pair)) ≡ b → IsGood (arrives w (Some (Settle pair count)))
-    by_case true e = rw e (record { lawful = h.lawful; settled = marks_behind w.journals w.settled pair count a h.settled; authentic = h.authentic })
-    by_case false e = rw e h
-
--- ---- events
-
-authentic_at : (js : Journals) (es : List Envelope) (k : ℕ) (e : Envelope) → AreAuthentic js es → slice_get es k ≡ Some e → IsAuthentic js e
-authentic_at js [] k e h at = absurd (grind arith)
-authentic_at js (x ∷ es) zero e h at = let same : x ≡ e = cc in rw (← same) h.0
-authentic_at js (x ∷ es) (suc k) e h at = authentic_at js es k e h.1 at
-
-arrives_good : (w : World) (e : Option Envelope) → ((x : Envelope) → e ≡ Some x → IsAuthentic w.journals x) → IsGood w → IsGood (arrives w e)
-arrives_good w None a h = h
-arrives_good w (Some (Letter l)) a h = letter_good w l (a _ refl) h
-arrives_good w (Some (Settle pair count)) a h = settle_good w pair count (a _ refl) h
-
-sends_good : (w : World) (pair : Pair) (number : ℕ) (m : Option Message) → nth (sent_in w.journals pair) number ≡ m → IsGood w → IsGood (sends w pair number m)
-sends_good w pair number None at h = h
-sends_good w pair number (Some m) at h = record { lawful = h.lawful; settled = h.settled; authentic = (at, h.authentic) }
-
-pub happens_good : (w : World) (e : Event) → IsGood w → IsGood (happens w e)
-happens_good w (ToOrder key seat c) h = either (commanded order_table Order (order_of key) seat c w.journals.orders refl)
-    (λ e. subst (λ rows. IsGood (record w { journals = record w.journals { orders = rows } })) (sym e) h)
-    (λ e. with_row w _ (AddsOrder _ e.0 tt (rw e.1 refl)) h)
-happens_good w (ToStock key seat c) h = either (commanded stock_table Stock (stock_of key) seat c w.journals.stocks refl)
-    (λ e. subst (λ rows. IsGood (record w { journals = record w.journals { stocks = rows } })) (sym e) h)
-    (λ e. with_row w _ (AddsStock _ e.0 tt (rw e.1 refl)) h)
-happens_good w (ToAccount key seat c) h = either (commanded account_table Account (account_of key) seat c w.journals.accounts refl)
-    (λ e. subst (λ rows. IsGood (record w { journals = record w.journals { accounts = rows } })) (sym e) h)
-    (λ e. with_row w _ (AddsAccount _ e.0 tt (rw e.1 refl)) h)
-happens_good w (SendsLetter pair number) h = sends_good w pair number _ refl h
-happens_good w (SendsSettle pair) h = record { lawful = h.lawful; settled = h.settled; authentic = (omega arith, h.authentic) }
-happens_good w (Arrives which) h = arrives_good w (slice_get w.bag which) (λ x at. authentic_at w.journals w.bag which x h.authentic at) h
-
-pub run_good : (es : List Event) (w : World) → IsGood w → IsGood (run es w)
-run_good [] w h = h
-run_good (e ∷ es) w h = run_good es (happens w e) (happens_good w e h)
-
-pub nothing_good : IsGood nothing
-nothing_good = record {
-  lawful = record {
-    legal = record { orders = legal-none order_table Order; stocks = legal-none stock_table Stock; accounts = legal-none account_table Account };
-    prefixes = λ pair. prefixes pair.to.kind pair;
-  };
-  settled = λ pair. omega arith;
-  authentic = tt;
+pub mark_raises : (pair : Pair) (count : ℕ) (settled : Pair → ℕ) → Raises pair count settled (with_mark pair count settled)
+mark_raises pair count settled = record {
+  own = let same : same_pair pair pair ≡ true = (same_pair-Decides pair pair).1 refl in rw same refl;
+  others = λ other apart. by_case other apart (same_pair other pair) refl;
 }
   where
-    prefixes : (k : Kind) (pair : Pair) → IsPrefixOf (letters_by nothing.journals k pair) (numbered 0 (sent_in nothing.journals pair))
-    prefixes Order pair = (_, refl)
-    prefixes Stock pair = (_, refl)
-    prefixes Account pair = (_, refl)
+    by_case : (other : Pair) → other ≢ pair → (b : Bool) → same_pair other pair ≡ b → with_mark pair count settled other ≡ settled other
+    by_case other apart true e = absurd (apart ((same_pair-Decides other pair).0 e))
+    by_case other apart false e = rw e refl
 
--- ---- nothing that was sent or handled goes away
-
-orders_grow : (js : Journals) (more : List (JournalRow OrderCommand)) → Grows js (record js { orders = js.orders ++ more })
-orders_grow js more = record { sent = λ pair. sent pair.from.kind pair; handled = λ pair. handled pair.to.kind pair }
+settle_does : (w : Configuration) (pair : Pair) (count : ℕ) → Contains w.sent (Settle pair count) → Does w (arrives w (Some (Settle pair count)))
+settle_does w pair count there = by_case (nat_le count (length (sent_in w.journals pair)))
   where
-    sent : (k : Kind) (pair : Pair) → IsPrefixOf (sent_by js k pair) (sent_by (record js { orders = js.orders ++ more }) k pair)
-    sent Order pair = sent_of-grows order_table js.orders more pair
-    sent Stock pair = prefix-same _ _ refl
-    sent Account pair = prefix-same _ _ refl
+    by_case : (b : Bool) → Does w (if b then record w { settled = with_mark pair count w.settled } else w)
+    by_case true = inr (Marks pair count there (mark_raises pair count w.settled) refl refl)
+    by_case false = inl refl
 
-    handled : (k : Kind) (pair : Pair) → length (letters_by js k pair) ≤ length (letters_by (record js { orders = js.orders ++ more }) k pair)
-    handled Order pair = handled_of-grows js.orders more pair
-    handled Stock pair = omega arith
-    handled Account pair = omega arith
+there : (es : List Envelope) (k : ℕ) (e : Envelope) → slice_get es k ≡ Some e → Contains es e
+there [] k e at = absurd (grind arith)
+there (x ∷ es) zero e at = (0, omega arith, cc)
+there (x ∷ es) (suc k) e at = let rest = there es k e at in (suc rest.0, omega arith, rest.2)
 
-stocks_grow : (js : Journals) (more : List (JournalRow StockCommand)) → Grows js (record js { stocks = js.stocks ++ more })
-stocks_grow js more = record { sent = λ pair. sent pair.from.kind pair; handled = λ pair. handled pair.to.kind pair }
-  where
-    sent : (k : Kind) (pair : Pair) → IsPrefixOf (sent_by js k pair) (sent_by (record js { stocks = js.stocks ++ more }) k pair)
-    sent Order pair = prefix-same _ _ refl
-    sent Stock pair = sent_of-grows stock_table js.stocks more pair
-    sent Account pair = prefix-same _ _ refl
+arrives_does : (w : Configuration) (e : Option Envelope) → ((x : Envelope) → e ≡ Some x → Contains w.sent x) → Does w (arrives w e)
+arrives_does w None at = inl refl
+arrives_does w (Some (Letter l)) at = letter_does w l (at _ refl)
+arrives_does w (Some (Settle pair count)) at = settle_does w pair count (at _ refl)
 
-    handled : (k : Kind) (pair : Pair) → length (letters_by js k pair) ≤ length (letters_by (record js { stocks = js.stocks ++ more }) k pair)
-    handled Order pair = omega arith
-    handled Stock pair = handled_of-grows js.stocks more pair
-    handled Account pair = omega arith
+sends_does : (w : Configuration) (pair : Pair) (number : ℕ) (m : Option Message) → nth (sent_in w.journals pair) number ≡ m → Does w (sends w pair number m)
+sends_does w pair number None at = inl refl
+sends_does w pair number (Some m) at = inr (Sends _ at refl)
 
-accounts_grow : (js : Journals) (more : List (JournalRow AccountCommand)) → Grows js (record js { accounts = js.accounts ++ more })
-accounts_grow js more = record { sent = λ pair. sent pair.from.kind pair; handled = λ pair. handled pair.to.kind pair }
-  where
-    sent : (k : Kind) (pair : Pair) → IsPrefixOf (sent_by js k pair) (sent_by (record js { accounts = js.accounts ++ more }) k pair)
-    sent Order pair = prefix-same _ _ refl
-    sent Stock pair = prefix-same _ _ refl
-    sent Account pair = sent_of-grows account_table js.accounts more pair
+act_does : (w : Configuration) (a : Action) → Does w (act w a)
+act_does w (ToOrder key seat c) = either (commanded order_reactions Order (order_of key) seat c w.journals.orders refl)
+    (λ e. inl (ap (λ rows. record w { journals = record w.journals { orders = rows } }) e))
+    (λ e. inr (Writes (AddsOrder _ e.0 tt (rw e.1 refl)) refl refl))
+act_does w (ToStock key seat c) = either (commanded stock_reactions Stock (stock_of key) seat c w.journals.stocks refl)
+    (λ e. inl (ap (λ rows. record w { journals = record w.journals { stocks = rows } }) e))
+    (λ e. inr (Writes (AddsStock _ e.0 tt (rw e.1 refl)) refl refl))
+act_does w (ToAccount key seat c) = either (commanded account_reactions Account (account_of key) seat c w.journals.accounts refl)
+    (λ e. inl (ap (λ rows. record w { journals = record w.journals { accounts = rows } }) e))
+    (λ e. inr (Writes (AddsAccount _ e.0 tt (rw e.1 refl)) refl refl))
+act_does w (SendsLetter pair number) = sends_does w pair number _ refl
+act_does w (SendsSettle pair) = let so_far : handled_in w.journals pair ≤ handled_in w.journals pair = omega arith in inr (Sends _ so_far refl)
+act_does w (Arrives which) = arrives_does w (slice_get w.sent which) (λ x at. there w.sent which x at)
 
-    handled : (k : Kind) (pair : Pair) → length (letters_by js k pair) ≤ length (letters_by (record js { accounts = js.accounts ++ more }) k pair)
-    handled Order pair = omega arith
-    handled Stock pair = omega arith
-    handled Account pair = handled_of-grows js.accounts more pair
-
-letter_grows : (js : Journals) (k : Kind) (l : LetterOf) → Grows js (with_letter js k l)
-letter_grows js Order l = orders_grow js _
-letter_grows js Stock l = stocks_grow js _
-letter_grows js Account l = accounts_grow js _
-
-arrives_grows : (w : World) (e : Option Envelope) → Grows w.journals (arrives w e).journals
-arrives_grows w None = grows-same w.journals
-arrives_grows w (Some (Letter l)) = by_case (l.number == suc (handled_in w.journals l.pair))
-  where
-    by_case : (b : Bool) → Grows w.journals (if b then record w { journals = with_letter w.journals l.pair.to.kind l } else w).journals
-    by_case true = letter_grows w.journals l.pair.to.kind l
-    by_case false = grows-same w.journals
-arrives_grows w (Some (Settle pair count)) = by_case (nat_le count (length (sent_in w.journals pair)))
-  where
-    by_case : (b : Bool) → Grows w.journals (if b then record w { settled = with_mark pair count w.settled } else w).journals
-    by_case true = grows-same w.journals
-    by_case false = grows-same w.journals
-
-sends_grows : (w : World) (pair : Pair) (number : ℕ) (m : Option Message) → Grows w.journals (sends w pair number m).journals
-sends_grows w pair number None = grows-same w.journals
-sends_grows w pair number (Some m) = grows-same w.journals
-
-pub happens_grows : (w : World) (e : Event) → Grows w.journals (happens w e).journals
-happens_grows w (ToOrder key seat c) = either (commanded order_table Order (order_of key) seat c w.journals.orders refl)
-    (λ e. subst (λ rows. Grows w.journals (record w.journals { orders = rows })) (sym e) (grows-same w.journals))
-    (λ e. subst (λ rows. Grows w.journals (record w.journals { orders = rows })) (sym e.1) (orders_grow w.journals _))
-happens_grows w (ToStock key seat c) = either (commanded stock_table Stock (stock_of key) seat c w.journals.stocks refl)
-    (λ e. subst (λ rows. Grows w.journals (record w.journals { stocks = rows })) (sym e) (grows-same w.journals))
-    (λ e. subst (λ rows. Grows w.journals (record w.journals { stocks = rows })) (sym e.1) (stocks_grow w.journals _))
-happens_grows w (ToAccount key seat c) = either (commanded account_table Account (account_of key) seat c w.journals.accounts refl)
-    (λ e. subst (λ rows. Grows w.journals (record w.journals { accounts = rows })) (sym e) (grows-same w.journals))
-    (λ e. subst (λ rows. Grows w.journals (record w.journals { accounts = rows })) (sym e.1) (accounts_grow w.journals _))
-happens_grows w (SendsLetter pair number) = sends_grows w pair number (nth (sent_in w.journals pair) number)
-happens_grows w (SendsSettle pair) = grows-same w.journals
-happens_grows w (Arrives which) = arrives_grows w (slice_get w.bag which)
-
-pub run_grows : (es : List Event) (w : World) → Grows w.journals (run es w).journals
-run_grows [] w = grows-same w.journals
-run_grows (e ∷ es) w = grows_trans _ _ _ (happens_grows w e) (run_grows es (happens w e))
-
-pub run_authentic : (es : List Event) (w : World) (x : Envelope) → IsAuthentic w.journals x → IsAuthentic (run es w).journals x
-run_authentic es w x h = authentic-later w.journals (run es w).journals (run_grows es w) x h
-
--- ---- no mark is taken back
-
-mark-rises : (of : Pair) (count : ℕ) (settled : Pair → ℕ) (pair : Pair) → settled pair ≤ with_mark of count settled pair
-mark-rises of count settled pair = by_case (same_pair pair of)
-  where
-    by_case : (b : Bool) → settled pair ≤ (if b then max (settled pair) count else settled pair)
-    by_case true = omega arith
-    by_case false = omega arith
-
-arrives_marks : (w : World) (e : Option Envelope) (pair : Pair) → w.settled pair ≤ (arrives w e).settled pair
-arrives_marks w None pair = omega arith
-arrives_marks w (Some (Letter l)) pair = by_case (l.number == suc (handled_in w.journals l.pair))
-  where
-    by_case : (b : Bool) → w.settled pair ≤ (if b then record w { journals = with_letter w.journals l.pair.to.kind l } else w).settled pair
-    by_case true = omega arith
-    by_case false = omega arith
-arrives_marks w (Some (Settle of count)) pair = by_case (nat_le count (length (sent_in w.journals of)))
-  where
-    by_case : (b : Bool) → w.settled pair ≤ (if b then record w { settled = with_mark of count w.settled } else w).settled pair
-    by_case true = mark-rises of count w.settled pair
-    by_case false = omega arith
-
-sends_marks : (w : World) (of : Pair) (number : ℕ) (m : Option Message) (pair : Pair) → w.settled pair ≤ (sends w of number m).settled pair
-sends_marks w of number None pair = omega arith
-sends_marks w of number (Some m) pair = omega arith
-
-happens_marks : (w : World) (e : Event) (pair : Pair) → w.settled pair ≤ (happens w e).settled pair
-happens_marks w (ToOrder key seat c) pair = omega arith
-happens_marks w (ToStock key seat c) pair = omega arith
-happens_marks w (ToAccount key seat c) pair = omega arith
-happens_marks w (SendsLetter of number) pair = sends_marks w of number (nth (sent_in w.journals of) number) pair
-happens_marks w (SendsSettle of) pair = omega arith
-happens_marks w (Arrives which) pair = arrives_marks w (slice_get w.bag which) pair
-
-pub run_marks : (es : List Event) (w : World) (pair : Pair) → w.settled pair ≤ (run es w).settled pair
-run_marks [] w pair = omega arith
-run_marks (e ∷ es) w pair =
-    let first = happens_marks w e pair in
-    let rest = run_marks es (happens w e) pair in
-    omega arith
+-- so steps lead wherever actions do
+pub acts_reach : (actions : List Action) (w : Configuration) → Reaches w (act_all actions w)
+acts_reach [] w = ([], refl)
+acts_reach (a ∷ actions) w = either (act_does w a)
+    (λ same. rw same (acts_reach actions w))
+    (λ step. let rest = acts_reach actions (act w a) in (act w a ∷ rest.0, (step, rest.1)))

@@ -15,8 +15,8 @@ use Rattle.activities.specs.declared.input.Input.{Input}
 use Rattle.activities.specs.declared.input.Input.TheVariants.{FromSeat, FromEntity}
 use Rattle.activities.specs.declared.outs.Out.{Out}
 use Rattle.activities.specs.Reaction.{after, course, state, messages_to, letters_from}
-use Rattle.envelope.specs.Reading.{is_number}
-use Rattle.activities.specs.Orders.{Partner, OrderState, is_open, is_tentative, awaits, with_phase, all_tentative, all_in, to_all, to_others, requests, placed, partners_of, tentative_from, refused_by, on_order_message, order_table}
+use Rattle.base.specs.Number.{is_number}
+use Rattle.activities.specs.Orders.{Partner, OrderState, is_open, is_tentative, awaits, with_phase, all_tentative, all_in, to_all, to_others, requests, placed, partners_of, tentative_from, refused_by, on_order_message, order_reactions}
 use Rattle.agreement.specs.Agreement.{IsAmong, IsPartner, IsRefusing, HasRefused}
 use Rattle.activities.proofs.Sameness.{Tells, same_entity-tells, same_entity-same, either}
 use Rattle.activities.proofs.Reactions.{holds_along, messages_to-append, letters_from-append}
@@ -314,33 +314,33 @@ message_keeps inputs outs (Some o) s n m h = by_message m refl
 
 -- a command's answer, which may be a refusal
 command_keeps : (inputs : List (Input OrderCommand)) (at : Option OrderState × List Out) (seat : ℕ) (c : OrderCommand) → ByOrder at.0 inputs at.1
-    → ByOrder (after order_table at (FromSeat seat c)).0 (inputs ++ FromSeat seat c ∷ []) (after order_table at (FromSeat seat c)).1
+    → ByOrder (after order_reactions at (FromSeat seat c)).0 (inputs ++ FromSeat seat c ∷ []) (after order_reactions at (FromSeat seat c)).1
 command_keeps inputs (o, outs) seat c h = by_state o c (by_order-more o inputs (FromSeat seat c ∷ []) outs h)
   where
     now : List (Input OrderCommand)
     now = inputs ++ FromSeat seat c ∷ []
 
-    by_state : (o : Option OrderState) (k : OrderCommand) → ByOrder o now outs → ByOrder (after order_table (o, outs) (FromSeat seat k)).0 now (after order_table (o, outs) (FromSeat seat k)).1
+    by_state : (o : Option OrderState) (k : OrderCommand) → ByOrder o now outs → ByOrder (after order_reactions (o, outs) (FromSeat seat k)).0 now (after order_reactions (o, outs) (FromSeat seat k)).1
     by_state None (Place stock n account amount) h = by_case (is_number n && is_number amount) refl
       where
-        by_case : (t : Bool) → (is_number n && is_number amount) ≡ t → ByOrder (after order_table (None, outs) (FromSeat seat (Place stock n account amount))).0 now (after order_table (None, outs) (FromSeat seat (Place stock n account amount))).1
+        by_case : (t : Bool) → (is_number n && is_number amount) ≡ t → ByOrder (after order_reactions (None, outs) (FromSeat seat (Place stock n account amount))).0 now (after order_reactions (None, outs) (FromSeat seat (Place stock n account amount))).1
         by_case true e = rw e (placed_keeps now outs (partners_of stock n account amount) (refl, (refl, tt)) h)
         by_case false e = rw e h
     by_state None CancelOrder h = h
     by_state (Some o) (Place stock n account amount) h = h
     by_state (Some o) CancelOrder h = by_case (is_open o.status) refl
       where
-        by_case : (t : Bool) → is_open o.status ≡ t → ByOrder (after order_table (Some o, outs) (FromSeat seat CancelOrder)).0 now (after order_table (Some o, outs) (FromSeat seat CancelOrder)).1
+        by_case : (t : Bool) → is_open o.status ≡ t → ByOrder (after order_reactions (Some o, outs) (FromSeat seat CancelOrder)).0 now (after order_reactions (Some o, outs) (FromSeat seat CancelOrder)).1
         by_case true e = rw e (cancelled_keeps now outs o e h)
         by_case false e = rw e h
 
 order_step : (inputs : List (Input OrderCommand)) (i : Input OrderCommand) (at : Option OrderState × List Out) → ByOrder at.0 inputs at.1
-    → ByOrder (after order_table at i).0 (inputs ++ i ∷ []) (after order_table at i).1
+    → ByOrder (after order_reactions at i).0 (inputs ++ i ∷ []) (after order_reactions at i).1
 order_step inputs (FromSeat seat c) at h = command_keeps inputs at seat c h
 order_step inputs (FromEntity s n m) at h = message_keeps inputs at.1 at.0 s n m h
 
-pub order_tells : (inputs : List (Input OrderCommand)) → ByOrder (state order_table inputs) inputs (course order_table inputs).1
-order_tells inputs = holds_along order_table (λ xs at. ByOrder at.0 xs at.1) refl order_step inputs
+pub order_tells : (inputs : List (Input OrderCommand)) → ByOrder (state order_reactions inputs) inputs (course order_reactions inputs).1
+order_tells inputs = holds_along order_reactions (λ xs at. ByOrder at.0 xs at.1) refl order_step inputs
 
 -- who is told anything is a partner
 pub told-partner : {C : Type 0} (o : Option OrderState) (inputs : List (Input C)) (outs : List Out) (r : Name) (m : Message) → ByOrder o inputs outs → Told m (messages_to r outs) → IsPartner o r

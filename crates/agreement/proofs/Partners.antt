@@ -17,10 +17,10 @@ use Rattle.activities.specs.declared.commands.AccountCommand.{AccountCommand}
 use Rattle.activities.specs.declared.commands.AccountCommand.TheVariants.{SetLimit}
 use Rattle.activities.specs.Reaction.{reply, after, course, state, messages_to, letters_from}
 use Rattle.activities.specs.Lines.{Line, is_order, same_phase, line_of, with_line, with_line_phase}
-use Rattle.activities.specs.Stocks.{StockState, stock_table, stock_request, stock_confirm, stock_cancel, on_stock_message}
-use Rattle.activities.specs.Accounts.{AccountState, account_table, account_request, account_confirm, account_cancel, on_account_message}
+use Rattle.activities.specs.Stocks.{StockState, stock_reactions, stock_request, stock_confirm, stock_cancel, on_stock_message}
+use Rattle.activities.specs.Accounts.{AccountState, account_reactions, account_request, account_confirm, account_cancel, on_account_message}
 use Rattle.activities.proofs.Sameness.{same_entity-tells, same_entity-same, either}
-use Rattle.agreement.proofs.Lines.{line_of-with_same, line_of-with_other, line_of-with_phase_same, line_of-with_phase_other}
+use Rattle.activities.proofs.Lines.{line_of-with_same, line_of-with_other, line_of-with_phase_same, line_of-with_phase_other}
 use Rattle.activities.proofs.Reactions.{holds_along, messages_to-append, letters_from-append}
 
 -- the message is among these
@@ -179,19 +179,19 @@ stock_effect x s Refused = Same refl refl
 
 stock_step : (o : Name) (inputs : List (Input StockCommand)) (i : Input StockCommand) (at : StockState × List Out)
     → ByLine (line_of o at.0.lines) (letters_from o inputs) (messages_to o at.1)
-    → ByLine (line_of o (after stock_table at i).0.lines) (letters_from o (inputs ++ i ∷ [])) (messages_to o (after stock_table at i).1)
+    → ByLine (line_of o (after stock_reactions at i).0.lines) (letters_from o (inputs ++ i ∷ [])) (messages_to o (after stock_reactions at i).1)
 stock_step o inputs (FromEntity s k m) at h = effect_keeps o s k m inputs at.0.lines _ at.1 _ (stock_effect at.0 s m) h
 stock_step o inputs (FromSeat seat (Receive n)) at h = by_case (n == 0 || nat_lt 1099511627776 (at.0.received + n)) refl
   where
     kept : ByLine (line_of o at.0.lines) (letters_from o (inputs ++ FromSeat seat (Receive n) ∷ [])) (messages_to o at.1)
     kept = command_keeps o seat (Receive n) inputs at.0.lines at.1 h
 
-    by_case : (t : Bool) → (n == 0 || nat_lt 1099511627776 (at.0.received + n)) ≡ t → ByLine (line_of o (after stock_table at (FromSeat seat (Receive n))).0.lines) (letters_from o (inputs ++ FromSeat seat (Receive n) ∷ [])) (messages_to o (after stock_table at (FromSeat seat (Receive n))).1)
+    by_case : (t : Bool) → (n == 0 || nat_lt 1099511627776 (at.0.received + n)) ≡ t → ByLine (line_of o (after stock_reactions at (FromSeat seat (Receive n))).0.lines) (letters_from o (inputs ++ FromSeat seat (Receive n) ∷ [])) (messages_to o (after stock_reactions at (FromSeat seat (Receive n))).1)
     by_case true e = rw e kept
     by_case false e = rw (e, append-nil) kept
 
-pub stock_line-tells : (o : Name) (inputs : List (Input StockCommand)) → ByLine (line_of o (state stock_table inputs).lines) (letters_from o inputs) (messages_to o (course stock_table inputs).1)
-stock_line-tells o inputs = holds_along stock_table (λ xs at. ByLine (line_of o at.0.lines) (letters_from o xs) (messages_to o at.1)) (λ h. h) (stock_step o) inputs
+pub stock_line-tells : (o : Name) (inputs : List (Input StockCommand)) → ByLine (line_of o (state stock_reactions inputs).lines) (letters_from o inputs) (messages_to o (course stock_reactions inputs).1)
+stock_line-tells o inputs = holds_along stock_reactions (λ xs at. ByLine (line_of o at.0.lines) (letters_from o xs) (messages_to o at.1)) (λ h. h) (stock_step o) inputs
 
 -- of an account
 
@@ -231,17 +231,17 @@ account_effect x s Refused = Same refl refl
 
 account_step : (o : Name) (inputs : List (Input AccountCommand)) (i : Input AccountCommand) (at : AccountState × List Out)
     → ByLine (line_of o at.0.lines) (letters_from o inputs) (messages_to o at.1)
-    → ByLine (line_of o (after account_table at i).0.lines) (letters_from o (inputs ++ i ∷ [])) (messages_to o (after account_table at i).1)
+    → ByLine (line_of o (after account_reactions at i).0.lines) (letters_from o (inputs ++ i ∷ [])) (messages_to o (after account_reactions at i).1)
 account_step o inputs (FromEntity s k m) at h = effect_keeps o s k m inputs at.0.lines _ at.1 _ (account_effect at.0 s m) h
 account_step o inputs (FromSeat seat (SetLimit n)) at h = by_case (nat_lt 1099511627776 n) (nat_lt n (at.0.billed + at.0.held)) refl refl
   where
     kept : ByLine (line_of o at.0.lines) (letters_from o (inputs ++ FromSeat seat (SetLimit n) ∷ [])) (messages_to o at.1)
     kept = command_keeps o seat (SetLimit n) inputs at.0.lines at.1 h
 
-    by_case : (t u : Bool) → nat_lt 1099511627776 n ≡ t → nat_lt n (at.0.billed + at.0.held) ≡ u → ByLine (line_of o (after account_table at (FromSeat seat (SetLimit n))).0.lines) (letters_from o (inputs ++ FromSeat seat (SetLimit n) ∷ [])) (messages_to o (after account_table at (FromSeat seat (SetLimit n))).1)
+    by_case : (t u : Bool) → nat_lt 1099511627776 n ≡ t → nat_lt n (at.0.billed + at.0.held) ≡ u → ByLine (line_of o (after account_reactions at (FromSeat seat (SetLimit n))).0.lines) (letters_from o (inputs ++ FromSeat seat (SetLimit n) ∷ [])) (messages_to o (after account_reactions at (FromSeat seat (SetLimit n))).1)
     by_case true u e f = rw e kept
     by_case false true e f = rw (e, f) kept
     by_case false false e f = rw (e, f, append-nil) kept
 
-pub account_line-tells : (o : Name) (inputs : List (Input AccountCommand)) → ByLine (line_of o (state account_table inputs).lines) (letters_from o inputs) (messages_to o (course account_table inputs).1)
-account_line-tells o inputs = holds_along account_table (λ xs at. ByLine (line_of o at.0.lines) (letters_from o xs) (messages_to o at.1)) (λ h. h) (account_step o) inputs
+pub account_line-tells : (o : Name) (inputs : List (Input AccountCommand)) → ByLine (line_of o (state account_reactions inputs).lines) (letters_from o inputs) (messages_to o (course account_reactions inputs).1)
+account_line-tells o inputs = holds_along account_reactions (λ xs at. ByLine (line_of o at.0.lines) (letters_from o xs) (messages_to o at.1)) (λ h. h) (account_step o) inputs

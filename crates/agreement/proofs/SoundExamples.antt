@@ -1,5 +1,5 @@
 -- Examples: journals that grow, and others that lost something; journals that are sound, and others that aren't.
-use Rattle.std.proofs.Common.{[], ◌∷◌, refl, arith, inl, inr}
+use Rattle.std.proofs.Common.{[], ◌∷◌, refl, arith, inl, inr, Some}
 use Rattle.std.specs.Prelude.{codes, IsNone}
 use Rattle.base.specs.Entity.{Name}
 use Rattle.base.specs.Order.{same_entity, same_pair}
@@ -10,11 +10,13 @@ use Rattle.activities.specs.declared.commands.OrderCommand.TheVariants.{Place}
 use Rattle.activities.specs.declared.commands.StockCommand.TheVariants.{Receive}
 use Rattle.activities.specs.declared.commands.AccountCommand.TheVariants.{SetLimit}
 use Rattle.activities.specs.declared.input.Input.TheVariants.{FromSeat, FromEntity}
-use Rattle.agreement.specs.Agreement.{AreSound, line_by}
-use Rattle.agreement.specs.Example.{order, stock, account, from_to, after_first}
+use Rattle.agreement.specs.Agreement.{states_in, AreSound, line_by}
 use Rattle.agreement.specs.Growth.{Grows, AddsOrder, AddsStock}
 use Rattle.agreement.specs.Journals.{Journals}
-use Rattle.agreement.specs.World.{nothing}
+use Rattle.agreement.specs.Steps.{start}
+use Rattle.activities.specs.declared.phase.Status.TheVariants.{Open}
+use Rattle.activities.proofs.Lines.{lines_sound-none}
+use Rattle.agreement.proofs.ConfirmedExamples.{order, stock, account, from_to, after_first}
 use Rattle.agreement.proofs.Growth.{grows}
 
 -- the order is placed, and so it has sent its requests; the stock takes the first of them in: nothing is lost
@@ -26,7 +28,7 @@ unfolding same_entity same_pair
 a_handled_request_grows = grows _ _ (AddsStock _ (record { of_kind = refl; seated = tt; accepted = refl; next = refl }) refl refl)
 
 -- without the order's row its request is lost, and without the stock's row the request's handling is
-lost_rows_are_no_growth : (Grows (after_first 3).journals nothing.journals → ⊥)
+lost_rows_are_no_growth : (Grows (after_first 3).journals start.journals → ⊥)
     × (Grows (after_first 5).journals (after_first 3).journals → ⊥)
 unfolding same_entity same_pair
 lost_rows_are_no_growth = (
@@ -35,17 +37,22 @@ lost_rows_are_no_growth = (
 )
 
 -- where no service did anything, all is sound
-nothing_is_sound : AreSound nothing.journals
+nothing_is_sound : AreSound (states_in start.journals)
 nothing_is_sound = record {
-  orders = λ e kind. record { one_way = λ p q partner other done undone. partner; nowhere_else = λ at none. no_line at.kind at e; left_alone = λ p refused told. refused };
-  stocks = λ e. record { conserved = refl; covered = omega arith; held = refl; shipped = refl; one_each = tt };
-  accounts = λ e. record { covered = omega arith; held = refl; billed = refl; one_each = tt };
+  agree = λ order kind. record { one_way = λ p q partner other done undone. partner; nowhere_else = λ at none. no_line order at.kind at };
+  orders = λ e. tt;
+  stocks = λ e. record { conserved = refl; bounded = omega arith; covered = omega arith; held = refl; shipped = refl; lines = lines_sound-none };
+  accounts = λ e. record { bounded = omega arith; covered = omega arith; held = refl; billed = refl; lines = lines_sound-none };
 }
   where
-    no_line : (kind : Kind) (at e : Name) → IsNone (line_by nothing.journals kind at e)
-    no_line Order at e = refl
-    no_line Stock at e = refl
-    no_line Account at e = refl
+    no_line : (order : Name) (kind : Kind) (at : Name) → IsNone (line_by (states_in start.journals) order kind at)
+    no_line order Order at = refl
+    no_line order Stock at = refl
+    no_line order Account at = refl
+
+-- an order that asks nobody isn't sound
+asks_nobody : AreSound (record { orders = λ e. Some (record { status = Open; partners = [] }); stocks = (states_in start.journals).stocks; accounts = (states_in start.journals).accounts }) → ⊥
+asks_nobody h = h.orders order
 
 -- it isn't sound that a stock shipped to an order that nobody placed, though its own numbers are right
 abbrev unasked : Journals
@@ -56,9 +63,9 @@ unasked = record {
   accounts = [];
 }
 
-shipped_to_nobody : AreSound unasked → ⊥
+shipped_to_nobody : AreSound (states_in unasked) → ⊥
 unfolding same_entity
-shipped_to_nobody h = let none = (h.orders order refl).nowhere_else stock (λ no. no) in absurd (cc)
+shipped_to_nobody h = let none = (h.agree order refl).nowhere_else stock (λ no. no) in absurd (cc)
 
 -- nor is it sound that the bolts are shipped and the account gave back what it held
 abbrev apart : Journals
@@ -69,6 +76,6 @@ apart = record {
       ∷ record { entity = account; input = FromEntity order 2 Cancel } ∷ [];
 }
 
-shipped_and_unbilled : AreSound apart → ⊥
+shipped_and_unbilled : AreSound (states_in apart) → ⊥
 unfolding same_entity
-shipped_and_unbilled h = (h.orders order refl).one_way stock account (inl refl) (inr (inl refl)) refl (inl refl)
+shipped_and_unbilled h = (h.agree order refl).one_way stock account (inl refl) (inr (inl refl)) refl (inl refl)

@@ -10,9 +10,9 @@ use Rattle.activities.specs.declared.commands.AccountCommand.{AccountCommand}
 use Rattle.activities.specs.declared.input.JournalRow.{JournalRow}
 use Rattle.activities.specs.Journal.{sent_of, letters_of, IsLegal}
 use Rattle.activities.specs.Numbered.{numbered, IsPrefixOf}
-use Rattle.activities.specs.Orders.{order_table}
-use Rattle.activities.specs.Stocks.{stock_table}
-use Rattle.activities.specs.Accounts.{account_table}
+use Rattle.activities.specs.Orders.{order_reactions}
+use Rattle.activities.specs.Stocks.{stock_reactions}
+use Rattle.activities.specs.Accounts.{account_reactions}
 
 -- the journals of purchasing, warehouse and billing
 pub record Journals : Type 0 where
@@ -22,9 +22,9 @@ pub record Journals : Type 0 where
 
 -- what a sender of this kind has sent on a pair
 abbrev pub sent_by : Journals → Kind → Pair → List Message
-sent_by js Order pair = sent_of order_table js.orders pair
-sent_by js Stock pair = sent_of stock_table js.stocks pair
-sent_by js Account pair = sent_of account_table js.accounts pair
+sent_by js Order pair = sent_of order_reactions js.orders pair
+sent_by js Stock pair = sent_of stock_reactions js.stocks pair
+sent_by js Account pair = sent_of account_reactions js.accounts pair
 
 -- what the sender of a pair has sent on it
 abbrev pub sent_in : Journals → Pair → List Message
@@ -46,9 +46,9 @@ handled_in js pair = length (letters_in js pair)
 
 -- each journal is legal by itself
 pub record AreLegal (js : Journals) : Type 0 where
-  pub orders : IsLegal order_table Order js.orders
-  pub stocks : IsLegal stock_table Stock js.stocks
-  pub accounts : IsLegal account_table Account js.accounts
+  pub orders : IsLegal order_reactions Order js.orders
+  pub stocks : IsLegal stock_reactions Stock js.stocks
+  pub accounts : IsLegal account_reactions Account js.accounts
 
 -- of each pair, what was handled is a beginning of what the sender's journal sends: once each, in its order, none left out
 abbrev pub HandlesPrefixes : Journals → Type 0

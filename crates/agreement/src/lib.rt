@@ -10,8 +10,8 @@
 mod laws;
 
 pub use laws::{
-    a_row_keeps_the_laws, agree, an_order_is_cancelled, an_order_is_confirmed, stays_authentic,
-    stays_lawful, stays_lawful_in_each_content,
+    a_mark_keeps_the_laws, a_row_keeps_the_laws, agree, refused_are_left_alone, stays_authentic,
+    stays_lawful,
 };
 
 #[cfg(test)]
@@ -21,11 +21,10 @@ mod tests {
     #[test]
     fn laws_are_called() {
         a_row_keeps_the_laws();
+        a_mark_keeps_the_laws();
         stays_lawful();
         stays_authentic();
         agree();
-        stays_lawful_in_each_content();
-        an_order_is_confirmed();
-        an_order_is_cancelled();
+        refused_are_left_alone();
     }
 }

@@ -2,11 +2,12 @@
 
 ghost use Rattle.std.specs.Prelude.{◌≡◌, ℕ, false, true, Some, None, Ok, Err, IfOk, MatchOption};
 ghost use Rattle.activities.specs.Applied.{IsApplied};
-ghost use Rattle.envelope.specs.Reading.{is_number};
-ghost use Rattle.activities.specs.Orders.{on_order_message, order_table};
+ghost use Rattle.base.specs.Number.{is_number};
+ghost use Rattle.activities.specs.Orders.{on_order_message, order_reactions};
 ghost use Rattle.activities.specs.Reaction.{react};
 ghost use Rattle.activities.specs.declared.input.Input.TheVariants.{FromSeat};
-ghost use Rattle.purchasing.specs.Answer.{IsDone, IsSending};
+ghost use Rattle.purchasing.specs.Answer.{IsSending};
+ghost use Rattle.purchasing.specs.Parts.Atomic.{IsAtomic};
 
 use crate::Order;
 use activities::{Handler, HandlerFault, Input, OrderCommand, Outs, Refusal};
@@ -23,20 +24,18 @@ pub struct Orders;
 impl Handler for Orders {
     ghost use Rattle.std.specs.Prelude.{is_none};
     ghost use Rattle.base.specs.declared.entity.Kind.TheVariants.{Order as OrderKind};
-    ghost use Rattle.activities.specs.Orders.{order_table};
-    ghost use Rattle.purchasing.specs.Answer.{none_is_none};
+    ghost use Rattle.activities.specs.Orders.{order_reactions};
+    ghost use Rattle.purchasing.specs.Parts.Opening.{none_is_none};
 
     type State = Option<Order>;
 
     type Command = OrderCommand;
 
-    ghost KIND = { OrderKind };
+    ghost service = { record { kind = OrderKind; reactions = order_reactions; is_none = is_none } };
 
-    const KIND: Kind = Kind::Order;
-
-    ghost table = { order_table };
-
-    ghost is_none_state = { is_none };
+    fn kind() -> Kind {
+        Kind::Order
+    }
 
     fn opening(_alloc: Global) -> Result<Option<Order>, AllocError>
         ensures { result ≡ Ok None }
@@ -84,8 +83,8 @@ impl Handler for Orders {
         input: &Input<OrderCommand>,
         outs: &mut Outs,
     ) -> Result<(), HandlerFault>
-        ensures applied { IsApplied order_table state.old input.now outs.old state.new outs.new result }
-        ensures memory { result ≡ Err HandlerFault.Memory → IsSending (react order_table state.old input.now) }
+        ensures applied { IsApplied order_reactions state.old input.now outs.old state.new outs.new result }
+        ensures memory { result ≡ Err HandlerFault.Memory → IsSending (react order_reactions state.old input.now) }
     {
         match input {
             Input::FromSeat(_, command) => take_command(alloc, state, command, outs),
@@ -105,8 +104,8 @@ fn take_command(
     command: &OrderCommand,
     outs: &mut Outs,
 ) -> Result<(), HandlerFault>
-    ensures applied { (seat : ℕ) → IsApplied order_table state.old (FromSeat seat command.now) outs.old state.new outs.new result }
-    ensures memory { result ≡ Err HandlerFault.Memory → IsSending (order_table.on_command state.old command.now) }
+    ensures applied { (seat : ℕ) → IsApplied order_reactions state.old (FromSeat seat command.now) outs.old state.new outs.new result }
+    ensures memory { result ≡ Err HandlerFault.Memory → IsSending (order_reactions.on_command state.old command.now) }
 {
     match command {
         OrderCommand::Place {
@@ -130,9 +129,9 @@ fn place(
     outs: &mut Outs,
 ) -> Result<(), HandlerFault>
     ensures applied { (seat : ℕ) →
-        IsApplied order_table state.old (FromSeat seat (OrderCommand.Place stock.now quantity account.now amount)) outs.old state.new outs.new result }
+        IsApplied order_reactions state.old (FromSeat seat (OrderCommand.Place stock.now quantity account.now amount)) outs.old state.new outs.new result }
     ensures memory { result ≡ Err HandlerFault.Memory →
-        IsSending (order_table.on_command state.old (OrderCommand.Place stock.now quantity account.now amount)) }
+        IsSending (order_reactions.on_command state.old (OrderCommand.Place stock.now quantity account.now amount)) }
 {
     if state.is_some() {
         return Err(HandlerFault::Business(Refusal::AlreadyPlaced));
@@ -159,8 +158,8 @@ fn number_in_range(value: u64) -> Option<Number>
 /// Cancels the order and tells its partners, if it is open.
 fn cancel(alloc: Global, state: &mut Option<Order>, outs: &mut Outs) -> Result<(), HandlerFault>
     ensures applied { (seat : ℕ) →
-        IsApplied order_table state.old (FromSeat seat OrderCommand.CancelOrder) outs.old state.new outs.new result }
-    ensures memory { result ≡ Err HandlerFault.Memory → IsSending (order_table.on_command state.old OrderCommand.CancelOrder) }
+        IsApplied order_reactions state.old (FromSeat seat OrderCommand.CancelOrder) outs.old state.new outs.new result }
+    ensures memory { result ≡ Err HandlerFault.Memory → IsSending (order_reactions.on_command state.old OrderCommand.CancelOrder) }
 {
     match state {
         Some(order) if order.is_open() => Ok(order.cancel(alloc, outs)?),
@@ -176,7 +175,7 @@ fn take_message(
     message: Message,
     outs: &mut Outs,
 ) -> Result<(), AllocError>
-    ensures { IsDone (on_order_message state.old sender.now message) state.old outs.old state.new outs.new result }
+    ensures { IsAtomic (on_order_message state.old sender.now message) state.old outs.old state.new outs.new result }
 {
     let Some(order) = state else {
         return Ok(());

@@ -1,6 +1,8 @@
--- One order from its placing to its confirmation, as a schedule: what the definitions give for it.
-use Rattle.std.specs.Prelude.{◌≡◌, ℕ, List, [], ◌∷◌, codes, take, Option, Some}
+-- Example: one order from its placing to its confirmation, computed.
+use Rattle.std.proofs.Common.{◌≡◌, ℕ, List, [], ◌∷◌, refl, take, Option, Some}
+use Rattle.std.specs.Prelude.{codes}
 use Rattle.base.specs.Entity.{Name, order_of, stock_of, account_of}
+use Rattle.base.specs.Order.{same_entity, same_pair}
 use Rattle.base.specs.declared.pair.Pair.{Pair}
 use Rattle.envelope.specs.declared.message.Message.TheVariants.{Request, Tentative, Confirm}
 use Rattle.activities.specs.declared.commands.OrderCommand.TheVariants.{Place}
@@ -12,12 +14,14 @@ use Rattle.activities.specs.declared.phase.LinePhase.{LinePhase}
 use Rattle.activities.specs.declared.phase.LinePhase.TheVariants.{Held, Done}
 use Rattle.activities.specs.declared.phase.Status.{Status}
 use Rattle.activities.specs.declared.phase.Status.TheVariants.{Open, Confirmed}
+use Rattle.activities.specs.Lines.{is_before}
 use Rattle.activities.specs.Orders.{OrderState}
 use Rattle.activities.specs.Stocks.{StockState}
 use Rattle.activities.specs.Accounts.{AccountState}
 use Rattle.agreement.specs.Journals.{sent_in}
-use Rattle.agreement.specs.Agreement.{order_in, stock_in, account_in}
-use Rattle.agreement.specs.World.{World, Event, ToOrder, ToStock, ToAccount, SendsLetter, SendsSettle, Arrives, run, nothing}
+use Rattle.agreement.specs.Agreement.{states_in}
+use Rattle.agreement.specs.Steps.{Configuration, Reaches, start}
+use Rattle.agreement.proofs.Machine.{Action, ToOrder, ToStock, ToAccount, SendsLetter, SendsSettle, Arrives, act_all, acts_reach}
 
 -- the order o1, its stock bolts and its account acme
 abbrev pub order : Name
@@ -35,7 +39,7 @@ from_to sender receiver = record { from = sender; to = receiver }
 
 -- ten bolts came in and the limit is 500; the order asks for 3 of them and for all of the limit; every letter arrives, the stock's
 -- answer twice, and the stock says how far it has handled
-abbrev pub schedule : List Event
+abbrev pub schedule : List Action
 schedule =
     ToStock (codes "bolts") 0 (Receive 10) ∷ ToAccount (codes "acme") 0 (SetLimit 500) ∷ ToOrder (codes "o1") 0 (Place (codes "bolts") 3 (codes "acme") 500)
     ∷ SendsLetter (from_to order stock) 1 ∷ Arrives 0 ∷ SendsLetter (from_to order account) 1 ∷ Arrives 0
@@ -43,9 +47,9 @@ schedule =
     ∷ SendsLetter (from_to order stock) 2 ∷ Arrives 0 ∷ SendsLetter (from_to order account) 2 ∷ Arrives 0
     ∷ SendsSettle (from_to order stock) ∷ Arrives 0 ∷ []
 
--- the world after the first of these events
-abbrev pub after_first : ℕ → World
-after_first count = run (take count schedule) nothing
+-- the configuration after the first of these actions
+abbrev pub after_first : ℕ → Configuration
+after_first count = act_all (take count schedule) start
 
 -- the order, with how far it is and how far it is with each partner
 abbrev pub order_at : Status → Phase → Phase → Option OrderState
@@ -63,17 +67,17 @@ account_at billed held phase = record { limit = 500; billed = billed; held = hel
 
 -- how the order comes to be confirmed
 pub record IsOnItsWay : Type 0 where
-  pub placed : order_in (after_first 3).journals order ≡ order_at Open Phase.Requested Phase.Requested
-  pub stock_holds : stock_in (after_first 5).journals stock ≡ stock_at 10 3 0 Held
-  pub account_holds : account_in (after_first 7).journals account ≡ account_at 0 500 Held
-  pub half : order_in (after_first 9).journals order ≡ order_at Open Phase.Tentative Phase.Requested
+  pub placed : (states_in (after_first 3).journals).orders order ≡ order_at Open Phase.Requested Phase.Requested
+  pub stock_holds : (states_in (after_first 5).journals).stocks stock ≡ stock_at 10 3 0 Held
+  pub account_holds : (states_in (after_first 7).journals).accounts account ≡ account_at 0 500 Held
+  pub half : (states_in (after_first 9).journals).orders order ≡ order_at Open Phase.Tentative Phase.Requested
   pub repeated : (after_first 10).journals ≡ (after_first 9).journals
-  pub confirmed : order_in (after_first 12).journals order ≡ order_at Confirmed Phase.Confirmed Phase.Confirmed
-  pub shipped : stock_in (after_first 14).journals stock ≡ stock_at 7 0 3 Done
-  pub billed : account_in (after_first 16).journals account ≡ account_at 500 0 Done
+  pub confirmed : (states_in (after_first 12).journals).orders order ≡ order_at Confirmed Phase.Confirmed Phase.Confirmed
+  pub shipped : (states_in (after_first 14).journals).stocks stock ≡ stock_at 7 0 3 Done
+  pub billed : (states_in (after_first 16).journals).accounts account ≡ account_at 500 0 Done
 
 -- what stands at the end
-pub record IsConfirmed (w : World) : Type 0 where
+pub record IsConfirmed (w : Configuration) : Type 0 where
   -- the rows of the three journals
   pub orders : w.journals.orders
       ≡ record { entity = order; input = FromSeat 0 (Place (codes "bolts") 3 (codes "acme") 500) }
@@ -93,8 +97,41 @@ pub record IsConfirmed (w : World) : Type 0 where
   pub from_stock : sent_in w.journals (from_to stock order) ≡ Tentative ∷ []
   pub from_account : sent_in w.journals (from_to account order) ≡ Tentative ∷ []
   -- the states
-  pub confirmed : order_in w.journals order ≡ order_at Confirmed Phase.Confirmed Phase.Confirmed
-  pub shipped : stock_in w.journals stock ≡ stock_at 7 0 3 Done
-  pub billed : account_in w.journals account ≡ account_at 500 0 Done
+  pub confirmed : (states_in w.journals).orders order ≡ order_at Confirmed Phase.Confirmed Phase.Confirmed
+  pub shipped : (states_in w.journals).stocks stock ≡ stock_at 7 0 3 Done
+  pub billed : (states_in w.journals).accounts account ≡ account_at 500 0 Done
   -- and how far the stock is known to have handled
   pub settled : w.settled (from_to order stock) ≡ 2
+
+confirmed : IsConfirmed (act_all schedule start)
+unfolding same_entity same_pair is_before
+confirmed = record {
+  orders = refl;
+  stocks = refl;
+  accounts = refl;
+  to_stock = refl;
+  to_account = refl;
+  from_stock = refl;
+  from_account = refl;
+  confirmed = refl;
+  shipped = refl;
+  billed = refl;
+  settled = refl;
+}
+
+on_its_way : IsOnItsWay
+unfolding same_entity same_pair is_before
+on_its_way = record {
+  placed = refl;
+  stock_holds = refl;
+  account_holds = refl;
+  half = refl;
+  repeated = refl;
+  confirmed = refl;
+  shipped = refl;
+  billed = refl;
+}
+
+-- and steps lead there from the beginning
+reached : Reaches start (act_all schedule start)
+reached = acts_reach schedule start
