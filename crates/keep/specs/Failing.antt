@@ -1,11 +1,12 @@
 -- A keep that fails where it is told to.
-use Rattle.std.specs.Prelude.{◌≡◌, ℕ, ◌+◌, ◌-◌, ◌^◌, min, nat_le, Bool, Option, Some, None, Result, Ok, Err, if◌then◌else◌, ⊤}
+use Rattle.std.specs.Prelude.{◌≡◌, ℕ, ◌+◌, not, ◌&&◌, ◌-◌, ◌^◌, min, nat_le, Bool, Option, Some, None, Result, Ok, Err, if◌then◌else◌, ⊤}
 use Rattle.keep.specs.declared.fault.KeepFault.{KeepFault}
 use Rattle.keep.specs.declared.fault.KeepFault.TheVariants.{Failed, Memory, WrongFile}
 use Rattle.keep.specs.declared.faulty.Arming.{Arming}
 use Rattle.keep.specs.declared.faulty.Leaves.{Leaves}
 use Rattle.keep.specs.declared.faulty.Leaves.TheVariants.{Old, New}
-use Rattle.keep.specs.Law.{IsCall, LeavesEither}
+use Rattle.keep.specs.Law.{LeavesEither, Never, IsCall, IsReopenCall, Reads, Writes, Reopens}
+use Rattle.keep.specs.Seen.{Seen, keep_end}
 
 -- a keep, and how it is to fail
 pub record Failing (K : Type 0) : Type 0 where
@@ -28,28 +29,9 @@ abbrev pub counted_down : Option Arming → Option Arming
 counted_down None = None
 counted_down (Some a) = if nat_le a.calls 1 then None else Some (record a { calls = a.calls - 1 })
 
--- the call failed because it was armed, which is counted once; the count stays at 2^64 - 1
-abbrev pub FailsArmed : {K R : Type 0} → Failing K → Failing K → Result R KeepFault → Type 0
-FailsArmed old new result = (result ≡ Err Failed) × (new.failures ≡ min (old.failures + 1) (2 ^ 64 - 1))
-
--- and the keep inside wasn't asked
-abbrev pub FailsUnasked : {K R : Type 0} → Failing K → Failing K → Result R KeepFault → Type 0
-FailsUnasked old new result = FailsArmed old new result × (new.keep ≡ old.keep)
-
--- the call failed only if the keep inside did
-abbrev pub FailsAsInside : {K R : Type 0} → (K → Bool) → (K → ℕ) → Failing K → Failing K → Result R KeepFault → Type 0
-FailsAsInside usable failures old new result = (new.failures ≡ old.failures) × IsCall (usable new.keep) (failures old.keep) (failures new.keep) result
-
--- what a read does where it is due to fail, and where it isn't
-abbrev pub IsReadDue : {K R : Type 0} → (K → Bool) → (K → ℕ) → Option Leaves → Failing K → Failing K → Result R KeepFault → Type 0
-IsReadDue usable failures (Some _) old new result = FailsUnasked old new result
-IsReadDue usable failures None old new result = FailsAsInside usable failures old new result
-
--- what a transaction does: it asks the keep inside where it is to leave the new tables
-abbrev pub IsTransactionDue : {K : Type 0} → (K → Bool) → (K → ℕ) → Option Leaves → Failing K → Failing K → Result Unit KeepFault → Type 0
-IsTransactionDue usable failures (Some Old) old new result = FailsUnasked old new result
-IsTransactionDue usable failures (Some New) old new result = FailsArmed old new result
-IsTransactionDue usable failures None old new result = FailsAsInside usable failures old new result
+-- what callers see of it, from what they see of the keep inside
+abbrev pub through : {K T : Type 0} → (K → Seen T) → Failing K → Seen T
+through seen f = record (seen f.keep) { failures = f.failures + (seen f.keep).failures; usable = not f.is_down && (seen f.keep).usable }
 
 -- a stop leaves these tables and no others
 abbrev pub LeavesOnly : {T : Type 0} → T → (T → Type 0) → Type 0
@@ -67,3 +49,48 @@ abbrev pub IsLeft : {T : Type 0} → Option Leaves → T → T → (T → Type 0
 IsLeft None old new may_leave IsAnswer = ⊤
 IsLeft (Some Old) old new may_leave IsAnswer = LeavesOnly old may_leave
 IsLeft (Some New) old new may_leave IsAnswer = (answer : Result Unit KeepFault) × IsAnswer answer × LeavesNew old new may_leave answer
+
+-- a call of a failing keep
+module _ {K T : Type 0} (seen : K → Seen T) (old new : Failing K) where
+  -- it failed because it was armed, which is counted once; the count stays at 2^64 - 1
+  abbrev pub FailsArmed : {R : Type 0} → Result R KeepFault → Type 0
+  FailsArmed result = (result ≡ Err Failed) × (new.failures ≡ min (old.failures + 1) (2 ^ 64 - 1))
+
+  -- and the keep inside wasn't asked
+  abbrev pub FailsUnasked : {R : Type 0} → Result R KeepFault → Type 0
+  FailsUnasked result = FailsArmed result × (new.keep ≡ old.keep)
+
+  -- it failed only if the keep inside did
+  abbrev pub FailsAsInside : {R : Type 0} → Result R KeepFault → Type 0
+  FailsAsInside result = (new.failures ≡ old.failures) × IsCall seen old.keep new.keep Never (keep_end result)
+
+  -- what a read does where it is due to fail, and where it isn't
+  abbrev pub IsReadDue : {R : Type 0} → Option Leaves → Result R KeepFault → Type 0
+  IsReadDue (Some _) result = FailsUnasked result
+  IsReadDue None result = FailsAsInside result
+
+  -- what a transaction does: it asks the keep inside where it is to leave the new tables
+  abbrev pub IsTransactionDue : Option Leaves → Result Unit KeepFault → Type 0
+  IsTransactionDue (Some Old) result = FailsUnasked result
+  IsTransactionDue (Some New) result = FailsArmed result
+  IsTransactionDue None result = FailsAsInside result
+
+  -- a read, of a keep and as it was armed
+  pub record ReadsDue {R : Type 0} (gives : T → R → Type 0) (result : Result R KeepFault) : Type 0 where
+    pub reads : Reads (through seen) old new gives (keep_end result)
+    pub armed : new.armed ≡ counted_down old.armed
+    pub fails : IsReadDue (due old.armed) result
+
+  -- a transaction, of a keep and as it was armed
+  pub record WritesDue (Fit : T → Type 0) (to : T → T) (result : Result Unit KeepFault) : Type 0 where
+    pub writes : Writes (through seen) old new Fit to (keep_end result)
+    pub armed : new.armed ≡ counted_down old.armed
+    pub fails : IsTransactionDue (due old.armed) result
+    pub left : (seen new.keep).doubt ≡ 0 → Fit (seen old.keep).tables → IsLeft (due old.armed) (seen old.keep).tables (to (seen old.keep).tables) (seen new.keep).may_leave
+        (λ answer. IsCall seen old.keep new.keep Never (keep_end answer))
+
+  -- a reopening is the keep's inside
+  pub record ReopensThrough (result : Result Unit KeepFault) : Type 0 where
+    pub reopens : Reopens (through seen) old new (keep_end result)
+    pub armed : new.armed ≡ old.armed
+    pub passes : (new.failures ≡ old.failures) × IsReopenCall seen old.keep new.keep (keep_end result)

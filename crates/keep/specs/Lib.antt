@@ -3,6 +3,8 @@ pub mod Fault
 pub mod Inside
 pub mod Law
 pub mod Listing
-pub mod Recovery
+pub mod Pages
+pub mod Places
+pub mod Seen
 pub mod Sorted
 pub mod Tables

@@ -1,6 +1,6 @@
 //! A keep that fails where it is told to.
 
-ghost use Rattle.std.specs.Prelude.{◌≡◌, ◌≤◌, ◌+◌, ◌-◌, ◌^◌, ◌&&◌, min, not, true, false, length, take, drop};
+ghost use Rattle.std.specs.Prelude.{◌≡◌, ◌+◌, ◌-◌, ◌^◌, min, true, length, take, drop};
 
 use crate::{Change, Keep, KeepFault, Place};
 use activities::JournalRow;
@@ -45,9 +45,9 @@ impl<K: Keep + Drop> Model for Faulty<K> {
 }
 
 impl<K: Keep + Drop> Faulty<K> {
-    ghost use Rattle.std.specs.Prelude.{Some, None, Err};
+    ghost use Rattle.std.specs.Prelude.{Some, None, Err, false};
     ghost use Rattle.keep.specs.Failing.{due, counted_down};
-    ghost use Rattle.keep.specs.Law.{IsCall};
+    ghost use Rattle.keep.specs.Law.{MoreFailures};
     ghost use Rattle.keep.specs.declared.fault.KeepFault.TheVariants.{Failed};
 
     /// This keep, with no call armed.
@@ -95,10 +95,8 @@ impl<K: Keep + Drop> Faulty<K> {
     /// Counts a failure.
     fn fail<R>(&mut self) -> Result<R, KeepFault>
         ensures failed { result ≡ Err Failed }
-        ensures once { self.new.failures ≡ min (self.old.failures + 1) (2 ^ 64 - 1) }
-        ensures keep { self.new.keep ≡ self.old.keep }
-        ensures armed { self.new.armed ≡ self.old.armed }
-        ensures call { IsCall (not self.new.is_down && K.is_usable self.new.keep) (self.old.failures + K.failures self.old.keep) (self.new.failures + K.failures self.new.keep) result }
+        ensures more { MoreFailures self.old.failures self.new.failures }
+        ensures counted { self.new ≡ record self.old { is_down = true; failures = min (self.old.failures + 1) (2 ^ 64 - 1) } }
     {
         self.is_down = true;
         self.failures = self.failures.saturating_add(1);
@@ -107,42 +105,25 @@ impl<K: Keep + Drop> Faulty<K> {
 }
 
 impl<K: Keep + Drop> Keep for Faulty<K> {
-    ghost use Rattle.std.specs.Prelude.{◌≡◌, true, ◌&&◌, not, ◌+◌};
-    ghost use Rattle.keep.specs.Tables.{changed};
-    ghost use Rattle.keep.specs.Law.{IsCall, IsReopenCall, IsTransaction, IsRead, IsReopening};
+    ghost use Rattle.keep.specs.Tables.{changed, ArePlaced};
     ghost use Rattle.keep.specs.Listing.{AreFirst, IsDrainable, next_held};
-    ghost use Rattle.keep.specs.Failing.{due, counted_down, IsReadDue, IsTransactionDue, IsLeft};
-    ghost use Rattle.keep.specs.Inside.{inside};
+    ghost use Rattle.keep.specs.Failing.{through, ReadsDue, WritesDue, ReopensThrough};
+    ghost use Rattle.keep.specs.Inside.{sound_through};
 
     type State = K::State;
 
     type Command = K::Command;
 
-    ghost tables = { λ f. K.tables f.keep };
-
-    ghost may_leave = { λ f. K.may_leave f.keep };
-
-    ghost failures = { λ f. f.failures + K.failures f.keep };
-
-    ghost is_usable = { λ f. not f.is_down && K.is_usable f.keep };
-
-    ghost doubt = { λ f. K.doubt f.keep };
+    ghost seen = { through K.seen };
 
     fn usable(&self) -> bool {
         !self.is_down && self.keep.usable()
     }
 
-    #[tactic(auto, using(crate::proofs::Faults::call_after, crate::proofs::Faults::only_old))]
+    #[tactic(auto, using(crate::proofs::Faults::read_inside, crate::proofs::Faults::read_failed))]
     fn entity(&mut self, alloc: Global, entity: &Entity) -> Result<Option<K::State>, KeepFault>
-        requires { (not self.old.is_down && K.is_usable self.old.keep) ≡ true }
-        ensures call { IsCall (not self.new.is_down && K.is_usable self.new.keep)
-            (self.old.failures + K.failures self.old.keep) (self.new.failures + K.failures self.new.keep) result }
-        ensures doubt { K.doubt self.old.keep ≤ K.doubt self.new.keep }
-        ensures read { K.doubt self.new.keep ≡ 0 →
-            IsRead (K.tables self.old.keep) (λ row. row ≡ (K.tables self.old.keep).entity entity.now)
-            (K.tables self.new.keep) (K.may_leave self.new.keep) result }
-        ensures armed { self.new.armed ≡ counted_down self.old.armed }
-        ensures fails { IsReadDue K.is_usable K.failures (due self.old.armed) self.old self.new result }
+        requires { (through K.seen self.old).usable ≡ true }
+        ensures { ReadsDue K.seen self.old self.new (λ t row. row ≡ t.entity entity.now) result }
     {
         match self.strike() {
             None => self.keep.entity(alloc, entity),
@@ -150,17 +131,10 @@ impl<K: Keep + Drop> Keep for Faulty<K> {
         }
     }
 
-    #[tactic(auto, using(crate::proofs::Faults::call_after, crate::proofs::Faults::only_old))]
+    #[tactic(auto, using(crate::proofs::Faults::read_inside, crate::proofs::Faults::read_failed))]
     fn sent(&mut self, alloc: Global, pair: &Pair) -> Result<u64, KeepFault>
-        requires { (not self.old.is_down && K.is_usable self.old.keep) ≡ true }
-        ensures call { IsCall (not self.new.is_down && K.is_usable self.new.keep)
-            (self.old.failures + K.failures self.old.keep) (self.new.failures + K.failures self.new.keep) result }
-        ensures doubt { K.doubt self.old.keep ≤ K.doubt self.new.keep }
-        ensures read { K.doubt self.new.keep ≡ 0 →
-            IsRead (K.tables self.old.keep) (λ n. n ≡ (K.tables self.old.keep).sent pair.now)
-            (K.tables self.new.keep) (K.may_leave self.new.keep) result }
-        ensures armed { self.new.armed ≡ counted_down self.old.armed }
-        ensures fails { IsReadDue K.is_usable K.failures (due self.old.armed) self.old self.new result }
+        requires { (through K.seen self.old).usable ≡ true }
+        ensures { ReadsDue K.seen self.old self.new (λ t n. n ≡ t.sent pair.now) result }
     {
         match self.strike() {
             None => self.keep.sent(alloc, pair),
@@ -168,17 +142,10 @@ impl<K: Keep + Drop> Keep for Faulty<K> {
         }
     }
 
-    #[tactic(auto, using(crate::proofs::Faults::call_after, crate::proofs::Faults::only_old))]
+    #[tactic(auto, using(crate::proofs::Faults::read_inside, crate::proofs::Faults::read_failed))]
     fn settled(&mut self, alloc: Global, pair: &Pair) -> Result<u64, KeepFault>
-        requires { (not self.old.is_down && K.is_usable self.old.keep) ≡ true }
-        ensures call { IsCall (not self.new.is_down && K.is_usable self.new.keep)
-            (self.old.failures + K.failures self.old.keep) (self.new.failures + K.failures self.new.keep) result }
-        ensures doubt { K.doubt self.old.keep ≤ K.doubt self.new.keep }
-        ensures read { K.doubt self.new.keep ≡ 0 →
-            IsRead (K.tables self.old.keep) (λ n. n ≡ (K.tables self.old.keep).settled pair.now)
-            (K.tables self.new.keep) (K.may_leave self.new.keep) result }
-        ensures armed { self.new.armed ≡ counted_down self.old.armed }
-        ensures fails { IsReadDue K.is_usable K.failures (due self.old.armed) self.old self.new result }
+        requires { (through K.seen self.old).usable ≡ true }
+        ensures { ReadsDue K.seen self.old self.new (λ t n. n ≡ t.settled pair.now) result }
     {
         match self.strike() {
             None => self.keep.settled(alloc, pair),
@@ -186,17 +153,10 @@ impl<K: Keep + Drop> Keep for Faulty<K> {
         }
     }
 
-    #[tactic(auto, using(crate::proofs::Faults::call_after, crate::proofs::Faults::only_old))]
+    #[tactic(auto, using(crate::proofs::Faults::read_inside, crate::proofs::Faults::read_failed))]
     fn handled(&mut self, alloc: Global, pair: &Pair) -> Result<u64, KeepFault>
-        requires { (not self.old.is_down && K.is_usable self.old.keep) ≡ true }
-        ensures call { IsCall (not self.new.is_down && K.is_usable self.new.keep)
-            (self.old.failures + K.failures self.old.keep) (self.new.failures + K.failures self.new.keep) result }
-        ensures doubt { K.doubt self.old.keep ≤ K.doubt self.new.keep }
-        ensures read { K.doubt self.new.keep ≡ 0 →
-            IsRead (K.tables self.old.keep) (λ n. n ≡ (K.tables self.old.keep).handled pair.now)
-            (K.tables self.new.keep) (K.may_leave self.new.keep) result }
-        ensures armed { self.new.armed ≡ counted_down self.old.armed }
-        ensures fails { IsReadDue K.is_usable K.failures (due self.old.armed) self.old self.new result }
+        requires { (through K.seen self.old).usable ≡ true }
+        ensures { ReadsDue K.seen self.old self.new (λ t n. n ≡ t.handled pair.now) result }
     {
         match self.strike() {
             None => self.keep.handled(alloc, pair),
@@ -204,22 +164,15 @@ impl<K: Keep + Drop> Keep for Faulty<K> {
         }
     }
 
-    #[tactic(auto, using(crate::proofs::Faults::call_after, crate::proofs::Faults::only_old))]
+    #[tactic(auto, using(crate::proofs::Faults::read_inside, crate::proofs::Faults::read_failed))]
     fn held(
         &mut self,
         alloc: Global,
         pair: &Pair,
         number: Number,
     ) -> Result<Option<Message>, KeepFault>
-        requires { (not self.old.is_down && K.is_usable self.old.keep) ≡ true }
-        ensures call { IsCall (not self.new.is_down && K.is_usable self.new.keep)
-            (self.old.failures + K.failures self.old.keep) (self.new.failures + K.failures self.new.keep) result }
-        ensures doubt { K.doubt self.old.keep ≤ K.doubt self.new.keep }
-        ensures read { K.doubt self.new.keep ≡ 0 →
-            IsRead (K.tables self.old.keep) (λ m. m ≡ (K.tables self.old.keep).held pair.now number)
-            (K.tables self.new.keep) (K.may_leave self.new.keep) result }
-        ensures armed { self.new.armed ≡ counted_down self.old.armed }
-        ensures fails { IsReadDue K.is_usable K.failures (due self.old.armed) self.old self.new result }
+        requires { (through K.seen self.old).usable ≡ true }
+        ensures { ReadsDue K.seen self.old self.new (λ t m. m ≡ t.held pair.now number) result }
     {
         match self.strike() {
             None => self.keep.held(alloc, pair, number),
@@ -227,17 +180,10 @@ impl<K: Keep + Drop> Keep for Faulty<K> {
         }
     }
 
-    #[tactic(auto, using(crate::proofs::Faults::call_after, crate::proofs::Faults::only_old))]
+    #[tactic(auto, using(crate::proofs::Faults::read_inside, crate::proofs::Faults::read_failed))]
     fn drainable(&mut self, alloc: Global) -> Result<Option<Pair>, KeepFault>
-        requires { (not self.old.is_down && K.is_usable self.old.keep) ≡ true }
-        ensures call { IsCall (not self.new.is_down && K.is_usable self.new.keep)
-            (self.old.failures + K.failures self.old.keep) (self.new.failures + K.failures self.new.keep) result }
-        ensures doubt { K.doubt self.old.keep ≤ K.doubt self.new.keep }
-        ensures read { K.doubt self.new.keep ≡ 0 →
-            IsRead (K.tables self.old.keep) (IsDrainable (next_held (K.tables self.old.keep).held (K.tables self.old.keep).handled))
-            (K.tables self.new.keep) (K.may_leave self.new.keep) result }
-        ensures armed { self.new.armed ≡ counted_down self.old.armed }
-        ensures fails { IsReadDue K.is_usable K.failures (due self.old.armed) self.old self.new result }
+        requires { (through K.seen self.old).usable ≡ true }
+        ensures { ReadsDue K.seen self.old self.new (λ t. IsDrainable (next_held t.held t.handled)) result }
     {
         match self.strike() {
             None => self.keep.drainable(alloc),
@@ -245,22 +191,15 @@ impl<K: Keep + Drop> Keep for Faulty<K> {
         }
     }
 
-    #[tactic(auto, using(crate::proofs::Faults::call_after, crate::proofs::Faults::only_old))]
+    #[tactic(auto, using(crate::proofs::Faults::read_inside, crate::proofs::Faults::read_failed))]
     fn unsettled(
         &mut self,
         alloc: Global,
         after: &Option<Place>,
         limit: usize,
     ) -> Result<Vec<Letter>, KeepFault>
-        requires { (not self.old.is_down && K.is_usable self.old.keep) ≡ true }
-        ensures call { IsCall (not self.new.is_down && K.is_usable self.new.keep)
-            (self.old.failures + K.failures self.old.keep) (self.new.failures + K.failures self.new.keep) result }
-        ensures doubt { K.doubt self.old.keep ≤ K.doubt self.new.keep }
-        ensures read { K.doubt self.new.keep ≡ 0 →
-            IsRead (K.tables self.old.keep) (λ letters. AreFirst (K.tables self.old.keep).unsettled after.now limit letters.items)
-            (K.tables self.new.keep) (K.may_leave self.new.keep) result }
-        ensures armed { self.new.armed ≡ counted_down self.old.armed }
-        ensures fails { IsReadDue K.is_usable K.failures (due self.old.armed) self.old self.new result }
+        requires { (through K.seen self.old).usable ≡ true }
+        ensures { ReadsDue K.seen self.old self.new (λ t letters. AreFirst t.unsettled after.now limit letters.items) result }
     {
         match self.strike() {
             None => self.keep.unsettled(alloc, after, limit),
@@ -268,22 +207,15 @@ impl<K: Keep + Drop> Keep for Faulty<K> {
         }
     }
 
-    #[tactic(auto, using(crate::proofs::Faults::call_after, crate::proofs::Faults::only_old))]
+    #[tactic(auto, using(crate::proofs::Faults::read_inside, crate::proofs::Faults::read_failed))]
     fn journal(
         &mut self,
         alloc: Global,
         from: u64,
         limit: usize,
     ) -> Result<Vec<JournalRow<K::Command>>, KeepFault>
-        requires { (not self.old.is_down && K.is_usable self.old.keep) ≡ true }
-        ensures call { IsCall (not self.new.is_down && K.is_usable self.new.keep)
-            (self.old.failures + K.failures self.old.keep) (self.new.failures + K.failures self.new.keep) result }
-        ensures doubt { K.doubt self.old.keep ≤ K.doubt self.new.keep }
-        ensures read { K.doubt self.new.keep ≡ 0 →
-            IsRead (K.tables self.old.keep) (λ rows. rows.items ≡ take limit (drop (from - 1) (K.tables self.old.keep).journal))
-            (K.tables self.new.keep) (K.may_leave self.new.keep) result }
-        ensures armed { self.new.armed ≡ counted_down self.old.armed }
-        ensures fails { IsReadDue K.is_usable K.failures (due self.old.armed) self.old self.new result }
+        requires { (through K.seen self.old).usable ≡ true }
+        ensures { ReadsDue K.seen self.old self.new (λ t rows. rows.items ≡ take limit (drop (from - 1) t.journal)) result }
     {
         match self.strike() {
             None => self.keep.journal(alloc, from, limit),
@@ -291,71 +223,36 @@ impl<K: Keep + Drop> Keep for Faulty<K> {
         }
     }
 
-    #[tactic(auto, using(crate::proofs::Faults::call_after, crate::proofs::Faults::only_old))]
-    fn length(&mut self, alloc: Global) -> Result<u64, KeepFault>
-        requires { (not self.old.is_down && K.is_usable self.old.keep) ≡ true }
-        ensures call { IsCall (not self.new.is_down && K.is_usable self.new.keep)
-            (self.old.failures + K.failures self.old.keep) (self.new.failures + K.failures self.new.keep) result }
-        ensures doubt { K.doubt self.old.keep ≤ K.doubt self.new.keep }
-        ensures read { K.doubt self.new.keep ≡ 0 →
-            IsRead (K.tables self.old.keep) (λ n. n ≡ length (K.tables self.old.keep).journal)
-            (K.tables self.new.keep) (K.may_leave self.new.keep) result }
-        ensures armed { self.new.armed ≡ counted_down self.old.armed }
-        ensures fails { IsReadDue K.is_usable K.failures (due self.old.armed) self.old self.new result }
-    {
-        match self.strike() {
-            None => self.keep.length(alloc),
-            Some(_) => self.fail(),
-        }
+    fn length(&self) -> u64 {
+        self.keep.length()
     }
 
-    #[tactic(auto, using(crate::proofs::Faults::call_after, crate::proofs::Faults::only_old))]
+    #[tactic(auto, using(crate::proofs::Faults::write_inside, crate::proofs::Faults::write_failed, crate::proofs::Faults::write_hidden))]
     fn apply(
         &mut self,
         alloc: Global,
-        changes: &[Change<K::State, K::Command>],
+        changes: Vec<Change<K::State, K::Command>>,
     ) -> Result<(), KeepFault>
-        requires { (not self.old.is_down && K.is_usable self.old.keep) ≡ true }
-        ensures call { IsCall (not self.new.is_down && K.is_usable self.new.keep)
-            (self.old.failures + K.failures self.old.keep) (self.new.failures + K.failures self.new.keep) result }
-        ensures doubt { K.doubt self.old.keep ≤ K.doubt self.new.keep }
-        ensures transaction { K.doubt self.new.keep ≡ 0 →
-            IsTransaction (K.tables self.old.keep) (changed changes.now (K.tables self.old.keep))
-            (K.tables self.new.keep) (K.may_leave self.new.keep) result }
-        ensures armed { self.new.armed ≡ counted_down self.old.armed }
-        ensures fails { IsTransactionDue K.is_usable K.failures (due self.old.armed) self.old self.new result }
-        ensures left { K.doubt self.new.keep ≡ 0 →
-            IsLeft (due self.old.armed) (K.tables self.old.keep) (changed changes.now (K.tables self.old.keep))
-            (K.may_leave self.new.keep) (IsCall (K.is_usable self.new.keep) (K.failures self.old.keep) (K.failures self.new.keep)) }
+        requires { (through K.seen self.old).usable ≡ true }
+        ensures { WritesDue K.seen self.old self.new (ArePlaced changes.items) (changed changes.items) result }
     {
         match self.strike() {
             None => self.keep.apply(alloc, changes),
             Some(Leaves::Old) => self.fail(),
-            Some(Leaves::New) => match self.keep.apply(alloc, changes) {
-                Ok(()) => self.fail(),
-                Err(_) => self.fail(),
-            },
+            Some(Leaves::New) => {
+                let _ = self.keep.apply(alloc, changes);
+                self.fail()
+            }
         }
     }
 
-    #[tactic(auto, using(crate::proofs::Faults::reopened_after))]
-    fn reopen(&mut self) -> Result<(), KeepFault>
-        ensures call { IsReopenCall (not self.new.is_down && K.is_usable self.new.keep)
-            (self.old.failures + K.failures self.old.keep) (self.new.failures + K.failures self.new.keep) result }
-        ensures doubt { K.doubt self.old.keep ≤ K.doubt self.new.keep }
-        ensures reopening { K.doubt self.new.keep ≡ 0 →
-            IsReopening (K.may_leave self.old.keep) (K.tables self.new.keep) (K.may_leave self.new.keep) result }
-        ensures armed { self.new.armed ≡ self.old.armed }
-        ensures passes { (self.new.failures ≡ self.old.failures)
-            × IsReopenCall (K.is_usable self.new.keep) (K.failures self.old.keep) (K.failures self.new.keep) result }
+    #[tactic(auto, using(crate::proofs::Faults::reopened_inside))]
+    fn reopen(&mut self, alloc: Global) -> Result<(), KeepFault>
+        ensures { ReopensThrough K.seen self.old self.new result }
     {
         self.is_down = false;
-        self.keep.reopen()
+        self.keep.reopen(alloc)
     }
 
-    ghost only_now = { λ f t clean usable. K.only_now f.keep t clean (inside f.is_down (K.is_usable f.keep) usable) };
-
-    ghost stays = { λ f clean usable. K.stays f.keep clean (inside f.is_down (K.is_usable f.keep) usable) };
-
-    ghost leaves = { λ f clean. K.leaves f.keep clean };
+    ghost sound = { λ f. sound_through K.seen f (K.sound f.keep) };
 }
