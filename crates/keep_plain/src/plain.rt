@@ -1,35 +1,25 @@
 //! A keep in memory.
 
-ghost use Rattle.std.specs.Prelude.{◌≡◌};
+ghost use Rattle.std.specs.Prelude.{◌≡◌, true};
 
-use crate::drains::first_drainable;
-use crate::entities::find_row;
-use crate::log::add_all;
+use crate::apply::apply;
+use crate::entities::copy_row;
+use crate::held::{find_message, first_drainable};
+use crate::journal::copy_page;
+use crate::maps::Maps;
 use crate::marks::{Mark, find_mark};
-use crate::messages::{MessageTable, find_message};
 use crate::outbox::first_letters;
-use crate::rows::{journal_length, journal_rows};
 use activities::{Handler, JournalRow};
 use base::{Entity, Number, Pair};
 use envelope::{Letter, Message};
 use keep::{Change, Keep, KeepFault, Place};
 use std::alloc::Global;
-use std::marker::Model;
+use std::collections::BTreeMap;
 
-/// The tables of a handler's service in memory. Contracts see the changes that made them, in order. It never fails, and a stop leaves the
-/// tables now.
+/// The tables of a handler's service in memory. It never fails, and a stop leaves the tables now.
 #[derive(Drop)]
 pub struct PlainKeep<H: Handler> {
-    log: Vec<Change<H::State, H::Command>>,
-}
-
-impl<H: Handler> Model for PlainKeep<H> {
-    ghost use Rattle.std.specs.Prelude.{List};
-    ghost use Rattle.keep.specs.declared.change.Change.{Change};
-
-    ghost Value = { List (Change H.State H.Command) };
-
-    ghost view = { λ k. k.log.items };
+    maps: Maps<H::State, H::Command>,
 }
 
 impl<H: Handler> PlainKeep<H> {
@@ -37,64 +27,63 @@ impl<H: Handler> PlainKeep<H> {
 
     /// Empty tables.
     pub fn new(alloc: Global) -> Self
-        ensures { ⟦<PlainKeep<H> as Keep>⟧.tables result ≡ empty }
+        ensures { (⟦<PlainKeep<H> as Keep>⟧.seen result).tables ≡ empty }
     {
         PlainKeep {
-            log: Vec::new(alloc),
+            maps: Maps {
+                journal: Vec::new(alloc),
+                rows: BTreeMap::new(alloc),
+                marks: BTreeMap::new(alloc),
+                outbox: BTreeMap::new(alloc),
+                held: BTreeMap::new(alloc),
+            },
         }
     }
 }
 
 impl<H: Handler> Keep for PlainKeep<H> {
-    ghost use Rattle.std.specs.Prelude.{◌≡◌, true, refl};
-    ghost use Rattle.keep_plain.specs.Log.{made_by};
-    ghost use Rattle.keep_plain.specs.Tables.{something};
+    ghost use Rattle.keep.specs.Law.{Writes};
+    ghost use Rattle.keep.specs.Seen.{keep_end};
+    ghost use Rattle.keep.specs.Tables.{changed, ArePlaced};
+    ghost use Rattle.keep_plain.specs.Memory.{in_memory, in_memory_sound};
 
     type State = H::State;
 
     type Command = H::Command;
 
-    ghost tables = { λ k. made_by k };
-
-    ghost may_leave = { λ k t. t ≡ made_by k };
-
-    ghost failures = { λ _. 0 };
-
-    ghost is_usable = { λ _. true };
-
-    ghost doubt = { λ _. 0 };
+    ghost seen = { λ k. in_memory k.maps };
 
     fn usable(&self) -> bool {
         true
     }
 
     fn entity(&mut self, alloc: Global, entity: &Entity) -> Result<Option<H::State>, KeepFault> {
-        Ok(find_row::<H>(alloc, &self.log, entity)?)
+        Ok(copy_row::<H>(alloc, &self.maps.rows, entity)?)
     }
 
     fn sent(&mut self, _alloc: Global, pair: &Pair) -> Result<u64, KeepFault> {
-        Ok(find_mark(Mark::Sent, &self.log, pair))
+        Ok(find_mark(&self.maps.marks, pair, Mark::Sent))
     }
 
     fn settled(&mut self, _alloc: Global, pair: &Pair) -> Result<u64, KeepFault> {
-        Ok(find_mark(Mark::Settled, &self.log, pair))
+        Ok(find_mark(&self.maps.marks, pair, Mark::Settled))
     }
 
     fn handled(&mut self, _alloc: Global, pair: &Pair) -> Result<u64, KeepFault> {
-        Ok(find_mark(Mark::Handled, &self.log, pair))
+        Ok(find_mark(&self.maps.marks, pair, Mark::Handled))
     }
 
     fn held(
         &mut self,
-        _alloc: Global,
+        alloc: Global,
         pair: &Pair,
         number: Number,
     ) -> Result<Option<Message>, KeepFault> {
-        Ok(find_message(MessageTable::Held, &self.log, pair, number.get() - 1))
+        Ok(find_message(alloc, &self.maps.held, pair, number)?)
     }
 
     fn drainable(&mut self, alloc: Global) -> Result<Option<Pair>, KeepFault> {
-        Ok(first_drainable(alloc, &self.log)?)
+        Ok(first_drainable(alloc, &self.maps.held, &self.maps.marks)?)
     }
 
     fn unsettled(
@@ -103,7 +92,7 @@ impl<H: Handler> Keep for PlainKeep<H> {
         after: &Option<Place>,
         limit: usize,
     ) -> Result<Vec<Letter>, KeepFault> {
-        Ok(first_letters(alloc, &self.log, after, limit)?)
+        Ok(first_letters(alloc, &self.maps.outbox, after, limit)?)
     }
 
     fn journal(
@@ -112,30 +101,28 @@ impl<H: Handler> Keep for PlainKeep<H> {
         from: u64,
         limit: usize,
     ) -> Result<Vec<JournalRow<H::Command>>, KeepFault> {
-        Ok(journal_rows::<H>(alloc, &self.log, from, limit)?)
+        Ok(copy_page::<H>(alloc, &self.maps.journal, from, limit)?)
     }
 
-    fn length(&mut self, _alloc: Global) -> Result<u64, KeepFault> {
-        Ok(journal_length(&self.log))
+    fn length(&self) -> u64 {
+        self.maps.journal.len() as u64
     }
 
-    #[tactic(auto, using(crate::proofs::Changes::made_more))]
     fn apply(
         &mut self,
         alloc: Global,
-        changes: &[Change<H::State, H::Command>],
-    ) -> Result<(), KeepFault> {
-        add_all::<H>(alloc, &mut self.log, changes)?;
+        changes: Vec<Change<H::State, H::Command>>,
+    ) -> Result<(), KeepFault>
+        requires { (in_memory self.old.maps).usable ≡ true }
+        ensures { Writes (λ k. in_memory k.maps) self.old self.new (ArePlaced changes.items) (changed changes.items) (keep_end result) }
+    {
+        apply(alloc, &mut self.maps, changes)?;
         Ok(())
     }
 
-    fn reopen(&mut self) -> Result<(), KeepFault> {
+    fn reopen(&mut self, _alloc: Global) -> Result<(), KeepFault> {
         Ok(())
     }
 
-    ghost only_now = { λ k t clean usable left. left };
-
-    ghost stays = { λ k clean usable. refl };
-
-    ghost leaves = { λ k clean. something (made_by k) };
+    ghost sound = { λ k. in_memory_sound k.maps };
 }

@@ -1,0 +1,116 @@
+-- Examples: slots and what stands in them, the marks of a pair, letters in order, and the first pair whose next letter is held.
+use Rattle.std.proofs.Common.{◌≡◌, ℕ, List, [], ◌∷◌, Bool, true, false, cond, refl, sym, ap, ◌∙◌, arith}
+use Rattle.std.specs.Prelude.{codes, Option, Some, None, is_some}
+use Rattle.std.specs.Ordering.{is_eq}
+use Rattle.std.specs.Map.{lookup}
+use Rattle.std.specs.BTreeMap.{BTreeMap}
+use Rattle.std.specs.declared.ops.Bound.TheVariants.{Excluded, Unbounded}
+use Rattle.base.specs.Entity.{Name, order_of, stock_of}
+use Rattle.base.specs.Order.{entity_cmp, pair_cmp, same_entity, same_pair}
+use Rattle.base.specs.declared.pair.Pair.{Pair}
+use Rattle.activities.specs.declared.input.JournalRow.{JournalRow}
+use Rattle.envelope.specs.declared.message.Message.{Message}
+use Rattle.envelope.specs.declared.message.Message.TheVariants.{Request, Tentative, Confirm}
+use Rattle.keep.specs.declared.change.Place.{Place}
+use Rattle.keep.specs.declared.change.Change.TheVariants.{Journal, State, Handled}
+use Rattle.keep.specs.Tables.{Messages, set_message, without_upto}
+use Rattle.keep_plain.specs.Slots.{filled, at, SameAt}
+use Rattle.keep_plain.specs.Listed.{start_after, letter_in, letters_in, first_next}
+use Rattle.keep_plain.specs.Maps.{mark_of, with_mark, marks_at, messages_in, tables_in}
+use Rattle.keep_plain.specs.Memory.{in_memory}
+use Rattle.keep_plain.specs.Ready.{IsReady}
+use Rattle.keep_plain.specs.Upto.{EmptiesFrom}
+use Rattle.keep_plain.specs.declared.maps.Maps.{Maps}
+use Rattle.keep_plain.specs.declared.marks.Marks.{Marks}
+use Rattle.keep_plain.specs.declared.marks.Mark.TheVariants as mark
+
+abbrev o1 : Name
+o1 = order_of (codes "o1")
+
+abbrev o2 : Name
+o2 = order_of (codes "o2")
+
+abbrev bolts : Name
+bolts = stock_of (codes "bolts")
+
+abbrev there : Pair
+there = record { from = o1; to = bolts }
+
+abbrev back : Pair
+back = record { from = bolts; to = o1 }
+
+abbrev place : Pair → ℕ → Place
+place p n = record { pair = p; number = n }
+
+-- ---- slots
+
+-- an empty slot is as none
+slots_are_filled : (filled {V = ℕ} None ≡ None) × (filled {V = ℕ} (Some None) ≡ None) × (filled {V = ℕ} (Some (Some 8)) ≡ Some 8)
+slots_are_filled = (refl, refl, refl)
+
+-- what rows have at an entity
+abbrev row_in : List (Name × Option ℕ) → Name → Option ℕ
+row_in es x = filled (lookup (λ y. is_eq (entity_cmp x y)) es)
+
+-- of two slots the filled one is a row
+rows_stand : (m : Maps ℕ ℕ) → m.rows.entries ≡ (o1, Some 8) ∷ (o2, None) ∷ [] → ((tables_in m).entity o1 ≡ Some 8) × ((tables_in m).entity o2 ≡ None) × ((tables_in m).entity bolts ≡ None)
+rows_stand m e = (ap (λ es. row_in es o1) e, ap (λ es. row_in es o2) e, ap (λ es. row_in es bolts) e)
+
+abbrev some_row : Option ℕ
+some_row = Some 8
+
+hidden : (b : Bool) → filled {V = ℕ} (cond b (Some None) None) ≡ None
+hidden true = refl
+hidden false = refl
+
+-- an empty slot more changes no row; a filled one does
+a_slot_changes_nothing : (old new : BTreeMap Name (Option ℕ)) → old.entries ≡ [] → new.entries ≡ (o1, None) ∷ [] → SameAt entity_cmp old new
+a_slot_changes_nothing old new e f = λ q. ap (λ es. row_in es q) f ∙ hidden (is_eq (entity_cmp q o1)) ∙ sym (ap (λ es. row_in es q) e)
+
+a_row_changes : (old new : BTreeMap Name (Option ℕ)) → old.entries ≡ [] → new.entries ≡ (o1, Some 8) ∷ [] → SameAt entity_cmp old new → ⊥
+a_row_changes old new e f h = let z : some_row ≡ None = sym (ap (λ es. row_in es o1) f) ∙ h o1 ∙ ap (λ es. row_in es o1) e in cc
+
+-- without slots a row of the journal may be added, and no mark be set
+slots_are_needed : (m : Maps ℕ ℕ) (row : JournalRow ℕ) → m.marks.entries ≡ [] → IsReady m (Journal 1 row) × (IsReady m (Handled there 1) → ⊥)
+slots_are_needed m row e = (tt, λ h. let z : false ≡ true = sym (ap (λ es. is_some (lookup (λ y. is_eq (pair_cmp there y)) es)) e) ∙ h in cc)
+
+-- nothing fails in memory, and what is seen is what stands there
+memory_never_fails : (m : Maps ℕ ℕ) → ((in_memory m).usable ≡ true) × ((in_memory m).doubt ≡ 0) × ((in_memory m).failures ≡ 0) × ((in_memory m).tables ≡ tables_in m)
+memory_never_fails m = (refl, refl, refl, refl)
+
+-- ---- marks
+
+abbrev sent_two : Marks
+sent_two = record { sent = 2; settled = 1; handled = 0 }
+
+marks_are_set : (mark_of mark.Sent sent_two ≡ 2) × (mark_of mark.Settled sent_two ≡ 1) × (mark_of mark.Handled sent_two ≡ 0)
+    × (with_mark mark.Settled 2 sent_two ≡ record { sent = 2; settled = 2; handled = 0 })
+marks_are_set = (refl, refl, refl, refl)
+
+-- ---- letters
+
+abbrev slots : List (Place × Option Message)
+slots = (place there 1, Some (Request 3)) ∷ (place there 2, None) ∷ (place there 3, Some Confirm) ∷ []
+
+-- of three slots one is empty
+letters_are_read : letters_in slots ≡ record { pair = there; number = 1; message = Request 3 } ∷ record { pair = there; number = 3; message = Confirm } ∷ []
+letters_are_read = refl
+
+a_letter_is_read : (letter_in (place there 1) None ≡ []) × (letter_in (place there 1) (Some Confirm) ≡ record { pair = there; number = 1; message = Confirm } ∷ [])
+a_letter_is_read = (refl, refl)
+
+-- a listing begins behind its place, or at the first of all
+listings_start : (start_after (Some (place there 1)) ≡ Excluded (place there 1)) × (start_after None ≡ Unbounded)
+listings_start = (refl, refl)
+
+-- where none was handled the first letter is next; where two were, the third is; the second is held no more
+the_next_is_found : (first_next (λ _. 0) slots ≡ Some there) × (first_next (λ _. 2) slots ≡ Some there) × (first_next (λ _. 1) slots ≡ None)
+the_next_is_found = (refl, refl, refl)
+
+abbrev both : Messages
+both = set_message there 1 (Some (Request 3)) (set_message there 2 (Some Confirm) (λ _ _. None))
+
+-- a settle up to 1 leaves the second letter: with both gone it's none, and with both there
+settles_are_exact : (EmptiesFrom there 0 1 both (λ _ _. None) → ⊥) × (EmptiesFrom there 0 1 both both → ⊥)
+unfolding same_entity same_pair
+settles_are_exact = (λ h. let z : None ≡ Some Confirm = h.above 2 (omega arith) in cc, λ h. let z : Some (Request 3) ≡ None = h.gone 1 (omega arith) (omega arith) in cc)

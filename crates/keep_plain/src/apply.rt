@@ -1,0 +1,282 @@
+//! How changes are made: all or none. First each change gets the slots that it sets, which is all that takes memory and changes no table;
+//! then the changes are made in order, in these slots; and then the slots that are left empty are taken away.
+
+ghost use Rattle.std.specs.Prelude.{◌≡◌, ◌+◌, ◌≤◌, ◌<◌, OnOk, OnErr, vec_len, length};
+ghost use Rattle.std.specs.Vec.{vec_capacity};
+ghost use Rattle.std.specs.List.{AllByRecursion};
+ghost use Rattle.keep.specs.Tables.{changed_by, changed};
+ghost use Rattle.keep.specs.declared.change.Change.TheVariants.{State, Sent, Settled, Handled, Held, NotHeld};
+ghost use Rattle.keep_plain.specs.Maps.{tables_in};
+ghost use Rattle.keep_plain.specs.Ready.{IsReady, KeepsAll, SameTables};
+
+use crate::copies::copy_place;
+use crate::maps::Maps;
+use crate::marks::{Mark, set_mark};
+use crate::outbox::{empty_upto, sweep_upto};
+use crate::slots::{empty_slot, make_slot, set_slot, sweep_slot};
+use base::{Entity, Number, Pair};
+use envelope::Letter;
+use keep::{Change, Place};
+use std::alloc::{AllocError, Global};
+
+/// Puts the slots that a change sets.
+fn make_slots<S: Drop, C>(
+    alloc: Global,
+    maps: &mut Maps<S, C>,
+    change: &Change<S, C>,
+) -> Result<(), AllocError>
+    ensures same { SameTables maps.old maps.new }
+    ensures journal { maps.new.journal ≡ maps.old.journal }
+    ensures keeps { KeepsAll maps.old maps.new }
+    ensures ready { OnOk result (IsReady maps.new change.now) }
+{
+    match change {
+        Change::Journal(_, _) | Change::NotHeld(_, _) => Ok(()),
+        Change::State(entity, _) => make_slot(&mut maps.rows, entity.copy(alloc)?),
+        Change::Sent(letter) => {
+            make_slot(&mut maps.marks, letter.pair.copy(alloc)?)?;
+            make_slot(&mut maps.outbox, copy_place(alloc, letter)?)
+        }
+        Change::Settled(pair, _) | Change::Handled(pair, _) => {
+            make_slot(&mut maps.marks, pair.copy(alloc)?)
+        }
+        Change::Held(letter) => make_slot(&mut maps.held, copy_place(alloc, letter)?),
+    }
+}
+
+/// Puts a letter into the outbox, in slots that are there.
+fn send<S: Drop, C: Drop>(maps: &mut Maps<S, C>, letter: Letter)
+    requires { IsReady maps.old (Sent letter) }
+    ensures made { tables_in maps.new ≡ changed_by (Sent letter) (tables_in maps.old) }
+    ensures keeps { KeepsAll maps.old maps.new }
+    ensures journal { maps.new.journal ≡ maps.old.journal }
+{
+    let place = Place {
+        pair: letter.pair,
+        number: letter.number,
+    };
+    set_mark(&mut maps.marks, &place.pair, Mark::Sent, place.number);
+    set_slot(&mut maps.outbox, &place, Some(letter.message));
+}
+
+/// Settles the letters of a pair up to a number. Their slots are left empty.
+fn settle<S: Drop, C: Drop>(maps: &mut Maps<S, C>, pair: Pair, number: Number) -> Pair
+    requires { IsReady maps.old (Settled pair number) }
+    ensures pair { result ≡ pair }
+    ensures made { tables_in maps.new ≡ changed_by (Settled pair number) (tables_in maps.old) }
+    ensures keeps { KeepsAll maps.old maps.new }
+    ensures journal { maps.new.journal ≡ maps.old.journal }
+{
+    let mut place = Place { pair, number };
+    set_mark(&mut maps.marks, &place.pair, Mark::Settled, number);
+    empty_upto(&mut maps.outbox, &mut place);
+    place.pair
+}
+
+/// Sets the handled mark of a pair, in a slot that is there.
+fn handle<S: Drop, C: Drop>(maps: &mut Maps<S, C>, pair: &Pair, number: Number)
+    requires { IsReady maps.old (Handled pair.now number) }
+    ensures made { tables_in maps.new ≡ changed_by (Handled pair.now number) (tables_in maps.old) }
+    ensures keeps { KeepsAll maps.old maps.new }
+    ensures journal { maps.new.journal ≡ maps.old.journal }
+{
+    set_mark(&mut maps.marks, pair, Mark::Handled, number);
+}
+
+/// Holds a letter, in a slot that is there.
+fn hold<S: Drop, C: Drop>(maps: &mut Maps<S, C>, letter: Letter)
+    requires { IsReady maps.old (Held letter) }
+    ensures made { tables_in maps.new ≡ changed_by (Held letter) (tables_in maps.old) }
+    ensures keeps { KeepsAll maps.old maps.new }
+    ensures journal { maps.new.journal ≡ maps.old.journal }
+{
+    let place = Place {
+        pair: letter.pair,
+        number: letter.number,
+    };
+    set_slot(&mut maps.held, &place, Some(letter.message));
+}
+
+/// Holds a letter no more. Its slot is left empty.
+fn release<S: Drop, C: Drop>(maps: &mut Maps<S, C>, pair: Pair, number: Number) -> Pair
+    ensures pair { result ≡ pair }
+    ensures made { tables_in maps.new ≡ changed_by (NotHeld pair number) (tables_in maps.old) }
+    ensures keeps { KeepsAll maps.old maps.new }
+    ensures journal { maps.new.journal ≡ maps.old.journal }
+{
+    let place = Place { pair, number };
+    empty_slot(&mut maps.held, &place);
+    place.pair
+}
+
+/// Sets an entity's row, in a slot that is there. Where the row is taken away, the entity is given back: its slot is left empty.
+fn set_row<S: Drop, C: Drop>(
+    maps: &mut Maps<S, C>,
+    entity: Entity,
+    row: Option<S>,
+) -> Option<Entity>
+    requires { IsReady maps.old (State entity row) }
+    ensures made { tables_in maps.new ≡ changed_by (State entity row) (tables_in maps.old) }
+    ensures keeps { KeepsAll maps.old maps.new }
+    ensures journal { maps.new.journal ≡ maps.old.journal }
+{
+    let is_gone = row.is_none();
+    set_slot(&mut maps.rows, &entity, row);
+    is_gone.then_some(entity)
+}
+
+/// Makes a change, in slots that are there. What may have left empty slots is given back, for a sweep.
+fn make_change<S: Drop, C: Drop>(
+    maps: &mut Maps<S, C>,
+    change: Change<S, C>,
+) -> Option<Change<S, C>>
+    requires ready { IsReady maps.old change }
+    requires room { vec_len maps.old.journal < vec_capacity maps.old.journal }
+    ensures made { tables_in maps.new ≡ changed_by change (tables_in maps.old) }
+    ensures keeps { KeepsAll maps.old maps.new }
+    ensures room { vec_capacity maps.new.journal ≡ vec_capacity maps.old.journal }
+    ensures len { vec_len maps.new.journal ≤ vec_len maps.old.journal + 1 }
+{
+    match change {
+        Change::Journal(_, row) => {
+            maps.journal.push_reserved(row);
+            None
+        }
+        Change::State(entity, row) => {
+            let entity = set_row(maps, entity, row)?;
+            Some(Change::State(entity, None))
+        }
+        Change::Sent(letter) => {
+            send(maps, letter);
+            None
+        }
+        Change::Settled(pair, number) => {
+            let pair = settle(maps, pair, number);
+            Some(Change::Settled(pair, number))
+        }
+        Change::Handled(pair, number) => {
+            handle(maps, &pair, number);
+            None
+        }
+        Change::Held(letter) => {
+            hold(maps, letter);
+            None
+        }
+        Change::NotHeld(pair, number) => {
+            let pair = release(maps, pair, number);
+            Some(Change::NotHeld(pair, number))
+        }
+    }
+}
+
+/// Takes the empty slots that a change has set away.
+fn sweep_change<S: Drop, C: Drop>(maps: &mut Maps<S, C>, change: Change<S, C>)
+    ensures { SameTables maps.old maps.new }
+{
+    match change {
+        Change::Journal(_, _) => {}
+        Change::State(entity, _) => sweep_slot(&mut maps.rows, &entity),
+        Change::Sent(letter) => {
+            let place = Place {
+                pair: letter.pair,
+                number: letter.number,
+            };
+            sweep_slot(&mut maps.marks, &place.pair);
+            sweep_slot(&mut maps.outbox, &place);
+        }
+        Change::Settled(pair, number) => {
+            sweep_slot(&mut maps.marks, &pair);
+            sweep_upto(&mut maps.outbox, Place { pair, number });
+        }
+        Change::Handled(pair, _) => sweep_slot(&mut maps.marks, &pair),
+        Change::Held(letter) => {
+            let place = Place {
+                pair: letter.pair,
+                number: letter.number,
+            };
+            sweep_slot(&mut maps.held, &place);
+        }
+        Change::NotHeld(pair, number) => sweep_slot(&mut maps.held, &Place { pair, number }),
+    }
+}
+
+/// Puts the slots that changes set.
+fn make_all_slots<S: Drop, C>(
+    alloc: Global,
+    maps: &mut Maps<S, C>,
+    changes: &[Change<S, C>],
+) -> Result<(), AllocError>
+    ensures same { SameTables maps.old maps.new }
+    ensures journal { maps.new.journal ≡ maps.old.journal }
+    ensures ready { OnOk result (AllByRecursion (IsReady maps.new) changes.now) }
+{
+    for change in changes {
+        make_slots(alloc, maps, change)?;
+    }
+    Ok(())
+}
+
+/// Adds a change, if there is one and memory isn't refused.
+fn note<S: Drop, C: Drop>(emptied: &mut Vec<Change<S, C>>, change: Option<Change<S, C>>) {
+    if let Some(change) = change {
+        let _ = emptied.push(change);
+    }
+}
+
+/// Makes changes in order, in slots that are there. Adds those that may have left empty slots, for a sweep.
+fn make_all<S: Drop, C: Drop>(
+    maps: &mut Maps<S, C>,
+    changes: Vec<Change<S, C>>,
+    emptied: &mut Vec<Change<S, C>>,
+)
+    requires ready { AllByRecursion (IsReady maps.old) changes.items }
+    requires room { vec_len maps.old.journal + length changes.items ≤ vec_capacity maps.old.journal }
+    ensures { tables_in maps.new ≡ changed changes.items (tables_in maps.old) }
+{
+    for change in changes {
+        let left = make_change(maps, change);
+        note(emptied, left);
+    }
+}
+
+/// Takes the empty slots that changes have set away.
+fn sweep_all<S: Drop, C: Drop>(maps: &mut Maps<S, C>, changes: Vec<Change<S, C>>)
+    ensures { SameTables maps.old maps.new }
+{
+    for change in changes {
+        sweep_change(maps, change);
+    }
+}
+
+/// How many of these changes may leave empty slots.
+fn count_emptying<S, C>(changes: &[Change<S, C>]) -> usize {
+    changes
+        .iter()
+        .filter(|change| {
+            matches!(
+                change,
+                Change::State(_, None) | Change::Settled(_, _) | Change::NotHeld(_, _)
+            )
+        })
+        .count()
+}
+
+/// Makes all of these changes in order, or none where memory is refused.
+pub fn apply<S: Drop, C: Drop>(
+    alloc: Global,
+    maps: &mut Maps<S, C>,
+    changes: Vec<Change<S, C>>,
+) -> Result<(), AllocError>
+    ensures ok { OnOk result (tables_in maps.new ≡ changed changes.items (tables_in maps.old)) }
+    ensures err { OnErr result (tables_in maps.new ≡ tables_in maps.old) }
+{
+    let mut emptied = Vec::with_capacity(alloc, count_emptying(&changes))?;
+    maps.journal.reserve(changes.len())?;
+    if let Err(fault) = make_all_slots(alloc, maps, &changes) {
+        sweep_all(maps, changes);
+        return Err(fault);
+    }
+    make_all(maps, changes, &mut emptied);
+    sweep_all(maps, emptied);
+    Ok(())
+}

@@ -1,0 +1,23 @@
+//! The maps that the tables are kept in.
+
+use crate::marks::Marks;
+use activities::JournalRow;
+use base::{Entity, Pair};
+use envelope::Message;
+use keep::Place;
+use std::collections::BTreeMap;
+
+/// The tables of a service whose states are `S` and whose commands are `C`, as they stand in memory. An empty slot is as no row.
+#[derive(Drop)]
+pub struct Maps<S, C> {
+    /// The rows of the journal, in order.
+    pub journal: Vec<JournalRow<C>>,
+    /// The rows of entities.
+    pub rows: BTreeMap<Entity, Option<S>>,
+    /// The marks of pairs.
+    pub marks: BTreeMap<Pair, Option<Marks>>,
+    /// What was sent and isn't settled.
+    pub outbox: BTreeMap<Place, Option<Message>>,
+    /// What came too early.
+    pub held: BTreeMap<Place, Option<Message>>,
+}
