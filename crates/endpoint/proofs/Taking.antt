@@ -5,13 +5,13 @@ use Rattle.std.proofs.lemmas.List.{append-nil}
 use Rattle.base.specs.declared.limits.TheConstants.{MAX_NUMBER}
 use Rattle.base.specs.Entity.{Name}
 use Rattle.base.specs.Order.{same_entity}
-use Rattle.base.specs.declared.entity.Kind.{Kind}
 use Rattle.base.specs.declared.pair.Pair.{Pair}
+use Rattle.activities.specs.Service.{Service}
 use Rattle.activities.specs.declared.handler.Refusal.{Refusal}
 use Rattle.activities.specs.declared.input.Input.{Input}
 use Rattle.activities.specs.declared.input.JournalRow.{JournalRow}
 use Rattle.activities.specs.declared.outs.Out.{Out}
-use Rattle.activities.specs.Reaction.{Table, state, messages_to}
+use Rattle.activities.specs.Reaction.{Reactions, state, messages_to}
 use Rattle.activities.specs.Journal.{IsLegal, part, state_of, sent_of, handled_of, row_of}
 use Rattle.activities.specs.Follow.{MayFollow}
 use Rattle.activities.proofs.Sameness.{same_entity-comm}
@@ -20,11 +20,12 @@ use Rattle.activities.proofs.Legal.{legal-more}
 use Rattle.keep.specs.declared.change.Change.{Change}
 use Rattle.keep.specs.declared.change.Change.TheVariants.{State, Journal}
 use Rattle.keep.specs.Tables.{Tables, Messages, changed, changed_by}
-use Rattle.endpoint.specs.Matches.{TablesMatchJournal, above}
+use Rattle.endpoint.specs.Matches.{TablesMatchJournal, MayBeHeld, above}
 use Rattle.endpoint.specs.Answers.{pair_of, reaction, sent_counts, NumbersFit}
 use Rattle.endpoint.specs.Calls.{Appends}
-use Rattle.endpoint.specs.Steps.{Prepares, numbering, row_for, state_or}
-use Rattle.endpoint.proofs.Outbox.{IsOutbox, outbox-same, own, numbering-outbox, numbering-keeps}
+use Rattle.endpoint.specs.Parts.Handling.{Prepares, row_for, state_or}
+use Rattle.endpoint.specs.Parts.Outbox.{numbering}
+use Rattle.endpoint.proofs.Sending.{IsOutbox, outbox-same, own, numbering-outbox, numbering-keeps}
 
 pub changed-append : {S C : Type 0} (xs ys : List (Change S C)) (t : Tables S C) → changed (xs ++ ys) t ≡ changed ys (changed xs t)
 changed-append [] ys t = refl
@@ -46,26 +47,26 @@ row_state : {S : Type 0} (opening s : S) (b : Bool) → (b ≡ true → s ≡ op
 row_state opening s true h = sym (h refl)
 row_state opening s false h = refl
 
-pub state_or-row_of : {S C : Type 0} (table : Table S C) (is_none : S → Bool) → ((s : S) → is_none s ≡ true → s ≡ table.opening) → (inputs : List (Input C)) → state_or table.opening (row_of is_none (state table inputs) inputs) ≡ state table inputs
-state_or-row_of table is_none law [] = refl
-state_or-row_of table is_none law (input ∷ inputs) = row_state table.opening (state table (input ∷ inputs)) _ (law _)
+pub state_or-row_of : {S C : Type 0} (reactions : Reactions S C) (is_none : S → Bool) → ((s : S) → is_none s ≡ true → s ≡ reactions.opening) → (inputs : List (Input C)) → state_or reactions.opening (row_of is_none (state reactions inputs) inputs) ≡ state reactions inputs
+state_or-row_of reactions is_none law [] = refl
+state_or-row_of reactions is_none law (input ∷ inputs) = row_state reactions.opening (state reactions (input ∷ inputs)) _ (law _)
 
 -- ---- one row more
 
-module _ {S C : Type 0} (table : Table S C) (is_none : S → Bool) (kind : Kind) (window : ℕ) (old : Tables S C) (row : JournalRow C) (first : List (Change S C)) (done : S × List Out) where
+module _ {S C : Type 0} (service : Service S C) (old : Tables S C) (position : ℕ) (row : JournalRow C) (first : List (Change S C)) (done : S × List Out) where
   -- the tables after all changes of a row that is taken in
   abbrev pub taken : Tables S C
-  taken = changed ((first ++ numbering old.sent row.entity done.1) ++ State row.entity (row_for is_none done.0) ∷ Journal row ∷ []) old
+  taken = changed ((first ++ numbering old.sent row.entity done.1) ++ State row.entity (row_for service.is_none done.0) ∷ Journal position row ∷ []) old
 
   -- tables that match this journal
   record Matches (j : List (JournalRow C)) (t : Tables S C) : Type 0 where
-    legal : IsLegal table kind j
-    entities : (e : Name) → t.entity e ≡ row_of is_none (state_of table j e) (part e j)
-    outbox : IsOutbox t (sent_of table j)
+    legal : IsLegal service.reactions service.kind j
+    entities : (e : Name) → t.entity e ≡ row_of service.is_none (state_of service.reactions j e) (part e j)
+    outbox : IsOutbox t (sent_of service.reactions j)
     handled : (p : Pair) → t.handled p ≡ handled_of j p
-    held : (p : Pair) (n : ℕ) → IsSome (t.held p n) → (handled_of j p < n) × (n ≤ handled_of j p + window)
+    held : (p : Pair) (n : ℕ) → IsSome (t.held p n) → MayBeHeld service.kind (handled_of j p) p n
 
-  matches_own : (t : Tables S C) → Matches t.journal t → TablesMatchJournal table is_none kind window t
+  matches_own : (t : Tables S C) → Matches t.journal t → TablesMatchJournal service t
   matches_own t h = record {
     legal = h.legal;
     entities = h.entities;
@@ -76,33 +77,33 @@ module _ {S C : Type 0} (table : Table S C) (is_none : S → Bool) (kind : Kind)
     held = h.held;
   }
 
-  ready_outbox : (h : TablesMatchJournal table is_none kind window old) → Prepares window old row first → IsOutbox (changed first old) (sent_of table old.journal)
+  ready_outbox : (h : TablesMatchJournal service old) → Prepares service.kind old row first → IsOutbox (changed first old) (sent_of service.reactions old.journal)
   ready_outbox h prep = record {
     count = λ p. ap (λ (c : Pair → ℕ). c p) prep.sent ∙ h.sent p;
-    settled = λ p. let P : (Pair → ℕ) → Type 0 = λ c. c p ≤ length (sent_of table old.journal p) in subst P (sym prep.settled) (h.settled p);
-    rows = λ p n. ap (λ (c : Messages). c p n) prep.unsettled ∙ h.unsettled p n ∙ ap (λ (c : Pair → ℕ). above (c p) (sent_of table old.journal p) n) (sym prep.settled);
+    settled = λ p. let P : (Pair → ℕ) → Type 0 = λ c. c p ≤ length (sent_of service.reactions old.journal p) in subst P (sym prep.settled) (h.settled p);
+    rows = λ p n. ap (λ (c : Messages). c p n) prep.unsettled ∙ h.unsettled p n ∙ ap (λ (c : Pair → ℕ). above (c p) (sent_of service.reactions old.journal p) n) (sym prep.settled);
   }
 
-  module _ (h : TablesMatchJournal table is_none kind window old) (of_kind : row.entity.kind ≡ kind) (prep : Prepares window old row first)
-      (room : length old.journal < MAX_NUMBER) (accepted : reaction table old.journal row ≡ Ok done) (fits : NumbersFit old.sent row.entity done.1) where
-    may : MayFollow table kind old.journal row
-    may = record { of_kind = of_kind; seated = prep.seated; accepted = is_ok_at (reaction table old.journal row) done accepted; next = prep.next }
+  module _ (h : TablesMatchJournal service old) (of_kind : row.entity.kind ≡ service.kind) (prep : Prepares service.kind old row first)
+      (room : length old.journal < MAX_NUMBER) (accepted : reaction service.reactions old.journal row ≡ Ok done) (fits : NumbersFit old.sent row.entity done.1) where
+    may : MayFollow service.reactions service.kind old.journal row
+    may = record { of_kind = of_kind; seated = prep.seated; accepted = is_ok_at (reaction service.reactions old.journal row) done accepted; next = prep.next }
 
-    fits_all : (other : S × List Out) → reaction table old.journal row ≡ Ok other → NumbersFit (sent_counts table old.journal) row.entity other.1
+    fits_all : (other : S × List Out) → reaction service.reactions old.journal row ≡ Ok other → NumbersFit (sent_counts service.reactions old.journal) row.entity other.1
     fits_all other e =
-        let F : S × List Out → Type 0 = λ d. NumbersFit (sent_counts table old.journal) row.entity d.1 in
-        let own_fits : NumbersFit (sent_counts table old.journal) row.entity done.1 = λ r some.
+        let F : S × List Out → Type 0 = λ d. NumbersFit (sent_counts service.reactions old.journal) row.entity d.1 in
+        let own_fits : NumbersFit (sent_counts service.reactions old.journal) row.entity done.1 = λ r some.
         let P : ℕ → Type 0 = λ k. k + length (messages_to r done.1) ≤ MAX_NUMBER in subst P (h.sent (pair_of row.entity r)) (fits r some) in
-        subst F (sym (same_done (reaction table old.journal row) done other accepted e)) own_fits
+        subst F (sym (same_done (reaction service.reactions old.journal row) done other accepted e)) own_fits
 
-    pub taken-appends : Appends table is_none kind window old row (changed first old).held taken
+    pub taken-appends : Appends service old row (changed first old).held taken
     taken-appends =
         let e = row.entity in
         let j = old.journal in
-        let f = sent_of table j in
+        let f = sent_of service.reactions j in
         let ready : Tables S C = changed first old in
         let letters : List (Change S C) = numbering old.sent e done.1 in
-        let rest : List (Change S C) = State e (row_for is_none done.0) ∷ Journal row ∷ [] in
+        let rest : List (Change S C) = State e (row_for service.is_none done.0) ∷ Journal position row ∷ [] in
         let u : Tables S C = changed letters ready in
         let v : Tables S C = changed rest u in
         let split : taken ≡ v = changed-append (first ++ letters) rest old ∙ ap (changed rest) (changed-append first letters old) in
@@ -114,23 +115,23 @@ module _ {S C : Type 0} (table : Table S C) (is_none : S → Bool) (kind : Kind)
         let before : IsOutbox ready (λ q. f q ++ own e [] q) = outbox-same ready f (λ q. f q ++ own e [] q) (λ q. none_sent (f q) (same_entity q.from e)) (ready_outbox h prep) in
         let numbered : IsOutbox u (λ q. f q ++ own e done.1 q) = numbering-outbox old.sent e f h.sent done.1 ready before in
         let after : List (JournalRow C) = j ++ row ∷ [] in
-        let outbox : IsOutbox u (sent_of table after) = outbox-same u (λ q. f q ++ own e done.1 q) (sent_of table after) (λ q. sym (sent_of-more table j row done accepted q)) numbered in
+        let outbox : IsOutbox u (sent_of service.reactions after) = outbox-same u (λ q. f q ++ own e done.1 q) (sent_of service.reactions after) (λ q. sym (sent_of-more service.reactions j row done accepted q)) numbered in
         let longer : v.journal ≡ after = ap (λ l. l ++ row ∷ []) journal in
-        let set : Bool → Option S → Option S = λ b x. if b then row_for is_none done.0 else x in
+        let set : Bool → Option S → Option S = λ b x. if b then row_for service.is_none done.0 else x in
         let matches : Matches after v = record {
-          legal = legal-more table kind j row h.legal may;
+          legal = legal-more service.reactions service.kind j row h.legal may;
           entities = λ x. ap (λ (c : Name → Option S). set (same_entity e x) (c x)) entity ∙ ap (set (same_entity e x)) (h.entities x)
-              ∙ ap (λ b. set b (row_of is_none (state_of table j x) (part x j))) (same_entity-comm e x) ∙ sym (row_of-more table is_none j row done accepted x);
+              ∙ ap (λ b. set b (row_of service.is_none (state_of service.reactions j x) (part x j))) (same_entity-comm e x) ∙ sym (row_of-more service.reactions service.is_none j row done accepted x);
           outbox = record { count = outbox.count; settled = outbox.settled; rows = outbox.rows };
           handled = λ p. ap (λ (c : Pair → ℕ). c p) handled ∙ prep.handled p;
           held = λ p n some. let W : Messages → Type 0 = λ c. IsSome (c p n) in prep.held p n (subst W held some);
         } in
         let M : List (JournalRow C) → Type 0 = λ l. Matches l v in
-        let at_v : Appends table is_none kind window old row ready.held v = record {
+        let at_v : Appends service old row ready.held v = record {
           takes = record { follows = may; room = room; fits = fits_all; appended = longer };
           settled = settled;
           held = held;
           matches = matches_own v (subst M (sym longer) matches);
         } in
-        let P : Tables S C → Type 0 = λ t. Appends table is_none kind window old row ready.held t in
+        let P : Tables S C → Type 0 = λ t. Appends service old row ready.held t in
         subst P (sym split) at_v

@@ -1,12 +1,14 @@
 -- When the tables of a service are those of its journal.
-use Rattle.std.specs.Prelude.{◌≡◌, ℕ, ◌+◌, ◌≤◌, ◌<◌, nat_lt, List, length, Bool, Option, None, IsSome, if◌then◌else◌}
+use Rattle.std.specs.Prelude.{◌≡◌, ℕ, ◌+◌, ◌≤◌, ◌<◌, nat_lt, List, length, Option, None, IsSome, if◌then◌else◌}
+use Rattle.base.specs.declared.limits.TheConstants.{HELD_WINDOW, MAX_NUMBER}
 use Rattle.base.specs.Entity.{Name}
 use Rattle.base.specs.declared.entity.Kind.{Kind}
 use Rattle.base.specs.declared.pair.Pair.{Pair}
 use Rattle.envelope.specs.declared.message.Message.{Message}
+use Rattle.activities.specs.Service.{Service}
 use Rattle.activities.specs.Numbered.{nth}
 use Rattle.activities.specs.declared.input.JournalRow.{JournalRow}
-use Rattle.activities.specs.Reaction.{Table}
+use Rattle.activities.specs.Reaction.{Reactions}
 use Rattle.activities.specs.Journal.{IsLegal, part, state_of, sent_of, handled_of, row_of}
 use Rattle.keep.specs.Tables.{Tables, Messages}
 
@@ -15,21 +17,29 @@ abbrev pub above : ℕ → List Message → ℕ → Option Message
 above mark messages n = if nat_lt mark n then nth messages n else None
 
 -- what a journal sends and isn't settled by these marks, by pair and number
-abbrev pub unsettled_of : {S C : Type 0} → Table S C → List (JournalRow C) → (Pair → ℕ) → Messages
-unsettled_of table journal settled pair n = above (settled pair) (sent_of table journal pair) n
+abbrev pub unsettled_of : {S C : Type 0} → Reactions S C → List (JournalRow C) → (Pair → ℕ) → Messages
+unsettled_of reactions journal settled pair n = above (settled pair) (sent_of reactions journal pair) n
+
+-- A letter of this pair and number may be held where so many of the pair were handled: it came too early, by at most the window, and it
+-- is for an entity of this kind.
+pub record MayBeHeld (kind : Kind) (handled : ℕ) (p : Pair) (n : ℕ) : Type 0 where
+  pub mine : p.to.kind ≡ kind
+  pub early : handled < n
+  pub near : n ≤ handled + HELD_WINDOW
+  pub within : n ≤ MAX_NUMBER
 
 -- The tables are those of their journal, which is legal. An entity has a row exactly where it took something in and its state isn't none,
 -- and the row is its state. Of a pair the last number sent is kept; a settled mark that isn't above it, and the messages sent but those up
--- to the mark; how many letters were handled; and held letters, with numbers from the one after that to `window` above it.
-pub record TablesMatchJournal {S C : Type 0} (table : Table S C) (is_none : S → Bool) (kind : Kind) (window : ℕ) (t : Tables S C) : Type 0 where
-  pub legal : IsLegal table kind t.journal
-  pub entities : (e : Name) → t.entity e ≡ row_of is_none (state_of table t.journal e) (part e t.journal)
-  pub sent : (p : Pair) → t.sent p ≡ length (sent_of table t.journal p)
-  pub settled : (p : Pair) → t.settled p ≤ length (sent_of table t.journal p)
-  pub unsettled : (p : Pair) (n : ℕ) → t.unsettled p n ≡ unsettled_of table t.journal t.settled p n
+-- to the mark; how many letters were handled; and letters that may be held.
+pub record TablesMatchJournal {S C : Type 0} (service : Service S C) (t : Tables S C) : Type 0 where
+  pub legal : IsLegal service.reactions service.kind t.journal
+  pub entities : (e : Name) → t.entity e ≡ row_of service.is_none (state_of service.reactions t.journal e) (part e t.journal)
+  pub sent : (p : Pair) → t.sent p ≡ length (sent_of service.reactions t.journal p)
+  pub settled : (p : Pair) → t.settled p ≤ length (sent_of service.reactions t.journal p)
+  pub unsettled : (p : Pair) (n : ℕ) → t.unsettled p n ≡ unsettled_of service.reactions t.journal t.settled p n
   pub handled : (p : Pair) → t.handled p ≡ handled_of t.journal p
-  pub held : (p : Pair) (n : ℕ) → IsSome (t.held p n) → (handled_of t.journal p < n) × (n ≤ handled_of t.journal p + window)
+  pub held : (p : Pair) (n : ℕ) → IsSome (t.held p n) → MayBeHeld service.kind (handled_of t.journal p) p n
 
 -- all that a stop may leave matches its journal
-abbrev pub AllMatch : {S C : Type 0} → Table S C → (S → Bool) → Kind → ℕ → (Tables S C → Type 0) → Type 0
-AllMatch {S} {C} table is_none kind window may_leave = (t : Tables S C) → may_leave t → TablesMatchJournal table is_none kind window t
+abbrev pub AllMatch : {S C : Type 0} → Service S C → (Tables S C → Type 0) → Type 0
+AllMatch {S} {C} service may_leave = (t : Tables S C) → may_leave t → TablesMatchJournal service t

@@ -1,15 +1,17 @@
 //! One service over its store.
 
-ghost use Rattle.std.specs.Prelude.{◌≡◌, ◌≤◌, ◌<◌};
+ghost use Rattle.std.specs.Prelude.{◌≡◌, ◌<◌};
 ghost use Rattle.activities.specs.declared.input.Input.TheVariants.{FromSeat};
-ghost use Rattle.endpoint.specs.Matches.{AllMatch};
-ghost use Rattle.endpoint.specs.Calls.{IsCommitCall, IsReopenCall, IsReopened, IsCommit};
+ghost use Rattle.keep.specs.Law.{Reopens};
+ghost use Rattle.endpoint.specs.Faults.{end_of};
+ghost use Rattle.endpoint.specs.Calls.{Commits, ComesBy, Finds, StillMatches};
+ghost use Rattle.endpoint.specs.Deeds.{CommitMay};
 
 use crate::handling::handle;
 use crate::{Committed, EndFault};
 use activities::{Handler, Input};
 use base::Entity;
-use base::limits::{HELD_WINDOW, SEATS};
+use base::limits::SEATS;
 use keep::Keep;
 use std::alloc::Global;
 use std::marker::{Model, PhantomData};
@@ -52,7 +54,7 @@ where
 
     /// Whether calls may be made: else each answers `Unusable`, until a `reopen` is Ok.
     pub fn usable(&self) -> bool
-        ensures { result ≡ K.is_usable self.now }
+        ensures { result ≡ (K.seen self.now).usable }
     {
         self.keep.usable()
     }
@@ -60,7 +62,7 @@ where
     /// Takes in a command of a seat, 0 to 15, in one transaction: the journal has one more row, the entity's row is its state then, and
     /// what it sends stands in the outbox, with the next numbers of each pair.
     ///
-    /// Calls of the store: `length`, `entity`, one `sent` for each message that is sent, and one `apply`.
+    /// Calls of the store: `entity`, one `sent` for each message that is sent, and one `apply`.
     ///
     /// # Errors
     /// In this order: `Unusable`; `NotMine` where the entity is of another service; `NumberLimit` where the journal has 2^40 rows;
@@ -75,20 +77,14 @@ where
         command: H::Command,
     ) -> Result<Committed, EndFault>
         requires { seat < SEATS }
-        ensures call { IsCommitCall K.is_usable K.failures self.old self.new H.KIND entity.now result }
-        ensures doubt { K.doubt self.old ≤ K.doubt self.new }
-        ensures answer { K.doubt self.new ≡ 0
-            → AllMatch H.table H.is_none_state H.KIND HELD_WINDOW (K.may_leave self.old)
-            → IsCommit H.table H.is_none_state H.KIND HELD_WINDOW (K.tables self.old) (record { entity = entity.now; input = FromSeat seat command })
-            (K.tables self.old).held (K.tables self.new) (K.may_leave self.new) result }
-        ensures matches { K.doubt self.new ≡ 0
-            → AllMatch H.table H.is_none_state H.KIND HELD_WINDOW (K.may_leave self.old)
-            → AllMatch H.table H.is_none_state H.KIND HELD_WINDOW (K.may_leave self.new) }
+        ensures commit { Commits K.seen self.old self.new H.service (record { entity = entity.now; input = FromSeat seat command }) result }
+        ensures comes { ComesBy K.seen self.old self.new H.service (CommitMay H.service (record { entity = entity.now; input = FromSeat seat command }) result) }
+        ensures matches { StillMatches K.seen self.old self.new H.service }
     {
         if !self.keep.usable() {
             return Err(EndFault::Unusable);
         }
-        if entity.kind() != H::KIND {
+        if entity.kind() != H::kind() {
             return Err(EndFault::NotMine);
         }
         let changes = Vec::new(alloc);
@@ -107,14 +103,12 @@ where
     /// # Errors
     /// `StoreFailed`, which is counted, or `Memory`. After either the endpoint isn't usable, a stop leaves nothing that it couldn't
     /// leave before, and `reopen` may be called again.
-    pub fn reopen(&mut self) -> Result<(), EndFault>
-        ensures call { IsReopenCall K.is_usable K.failures self.old self.new result }
-        ensures doubt { K.doubt self.old ≤ K.doubt self.new }
-        ensures reopened { K.doubt self.new ≡ 0 → IsReopened (K.may_leave self.old) (K.tables self.new) (K.may_leave self.new) result }
-        ensures matches { K.doubt self.new ≡ 0
-            → AllMatch H.table H.is_none_state H.KIND HELD_WINDOW (K.may_leave self.old)
-            → AllMatch H.table H.is_none_state H.KIND HELD_WINDOW (K.may_leave self.new) }
+    #[tactic(auto, using(crate::proofs::Parts::reopen_told))]
+    pub fn reopen(&mut self, alloc: Global) -> Result<(), EndFault>
+        ensures reopens { Reopens K.seen self.old self.new (end_of result) }
+        ensures finds { Finds K.seen self.old self.new }
+        ensures matches { StillMatches K.seen self.old self.new H.service }
     {
-        Ok(self.keep.reopen()?)
+        Ok(self.keep.reopen(alloc)?)
     }
 }

@@ -1,15 +1,15 @@
 //! The reads of an endpoint: each is one read of its store.
 
-ghost use Rattle.std.specs.Prelude.{◌≡◌, ◌≤◌, ◌-◌, length, take, drop, IfOk};
-ghost use Rattle.activities.specs.Journal.{sent_of, handled_of};
+ghost use Rattle.std.specs.Prelude.{◌≡◌, ◌-◌, length, take, drop};
+ghost use Rattle.activities.specs.Journal.{part, state_of, sent_of, handled_of, row_of};
+ghost use Rattle.keep.specs.Law.{Reads};
 ghost use Rattle.keep.specs.Listing.{AreFirst};
-ghost use Rattle.endpoint.specs.Matches.{AllMatch, unsettled_of};
-ghost use Rattle.endpoint.specs.Answers.{ViewAt, Gives};
-ghost use Rattle.endpoint.specs.Calls.{IsReadCall, IsViewCall, AreKept};
+ghost use Rattle.endpoint.specs.Matches.{unsettled_of};
+ghost use Rattle.endpoint.specs.Faults.{end_of};
+ghost use Rattle.endpoint.specs.Calls.{Views, Answers, TellsOfEach, Stays, Counts};
 
 use crate::{EndFault, Endpoint};
 use activities::{Handler, JournalRow};
-use base::limits::HELD_WINDOW;
 use base::{Entity, Pair};
 use envelope::Letter;
 use keep::{Keep, Place};
@@ -24,19 +24,16 @@ where
     ///
     /// # Errors
     /// In this order: `Unusable`; `NotMine` where the entity is of another service; `StoreFailed` or `Memory`.
+    #[tactic(auto, using(crate::proofs::Parts::view_told, crate::proofs::Links::read_stays))]
     pub fn view(&mut self, alloc: Global, entity: &Entity) -> Result<Option<H::State>, EndFault>
-        ensures call { IsViewCall K.is_usable K.failures self.old self.new H.KIND entity.now result }
-        ensures doubt { K.doubt self.old ≤ K.doubt self.new }
-        ensures kept { K.doubt self.new ≡ 0 → AreKept (K.tables self.old) (K.tables self.new) (K.may_leave self.new) result }
-        ensures row { K.doubt self.new ≡ 0 → IfOk result (λ row. row ≡ (K.tables self.old).entity entity.now) }
-        ensures answer { K.doubt self.new ≡ 0
-            → AllMatch H.table H.is_none_state H.KIND HELD_WINDOW (K.may_leave self.old)
-            → ViewAt H.table H.is_none_state H.KIND (K.tables self.old).journal entity.now result }
+        ensures view { Views K.seen self.old self.new H.service.kind entity.now result }
+        ensures stays { Stays K.seen self.old self.new }
+        ensures answer { Answers K.seen self.old self.new H.service (λ journal row. row ≡ row_of H.service.is_none (state_of H.service.reactions journal entity.now) (part entity.now journal)) result }
     {
         if !self.keep.usable() {
             return Err(EndFault::Unusable);
         }
-        if entity.kind() != H::KIND {
+        if entity.kind() != H::kind() {
             return Err(EndFault::NotMine);
         }
         Ok(self.keep.entity(alloc, entity)?)
@@ -46,14 +43,11 @@ where
     ///
     /// # Errors
     /// As every read: `Unusable`; else `StoreFailed` or `Memory`.
+    #[tactic(auto, using(crate::proofs::Parts::read_told, crate::proofs::Links::read_stays))]
     pub fn sent(&mut self, alloc: Global, pair: &Pair) -> Result<u64, EndFault>
-        ensures call { IsReadCall K.is_usable K.failures self.old self.new result }
-        ensures doubt { K.doubt self.old ≤ K.doubt self.new }
-        ensures kept { K.doubt self.new ≡ 0 → AreKept (K.tables self.old) (K.tables self.new) (K.may_leave self.new) result }
-        ensures row { K.doubt self.new ≡ 0 → IfOk result (λ n. n ≡ (K.tables self.old).sent pair.now) }
-        ensures answer { K.doubt self.new ≡ 0
-            → AllMatch H.table H.is_none_state H.KIND HELD_WINDOW (K.may_leave self.old)
-            → Gives (λ n. n ≡ length (sent_of H.table (K.tables self.old).journal pair.now)) result }
+        ensures read { Reads K.seen self.old self.new (λ t n. n ≡ t.sent pair.now) (end_of result) }
+        ensures stays { Stays K.seen self.old self.new }
+        ensures answer { Answers K.seen self.old self.new H.service (λ journal n. n ≡ length (sent_of H.service.reactions journal pair.now)) result }
     {
         if !self.keep.usable() {
             return Err(EndFault::Unusable);
@@ -62,11 +56,10 @@ where
     }
 
     /// The settled mark of a pair: its receiver has handled the letters up to this number. One read of the store.
+    #[tactic(auto, using(crate::proofs::Parts::read_told, crate::proofs::Links::read_stays))]
     pub fn settled(&mut self, alloc: Global, pair: &Pair) -> Result<u64, EndFault>
-        ensures call { IsReadCall K.is_usable K.failures self.old self.new result }
-        ensures doubt { K.doubt self.old ≤ K.doubt self.new }
-        ensures kept { K.doubt self.new ≡ 0 → AreKept (K.tables self.old) (K.tables self.new) (K.may_leave self.new) result }
-        ensures answer { K.doubt self.new ≡ 0 → Gives (λ n. n ≡ (K.tables self.old).settled pair.now) result }
+        ensures read { Reads K.seen self.old self.new (λ t n. n ≡ t.settled pair.now) (end_of result) }
+        ensures stays { Stays K.seen self.old self.new }
     {
         if !self.keep.usable() {
             return Err(EndFault::Unusable);
@@ -75,14 +68,12 @@ where
     }
 
     /// How many letters of a pair were handled here: the number of the last. One read of the store.
+    #[tactic(auto, using(crate::proofs::Parts::read_told, crate::proofs::Links::read_stays))]
     pub fn handled(&mut self, alloc: Global, pair: &Pair) -> Result<u64, EndFault>
-        ensures call { IsReadCall K.is_usable K.failures self.old self.new result }
-        ensures doubt { K.doubt self.old ≤ K.doubt self.new }
-        ensures kept { K.doubt self.new ≡ 0 → AreKept (K.tables self.old) (K.tables self.new) (K.may_leave self.new) result }
-        ensures row { K.doubt self.new ≡ 0 → IfOk result (λ n. n ≡ (K.tables self.old).handled pair.now) }
-        ensures answer { K.doubt self.new ≡ 0
-            → AllMatch H.table H.is_none_state H.KIND HELD_WINDOW (K.may_leave self.old)
-            → Gives (λ n. n ≡ handled_of (K.tables self.old).journal pair.now) result }
+        ensures read { Reads K.seen self.old self.new (λ t n. n ≡ t.handled pair.now) (end_of result) }
+        ensures stays { Stays K.seen self.old self.new }
+        ensures answer { Answers K.seen self.old self.new H.service (λ journal n. n ≡ handled_of journal pair.now) result }
+        ensures each { TellsOfEach K.seen self.old self.new H.service (λ t n. n ≡ handled_of t.journal pair.now) result }
     {
         if !self.keep.usable() {
             return Err(EndFault::Unusable);
@@ -92,19 +83,17 @@ where
 
     /// The first `limit` letters after a place that were sent and aren't settled, or all of them where they are fewer: by pair, and
     /// then by number. One read of the store.
+    #[tactic(auto, using(crate::proofs::Parts::read_told, crate::proofs::Links::read_stays))]
     pub fn unsettled(
         &mut self,
         alloc: Global,
         after: &Option<Place>,
         limit: usize,
     ) -> Result<Vec<Letter>, EndFault>
-        ensures call { IsReadCall K.is_usable K.failures self.old self.new result }
-        ensures doubt { K.doubt self.old ≤ K.doubt self.new }
-        ensures kept { K.doubt self.new ≡ 0 → AreKept (K.tables self.old) (K.tables self.new) (K.may_leave self.new) result }
-        ensures row { K.doubt self.new ≡ 0 → IfOk result (λ letters. AreFirst (K.tables self.old).unsettled after.now limit letters.items) }
-        ensures answer { K.doubt self.new ≡ 0
-            → AllMatch H.table H.is_none_state H.KIND HELD_WINDOW (K.may_leave self.old)
-            → Gives (λ letters. AreFirst (unsettled_of H.table (K.tables self.old).journal (K.tables self.old).settled) after.now limit letters.items) result }
+        ensures read { Reads K.seen self.old self.new (λ t letters. AreFirst t.unsettled after.now limit letters.items) (end_of result) }
+        ensures stays { Stays K.seen self.old self.new }
+        ensures answer { Answers K.seen self.old self.new H.service (λ journal letters. AreFirst (unsettled_of H.service.reactions journal (K.seen self.old).tables.settled) after.now limit letters.items) result }
+        ensures each { TellsOfEach K.seen self.old self.new H.service (λ t letters. AreFirst (unsettled_of H.service.reactions t.journal t.settled) after.now limit letters.items) result }
     {
         if !self.keep.usable() {
             return Err(EndFault::Unusable);
@@ -114,16 +103,15 @@ where
 
     /// The first `limit` rows of the journal from a position on, or all of them where they are fewer. Positions begin at 1; 0 is read
     /// as 1. One read of the store.
+    #[tactic(auto, using(crate::proofs::Parts::read_told, crate::proofs::Links::read_stays))]
     pub fn journal(
         &mut self,
         alloc: Global,
         from: u64,
         limit: usize,
     ) -> Result<Vec<JournalRow<H::Command>>, EndFault>
-        ensures call { IsReadCall K.is_usable K.failures self.old self.new result }
-        ensures doubt { K.doubt self.old ≤ K.doubt self.new }
-        ensures kept { K.doubt self.new ≡ 0 → AreKept (K.tables self.old) (K.tables self.new) (K.may_leave self.new) result }
-        ensures answer { K.doubt self.new ≡ 0 → Gives (λ rows. rows.items ≡ take limit (drop (from - 1) (K.tables self.old).journal)) result }
+        ensures read { Reads K.seen self.old self.new (λ t rows. rows.items ≡ take limit (drop (from - 1) t.journal)) (end_of result) }
+        ensures stays { Stays K.seen self.old self.new }
     {
         if !self.keep.usable() {
             return Err(EndFault::Unusable);
@@ -131,16 +119,16 @@ where
         Ok(self.keep.journal(alloc, from, limit)?)
     }
 
-    /// How many rows the journal has: the position of the last. One read of the store.
-    pub fn length(&mut self, alloc: Global) -> Result<u64, EndFault>
-        ensures call { IsReadCall K.is_usable K.failures self.old self.new result }
-        ensures doubt { K.doubt self.old ≤ K.doubt self.new }
-        ensures kept { K.doubt self.new ≡ 0 → AreKept (K.tables self.old) (K.tables self.new) (K.may_leave self.new) result }
-        ensures answer { K.doubt self.new ≡ 0 → Gives (λ n. n ≡ length (K.tables self.old).journal) result }
+    /// How many rows the journal has: the position of the last. No call of the store.
+    ///
+    /// # Errors
+    /// `Unusable`, and no other.
+    pub fn length(&self) -> Result<u64, EndFault>
+        ensures { Counts K.seen self.now (λ t. length t.journal) result }
     {
         if !self.keep.usable() {
             return Err(EndFault::Unusable);
         }
-        Ok(self.keep.length(alloc)?)
+        Ok(self.keep.length())
     }
 }

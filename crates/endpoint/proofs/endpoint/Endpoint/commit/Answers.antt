@@ -1,42 +1,45 @@
 -- the first changes of a command are none
 use Rattle.std.proofs.Common.{◌≡◌, arith, sym, subst}
-use Rattle.base.specs.declared.limits.TheConstants.{HELD_WINDOW}
 use Rattle.keep.specs.Tables.{changed}
 use Rattle.activities.proofs.Journals.{command_row}
-use Rattle.endpoint.specs.Matches.{AllMatch}
-use Rattle.endpoint.specs.Calls.{IsCommit, IsCommitCall}
+use Rattle.endpoint.specs.Calls.{IsCommit, Commits}
 use Rattle.endpoint.proofs.Commands.{command-prepares}
 use Rattle.endpoint.proofs.Kept.{commit-matches}
+use Rattle.endpoint.proofs.Links.{commit_comes}
 use Rattle.endpoint.proofs.endpoint.Endpoint.commit.Goals as goal
 
-pub returns-clause-answer : goal.returns-clause-answer
-returns-clause-answer g c = λ clean.
-    let table = g.H.Handler.table in
-    let is_none = g.H.Handler.is_none_state in
-    let kind = g.H.Handler.KIND in
+pub returns-clause-commit : goal.returns-clause-commit
+returns-clause-commit g c =
+    let seen = g.K.Keep.seen in
     let keep = c.self.inside.keep in
     let row = command_row c.args.entity.now c.args.seat c.args.command in
-    let clean0 : g.K.Keep.doubt keep ≡ 0 = omega (arith, clean, c.handle.ensures.doubt) in
-    subst (λ k. AllMatch table is_none kind HELD_WINDOW (g.K.Keep.may_leave k)
-    → IsCommit table is_none kind HELD_WINDOW (g.K.Keep.tables k) row (g.K.Keep.tables k).held (g.K.Keep.tables c.handle.new.keep) (g.K.Keep.may_leave c.handle.new.keep) c.handle.result)
-    c.self.view_is
-    (λ good.
-    let matches = good (g.K.Keep.tables keep) (g.met.K.Keep.stays keep clean0 (sym c.if-not-usable.ensures)) in
-    subst (λ cs. IsCommit table is_none kind HELD_WINDOW (g.K.Keep.tables keep) row (changed cs (g.K.Keep.tables keep)).held (g.K.Keep.tables c.handle.new.keep) (g.K.Keep.may_leave c.handle.new.keep) c.handle.result)
-    c.new-changes.ensures.items
-    (c.handle.ensures.answer clean good (command-prepares table is_none kind HELD_WINDOW (g.K.Keep.tables keep) c.args.entity.now c.args.seat c.args.command c.new-changes.result.items matches c.requires c.new-changes.ensures.items)))
+    let h = c.handle.ensures in
+    let above = h.doubt in
+    subst (λ k. Commits seen k c.handle.new.keep g.H.Handler.service row c.handle.result) c.self.view_is (record {
+      call = h.call;
+      doubt = h.doubt;
+      clean = λ clean good.
+          let clean0 : (seen keep).doubt ≡ 0 = omega (arith, clean, above) in
+          let matches = good (seen keep).tables ((g.met.K.Keep.sound keep).stays clean0 (sym c.if-not-usable.ensures)) in
+          subst (λ cs. IsCommit g.H.Handler.service (seen keep).tables row (changed cs (seen keep).tables).held (seen c.handle.new.keep).tables (seen c.handle.new.keep).may_leave c.handle.result)
+          c.new-changes.ensures.items
+          (h.clean clean good (command-prepares g.H.Handler.service (seen keep).tables c.args.entity.now c.args.seat c.args.command c.new-changes.result.items matches c.requires c.new-changes.ensures.items));
+    })
+
+pub returns-clause-comes : goal.returns-clause-comes
+returns-clause-comes g c = λ clean good.
+    let seen = g.K.Keep.seen in
+    let row = command_row c.args.entity.now c.args.seat c.args.command in
+    let told : Commits seen c.args.self.now c.handle.new.keep g.H.Handler.service row c.handle.result = returns-clause-commit g c in
+    let above = told.doubt in
+    commit_comes seen c.args.self.now c.handle.new.keep (g.met.K.Keep.sound c.args.self.now) (g.met.K.Keep.sound c.handle.new.keep) g.H.Handler.service (omega (arith, clean, above)) clean
+    c.args.entity.now c.args.seat c.args.command c.handle.result told.call (told.clean clean good)
 
 pub returns-clause-matches : goal.returns-clause-matches
 returns-clause-matches g c = λ clean good.
-    let table = g.H.Handler.table in
-    let is_none = g.H.Handler.is_none_state in
-    let kind = g.H.Handler.KIND in
-    let old = c.args.self.now in
-    let new = c.handle.new.keep in
+    let seen = g.K.Keep.seen in
     let row = command_row c.args.entity.now c.args.seat c.args.command in
-    let inside : g.K.Keep.doubt c.self.inside.keep ≡ 0 = omega (arith, clean, c.handle.ensures.doubt) in
-    let clean0 : g.K.Keep.doubt old ≡ 0 = subst (λ k. g.K.Keep.doubt k ≡ 0) c.self.view_is inside in
-    commit-matches g.K.Keep.is_usable g.K.Keep.failures g.K.Keep.tables g.K.Keep.may_leave table is_none kind HELD_WINDOW old new c.args.entity.now row (g.K.Keep.tables old).held
-    (λ up. g.met.K.Keep.stays old clean0 up) (λ up t l. g.met.K.Keep.only_now new t clean up l) good c.handle.result
-    (subst (λ k. IsCommitCall g.K.Keep.is_usable g.K.Keep.failures k new kind c.args.entity.now c.handle.result) c.self.view_is c.handle.ensures.call)
-    (returns-clause-answer g c clean good)
+    let told : Commits seen c.args.self.now c.handle.new.keep g.H.Handler.service row c.handle.result = returns-clause-commit g c in
+    let above = told.doubt in
+    commit-matches seen g.H.Handler.service c.args.self.now c.handle.new.keep row (seen c.args.self.now).tables.held
+    (g.met.K.Keep.sound c.args.self.now) (g.met.K.Keep.sound c.handle.new.keep) (omega (arith, clean, above)) clean good c.handle.result told.call (told.clean clean good)

@@ -1,4 +1,0 @@
-mod attempts;
-mod failing;
-mod operation;
-mod reads;
