@@ -4,27 +4,21 @@ use Rattle.std.specs.Prelude.{codes, Some, None, Ok, Err}
 use Rattle.std.specs.Fmt.{digits}
 use Rattle.std.specs.Str.{is_utf8, chars}
 use Rattle.base.specs.Entity.{order_of}
-use Rattle.base.specs.Order.{same_entity, same_pair}
-use Rattle.base.specs.declared.pair.Pair.{Pair}
+use Rattle.base.specs.Order.{same_entity}
 use Rattle.activities.specs.declared.commands.OrderCommand.TheVariants.{CancelOrder}
 use Rattle.activities.specs.declared.handler.Refusal.TheVariants.{NotOpen}
 use Rattle.clap.specs.Faults.{walk_fault, defaults_fault}
-use Rattle.clap.specs.Words.{fault_of}
+use Rattle.clap.specs.Words.{Kinds, fault_of}
 use Rattle.clap.specs.declared.error.kind.ErrorKind.TheVariants.{DisplayHelp, UnknownArgument}
 use Rattle.endpoint.specs.declared.fault.EndFault.TheVariants.{Business}
-use Rattle.endpoint.proofs.CallExamples.{after, before_matches, taken_in}
-use Rattle.endpoint.proofs.Examples.{o1, bolts, placing, from_order}
-use Rattle.keep.specs.declared.change.Change.TheVariants.{Journal, Settled}
 use Rattle.schedules.specs.declared.event.Event.{Event}
 use Rattle.schedules.specs.declared.event.Event.TheVariants.{Order}
-use Rattle.schedules.specs.declared.fault.ScheduleFault.TheVariants as read
 use Rattle.schedules.specs.Events.{events_of}
 use Rattle.programs.specs.declared.fault.RunFault.TheVariants.{BadEvent, Memory, Device}
 use Rattle.programs.specs.declared.running.Outcome.TheVariants.{Refused}
-use Rattle.programs.specs.Ends.{IsCutRun, IsRunOf, IsUnread, IsRunFrom, IsEndOf, IsUntold, fault_line}
-use Rattle.programs.specs.RunFaults.{run_fault_of}
-use Rattle.programs.specs.Runs.{Prints, IsSound, tables_of}
-use Rattle.programs.specs.Usage.{command_line, IsStatusOf, IsUsage, IsCutUsage, IsWordAnswer, IsAnswered}
+use Rattle.programs.specs.Ends.{Writers, IsCutRun, IsRunOf, IsUnread, IsRunFrom, IsEndOf, IsUntold, fault_line}
+use Rattle.programs.specs.Runs.{Prints}
+use Rattle.programs.specs.Usage.{command_line, Streams, IsStatusOf, IsUsage, IsCutUsage, IsWordAnswer, IsAnswered}
 use Rattle.programs.specs.Written.{AppendsPart}
 
 -- a schedule of one line, which cancels an order that wasn't placed
@@ -59,13 +53,10 @@ cancel_prints : Prints (cancel ∷ []) refused
 unfolding same_entity digits
 cancel_prints = ([], (Refused (Business NotOpen), [], [], (refl, omega arith, refl, refl), refl, (refl, refl)))
 
--- a schedule's fault is the run's: the number of the line, or memory
-faults_of_schedules_are_told : (run_fault_of (read.BadEvent 2) ≡ BadEvent 2) × (run_fault_of read.Memory ≡ Memory)
-faults_of_schedules_are_told = (refl, refl)
-
 -- a writer that failed holds a beginning of what was to be written, which may be nothing or all of it, but not octets from its middle
 a_beginning_is_written : (AppendsPart (Some []) (Some (codes "refu")) refused) × (AppendsPart (Some []) (Some []) refused)
-    × (AppendsPart (Some (codes "a\n")) (Some (codes "a\nrefused 61 71\n")) refused) × (AppendsPart (Some []) (Some (codes "used")) refused → ⊥)
+    × (AppendsPart (Some (codes "a\n")) (Some (codes "a\nrefused 61 71\n")) refused)
+    × (AppendsPart (Some []) (Some (codes "used")) refused → ⊥)
 a_beginning_is_written = (
   record { part = codes "refu"; rest = codes "sed 61 71\n"; whole = refl; appended = refl },
   record { part = []; rest = refused; whole = refl; appended = refl },
@@ -87,9 +78,14 @@ a_line_is_run = (
 )
 
 -- where the second line is faulty the first isn't run either
-a_faulty_line_runs_nothing : (IsRunOf faulty (Some []) (Some []) (Err (BadEvent 2))) × (IsRunOf faulty (Some []) (Some refused) (Err (BadEvent 2)) → ⊥)
+a_faulty_line_runs_nothing : (IsRunOf faulty (Some []) (Some []) (Err (BadEvent 2)))
+    × (IsRunOf faulty (Some []) (Some refused) (Err (BadEvent 2)) → ⊥)
     × (IsRunOf faulty (Some []) (Some refused) (Ok tt) → ⊥)
-a_faulty_line_runs_nothing = ((second_line_is_faulty, refl), λ h. let more = h.1 in absurd (cc), λ h. let events = sym second_line_is_faulty ∙ h.2 in absurd (cc))
+a_faulty_line_runs_nothing = (
+  (second_line_is_faulty, refl),
+  λ h. let more = h.1 in absurd (cc),
+  λ h. let events = sym second_line_is_faulty ∙ h.2 in absurd (cc),
+)
 
 -- where nothing was read, for want of memory or since the reader failed, nothing is written and no line is at fault
 nothing_is_read : (IsUnread (Some refused) (Some refused) (Err Memory)) × (IsUnread (Some refused) (Some refused) (Err Device))
@@ -113,37 +109,53 @@ what_is_left_is_run = (
     not_faulty (inl (text, is, told)) = let answer = sym line_is_read ∙ ap events_of (sym is) ∙ told.0 in absurd (cc)
     not_faulty (inr h) = h
 
+-- what the writers hold
+abbrev hold : List ℕ → List ℕ → Writers
+hold out err = record { out = Some out; err = Some err }
+
 -- status 0: the refusal stands on `out` and nothing on `err`; status 1: the faulty line is told on `err`, and nothing stands on `out`
-ends_have_a_status : (IsEndOf (Some cancels) (Some []) (Some refused) (Some []) (Some []) 0)
-    × (IsEndOf (Some faulty) (Some []) (Some []) (Some []) (Some (codes "line 2: bad event\n")) 1)
-    × (IsEndOf (Some cancels) (Some []) (Some (codes "refu")) (Some []) (Some (codes "fault 2 Device\n")) 1)
-    × (IsEndOf (Some cancels) (Some []) (Some refused) (Some []) (Some []) 1 → ⊥)
-    × (IsEndOf (Some cancels) (Some []) (Some refused) (Some []) (Some []) 2 → ⊥)
+ends_have_a_status : (IsEndOf (Some cancels) (hold [] []) (hold refused []) 0)
+    × (IsEndOf (Some faulty) (hold [] []) (hold [] (codes "line 2: bad event\n")) 1)
+    × (IsEndOf (Some cancels) (hold [] []) (hold (codes "refu") (codes "fault 2 Device\n")) 1)
+    × (IsEndOf (Some cancels) (hold [] []) (hold refused []) 1 → ⊥)
+    × (IsEndOf (Some cancels) (hold [] []) (hold refused []) 2 → ⊥)
+    × (IsEndOf (Some cancels) (hold [] []) (hold [] refused) 0 → ⊥)
 ends_have_a_status = (
   inl (refl, refl, what_is_left_is_run.0),
   inr (refl, BadEvent 2, what_is_left_is_run.2, sym fault_is_told),
   inr (refl, Device, inl (cancels, refl, a_line_is_run.2), refl),
   silent,
   λ h. elim h [ inl whole ↦ let status = whole.0 in absurd (cc) | inr fault ↦ let status = fault.0 in absurd (cc) ],
+  λ h. elim h [ inl whole ↦ let kept = whole.1 in absurd (cc) | inr fault ↦ let status = fault.0 in absurd (cc) ],
 )
   where
     nothing : (octet : ℕ) (octets : List ℕ) → [] ≡ octet ∷ octets → ⊥
     nothing octet octets told = absurd (cc)
 
-    silent : IsEndOf (Some cancels) (Some []) (Some refused) (Some []) (Some []) 1 → ⊥
+    silent : IsEndOf (Some cancels) (hold [] []) (hold refused []) 1 → ⊥
     silent (inl whole) = let status = whole.0 in absurd (cc)
     silent (inr (status, BadEvent number, run, told)) = nothing _ _ told
     silent (inr (status, Memory, run, told)) = nothing _ _ told
     silent (inr (status, Device, run, told)) = nothing _ _ told
 
 -- `err` failed while the faulty line was told: it holds a beginning of that, and the status is 1 as well
-an_end_is_told_in_part : (IsUntold (Some faulty) (Some []) (Some []) (Some []) (Some (codes "line")))
-    × (IsStatusOf (Some faulty) (Some []) (Some []) (Some []) (Some (codes "line")) 1)
-    × (IsStatusOf (Some cancels) (Some []) (Some refused) (Some []) (Some []) 0)
-an_end_is_told_in_part = (untold, inr (refl, untold), inl (ends_have_a_status.0))
+an_end_is_told_in_part : (IsUntold (Some faulty) (hold [] []) (hold [] (codes "line")))
+    × (IsStatusOf (Some faulty) (hold [] []) (hold [] (codes "line")) 1)
+    × (IsStatusOf (Some cancels) (hold [] []) (hold refused []) 0)
+    × (IsStatusOf (Some faulty) (hold [] []) (hold [] (codes "line")) 2 → ⊥)
+an_end_is_told_in_part = (untold, inr (refl, untold), inl (ends_have_a_status.0), no_usage)
   where
-    untold : IsUntold (Some faulty) (Some []) (Some []) (Some []) (Some (codes "line"))
-    untold = (BadEvent 2, what_is_left_is_run.2, record { part = codes "line"; rest = codes " 2: bad event\n"; whole = fault_is_told; appended = refl })
+    untold : IsUntold (Some faulty) (hold [] []) (hold [] (codes "line"))
+    untold = (
+      BadEvent 2,
+      what_is_left_is_run.2,
+      record { part = codes "line"; rest = codes " 2: bad event\n"; whole = fault_is_told; appended = refl },
+    )
+
+    no_usage : IsStatusOf (Some faulty) (hold [] []) (hold [] (codes "line")) 2 → ⊥
+    no_usage (inl (inl whole)) = let status = whole.0 in absurd (cc)
+    no_usage (inl (inr fault)) = let status = fault.0 in absurd (cc)
+    no_usage (inr part) = let status = part.0 in absurd (cc)
 
 -- ---- the words of the command line
 
@@ -155,10 +167,10 @@ unfolding walk_fault defaults_fault
 words_have_faults = (refl, refl, refl)
 
 -- help has status 0, and `err` is as it was; a fault of usage has status 2, and `out` is as it was
-help_is_told : (IsUsage DisplayHelp (Some []) (Some (codes "Runs\n")) (Some []) (Some []) 0)
-    × (IsUsage UnknownArgument (Some []) (Some []) (Some []) (Some (codes "error\n")) 2)
-    × (IsUsage UnknownArgument (Some []) (Some []) (Some []) (Some (codes "error\n")) 0 → ⊥)
-    × (IsUsage DisplayHelp (Some []) (Some (codes "Runs\n")) (Some []) (Some []) 2 → ⊥)
+help_is_told : (IsUsage DisplayHelp (hold [] []) (hold (codes "Runs\n") []) 0)
+    × (IsUsage UnknownArgument (hold [] []) (hold [] (codes "error\n")) 2)
+    × (IsUsage UnknownArgument (hold [] []) (hold [] (codes "error\n")) 0 → ⊥)
+    × (IsUsage DisplayHelp (hold [] []) (hold (codes "Runs\n") []) 2 → ⊥)
 help_is_told = (
   inl (refl, refl, refl),
   inr (other, refl, refl),
@@ -170,17 +182,21 @@ help_is_told = (
     other e = absurd (cc)
 
 -- the stream failed on which help or the fault was to be told; the other is as it was
-help_is_cut : (IsCutUsage DisplayHelp (Some []) (Some (codes "Ru")) (Some []) (Some []))
-    × (IsCutUsage UnknownArgument (Some []) (Some []) (Some []) (Some (codes "err")))
-    × (IsCutUsage DisplayHelp (Some []) (Some (codes "Ru")) (Some []) (Some (codes "err")) → ⊥)
-help_is_cut = (inl (refl, refl), inr (λ e. absurd (cc), refl), λ h. elim h [ inl help ↦ let kept = help.1 in absurd (cc) | inr fault ↦ fault.0 refl ])
+help_is_cut : (IsCutUsage DisplayHelp (hold [] []) (hold (codes "Ru") []))
+    × (IsCutUsage UnknownArgument (hold [] []) (hold [] (codes "err")))
+    × (IsCutUsage DisplayHelp (hold [] []) (hold (codes "Ru") (codes "err")) → ⊥)
+help_is_cut = (
+  inl (refl, refl),
+  inr (λ e. absurd (cc), refl),
+  λ h. elim h [ inl help ↦ let kept = help.1 in absurd (cc) | inr fault ↦ fault.0 refl ],
+)
 
 -- in place of a run: help; a fault of the words; help in part, with status 1; or that memory was refused over the words, on `err`
-words_are_answered : (IsWordAnswer (DisplayHelp ∷ []) (Some []) (Some (codes "Runs\n")) (Some []) (Some []) 0)
-    × (IsWordAnswer (UnknownArgument ∷ []) (Some []) (Some []) (Some []) (Some (codes "error\n")) 2)
-    × (IsWordAnswer (DisplayHelp ∷ []) (Some []) (Some (codes "Ru")) (Some []) (Some []) 1)
-    × (IsWordAnswer [] (Some []) (Some []) (Some []) (Some (codes "fault 81 Memory\n")) 1)
-    × (IsWordAnswer [] (Some []) (Some []) (Some []) (Some []) 0 → ⊥)
+words_are_answered : (IsWordAnswer (DisplayHelp ∷ []) (hold [] []) (hold (codes "Runs\n") []) 0)
+    × (IsWordAnswer (UnknownArgument ∷ []) (hold [] []) (hold [] (codes "error\n")) 2)
+    × (IsWordAnswer (DisplayHelp ∷ []) (hold [] []) (hold (codes "Ru") []) 1)
+    × (IsWordAnswer [] (hold [] []) (hold [] (codes "fault 81 Memory\n")) 1)
+    × (IsWordAnswer [] (hold [] []) (hold [] []) 0 → ⊥)
 words_are_answered = (
   inl (DisplayHelp, inl refl, inl (help_is_told.0)),
   inl (UnknownArgument, inl refl, inl (help_is_told.1)),
@@ -189,30 +205,21 @@ words_are_answered = (
   λ h. elim h [ inl told ↦ told.1 | inr memory ↦ let status = memory.0 in absurd (cc) ],
 )
 
+-- what is left to be read, and what the writers hold
+abbrev streams : List ℕ → Writers → Streams
+streams input writers = record { input = Some input; writers = writers }
+
+-- the faults of these words behind the program's name
+abbrev faults_of : List (List ℕ) → Kinds
+faults_of words = fault_of command_line (codes "outbox-schedule" ∷ words)
+
 -- with the name alone the schedule is run; with `--help` it isn't, and the input is as it was
-only_a_run_reads : (IsAnswered (fault_of command_line (codes "outbox-schedule" ∷ [])) (Some cancels) (Some []) (Some []) (Some refused) (Some []) (Some []) 0)
-    × (IsAnswered (fault_of command_line (codes "outbox-schedule" ∷ codes "--help" ∷ [])) (Some cancels) (Some cancels) (Some []) (Some (codes "Runs\n")) (Some []) (Some []) 0)
-    × (IsAnswered (fault_of command_line (codes "outbox-schedule" ∷ codes "--help" ∷ [])) (Some cancels) (Some []) (Some []) (Some (codes "Runs\n")) (Some []) (Some []) 0 → ⊥)
+only_a_run_reads : IsAnswered (faults_of []) (streams cancels (hold [] [])) (streams [] (hold refused [])) 0
+    × IsAnswered (faults_of (codes "--help" ∷ [])) (streams cancels (hold [] [])) (streams cancels (hold (codes "Runs\n") [])) 0
+    × (IsAnswered (faults_of (codes "--help" ∷ [])) (streams cancels (hold [] [])) (streams [] (hold (codes "Runs\n") [])) 0 → ⊥)
 unfolding walk_fault defaults_fault
 only_a_run_reads = (
   inl (refl, an_end_is_told_in_part.2),
   inr (refl, words_are_answered.0),
   λ h. elim h [ inl run ↦ let none = run.0 in absurd (cc) | inr told ↦ let kept = told.0 in absurd (cc) ],
 )
-
--- ---- the tables of a run
-
--- tables that no change was made to are sound, and those after an order was placed; a row of the journal without the order's row isn't,
--- and neither is a settled mark
-placed_tables_are_sound : (IsSound (tables_of [])) × (IsSound after) × (IsSound (tables_of (Journal placing ∷ [])) → ⊥)
-    × (IsSound (tables_of (Settled (from_order bolts) 1 ∷ [])) → ⊥)
-unfolding same_entity same_pair
-placed_tables_are_sound = (
-  none_placed,
-  record { matches = taken_in.matches; unsettled = refl; few = omega arith },
-  λ h. let row = h.matches.entities o1 in absurd (cc),
-  λ h. let mark : 1 ≡ 0 = ap (λ (marks : Pair → ℕ). marks (from_order bolts)) h.unsettled in omega arith,
-)
-  where
-    none_placed : IsSound (tables_of [])
-    none_placed = record { matches = before_matches; unsettled = refl; few = omega arith }

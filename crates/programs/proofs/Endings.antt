@@ -7,10 +7,9 @@ use Rattle.schedules.specs.declared.event.Event.{Event}
 use Rattle.schedules.specs.declared.fault.ScheduleFault.{ScheduleFault}
 use Rattle.schedules.specs.declared.fault.ScheduleFault.TheVariants as read
 use Rattle.programs.specs.declared.fault.RunFault.{RunFault}
-use Rattle.programs.specs.declared.fault.RunFault.TheVariants.{BadEvent, Memory, Device}
+use Rattle.programs.specs.declared.fault.RunFault.TheVariants.{Memory, Device}
 use Rattle.programs.specs.RunFaults.{run_fault_of}
 use Rattle.schedules.specs.Faults.{IsRead}
-use Rattle.schedules.specs.Events.{events_of}
 use Rattle.programs.specs.Runs.{Orders, IsRun}
 use Rattle.programs.specs.Ends.{fault_line, IsCutRun, IsRunOf, IsRunFrom}
 use Rattle.programs.specs.Written.{AppendsPart}
@@ -45,6 +44,6 @@ from_nothing input out fault (inr is) = subst (λ (f : RunFault). IsRunFrom inpu
 
 -- the status where nothing was run for want of memory
 pub memory_status : (input out err err' : Option (List ℕ)) (r : Result ℕ Error) (status : ℕ) → MatchResult r (λ s. status ≡ s) (λ _. status ≡ 1)
-    → IfOk r (λ s. (s ≡ 1) × Appends err err' (fault_line Memory)) → OnErr r (AppendsPart err err' (fault_line Memory)) → IsStatusOf input out out err err' status
+    → IfOk r (λ s. (s ≡ 1) × Appends err err' (fault_line Memory)) → OnErr r (AppendsPart err err' (fault_line Memory)) → IsStatusOf input (record { out = out; err = err }) (record { out = out; err = err' }) status
 memory_status input out err err' (Ok s) status is told untold = inl (inr (is ∙ told.0, Memory, inr refl, told.1))
 memory_status input out err err' (Err e) status is told untold = inr (is, (Memory, inr refl, untold))

@@ -4,4 +4,5 @@ pub mod Taken
 pub mod Tellings
 pub mod Endings
 pub mod Examples
+pub mod RunExamples
 pub mod EndExamples

@@ -1,31 +1,29 @@
 -- What the service's answers say of a run.
 use Rattle.std.proofs.Common.{◌≡◌, ◌+◌, ◌-◌, ◌≤◌, ◌<◌, ◌^◌, [], ◌∷◌, length, take, drop, inl, inr, refl, sym, ap, subst, ◌∙◌, arith, Option, Result, Ok, Err}
-use Rattle.std.specs.Prelude.{is_none}
 use Rattle.std.proofs.lemmas.List.{length-append, take_all}
-use Rattle.base.specs.declared.entity.Kind.TheVariants.{Order}
 use Rattle.activities.specs.declared.commands.OrderCommand.{OrderCommand}
 use Rattle.activities.specs.declared.input.JournalRow.{JournalRow}
-use Rattle.activities.specs.Orders.{OrderState, order_table}
+use Rattle.activities.specs.Orders.{OrderState}
 use Rattle.keep.specs.Tables.{Tables}
 use Rattle.endpoint.specs.declared.answer.Committed.{Committed}
 use Rattle.endpoint.specs.declared.fault.EndFault.{EndFault}
 use Rattle.endpoint.specs.declared.fault.EndFault.TheVariants.{NotMine, Business, TooEarly, StoreFailed, Memory, Unusable, NumberLimit, NotSent}
 use Rattle.endpoint.specs.Matches.{TablesMatchJournal, AllMatch}
 use Rattle.endpoint.specs.Calls.{IsCommit, Appends}
-use Rattle.programs.specs.Runs.{Orders, IsSound, IsTaken}
+use Rattle.programs.specs.Runs.{Orders, orders_service, IsSound, IsTaken}
 
 abbrev pub OrderTables : Type 0
 OrderTables = Tables (Option OrderState) OrderCommand
 
 -- all that a stop may leave matches
-pub all_match : (t : OrderTables) → IsSound t → AllMatch order_table is_none Order 64 (λ left. left ≡ t)
-all_match t sound = λ left same. subst (TablesMatchJournal order_table is_none Order 64) (sym same) sound.matches
+pub all_match : (t : OrderTables) → IsSound t → AllMatch orders_service (λ left. left ≡ t)
+all_match t sound = λ left same. subst (TablesMatchJournal orders_service) (sym same) sound.matches
 
 -- tables that stay are sound
 pub sound_stays : (old new : OrderTables) → IsSound old → new ≡ old → IsSound new
 sound_stays old new sound same = subst IsSound (sym same) sound
 
-sound_after : (old new : OrderTables) (row : JournalRow OrderCommand) → IsSound old → Appends order_table is_none Order 64 old row old.held new → IsSound new
+sound_after : (old new : OrderTables) (row : JournalRow OrderCommand) → IsSound old → Appends orders_service old row old.held new → IsSound new
 sound_after old new row sound done = record {
   matches = done.matches;
   unsettled = done.settled ∙ sound.unsettled;
@@ -37,7 +35,7 @@ sound_after old new row sound done = record {
 module _ (old new : OrderTables) (row : JournalRow OrderCommand) where
   -- what a commit says of tables in memory
   abbrev pub Commits : Result Committed EndFault → Type 0
-  Commits r = IsCommit order_table is_none Order 64 old row old.held new (λ left. left ≡ new) r
+  Commits r = IsCommit orders_service old row old.held new (λ left. left ≡ new) r
 
   pub sound_commit : (r : Result Committed EndFault) → IsSound old → Commits r → IsSound new
   sound_commit (Ok c) sound told = sound_after old new row sound told.1

@@ -37,13 +37,18 @@ IsUnread old new _ = ⊥
 abbrev pub IsRunFrom : Option (List ℕ) → Option (List ℕ) → Option (List ℕ) → Result Unit RunFault → Type 0
 IsRunFrom input old new r = ((text : List ℕ) × IfSome input (λ xs. text ≡ xs) × IsRunOf text old new r) ⊎ IsUnread old new r
 
+-- what the two writers hold, where that is known: `out` the outcomes, and `err` what is told of faults
+pub record Writers : Type 0 where
+  pub out : Option (List ℕ)
+  pub err : Option (List ℕ)
+
 -- With status 0 the schedule was run whole: what its events print is written to `out`, and nothing to `err`. With status 1 a fault is
 -- told on `err`, and unless the device failed nothing is written to `out`.
-abbrev pub IsEndOf : Option (List ℕ) → Option (List ℕ) → Option (List ℕ) → Option (List ℕ) → Option (List ℕ) → ℕ → Type 0
-IsEndOf input out out' err err' status =
-    ((status ≡ 0) × (err' ≡ err) × IsRunFrom input out out' (Ok tt))
-    ⊎ ((status ≡ 1) × (fault : RunFault) × IsRunFrom input out out' (Err fault) × Appends err err' (fault_line fault))
+abbrev pub IsEndOf : Option (List ℕ) → Writers → Writers → ℕ → Type 0
+IsEndOf input old new status =
+    ((status ≡ 0) × (new.err ≡ old.err) × IsRunFrom input old.out new.out (Ok tt))
+    ⊎ ((status ≡ 1) × (fault : RunFault) × IsRunFrom input old.out new.out (Err fault) × Appends old.err new.err (fault_line fault))
 
 -- the same where `err` failed while a fault was told: it took a beginning of the fault's line
-abbrev pub IsUntold : Option (List ℕ) → Option (List ℕ) → Option (List ℕ) → Option (List ℕ) → Option (List ℕ) → Type 0
-IsUntold input out out' err err' = (fault : RunFault) × IsRunFrom input out out' (Err fault) × AppendsPart err err' (fault_line fault)
+abbrev pub IsUntold : Option (List ℕ) → Writers → Writers → Type 0
+IsUntold input old new = (fault : RunFault) × IsRunFrom input old.out new.out (Err fault) × AppendsPart old.err new.err (fault_line fault)

@@ -8,17 +8,17 @@ use Rattle.envelope.specs.declared.message.Letter.{Letter}
 use Rattle.activities.specs.declared.commands.OrderCommand.{OrderCommand}
 use Rattle.activities.specs.declared.input.Input.TheVariants.{FromSeat}
 use Rattle.activities.specs.declared.input.JournalRow.{JournalRow}
-use Rattle.activities.specs.Orders.{OrderState, order_table}
-use Rattle.activities.specs.Faults.{number_of as refusal_number}
-use Rattle.keep.specs.declared.change.Change.{Change}
+use Rattle.activities.specs.Journal.{part, state_of, row_of}
+use Rattle.activities.specs.Orders.{OrderState, order_reactions}
+use Rattle.activities.specs.Service.{Service}
+use Rattle.activities.specs.Faults.{refusal_number}
 use Rattle.keep.specs.Listing.{AreFirst}
 use Rattle.keep.specs.Tables.{Tables}
-use Rattle.keep_plain.specs.Log.{made_by}
 use Rattle.endpoint.specs.declared.fault.EndFault.{EndFault}
 use Rattle.endpoint.specs.declared.fault.EndFault.TheVariants.{NotMine, Business, StoreFailed, Memory, Unusable}
-use Rattle.endpoint.specs.Faults.{number_of}
+use Rattle.endpoint.specs.Faults.{end_fault_number}
 use Rattle.endpoint.specs.Matches.{TablesMatchJournal, unsettled_of}
-use Rattle.endpoint.specs.Answers.{CommitAt, ViewAt}
+use Rattle.endpoint.specs.Answers.{CommitAt}
 use Rattle.schedules.specs.declared.event.Event.{Event}
 use Rattle.schedules.specs.declared.event.Event.TheVariants as event
 use Rattle.schedules.specs.declared.event.Service.TheVariants.{Purchasing}
@@ -30,13 +30,13 @@ use Rattle.programs.specs.Printed.{show_line, row_lines, frame_lines}
 abbrev pub Orders : Type 0
 Orders = List (JournalRow OrderCommand)
 
--- purchasing's tables in memory, as they are made by changes
-abbrev pub tables_of : List (Change (Option OrderState) OrderCommand) → Tables (Option OrderState) OrderCommand
-tables_of changes = made_by changes
+-- the service purchasing: orders
+abbrev pub orders_service : Service (Option OrderState) OrderCommand
+orders_service = record { kind = Order; reactions = order_reactions; is_none = is_none }
 
 -- the tables are those of their journal, nothing is settled, and the journal is within its limit
 pub record IsSound (t : Tables (Option OrderState) OrderCommand) : Type 0 where
-  pub matches : TablesMatchJournal order_table is_none Order 64 t
+  pub matches : TablesMatchJournal orders_service t
   pub unsettled : t.settled ≡ (λ _. 0)
   pub few : length t.journal ≤ 2 ^ 40
 
@@ -46,22 +46,22 @@ order_row seat order command = record { entity = order; input = FromSeat seat co
 
 -- A command is taken in or refused, as the reaction of its order answers. Want of memory changes nothing; tables in memory don't fail.
 abbrev pub IsTaken : JournalRow OrderCommand → Orders → Result ℕ EndFault → Orders → Type 0
-IsTaken row journal (Ok pos) after = CommitAt order_table Order journal row (Ok (record { pos = pos })) after
+IsTaken row journal (Ok pos) after = CommitAt order_reactions Order journal row (Ok (record { pos = pos })) after
 IsTaken row journal (Err StoreFailed) after = ⊥
 IsTaken row journal (Err Unusable) after = ⊥
 IsTaken row journal (Err Memory) after = after ≡ journal
-IsTaken row journal (Err fault) after = CommitAt order_table Order journal row (Err fault) after
+IsTaken row journal (Err fault) after = CommitAt order_reactions Order journal row (Err fault) after
 
 -- what is shown of an order is its row; an entity of another kind is none of purchasing's
 abbrev pub IsShow : Name → Orders → Result (Vec ℕ) EndFault → Orders → Type 0
-IsShow e journal (Ok line) after = (after ≡ journal) × (row : Option (Option OrderState)) × ViewAt order_table is_none Order journal e (Ok row) × (line.items ≡ show_line e (option_flatten row))
+IsShow e journal (Ok line) after = (after ≡ journal) × (e.kind ≡ Order) × (line.items ≡ show_line e (option_flatten (row_of is_none (state_of order_reactions journal e) (part e journal))))
 IsShow e journal (Err NotMine) after = (after ≡ journal) × (e.kind ≢ Order)
 IsShow e journal (Err Memory) after = after ≡ journal
 IsShow e journal (Err _) after = ⊥
 
 -- the frames of all messages that the journal sends, in order of pair and number
 abbrev pub IsFrames : Orders → Result (Vec ℕ) EndFault → Orders → Type 0
-IsFrames journal (Ok lines) after = (after ≡ journal) × (letters : List Letter) × AreFirst (unsettled_of order_table journal (λ _. 0)) None (2 ^ 64 - 1) letters × (lines.items ≡ frame_lines letters)
+IsFrames journal (Ok lines) after = (after ≡ journal) × (letters : List Letter) × AreFirst (unsettled_of order_reactions journal (λ _. 0)) None (2 ^ 64 - 1) letters × (lines.items ≡ frame_lines letters)
 IsFrames journal (Err Memory) after = after ≡ journal
 IsFrames journal (Err _) after = ⊥
 
@@ -93,7 +93,7 @@ Tells (event.Journal Purchasing) journal outcome after = IsShown (IsJournal jour
 -- the number of a refusal, and of the business refusal in it
 abbrev pub shown_fault : EndFault → List ℕ
 shown_fault (Business refusal) = codes "61 " ++ decimal (refusal_number refusal)
-shown_fault fault = decimal (number_of fault)
+shown_fault fault = decimal (end_fault_number fault)
 
 -- the lines that tell an outcome
 abbrev pub printed : Outcome → List ℕ

@@ -4,35 +4,39 @@ use Rattle.clap.specs.Words.{App, Kinds, IsAmong, new_app}
 use Rattle.clap.specs.declared.error.kind.ErrorKind.{ErrorKind}
 use Rattle.clap.specs.declared.error.kind.ErrorKind.TheVariants.{DisplayHelp}
 use Rattle.programs.specs.declared.fault.RunFault.TheVariants.{Memory}
-use Rattle.programs.specs.Ends.{IsEndOf, IsUntold, fault_line}
+use Rattle.programs.specs.Ends.{Writers, IsEndOf, IsUntold, fault_line}
 use Rattle.programs.specs.Written.{AppendsPart}
 
 -- the command line takes the program's name and no option but `--help`
 abbrev pub command_line : App
 command_line = new_app (codes "outbox-schedule")
 
+-- what the reader has left, where that is known, and what the writers hold
+pub record Streams : Type 0 where
+  pub input : Option (List ℕ)
+  pub writers : Writers
+
 -- the status of a run: that of its end, or 1 where `err` failed while a fault was told
-abbrev pub IsStatusOf : Option (List ℕ) → Option (List ℕ) → Option (List ℕ) → Option (List ℕ) → Option (List ℕ) → ℕ → Type 0
-IsStatusOf input out out' err err' status = IsEndOf input out out' err err' status ⊎ ((status ≡ 1) × IsUntold input out out' err err')
+abbrev pub IsStatusOf : Option (List ℕ) → Writers → Writers → ℕ → Type 0
+IsStatusOf input old new status = IsEndOf input old new status ⊎ ((status ≡ 1) × IsUntold input old new)
 
 -- help is told on `out`, with status 0, and a fault of usage on `err`, with status 2; the other stream is as it was
-abbrev pub IsUsage : ErrorKind → Option (List ℕ) → Option (List ℕ) → Option (List ℕ) → Option (List ℕ) → ℕ → Type 0
-IsUsage kind out out' err err' status =
-    ((kind ≡ DisplayHelp) × (status ≡ 0) × (err' ≡ err)) ⊎ ((kind ≢ DisplayHelp) × (status ≡ 2) × (out' ≡ out))
+abbrev pub IsUsage : ErrorKind → Writers → Writers → ℕ → Type 0
+IsUsage kind old new status = ((kind ≡ DisplayHelp) × (status ≡ 0) × (new.err ≡ old.err)) ⊎ ((kind ≢ DisplayHelp) × (status ≡ 2) × (new.out ≡ old.out))
 
 -- the stream failed on which help or the fault was told; the other is as it was
-abbrev pub IsCutUsage : ErrorKind → Option (List ℕ) → Option (List ℕ) → Option (List ℕ) → Option (List ℕ) → Type 0
-IsCutUsage kind out out' err err' = ((kind ≡ DisplayHelp) × (err' ≡ err)) ⊎ ((kind ≢ DisplayHelp) × (out' ≡ out))
+abbrev pub IsCutUsage : ErrorKind → Writers → Writers → Type 0
+IsCutUsage kind old new = ((kind ≡ DisplayHelp) × (new.err ≡ old.err)) ⊎ ((kind ≢ DisplayHelp) × (new.out ≡ old.out))
 
 -- What is told in place of a run: help, or a fault of the words, of one of these kinds; or that memory was refused over the words. With
 -- status 1 it was the latter, or the stream failed on which it was told.
-abbrev pub IsWordAnswer : Kinds → Option (List ℕ) → Option (List ℕ) → Option (List ℕ) → Option (List ℕ) → ℕ → Type 0
-IsWordAnswer kinds out out' err err' status =
-    ((kind : ErrorKind) × IsAmong kind kinds × (IsUsage kind out out' err err' status ⊎ ((status ≡ 1) × IsCutUsage kind out out' err err')))
-    ⊎ ((status ≡ 1) × (out' ≡ out) × AppendsPart err err' (fault_line Memory))
+abbrev pub IsWordAnswer : Kinds → Writers → Writers → ℕ → Type 0
+IsWordAnswer kinds old new status =
+    ((kind : ErrorKind) × IsAmong kind kinds × (IsUsage kind old new status ⊎ ((status ≡ 1) × IsCutUsage kind old new)))
+    ⊎ ((status ≡ 1) × (new.out ≡ old.out) × AppendsPart old.err new.err (fault_line Memory))
 
 -- With nothing at fault in the words the schedule is run. Else nothing is: the input is left as it was.
-abbrev pub IsAnswered : Kinds → Option (List ℕ) → Option (List ℕ) → Option (List ℕ) → Option (List ℕ) → Option (List ℕ) → Option (List ℕ) → ℕ → Type 0
-IsAnswered kinds input input' out out' err err' status =
-    ((kinds ≡ []) × IsStatusOf input out out' err err' status)
-    ⊎ ((input' ≡ input) × IsWordAnswer kinds out out' err err' status)
+abbrev pub IsAnswered : Kinds → Streams → Streams → ℕ → Type 0
+IsAnswered kinds old new status =
+    ((kinds ≡ []) × IsStatusOf old.input old.writers new.writers status)
+    ⊎ ((new.input ≡ old.input) × IsWordAnswer kinds old.writers new.writers status)

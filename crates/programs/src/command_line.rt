@@ -44,8 +44,10 @@ fn read_words<S: AsStr>(alloc: Global, words: &[S]) -> Result<(), Error>
 
 /// Writes what `clap` says of the words: help to `out`, a fault of usage to `err`. Answers the status.
 fn write_usage<W: Write, E: Write>(out: &mut W, err: &mut E, error: &Error) -> io::Result<u8>
-    ensures told { IfOk result (IsUsage (kind_of error.now) (W.contents out.old) (W.contents out.new) (E.contents err.old) (E.contents err.new)) }
-    ensures untold { OnErr result (IsCutUsage (kind_of error.now) (W.contents out.old) (W.contents out.new) (E.contents err.old) (E.contents err.new)) }
+    ensures told { IfOk result (IsUsage (kind_of error.now) (record { out = W.contents out.old; err = E.contents err.old })
+        (record { out = W.contents out.new; err = E.contents err.new })) }
+    ensures untold { OnErr result (IsCutUsage (kind_of error.now) (record { out = W.contents out.old; err = E.contents err.old })
+        (record { out = W.contents out.new; err = E.contents err.new })) }
 {
     if error.kind() == ErrorKind::DisplayHelp {
         write!(out, "{error}")?;
@@ -79,9 +81,11 @@ pub fn run_schedule<S: AsStr, R: Read, W: Write, E: Write>(
     err: &mut E,
 ) -> u8
     ensures taken { takes command_line (map S.text words.now) ≡ true
-        → IsStatusOf (R.remaining input.old) (W.contents out.old) (W.contents out.new) (E.contents err.old) (E.contents err.new) result }
+        → IsStatusOf (R.remaining input.old) (record { out = W.contents out.old; err = E.contents err.old })
+        (record { out = W.contents out.new; err = E.contents err.new }) result }
     ensures answered { IsAnswered (fault_of command_line (map S.text words.now))
-        (R.remaining input.old) (R.remaining input.new) (W.contents out.old) (W.contents out.new) (E.contents err.old) (E.contents err.new) result }
+        (record { input = R.remaining input.old; writers = record { out = W.contents out.old; err = E.contents err.old } })
+        (record { input = R.remaining input.new; writers = record { out = W.contents out.new; err = E.contents err.new } }) result }
 {
     let Err(error) = read_words(alloc, words) else {
         return status_of(run_input(alloc, input, out, err));

@@ -1,7 +1,8 @@
 //! Events, run one by one over the service purchasing.
 
 ghost use Rattle.std.specs.Prelude.{◌≡◌, [], MatchResult};
-ghost use Rattle.programs.specs.Runs.{IsSound, tables_of, order_row, IsTaken, IsShow, IsFrames, IsJournal, IsShown, Tells};
+ghost use Rattle.keep_plain.specs.Memory.{tables_of};
+ghost use Rattle.programs.specs.Runs.{IsSound, order_row, IsTaken, IsShow, IsFrames, IsJournal, IsShown, Tells};
 
 use crate::printing::{push_frames, push_rows, push_show};
 use activities::{Handler, OrderCommand};

@@ -4,7 +4,8 @@ ghost use Rattle.std.specs.Prelude.{◌≡◌, ◌⊎◌, ◌++◌, List, ℕ, d
 ghost use Rattle.std.specs.Io.{WritesAtMost};
 ghost use Rattle.std.specs.Io.KnownBytes.{Appends, WriteAppends};
 ghost use Rattle.programs.specs.Written.{AppendsPart};
-ghost use Rattle.programs.specs.Runs.{IsSound, tables_of, printed, IsRun};
+ghost use Rattle.keep_plain.specs.Memory.{tables_of};
+ghost use Rattle.programs.specs.Runs.{IsSound, printed, IsRun};
 ghost use Rattle.programs.specs.Ends.{fault_line, IsCutRun, IsRunOf, IsRunFrom, IsEndOf, IsUntold};
 
 use crate::fault::RunFault;
@@ -95,7 +96,8 @@ fn run_events<W: Write>(
     out: &mut W,
 ) -> io::Result<()>
     requires { IsSound (tables_of purchasing.old) }
-    ensures ok { OnOk result ((told : List ℕ) × Appends (W.contents out.old) (W.contents out.new) told × IsRun events.now (tables_of purchasing.old).journal told (tables_of purchasing.new).journal) }
+    ensures ok { OnOk result ((told : List ℕ) × Appends (W.contents out.old) (W.contents out.new) told
+        × IsRun events.now (tables_of purchasing.old).journal told (tables_of purchasing.new).journal) }
     ensures err { OnErr result (IsCutRun events.now (tables_of purchasing.old).journal (W.contents out.old) (W.contents out.new)) }
 {
     for event in events {
@@ -123,7 +125,8 @@ pub fn run_text<W: Write>(alloc: Global, text: &[u8], out: &mut W) -> Result<(),
 
 /// All that a reader gives.
 fn read_all<R: Read>(alloc: Global, input: &mut R) -> Result<Vec<u8>, RunFault>
-    ensures { MatchResult result (λ text. IfSome (R.remaining input.old) (λ xs. text.items ≡ xs)) (λ fault. (fault ≡ RunFault.Memory) ⊎ (fault ≡ RunFault.Device)) }
+    ensures { MatchResult result (λ text. IfSome (R.remaining input.old) (λ xs. text.items ≡ xs))
+        (λ fault. (fault ≡ RunFault.Memory) ⊎ (fault ≡ RunFault.Device)) }
 {
     let mut text = Vec::new(alloc);
     match input.read_to_end(&mut text) {
@@ -182,8 +185,10 @@ pub fn run_input<R: Read, W: Write, E: Write>(
     out: &mut W,
     err: &mut E,
 ) -> io::Result<u8>
-    ensures ended { IfOk result (λ status. IsEndOf (R.remaining input.old) (W.contents out.old) (W.contents out.new) (E.contents err.old) (E.contents err.new) status) }
-    ensures untold { OnErr result (IsUntold (R.remaining input.old) (W.contents out.old) (W.contents out.new) (E.contents err.old) (E.contents err.new)) }
+    ensures ended { IfOk result (λ status. IsEndOf (R.remaining input.old) (record { out = W.contents out.old; err = E.contents err.old })
+        (record { out = W.contents out.new; err = E.contents err.new }) status) }
+    ensures untold { OnErr result (IsUntold (R.remaining input.old) (record { out = W.contents out.old; err = E.contents err.old })
+        (record { out = W.contents out.new; err = E.contents err.new })) }
 {
     match read_and_run(alloc, input, out) {
         Ok(()) => Ok(0),

@@ -10,7 +10,7 @@ use Rattle.std.proofs.lemmas.List.Concat.{flat_map-cons}
 use Rattle.std.proofs.lemmas.List.Elements.{recursion_from_All, All-from_recursion}
 use Rattle.std.proofs.lemmas.Fmt.{digits_decimal, digits_value-decimal, decimal_nonempty, first_decimal, decimal_digit, decimal-digits_value}
 use Rattle.schedules.specs.Words.{spelled, escaped, unescaped, word_of}
-use Rattle.schedules.specs.Numbers.{number_of, has_leading_zero}
+use Rattle.schedules.specs.Numbers.{numeral_value, has_leading_zero}
 use Rattle.schedules.specs.Cuts.{Lacks}
 use Rattle.schedules.specs.Lines.{lines_of, ended}
 use Rattle.schedules.proofs.Cuts.{Lacks-cons, lines_at, lines_none, unescaped_octet, unescaped_escape}
@@ -132,7 +132,7 @@ leads (suc n) small =
     eqb_above : (x : ℕ) → 48 < x → eqb x 48 ≡ false
     eqb_above x above = ne_eqb x 48 (λ same. omega arith)
 
-pub number_read : (n : ℕ) → n < 2 ^ 64 → number_of (decimal n) ≡ Some n
+pub number_read : (n : ℕ) → n < 2 ^ 64 → numeral_value (decimal n) ≡ Some n
 number_read n small =
     let digits = digits_decimal own n small in
     let some : eqb (length (decimal n)) 0 ≡ false = ne_eqb _ _ (λ none. omega (arith, decimal_nonempty n small)) in
@@ -140,7 +140,7 @@ number_read n small =
     let fits : ltb (digits_value 10 (decimal n)) (2 ^ 64) ≡ true = lt-ltb _ _ (rw value small) in
     rw (digits, some, leads n small, fits) (ap Some value)
 
-pub number_only : (word : List ℕ) (n : ℕ) → number_of word ≡ Some n → decimal n ≡ word
+pub number_only : (word : List ℕ) (n : ℕ) → numeral_value word ≡ Some n → decimal n ≡ word
 number_only word n read =
     let found = cond_some _ _ _ read in
     let fits = both_true _ _ found.0 in

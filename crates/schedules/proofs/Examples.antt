@@ -9,7 +9,7 @@ use Rattle.schedules.specs.declared.event.Event.TheVariants.{Order, Show, Frames
 use Rattle.schedules.specs.declared.event.Service.TheVariants.{Purchasing}
 use Rattle.schedules.specs.Events.{event_in, event_on, is_faulty, events_on, events_of}
 use Rattle.schedules.specs.Lines.{lines_of, ended}
-use Rattle.schedules.specs.Numbers.{number_of, seat_number}
+use Rattle.schedules.specs.Numbers.{numeral_value, seat_number}
 use Rattle.schedules.specs.Words.{unescaped, word_of, words_of, escaped}
 
 -- the last line may lack its LF, and an empty line is one where LF ends it
@@ -41,9 +41,9 @@ single_spaces_separate : (words_of (codes "show order/a\\sb") ≡ Some (codes "s
 single_spaces_separate = (refl, refl, refl, refl)
 
 -- a number is at most 2^64 - 1, without leading zeros or a sign
-numbers_are_read : (number_of (codes "0") ≡ Some 0) × (number_of (codes "18446744073709551615") ≡ Some 18446744073709551615)
-    × (number_of (codes "18446744073709551616") ≡ None)
-    × (number_of (codes "007") ≡ None) × (number_of (codes "00") ≡ None) × (number_of (codes "+1") ≡ None) × (number_of [] ≡ None)
+numbers_are_read : (numeral_value (codes "0") ≡ Some 0) × (numeral_value (codes "18446744073709551615") ≡ Some 18446744073709551615)
+    × (numeral_value (codes "18446744073709551616") ≡ None)
+    × (numeral_value (codes "007") ≡ None) × (numeral_value (codes "00") ≡ None) × (numeral_value (codes "+1") ≡ None) × (numeral_value [] ≡ None)
 numbers_are_read = (refl, refl, refl, refl, refl, refl, refl)
 
 -- seats are 0 to 15

@@ -6,7 +6,7 @@ use Rattle.std.specs.Result.{OkIff, result_ok}
 use Rattle.std.specs.Str.Parse.{digits_value, ParsesUnsigned}
 use Rattle.std.proofs.lemmas.Str.Parse.{IsNumeralModel, IsDigitsTest, numerals_by_value, parse_digits}
 use Rattle.std.proofs.lemmas.Bool.{cases_Bool, ltb-true, lt-ltb}
-use Rattle.schedules.specs.Numbers.{is_numeral, number_of}
+use Rattle.schedules.specs.Numbers.{is_numeral, numeral_value}
 
 tells : IsDigitsTest (λ ds. list_all is_ascii_digit ds ≡ true)
 tells = search rules
@@ -28,7 +28,7 @@ parsed_is word (Err e) h some =
       | inr large ↦ rw large refl
     ]
 
-pub parsed : {E : Type 0} (word : List ℕ) (r : Result ℕ E) → ParsesUnsigned 64 10 word r → is_numeral word ≡ true → result_ok r ≡ number_of word
+pub parsed : {E : Type 0} (word : List ℕ) (r : Result ℕ E) → ParsesUnsigned 64 10 word r → is_numeral word ≡ true → result_ok r ≡ numeral_value word
 parsed word r h numeral =
     let outer = both_true _ _ numeral in
     let inner = both_true _ _ outer.0 in

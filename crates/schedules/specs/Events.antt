@@ -13,11 +13,11 @@ use Rattle.schedules.specs.declared.event.Service.{Service}
 use Rattle.schedules.specs.declared.event.Service.TheVariants.{Purchasing}
 use Rattle.schedules.specs.Lines.{lines_of}
 use Rattle.schedules.specs.Words.{◌>>=◌, words_of}
-use Rattle.schedules.specs.Numbers.{number_of, seat_number}
+use Rattle.schedules.specs.Numbers.{numeral_value, seat_number}
 
 -- the seat that a word is
 abbrev pub seat_of : List ℕ → Option ℕ
-seat_of word = number_of word >>= seat_number
+seat_of word = numeral_value word >>= seat_number
 
 -- the key that a word is
 abbrev pub key_of : List ℕ → Option (List ℕ)
@@ -42,9 +42,9 @@ service_of word = if bytes_eq word (codes "purchasing") then Some Purchasing els
 abbrev pub placing_of : List (List ℕ) → Option OrderCommand
 placing_of (stock ∷ n ∷ account ∷ amount ∷ []) = do
   stock ← key_of stock
-  n ← number_of n
+  n ← numeral_value n
   account ← key_of account
-  amount ← number_of amount
+  amount ← numeral_value amount
   Some (Place stock n account amount)
 placing_of _ = None
 

@@ -13,8 +13,8 @@ abbrev pub is_numeral : List ℕ → Bool
 is_numeral word = list_all is_ascii_digit word && not (length word == 0) && not (has_leading_zero word)
 
 -- the number of a word: a numeral of at most 2^64 - 1
-abbrev pub number_of : List ℕ → Option ℕ
-number_of word = if is_numeral word && nat_lt (digits_value 10 word) (2 ^ 64) then Some (digits_value 10 word) else None
+abbrev pub numeral_value : List ℕ → Option ℕ
+numeral_value word = if is_numeral word && nat_lt (digits_value 10 word) (2 ^ 64) then Some (digits_value 10 word) else None
 
 -- the number of a seat
 abbrev pub seat_number : ℕ → Option ℕ

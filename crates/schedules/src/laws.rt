@@ -3,13 +3,13 @@
 ghost use Rattle.std.specs.Prelude.{◌≡◌, ◌<◌, ◌^◌, ◌∷◌, [], ◌++◌, ℕ, List, All, Some, length, decimal};
 ghost use Rattle.schedules.specs.Cuts.{Lacks};
 ghost use Rattle.schedules.specs.Lines.{lines_of, ended};
-ghost use Rattle.schedules.specs.Numbers.{number_of};
+ghost use Rattle.schedules.specs.Numbers.{numeral_value};
 ghost use Rattle.schedules.specs.Words.{word_of, escaped};
 
 /// A number below 2^64 has one word: its decimal digits. No other word is read as it.
 pub fn a_number_has_one_word()
-    ensures read { (n : ℕ) → n < 2 ^ 64 → number_of (decimal n) ≡ Some n }
-    ensures only { (word : List ℕ) (n : ℕ) → number_of word ≡ Some n → decimal n ≡ word }
+    ensures read { (n : ℕ) → n < 2 ^ 64 → numeral_value (decimal n) ≡ Some n }
+    ensures only { (word : List ℕ) (n : ℕ) → numeral_value word ≡ Some n → decimal n ≡ word }
 {}
 
 /// A word that is printed with its escapes is read again.

@@ -3,11 +3,11 @@
 ghost use Rattle.std.specs.Prelude.{◌≡◌};
 ghost use Rattle.std.specs.List.{list_all};
 ghost use Rattle.std.specs.Char.{is_ascii_digit};
-ghost use Rattle.schedules.specs.Numbers.{has_leading_zero, is_numeral, number_of};
+ghost use Rattle.schedules.specs.Numbers.{has_leading_zero, is_numeral, numeral_value};
 
 /// The number of a word: a numeral of at most 2^64 - 1.
 pub(crate) fn read_number(word: &str) -> Option<u64>
-    ensures { result ≡ number_of word.now }
+    ensures { result ≡ numeral_value word.now }
 {
     if is_numeral(word.as_bytes()) {
         word.parse::<u64>().ok()

@@ -2,7 +2,7 @@
 
 ghost use Rattle.std.specs.Prelude.{◌≡◌, ◌<◌, ◌∷◌, ◌++◌, ◌==◌, length, position, option_to_list, OnOk};
 ghost use Rattle.schedules.specs.Events.{seat_of, key_of, entity_of, service_of, placing_of, place_of, cancel_of, show_of, the_service, event_of, is_quiet, event_in, event_on};
-ghost use Rattle.schedules.specs.Numbers.{number_of};
+ghost use Rattle.schedules.specs.Numbers.{numeral_value};
 ghost use Rattle.schedules.specs.Lines.{lines_of};
 ghost use Rattle.schedules.specs.Reading.{Reads};
 ghost use Rattle.schedules.specs.Faults.{IsRead};
@@ -16,7 +16,7 @@ use base::{Entity, EntityFault, Key, Kind};
 use std::alloc::{AllocError, Global};
 
 fn number_at(word: &Word) -> Result<u64, LineFault>
-    ensures { Reads (λ n. n) result (number_of word.now) }
+    ensures { Reads (λ n. n) result (numeral_value word.now) }
 {
     read_number(word.as_str()).ok_or(LineFault::Bad)
 }

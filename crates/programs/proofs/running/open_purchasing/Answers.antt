@@ -1,6 +1,7 @@
 use Rattle.std.proofs.Common.{◌≡◌, sym, ap, subst, ◌∙◌, refl, arith}
 use Rattle.keep.specs.Tables.{empty}
-use Rattle.programs.specs.Runs.{IsSound, tables_of}
+use Rattle.keep_plain.specs.Memory.{tables_of}
+use Rattle.programs.specs.Runs.{IsSound}
 use Rattle.programs.proofs.Taken.{OrderTables}
 use Rattle.programs.proofs.running.open_purchasing.Goals as goal
 

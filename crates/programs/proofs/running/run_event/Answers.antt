@@ -1,4 +1,5 @@
-use Rattle.programs.specs.Runs.{tables_of, IsFrames}
+use Rattle.keep_plain.specs.Memory.{tables_of}
+use Rattle.programs.specs.Runs.{IsFrames}
 use Rattle.programs.proofs.Tellings.{shown_told, tells_frames}
 use Rattle.programs.proofs.running.run_event.Goals as goal
 

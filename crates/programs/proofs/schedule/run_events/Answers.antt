@@ -1,6 +1,7 @@
 use Rattle.std.proofs.Common.{ℕ, ◌+◌, List, [], ◌++◌, drop, sym, subst, append_assoc}
 use Rattle.std.proofs.lemmas.List.{append-nil}
-use Rattle.programs.specs.Runs.{Orders, IsRun, printed, tables_of}
+use Rattle.keep_plain.specs.Memory.{tables_of}
+use Rattle.programs.specs.Runs.{Orders, IsRun, printed}
 use Rattle.programs.proofs.Tellings.{run_step, run_end, any_run}
 use Rattle.programs.proofs.Writes.{appends_then, appends_keeps, part_first, part_then, part_whole, on_ok_always, on_err_always}
 use Rattle.programs.proofs.schedule.run_events.Goals as goal

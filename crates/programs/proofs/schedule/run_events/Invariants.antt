@@ -1,6 +1,7 @@
 use Rattle.std.proofs.Common.{◌++◌, ℕ, List, drop}
 use Rattle.std.specs.Io.KnownBytes.{Appends}
-use Rattle.programs.specs.Runs.{Orders, IsSound, IsRun, tables_of}
+use Rattle.keep_plain.specs.Memory.{tables_of}
+use Rattle.programs.specs.Runs.{Orders, IsSound, IsRun}
 use Rattle.programs.proofs.schedule.run_events.Given as goal
 
 -- what was told so far, and what the events that are left tell, is what all tell

@@ -1,5 +1,5 @@
 use Rattle.std.proofs.lemmas.Result.{err_from_is_err_and}
-use Rattle.programs.specs.Runs.{tables_of}
+use Rattle.keep_plain.specs.Memory.{tables_of}
 use Rattle.programs.proofs.Endings.{unread, ran_whole, ran_cut}
 use Rattle.programs.proofs.schedule.run_text.Goals as goal
 
