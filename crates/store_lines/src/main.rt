@@ -1,0 +1,103 @@
+//! Reads lines that name calls of tables, stores, handlers of orders and endpoints, and prints their answers.
+//!
+//! A comment, which begins with `#`, and an empty line are printed as they are. Each other line has one answer: what the call gives,
+//! `done`, or the text of its fault. So the answer to a line of `stdin` stands at the same line of `stdout`. Where a growth is refused,
+//! the program ends there with status 3.
+//!
+//! An order:
+//! - `order opening`, `order is ORDER`: from now on it is the one that took nothing in, or this one;
+//! - `order take INPUT`, `order try INPUT`: it takes an input in, or only a copy of it does;
+//! - `order is-none`: whether no row stands for it.
+//!
+//! A store:
+//! - `store new`: its tables are empty, and no call is armed;
+//! - `store note CHANGE`, `store apply`: a change is noted; one transaction makes those that were noted;
+//! - `store do CHANGE`, `store apply-armed LEAVES`: a transaction makes one change; one is to make those that were noted, and fails;
+//! - `store arm N LEAVES`, `store disarm`: the N-th call from now on fails, or none does;
+//! - `store usable`, `store reopen`: whether it may be called; it is opened again;
+//! - `store entity ENTITY`, `store held PAIR N`, `store drainable`, `store length`: a row, a held message, the first pair that can be
+//!   drained, how many rows the journal has;
+//! - `store sent PAIR`, `store settled PAIR`, `store handled PAIR`: a mark of a pair; `store sent-disarmed PAIR`: the first, by a call
+//!   that isn't armed;
+//! - `store outbox LIMIT [PAIR N]`, `store journal N LIMIT`: the first letters after a letter's place; the first rows from a position on.
+//!
+//! An endpoint:
+//! - `endpoint new`, `endpoint over-store`: it is over empty tables, or over the store's, which are empty then;
+//! - `endpoint commit SEAT ENTITY COMMAND`, `endpoint view ENTITY`: a seat's command; a row;
+//! - `arm`, `disarm`, `usable`, `reopen`, `sent`, `settled`, `handled`, `outbox`, `journal` and `length` as of a store.
+//!
+//! `fault store N` and `fault endpoint N` give the text of the fault of this number.
+//!
+//! In these lines
+//! - a PAIR is two entities, the sender and the receiver, as `order/o1 stock/bolt`;
+//! - LEAVES is `old` or `new`: the tables that a transaction leaves which fails;
+//! - a MESSAGE is `Request N`, `Tentative`, `Refused`, `Confirm` or `Cancel`;
+//! - a COMMAND is `place STOCK N ACCOUNT N`, by their keys, or `cancel`;
+//! - an INPUT is `seat N COMMAND`, or `from ENTITY N MESSAGE`, with the letter's number;
+//! - an ORDER is `none`, or as `Open stock/bolt 3 Requested account/ann 500 Tentative`;
+//! - a CHANGE is `journal N ENTITY INPUT`, at position N, `state ENTITY ORDER`, `no-state ENTITY`, `sent PAIR N MESSAGE`,
+//!   `settled PAIR N`, `handled PAIR N`, `held PAIR N MESSAGE` or `not-held PAIR N`.
+#![tactic(auto)]
+
+mod endpoints;
+mod failing;
+mod fault;
+mod fault_texts;
+mod handler;
+mod reads;
+mod session;
+mod store;
+mod tables;
+mod texts;
+mod words;
+
+use session::Session;
+use std::alloc::Global;
+use std::io;
+use std::io::{BufWriter, ErrorKind, Write};
+use std::process::ExitCode;
+
+/// The status where a growth was refused.
+const NO_MEMORY: u8 = 3;
+
+/// Prints the answer to a line.
+fn answer<W: Write>(
+    alloc: Global,
+    out: &mut W,
+    session: &mut Session,
+    line: &str,
+) -> io::Result<()> {
+    if line.is_empty() || line.starts_with('#') {
+        return writeln!(out, "{line}");
+    }
+    match session.answer(alloc, line) {
+        Ok(text) => writeln!(out, "{text}"),
+        Err(fault) if fault.is_memory() => Err(io::Error::from(ErrorKind::OutOfMemory)),
+        Err(fault) => writeln!(out, "{fault}"),
+    }
+}
+
+/// Prints the answer to each line of standard input.
+fn answer_all<W: Write>(rt: &HostRuntime, out: &mut W) -> io::Result<()> {
+    let mut session = Session::new(rt.alloc());
+    for line in rt.lines(rt.alloc()) {
+        answer(rt.alloc(), out, &mut session, line?.as_str())?;
+    }
+    Ok(())
+}
+
+/// The same on standard output: what was answered is written out, whatever ended it.
+fn run(rt: &HostRuntime) -> io::Result<()> {
+    let mut out = BufWriter::new(rt.alloc(), io::writer(rt))?;
+    let answered = answer_all(rt, &mut out);
+    out.flush()?;
+    answered
+}
+
+fn main(rt: HostRuntime) -> io::Result<ExitCode> {
+    match run(&rt) {
+        Ok(()) => Ok(ExitCode::SUCCESS),
+        Err(error) if error.kind() == ErrorKind::OutOfMemory => Ok(ExitCode::from(NO_MEMORY)),
+        Err(error) => Err(error),
+    }
+}
