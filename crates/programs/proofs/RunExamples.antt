@@ -13,12 +13,14 @@ use Rattle.envelope.specs.declared.message.Message.{Message}
 use Rattle.activities.specs.Numbered.{nth}
 use Rattle.activities.specs.Orders.{OrderState, order_reactions}
 use Rattle.activities.specs.Reaction.{messages_to}
+use Rattle.activities.specs.declared.commands.OrderCommand.{OrderCommand}
 use Rattle.activities.specs.declared.commands.OrderCommand.TheVariants.{Place}
 use Rattle.activities.specs.declared.handler.Refusal.{Refusal}
 use Rattle.activities.specs.declared.handler.Refusal.TheVariants.{AlreadyPlaced}
 use Rattle.activities.specs.declared.outs.Out.{Out}
+use Rattle.keep.specs.Tables.{Tables, changed, empty}
+use Rattle.keep.specs.declared.change.Change.{Change}
 use Rattle.keep.specs.declared.change.Change.TheVariants.{Journal, Settled}
-use Rattle.keep_plain.specs.Memory.{tables_of}
 use Rattle.endpoint.specs.Answers.{NumbersFit, sent_counts, reaction}
 use Rattle.endpoint.specs.declared.fault.EndFault.TheVariants.{NotMine, Business, StoreFailed, Memory, Unusable}
 use Rattle.schedules.specs.declared.event.Event.{Event}
@@ -229,9 +231,13 @@ runs_print_what_they_tell = (([], (refl, refl)), λ h. let e = h.1.0 in absurd (
 
 -- ---- the tables of a run
 
+-- the tables that changes make of empty ones
+abbrev made : List (Change (Option OrderState) OrderCommand) → Tables (Option OrderState) OrderCommand
+made changes = changed changes empty
+
 -- tables that no change was made to are sound; a row of the journal without the order's row isn't, and neither is a settled mark
-first_tables_are_sound : (IsSound (tables_of [])) × (IsSound (tables_of (Journal 1 placing ∷ [])) → ⊥)
-    × (IsSound (tables_of (Settled (from_order bolts) 1 ∷ [])) → ⊥)
+first_tables_are_sound : (IsSound (made [])) × (IsSound (made (Journal 1 placing ∷ [])) → ⊥)
+    × (IsSound (made (Settled (from_order bolts) 1 ∷ [])) → ⊥)
 unfolding same_entity same_pair
 first_tables_are_sound = (
   record {
