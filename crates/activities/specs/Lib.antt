@@ -9,4 +9,5 @@ pub mod Lines
 pub mod Stocks
 pub mod Accounts
 pub mod Service
+pub mod Rows
 pub mod Sound

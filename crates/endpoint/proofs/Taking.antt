@@ -1,5 +1,6 @@
 -- The tables after a row was taken in.
-use Rattle.std.proofs.Common.{ℕ, ◌+◌, ◌≤◌, ◌<◌, ◌≡◌, List, [], ◌∷◌, ◌++◌, length, Bool, true, false, Option, Some, None, Result, Ok, refl, sym, ap, ◌∙◌, subst}
+use Rattle.std.proofs.Common.{ℕ, ◌+◌, ◌≤◌, ◌<◌, ◌≡◌, List, [], ◌∷◌, ◌++◌, length, Bool, true, false, Option, Some, None, Result, Ok, refl}
+use Rattle.std.proofs.Common.{sym, ap, ◌∙◌, subst}
 use Rattle.std.specs.Prelude.{if◌then◌else◌, IsOk, IsSome}
 use Rattle.std.proofs.lemmas.List.{append-nil}
 use Rattle.base.specs.declared.limits.TheConstants.{MAX_NUMBER}
@@ -11,8 +12,9 @@ use Rattle.activities.specs.declared.handler.Refusal.{Refusal}
 use Rattle.activities.specs.declared.input.Input.{Input}
 use Rattle.activities.specs.declared.input.JournalRow.{JournalRow}
 use Rattle.activities.specs.declared.outs.Out.{Out}
-use Rattle.activities.specs.Reaction.{Reactions, state, messages_to}
-use Rattle.activities.specs.Journal.{IsLegal, part, state_of, sent_of, handled_of, row_of}
+use Rattle.activities.specs.Reaction.{messages_to}
+use Rattle.activities.specs.Journal.{IsLegal, sent_of, handled_of}
+use Rattle.activities.specs.Rows.{row_for, row_of}
 use Rattle.activities.specs.Follow.{MayFollow}
 use Rattle.activities.proofs.Sameness.{same_entity-comm}
 use Rattle.activities.proofs.Journals.{row_of-more, sent_of-more}
@@ -21,9 +23,9 @@ use Rattle.keep.specs.declared.change.Change.{Change}
 use Rattle.keep.specs.declared.change.Change.TheVariants.{State, Journal}
 use Rattle.keep.specs.Tables.{Tables, Messages, changed, changed_by}
 use Rattle.endpoint.specs.Matches.{TablesMatchJournal, MayBeHeld, above}
-use Rattle.endpoint.specs.Answers.{pair_of, reaction, sent_counts, NumbersFit}
+use Rattle.endpoint.specs.Answers.{pair_between, reaction, sent_counts, NumbersFit}
 use Rattle.endpoint.specs.Calls.{Appends}
-use Rattle.endpoint.specs.Parts.Handling.{Prepares, row_for, state_or}
+use Rattle.endpoint.specs.Parts.Handling.{Prepares}
 use Rattle.endpoint.specs.Parts.Outbox.{numbering}
 use Rattle.endpoint.proofs.Sending.{IsOutbox, outbox-same, own, numbering-outbox, numbering-keeps}
 
@@ -41,27 +43,19 @@ none_sent : {A : Type 0} (xs : List A) (b : Bool) → xs ≡ xs ++ (if b then []
 none_sent xs true = sym (append-nil xs)
 none_sent xs false = sym (append-nil xs)
 
--- ---- the state that a row stands for
-
-row_state : {S : Type 0} (opening s : S) (b : Bool) → (b ≡ true → s ≡ opening) → state_or opening (if b then None else Some s) ≡ s
-row_state opening s true h = sym (h refl)
-row_state opening s false h = refl
-
-pub state_or-row_of : {S C : Type 0} (reactions : Reactions S C) (is_none : S → Bool) → ((s : S) → is_none s ≡ true → s ≡ reactions.opening) → (inputs : List (Input C)) → state_or reactions.opening (row_of is_none (state reactions inputs) inputs) ≡ state reactions inputs
-state_or-row_of reactions is_none law [] = refl
-state_or-row_of reactions is_none law (input ∷ inputs) = row_state reactions.opening (state reactions (input ∷ inputs)) _ (law _)
-
 -- ---- one row more
 
-module _ {S C : Type 0} (service : Service S C) (old : Tables S C) (position : ℕ) (row : JournalRow C) (first : List (Change S C)) (done : S × List Out) where
+module _ {S C : Type 0} (service : Service S C) (old : Tables S C) (position : ℕ) (row : JournalRow C) (first : List (Change S C))
+    (done : S × List Out) where
   -- the tables after all changes of a row that is taken in
   abbrev pub taken : Tables S C
-  taken = changed ((first ++ numbering old.sent row.entity done.1) ++ State row.entity (row_for service.is_none done.0) ∷ Journal position row ∷ []) old
+  taken = changed ((first ++ numbering old.sent row.entity done.1) ++ State row.entity (row_for service.is_none done.0)
+      ∷ Journal position row ∷ []) old
 
   -- tables that match this journal
   record Matches (j : List (JournalRow C)) (t : Tables S C) : Type 0 where
     legal : IsLegal service.reactions service.kind j
-    entities : (e : Name) → t.entity e ≡ row_of service.is_none (state_of service.reactions j e) (part e j)
+    entities : (e : Name) → t.entity e ≡ row_of service j e
     outbox : IsOutbox t (sent_of service.reactions j)
     handled : (p : Pair) → t.handled p ≡ handled_of j p
     held : (p : Pair) (n : ℕ) → IsSome (t.held p n) → MayBeHeld service.kind (handled_of j p) p n
@@ -77,23 +71,34 @@ module _ {S C : Type 0} (service : Service S C) (old : Tables S C) (position : �
     held = h.held;
   }
 
-  ready_outbox : (h : TablesMatchJournal service old) → Prepares service.kind old row first → IsOutbox (changed first old) (sent_of service.reactions old.journal)
+  ready_outbox : (h : TablesMatchJournal service old) → Prepares service.kind old row first
+      → IsOutbox (changed first old) (sent_of service.reactions old.journal)
   ready_outbox h prep = record {
     count = λ p. ap (λ (c : Pair → ℕ). c p) prep.sent ∙ h.sent p;
-    settled = λ p. let P : (Pair → ℕ) → Type 0 = λ c. c p ≤ length (sent_of service.reactions old.journal p) in subst P (sym prep.settled) (h.settled p);
-    rows = λ p n. ap (λ (c : Messages). c p n) prep.unsettled ∙ h.unsettled p n ∙ ap (λ (c : Pair → ℕ). above (c p) (sent_of service.reactions old.journal p) n) (sym prep.settled);
+    settled = λ p. let P : (Pair → ℕ) → Type 0 = λ c. c p ≤ length (sent_of service.reactions old.journal p) in
+        subst P (sym prep.settled) (h.settled p);
+    rows = λ p n. ap (λ (c : Messages). c p n) prep.unsettled ∙ h.unsettled p n
+        ∙ ap (λ (c : Pair → ℕ). above (c p) (sent_of service.reactions old.journal p) n) (sym prep.settled);
   }
 
   module _ (h : TablesMatchJournal service old) (of_kind : row.entity.kind ≡ service.kind) (prep : Prepares service.kind old row first)
-      (room : length old.journal < MAX_NUMBER) (accepted : reaction service.reactions old.journal row ≡ Ok done) (fits : NumbersFit old.sent row.entity done.1) where
+      (room : length old.journal < MAX_NUMBER) (accepted : reaction service.reactions old.journal row ≡ Ok done)
+      (fits : NumbersFit old.sent row.entity done.1) where
     may : MayFollow service.reactions service.kind old.journal row
-    may = record { of_kind = of_kind; seated = prep.seated; accepted = is_ok_at (reaction service.reactions old.journal row) done accepted; next = prep.next }
+    may = record {
+      of_kind = of_kind;
+      seated = prep.seated;
+      accepted = is_ok_at (reaction service.reactions old.journal row) done accepted;
+      next = prep.next;
+    }
 
-    fits_all : (other : S × List Out) → reaction service.reactions old.journal row ≡ Ok other → NumbersFit (sent_counts service.reactions old.journal) row.entity other.1
+    fits_all : (other : S × List Out) → reaction service.reactions old.journal row ≡ Ok other
+        → NumbersFit (sent_counts service.reactions old.journal) row.entity other.1
     fits_all other e =
         let F : S × List Out → Type 0 = λ d. NumbersFit (sent_counts service.reactions old.journal) row.entity d.1 in
         let own_fits : NumbersFit (sent_counts service.reactions old.journal) row.entity done.1 = λ r some.
-        let P : ℕ → Type 0 = λ k. k + length (messages_to r done.1) ≤ MAX_NUMBER in subst P (h.sent (pair_of row.entity r)) (fits r some) in
+        let P : ℕ → Type 0 = λ k. k + length (messages_to r done.1) ≤ MAX_NUMBER in
+        subst P (h.sent (pair_between row.entity r)) (fits r some) in
         subst F (sym (same_done (reaction service.reactions old.journal row) done other accepted e)) own_fits
 
     pub taken-appends : Appends service old row (changed first old).held taken
@@ -107,21 +112,27 @@ module _ {S C : Type 0} (service : Service S C) (old : Tables S C) (position : �
         let u : Tables S C = changed letters ready in
         let v : Tables S C = changed rest u in
         let split : taken ≡ v = changed-append (first ++ letters) rest old ∙ ap (changed rest) (changed-append first letters old) in
-        let journal : u.journal ≡ j = numbering-keeps (λ (t : Tables S C). t.journal) (λ _ _. refl) old.sent e done.1 ready ∙ prep.journal in
-        let entity : u.entity ≡ old.entity = numbering-keeps (λ (t : Tables S C). t.entity) (λ _ _. refl) old.sent e done.1 ready ∙ prep.entity in
-        let settled : u.settled ≡ old.settled = numbering-keeps (λ (t : Tables S C). t.settled) (λ _ _. refl) old.sent e done.1 ready ∙ prep.settled in
+        let journal : u.journal ≡ j = numbering-keeps (λ (t : Tables S C). t.journal) (λ _ _. refl) old.sent e done.1 ready
+        ∙ prep.journal in
+        let entity : u.entity ≡ old.entity = numbering-keeps (λ (t : Tables S C). t.entity) (λ _ _. refl) old.sent e done.1 ready
+        ∙ prep.entity in
+        let settled : u.settled ≡ old.settled = numbering-keeps (λ (t : Tables S C). t.settled) (λ _ _. refl) old.sent e done.1 ready
+        ∙ prep.settled in
         let handled : u.handled ≡ ready.handled = numbering-keeps (λ (t : Tables S C). t.handled) (λ _ _. refl) old.sent e done.1 ready in
         let held : u.held ≡ ready.held = numbering-keeps (λ (t : Tables S C). t.held) (λ _ _. refl) old.sent e done.1 ready in
-        let before : IsOutbox ready (λ q. f q ++ own e [] q) = outbox-same ready f (λ q. f q ++ own e [] q) (λ q. none_sent (f q) (same_entity q.from e)) (ready_outbox h prep) in
+        let before : IsOutbox ready (λ q. f q ++ own e [] q) =
+        outbox-same ready f (λ q. f q ++ own e [] q) (λ q. none_sent (f q) (same_entity q.from e)) (ready_outbox h prep) in
         let numbered : IsOutbox u (λ q. f q ++ own e done.1 q) = numbering-outbox old.sent e f h.sent done.1 ready before in
         let after : List (JournalRow C) = j ++ row ∷ [] in
-        let outbox : IsOutbox u (sent_of service.reactions after) = outbox-same u (λ q. f q ++ own e done.1 q) (sent_of service.reactions after) (λ q. sym (sent_of-more service.reactions j row done accepted q)) numbered in
+        let outbox : IsOutbox u (sent_of service.reactions after) =
+        outbox-same u (λ q. f q ++ own e done.1 q) (sent_of service.reactions after)
+        (λ q. sym (sent_of-more service.reactions j row done accepted q)) numbered in
         let longer : v.journal ≡ after = ap (λ l. l ++ row ∷ []) journal in
         let set : Bool → Option S → Option S = λ b x. if b then row_for service.is_none done.0 else x in
         let matches : Matches after v = record {
           legal = legal-more service.reactions service.kind j row h.legal may;
           entities = λ x. ap (λ (c : Name → Option S). set (same_entity e x) (c x)) entity ∙ ap (set (same_entity e x)) (h.entities x)
-              ∙ ap (λ b. set b (row_of service.is_none (state_of service.reactions j x) (part x j))) (same_entity-comm e x) ∙ sym (row_of-more service.reactions service.is_none j row done accepted x);
+              ∙ ap (λ b. set b (row_of service j x)) (same_entity-comm e x) ∙ sym (row_of-more service j row done accepted x);
           outbox = record { count = outbox.count; settled = outbox.settled; rows = outbox.rows };
           handled = λ p. ap (λ (c : Pair → ℕ). c p) handled ∙ prep.handled p;
           held = λ p n some. let W : Messages → Type 0 = λ c. IsSome (c p n) in prep.held p n (subst W held some);

@@ -14,7 +14,7 @@ use Rattle.keep.specs.Tables.{Tables, Messages, set_message, set_mark}
 use Rattle.endpoint.specs.declared.answer.Committed.{Committed}
 use Rattle.endpoint.specs.declared.fault.EndFault.{EndFault}
 use Rattle.endpoint.specs.declared.fault.EndFault.TheVariants.{Business, StoreFailed}
-use Rattle.endpoint.specs.Answers.{pair_of, reaction, Takes}
+use Rattle.endpoint.specs.Answers.{pair_between, reaction, Takes}
 use Rattle.endpoint.specs.Matches.{MayBeHeld}
 
 -- the journal, the settled marks and the held letters
@@ -37,7 +37,7 @@ pub data Deed (C : Type 0) : Type 0 where
 -- the held letters after an input was taken in: a letter that was handled isn't held any more
 abbrev pub held_after : {C : Type 0} → Name → Input C → Messages → Messages
 held_after e (FromSeat seat command) held = held
-held_after e (FromEntity sender number message) held = set_message (pair_of sender e) number None held
+held_after e (FromEntity sender number message) held = set_message (pair_between sender e) number None held
 
 -- the first of two messages, where there is one
 abbrev pub or_else : Option Message → Option Message → Option Message
@@ -52,9 +52,12 @@ module _ {S C : Type 0} (service : Service S C) where
   -- the deed leads from what was kept to this
   abbrev pub Did : Kept C → Deed C → Kept C → Type 0
   Did x Nothing y = y ≡ x
-  Did x (TakesIn row) y = Takes service.reactions service.kind x.journal row y.journal × (y.settled ≡ x.settled) × (y.held ≡ held_after row.entity row.input x.held)
-  Did x (Holds l) y = MayBeHeld service.kind (handled_of x.journal l.pair) l.pair l.number × (suc (handled_of x.journal l.pair) < l.number) × (y ≡ record x { held = with_held l x.held })
-  Did x (Settles p n) y = (p.from.kind ≡ service.kind) × (n ≤ length (sent_of service.reactions x.journal p)) × (y ≡ record x { settled = set_mark p (max (x.settled p) n) x.settled })
+  Did x (TakesIn row) y = Takes service.reactions service.kind x.journal row y.journal × (y.settled ≡ x.settled)
+      × (y.held ≡ held_after row.entity row.input x.held)
+  Did x (Holds l) y = MayBeHeld service.kind (handled_of x.journal l.pair) l.pair l.number × (suc (handled_of x.journal l.pair) < l.number)
+      × (y ≡ record x { held = with_held l x.held })
+  Did x (Settles p n) y = (p.from.kind ≡ service.kind) × (n ≤ length (sent_of service.reactions x.journal p))
+      × (y ≡ record x { settled = set_mark p (max (x.settled p) n) x.settled })
 
   -- a content after a call comes of one before it, by a deed that is allowed there
   pub record Came (allowed : Kept C → Deed C → Type 0) (old : Tables S C → Type 0) (now : Tables S C) : Type 0 where

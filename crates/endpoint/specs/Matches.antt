@@ -5,11 +5,12 @@ use Rattle.base.specs.Entity.{Name}
 use Rattle.base.specs.declared.entity.Kind.{Kind}
 use Rattle.base.specs.declared.pair.Pair.{Pair}
 use Rattle.envelope.specs.declared.message.Message.{Message}
+use Rattle.activities.specs.Rows.{row_of}
 use Rattle.activities.specs.Service.{Service}
 use Rattle.activities.specs.Numbered.{nth}
 use Rattle.activities.specs.declared.input.JournalRow.{JournalRow}
 use Rattle.activities.specs.Reaction.{Reactions}
-use Rattle.activities.specs.Journal.{IsLegal, part, state_of, sent_of, handled_of, row_of}
+use Rattle.activities.specs.Journal.{IsLegal, sent_of, handled_of}
 use Rattle.keep.specs.Tables.{Tables, Messages}
 
 -- the messages by number, without those up to a mark
@@ -33,7 +34,7 @@ pub record MayBeHeld (kind : Kind) (handled : ℕ) (p : Pair) (n : ℕ) : Type 0
 -- to the mark; how many letters were handled; and letters that may be held.
 pub record TablesMatchJournal {S C : Type 0} (service : Service S C) (t : Tables S C) : Type 0 where
   pub legal : IsLegal service.reactions service.kind t.journal
-  pub entities : (e : Name) → t.entity e ≡ row_of service.is_none (state_of service.reactions t.journal e) (part e t.journal)
+  pub entities : (e : Name) → t.entity e ≡ row_of service t.journal e
   pub sent : (p : Pair) → t.sent p ≡ length (sent_of service.reactions t.journal p)
   pub settled : (p : Pair) → t.settled p ≤ length (sent_of service.reactions t.journal p)
   pub unsettled : (p : Pair) (n : ℕ) → t.unsettled p n ≡ unsettled_of service.reactions t.journal t.settled p n

@@ -1,11 +1,12 @@
 //! How an input is taken in: one transaction for the journal's row, the entity's row and what the entity sends.
 
 ghost use Rattle.std.specs.Prelude.{◌≡◌, ◌+◌, ◌*◌, ◌^◌, ◌≤◌, ◌<◌, ◌++◌, [], ◌∷◌, true, length, OnOk};
+ghost use Rattle.activities.specs.Rows.{row_for, state_for};
 ghost use Rattle.keep.specs.Law.{Reads, Writes};
 ghost use Rattle.keep.specs.Tables.{changed, ArePlaced};
 ghost use Rattle.keep.specs.declared.change.Change.TheVariants.{State, Journal};
 ghost use Rattle.endpoint.specs.Faults.{end_of};
-ghost use Rattle.endpoint.specs.Parts.Handling.{Handles, state_or, row_for};
+ghost use Rattle.endpoint.specs.Parts.Handling.{Handles};
 
 use crate::outbox::number_outs;
 use crate::{Committed, EndFault};
@@ -21,7 +22,8 @@ where
     H: Handler,
     K: Keep<State = H::State, Command = H::Command>,
     requires { (K.seen keep.old).usable ≡ true }
-    ensures { Reads K.seen keep.old keep.new (λ t state. state ≡ state_or H.service.reactions.opening (t.entity entity.now)) (end_of result) }
+    ensures { Reads K.seen keep.old keep.new (λ t state. state ≡ state_for H.service.reactions.opening (t.entity entity.now))
+        (end_of result) }
 {
     match keep.entity(alloc, entity)? {
         Some(state) => Ok(state),
@@ -89,7 +91,8 @@ where
     H: Handler,
     K: Keep<State = H::State, Command = H::Command>,
     requires { (K.seen keep.old).usable ≡ true }
-    ensures { let all = changes.items ++ State entity.now (row_for H.service.is_none state) ∷ Journal position (record { entity = entity.now; input = input }) ∷ [] in
+    ensures { let all = changes.items ++ State entity.now (row_for H.service.is_none state)
+        ∷ Journal position (record { entity = entity.now; input = input }) ∷ [] in
         Writes K.seen keep.old keep.new (ArePlaced all) (changed all) (end_of result) }
 {
     add_rows::<H>(alloc, position, entity, input, state, &mut changes)?;

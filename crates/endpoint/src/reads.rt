@@ -1,7 +1,8 @@
 //! The reads of an endpoint: each is one read of its store.
 
 ghost use Rattle.std.specs.Prelude.{◌≡◌, ◌-◌, length, take, drop};
-ghost use Rattle.activities.specs.Journal.{part, state_of, sent_of, handled_of, row_of};
+ghost use Rattle.activities.specs.Journal.{sent_of, handled_of};
+ghost use Rattle.activities.specs.Rows.{row_of};
 ghost use Rattle.keep.specs.Law.{Reads};
 ghost use Rattle.keep.specs.Listing.{AreFirst};
 ghost use Rattle.endpoint.specs.Matches.{unsettled_of};
@@ -28,7 +29,7 @@ where
     pub fn view(&mut self, alloc: Global, entity: &Entity) -> Result<Option<H::State>, EndFault>
         ensures view { Views K.seen self.old self.new H.service.kind entity.now result }
         ensures stays { Stays K.seen self.old self.new }
-        ensures answer { Answers K.seen self.old self.new H.service (λ journal row. row ≡ row_of H.service.is_none (state_of H.service.reactions journal entity.now) (part entity.now journal)) result }
+        ensures answer { Answers K.seen self.old self.new H.service (λ journal row. row ≡ row_of H.service journal entity.now) result }
     {
         if !self.keep.usable() {
             return Err(EndFault::Unusable);
@@ -47,7 +48,8 @@ where
     pub fn sent(&mut self, alloc: Global, pair: &Pair) -> Result<u64, EndFault>
         ensures read { Reads K.seen self.old self.new (λ t n. n ≡ t.sent pair.now) (end_of result) }
         ensures stays { Stays K.seen self.old self.new }
-        ensures answer { Answers K.seen self.old self.new H.service (λ journal n. n ≡ length (sent_of H.service.reactions journal pair.now)) result }
+        ensures answer { Answers K.seen self.old self.new H.service (λ journal n. n ≡ length (sent_of H.service.reactions journal pair.now))
+            result }
     {
         if !self.keep.usable() {
             return Err(EndFault::Unusable);
@@ -92,8 +94,11 @@ where
     ) -> Result<Vec<Letter>, EndFault>
         ensures read { Reads K.seen self.old self.new (λ t letters. AreFirst t.unsettled after.now limit letters.items) (end_of result) }
         ensures stays { Stays K.seen self.old self.new }
-        ensures answer { Answers K.seen self.old self.new H.service (λ journal letters. AreFirst (unsettled_of H.service.reactions journal (K.seen self.old).tables.settled) after.now limit letters.items) result }
-        ensures each { TellsOfEach K.seen self.old self.new H.service (λ t letters. AreFirst (unsettled_of H.service.reactions t.journal t.settled) after.now limit letters.items) result }
+        ensures answer { Answers K.seen self.old self.new H.service
+            (λ journal letters. AreFirst (unsettled_of H.service.reactions journal (K.seen self.old).tables.settled) after.now limit
+            letters.items) result }
+        ensures each { TellsOfEach K.seen self.old self.new H.service
+            (λ t letters. AreFirst (unsettled_of H.service.reactions t.journal t.settled) after.now limit letters.items) result }
     {
         if !self.keep.usable() {
             return Err(EndFault::Unusable);

@@ -15,7 +15,7 @@ use Rattle.keep.specs.declared.change.Place.{Place}
 use Rattle.keep.specs.declared.change.Change.TheVariants.{Journal, State, Handled}
 use Rattle.keep.specs.Tables.{Messages, set_message, without_upto}
 use Rattle.keep_plain.specs.Slots.{filled, at, SameAt}
-use Rattle.keep_plain.specs.Listed.{start_after, letter_in, letters_in, first_next}
+use Rattle.keep_plain.specs.Listed.{start_after, letter_in, letters_at, first_next}
 use Rattle.keep_plain.specs.Maps.{mark_of, with_mark, marks_at, messages_in, tables_in}
 use Rattle.keep_plain.specs.Memory.{in_memory}
 use Rattle.keep_plain.specs.Ready.{IsReady}
@@ -53,7 +53,8 @@ abbrev row_in : List (Name × Option ℕ) → Name → Option ℕ
 row_in es x = filled (lookup (λ y. is_eq (entity_cmp x y)) es)
 
 -- of two slots the filled one is a row
-rows_stand : (m : Maps ℕ ℕ) → m.rows.entries ≡ (o1, Some 8) ∷ (o2, None) ∷ [] → ((tables_in m).entity o1 ≡ Some 8) × ((tables_in m).entity o2 ≡ None) × ((tables_in m).entity bolts ≡ None)
+rows_stand : (m : Maps ℕ ℕ) → m.rows.entries ≡ (o1, Some 8) ∷ (o2, None) ∷ [] → ((tables_in m).entity o1 ≡ Some 8)
+    × ((tables_in m).entity o2 ≡ None) × ((tables_in m).entity bolts ≡ None)
 rows_stand m e = (ap (λ es. row_in es o1) e, ap (λ es. row_in es o2) e, ap (λ es. row_in es bolts) e)
 
 abbrev some_row : Option ℕ
@@ -71,11 +72,14 @@ a_row_changes : (old new : BTreeMap Name (Option ℕ)) → old.entries ≡ [] �
 a_row_changes old new e f h = let z : some_row ≡ None = sym (ap (λ es. row_in es o1) f) ∙ h o1 ∙ ap (λ es. row_in es o1) e in cc
 
 -- without slots a row of the journal may be added, and no mark be set
-slots_are_needed : (m : Maps ℕ ℕ) (row : JournalRow ℕ) → m.marks.entries ≡ [] → IsReady m (Journal 1 row) × (IsReady m (Handled there 1) → ⊥)
-slots_are_needed m row e = (tt, λ h. let z : false ≡ true = sym (ap (λ es. is_some (lookup (λ y. is_eq (pair_cmp there y)) es)) e) ∙ h in cc)
+slots_are_needed : (m : Maps ℕ ℕ) (row : JournalRow ℕ) → m.marks.entries ≡ [] → IsReady m (Journal 1 row)
+    × (IsReady m (Handled there 1) → ⊥)
+slots_are_needed m row e = (tt, λ h. let z : false ≡ true = sym (ap (λ es. is_some (lookup (λ y. is_eq (pair_cmp there y)) es)) e) ∙ h in
+    cc)
 
 -- nothing fails in memory, and what is seen is what stands there
-memory_never_fails : (m : Maps ℕ ℕ) → ((in_memory m).usable ≡ true) × ((in_memory m).doubt ≡ 0) × ((in_memory m).failures ≡ 0) × ((in_memory m).tables ≡ tables_in m)
+memory_never_fails : (m : Maps ℕ ℕ) → ((in_memory m).usable ≡ true) × ((in_memory m).doubt ≡ 0) × ((in_memory m).failures ≡ 0)
+    × ((in_memory m).tables ≡ tables_in m)
 memory_never_fails m = (refl, refl, refl, refl)
 
 -- ---- marks
@@ -93,10 +97,12 @@ abbrev slots : List (Place × Option Message)
 slots = (place there 1, Some (Request 3)) ∷ (place there 2, None) ∷ (place there 3, Some Confirm) ∷ []
 
 -- of three slots one is empty
-letters_are_read : letters_in slots ≡ record { pair = there; number = 1; message = Request 3 } ∷ record { pair = there; number = 3; message = Confirm } ∷ []
+letters_are_read : letters_at slots ≡ record { pair = there; number = 1; message = Request 3 }
+    ∷ record { pair = there; number = 3; message = Confirm } ∷ []
 letters_are_read = refl
 
-a_letter_is_read : (letter_in (place there 1) None ≡ []) × (letter_in (place there 1) (Some Confirm) ≡ record { pair = there; number = 1; message = Confirm } ∷ [])
+a_letter_is_read : (letter_in (place there 1) None ≡ [])
+    × (letter_in (place there 1) (Some Confirm) ≡ record { pair = there; number = 1; message = Confirm } ∷ [])
 a_letter_is_read = (refl, refl)
 
 -- a listing begins behind its place, or at the first of all
@@ -113,4 +119,5 @@ both = set_message there 1 (Some (Request 3)) (set_message there 2 (Some Confirm
 -- a settle up to 1 leaves the second letter: with both gone it's none, and with both there
 settles_are_exact : (EmptiesFrom there 0 1 both (λ _ _. None) → ⊥) × (EmptiesFrom there 0 1 both both → ⊥)
 unfolding same_entity same_pair
-settles_are_exact = (λ h. let z : None ≡ Some Confirm = h.above 2 (omega arith) in cc, λ h. let z : Some (Request 3) ≡ None = h.gone 1 (omega arith) (omega arith) in cc)
+settles_are_exact = (λ h. let z : None ≡ Some Confirm = h.above 2 (omega arith) in
+    cc, λ h. let z : Some (Request 3) ≡ None = h.gone 1 (omega arith) (omega arith) in cc)

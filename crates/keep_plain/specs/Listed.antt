@@ -18,9 +18,9 @@ letter_in x None = []
 letter_in x (Some message) = record { pair = x.pair; number = x.number; message = message } ∷ []
 
 -- the letters that stand in slots, in order
-abbrev pub letters_in : List (Place × Option Message) → List Letter
-letters_in [] = []
-letters_in (e ∷ es) = letter_in e.0 e.1 ++ letters_in es
+abbrev pub letters_at : List (Place × Option Message) → List Letter
+letters_at [] = []
+letters_at (e ∷ es) = letter_in e.0 e.1 ++ letters_at es
 
 -- the pair of the first message whose number is one more than what was handled of its pair
 abbrev pub first_next : (Pair → ℕ) → List (Place × Option Message) → Option Pair

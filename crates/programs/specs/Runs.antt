@@ -8,7 +8,7 @@ use Rattle.envelope.specs.declared.message.Letter.{Letter}
 use Rattle.activities.specs.declared.commands.OrderCommand.{OrderCommand}
 use Rattle.activities.specs.declared.input.Input.TheVariants.{FromSeat}
 use Rattle.activities.specs.declared.input.JournalRow.{JournalRow}
-use Rattle.activities.specs.Journal.{part, state_of, row_of}
+use Rattle.activities.specs.Rows.{row_of}
 use Rattle.activities.specs.Orders.{OrderState, order_reactions}
 use Rattle.activities.specs.Service.{Service}
 use Rattle.activities.specs.Faults.{refusal_number}
@@ -54,7 +54,7 @@ IsTaken row journal (Err fault) after = CommitAt order_reactions Order journal r
 
 -- what is shown of an order is its row; an entity of another kind is none of purchasing's
 abbrev pub IsShow : Name → Orders → Result (Vec ℕ) EndFault → Orders → Type 0
-IsShow e journal (Ok line) after = (after ≡ journal) × (e.kind ≡ Order) × (line.items ≡ show_line e (option_flatten (row_of is_none (state_of order_reactions journal e) (part e journal))))
+IsShow e journal (Ok line) after = (after ≡ journal) × (e.kind ≡ Order) × (line.items ≡ show_line e (option_flatten (row_of orders_service journal e)))
 IsShow e journal (Err NotMine) after = (after ≡ journal) × (e.kind ≢ Order)
 IsShow e journal (Err Memory) after = after ≡ journal
 IsShow e journal (Err _) after = ⊥

@@ -15,15 +15,6 @@ use Rattle.endpoint.specs.declared.fault.EndFault.{EndFault}
 use Rattle.endpoint.specs.Calls.{IsCommitCall, IsCommit}
 use Rattle.endpoint.specs.Matches.{MayBeHeld, AllMatch}
 
--- the state that a row stands for: its own, or the opening one where no row stands
-abbrev pub state_or : {S : Type 0} → S → Option S → S
-state_or opening (Some s) = s
-state_or opening None = opening
-
--- the row that stands for a state, or none
-abbrev pub row_for : {S : Type 0} → (S → Bool) → S → Option S
-row_for is_none s = if is_none s then None else Some s
-
 -- The first changes of a row that is taken in touch handled marks and held letters alone. The marks are then those of the journal with
 -- the row, and letters are held that may be then. A command is from a seat, and a letter is the next of its pair.
 pub record Prepares {S C : Type 0} (kind : Kind) (old : Tables S C) (row : JournalRow C) (first : List (Change S C)) : Type 0 where
@@ -38,7 +29,8 @@ pub record Prepares {S C : Type 0} (kind : Kind) (old : Tables S C) (row : Journ
   pub held : (p : Pair) (n : ℕ) → IsSome ((changed first old).held p n) → MayBeHeld kind (handled_of (old.journal ++ row ∷ []) p) p n
 
 -- a row is taken in, where these changes go with it
-abbrev pub Handles : {E S C : Type 0} → (E → Seen (Tables S C)) → E → E → Service S C → JournalRow C → List (Change S C) → Result Committed EndFault → Type 0
+abbrev pub Handles : {E S C : Type 0} → (E → Seen (Tables S C)) → E → E → Service S C → JournalRow C → List (Change S C)
+    → Result Committed EndFault → Type 0
 Handles seen old new service row first result = Tells seen old new (IsCommitCall seen old new service.kind row result)
     (AllMatch service (seen old).may_leave → Prepares service.kind (seen old).tables row first
     → IsCommit service (seen old).tables row (changed first (seen old).tables).held (seen new).tables (seen new).may_leave result)

@@ -14,7 +14,7 @@ use Rattle.endpoint.specs.declared.fault.EndFault.{EndFault}
 use Rattle.endpoint.specs.declared.fault.EndFault.TheVariants as endpoint
 use Rattle.endpoint.specs.declared.outbox.OutboxFault.{OutboxFault}
 use Rattle.endpoint.specs.declared.outbox.OutboxFault.TheVariants.{Store, NumberLimit}
-use Rattle.endpoint.specs.Answers.{pair_of}
+use Rattle.endpoint.specs.Answers.{pair_between}
 use Rattle.endpoint.specs.Faults.{end_fault_of}
 
 -- the cause that a fault of the outbox tells
@@ -42,7 +42,11 @@ IsLimit (Store _) = ⊥
 -- The letter of a message that an entity sends, where so many were sent on each pair and it sends `before` first: its number is one
 -- more than what went to its receiver so far.
 abbrev pub letter_to : (Pair → ℕ) → Name → List Out → Out → Letter
-letter_to sent e before o = record { pair = pair_of e o.receiver; number = sent (pair_of e o.receiver) + length (messages_to o.receiver before) + 1; message = o.message }
+letter_to sent e before o = record {
+  pair = pair_between e o.receiver;
+  number = sent (pair_between e o.receiver) + length (messages_to o.receiver before) + 1;
+  message = o.message;
+}
 
 -- the changes that put what it sends into the outbox: for each message, in order, its letter where it sends those before it first
 abbrev pub numbering : {S C : Type 0} → (Pair → ℕ) → Name → List Out → List (Change S C)
