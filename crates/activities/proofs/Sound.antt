@@ -1,5 +1,6 @@
 -- What always holds of an order, of a stock and of an account.
-use Rattle.std.proofs.Common.{◌≡◌, ℕ, ◌+◌, ◌≤◌, ◌≢◌, List, [], ◌∷◌, Bool, true, false, refl, ap, arith, sym, Option, Some, None, Result, Ok, Err, subst}
+use Rattle.std.proofs.Common.{◌≡◌, ℕ, ◌+◌, ◌≤◌, ◌≢◌, List, [], ◌∷◌, Bool, true, false, refl, ap, arith, sym, Option, Some, None, Result, Ok}
+use Rattle.std.proofs.Common.{Err, subst}
 use Rattle.std.specs.Prelude.{map, if◌then◌else◌, nat_le, nat_lt, ◌==◌, ◌&&◌, ◌||◌, is_none, IfOk}
 use Rattle.std.proofs.lemmas.Bool.Decides.{nat_tests}
 use Rattle.base.specs.Entity.{Name, stock_of, account_of}
@@ -24,7 +25,8 @@ use Rattle.activities.specs.declared.phase.LinePhase.TheVariants.{Held, Done, Re
 use Rattle.activities.specs.declared.phase.Phase.{Phase}
 use Rattle.activities.specs.Accounts.{AccountState, account_reactions, account_request, account_confirm, account_cancel, on_account_message}
 use Rattle.activities.specs.Lines.{Line, is_order, same_phase, line_of, with_line_phase, share_of, total}
-use Rattle.activities.specs.Orders.{Partner, OrderState, is_open, awaits, with_phase, all_tentative, all_in, partners_of, tentative_from, refused_by, on_order_message, order_reactions}
+use Rattle.activities.specs.Orders.{Partner, OrderState, is_open, awaits, with_phase, all_tentative, all_in, partners_of, tentative_from}
+use Rattle.activities.specs.Orders.{refused_by, on_order_message, order_reactions}
 use Rattle.activities.specs.Reaction.{Reactions, react, after_answer, state}
 use Rattle.activities.specs.Sound.{IsInvariant, AreStocksThenAccount, IsOrderSound, IsStockSound, IsAccountSound}
 use Rattle.activities.specs.Stocks.{StockState, stock_reactions, stock_request, stock_confirm, stock_cancel, on_stock_message}
@@ -33,12 +35,15 @@ use Rattle.activities.proofs.Reactions.{holds_along}
 
 -- ---- what the opening state has and each reaction keeps, every state has
 
-kept_by : {S : Type 0} (P : S → Type 0) (at : S × List Out) (answer : Result (S × List Out) Refusal) → P at.0 → IfOk answer (λ done. P done.0) → P (after_answer at answer).0
+kept_by : {S : Type 0} (P : S → Type 0) (at : S × List Out) (answer : Result (S × List Out) Refusal) → P at.0
+    → IfOk answer (λ done. P done.0) → P (after_answer at answer).0
 kept_by P at (Ok done) h k = k
 kept_by P at (Err refusal) h k = h
 
-pub invariant-always : {S C : Type 0} (t : Reactions S C) (P : S → Type 0) → IsInvariant t P → (inputs : List (Input C)) → P (state t inputs)
-invariant-always t P h inputs = holds_along t (λ _ at. P at.0) h.opening (λ _ x at was. kept_by P at (react t at.0 x) was (h.kept at.0 x was)) inputs
+pub invariant-always : {S C : Type 0} (t : Reactions S C) (P : S → Type 0) → IsInvariant t P → (inputs : List (Input C))
+    → P (state t inputs)
+invariant-always t P h inputs =
+    holds_along t (λ _ at. P at.0) h.opening (λ _ x at was. kept_by P at (react t at.0 x) was (h.kept at.0 x was)) inputs
 
 -- ---- orders
 
@@ -49,7 +54,8 @@ entities-with_phase : (e : Name) (phase : Phase) (ps : List Partner) → entitie
 entities-with_phase e phase [] = refl
 entities-with_phase e phase (p ∷ ps) = by_case (same_entity e p.entity) (entities-with_phase e phase ps)
   where
-    by_case : (t : Bool) → entities (with_phase e phase ps) ≡ entities ps → entities (if t then record p { phase = phase } ∷ ps else p ∷ with_phase e phase ps) ≡ p.entity ∷ entities ps
+    by_case : (t : Bool) → entities (with_phase e phase ps) ≡ entities ps
+        → entities (if t then record p { phase = phase } ∷ ps else p ∷ with_phase e phase ps) ≡ p.entity ∷ entities ps
     by_case true rest = refl
     by_case false rest = ap (λ es. p.entity ∷ es) rest
 
@@ -58,10 +64,12 @@ entities-all_in phase [] = refl
 entities-all_in phase (p ∷ ps) = ap (λ es. p.entity ∷ es) (entities-all_in phase ps)
 
 -- other phases, the same partners
-as_before : (ps later : List Partner) → entities later ≡ entities ps → AreStocksThenAccount (entities ps) → AreStocksThenAccount (entities later)
+as_before : (ps later : List Partner) → entities later ≡ entities ps → AreStocksThenAccount (entities ps)
+    → AreStocksThenAccount (entities later)
 as_before ps later e h = subst AreStocksThenAccount (sym e) h
 
-new_partners : (stock : List ℕ) (n : ℕ) (account : List ℕ) (amount : ℕ) → AreStocksThenAccount (entities (partners_of stock n account amount))
+new_partners : (stock : List ℕ) (n : ℕ) (account : List ℕ) (amount : ℕ)
+    → AreStocksThenAccount (entities (partners_of stock n account amount))
 new_partners stock n account amount = (refl, (apart, tt), refl)
   where
     apart : stock_of stock ≢ account_of account
@@ -70,20 +78,24 @@ new_partners stock n account amount = (refl, (apart, tt), refl)
 all_sound : (phase : Phase) (ps : List Partner) → AreStocksThenAccount (entities ps) → AreStocksThenAccount (entities (all_in phase ps))
 all_sound phase ps h = as_before ps (all_in phase ps) (entities-all_in phase ps) h
 
-phase_sound : (e : Name) (phase : Phase) (ps : List Partner) → AreStocksThenAccount (entities ps) → AreStocksThenAccount (entities (with_phase e phase ps))
+phase_sound : (e : Name) (phase : Phase) (ps : List Partner) → AreStocksThenAccount (entities ps)
+    → AreStocksThenAccount (entities (with_phase e phase ps))
 phase_sound e phase ps h = as_before ps (with_phase e phase ps) (entities-with_phase e phase ps) h
 
-order_command : (x : Option OrderState) (seat : ℕ) (c : OrderCommand) → IsOrderSound x → IfOk (react order_reactions x (FromSeat seat c)) (λ done. IsOrderSound done.0)
+order_command : (x : Option OrderState) (seat : ℕ) (c : OrderCommand) → IsOrderSound x
+    → IfOk (react order_reactions x (FromSeat seat c)) (λ done. IsOrderSound done.0)
 order_command None seat (Place stock n account amount) h = by_case (is_number n && is_number amount) refl
   where
-    by_case : (t : Bool) → (is_number n && is_number amount) ≡ t → IfOk (react order_reactions None (FromSeat seat (Place stock n account amount))) (λ done. IsOrderSound done.0)
+    by_case : (t : Bool) → (is_number n && is_number amount) ≡ t
+        → IfOk (react order_reactions None (FromSeat seat (Place stock n account amount))) (λ done. IsOrderSound done.0)
     by_case true e = rw e (new_partners stock n account amount)
     by_case false e = rw e tt
 order_command None seat CancelOrder h = tt
 order_command (Some o) seat (Place stock n account amount) h = tt
 order_command (Some o) seat CancelOrder h = by_case (is_open o.status) refl
   where
-    by_case : (t : Bool) → is_open o.status ≡ t → IfOk (react order_reactions (Some o) (FromSeat seat CancelOrder)) (λ done. IsOrderSound done.0)
+    by_case : (t : Bool) → is_open o.status ≡ t
+        → IfOk (react order_reactions (Some o) (FromSeat seat CancelOrder)) (λ done. IsOrderSound done.0)
     by_case true e = rw e (all_sound Phase.Cancelled o.partners h)
     by_case false e = rw e tt
 
@@ -110,7 +122,8 @@ order_message (Some o) s (Request n) h = h
 order_message (Some o) s Confirm h = h
 order_message (Some o) s Cancel h = h
 
-order_kept : (x : Option OrderState) (input : Input OrderCommand) → IsOrderSound x → IfOk (react order_reactions x input) (λ done. IsOrderSound done.0)
+order_kept : (x : Option OrderState) (input : Input OrderCommand) → IsOrderSound x
+    → IfOk (react order_reactions x input) (λ done. IsOrderSound done.0)
 order_kept x (FromSeat seat c) h = order_command x seat c h
 order_kept x (FromEntity s number m) h = order_message x s m h
 
@@ -130,7 +143,8 @@ is_held LinePhase.Refused h = absurd (cc)
 is_held Done h = absurd (cc)
 is_held Released h = absurd (cc)
 
-left : (p : LinePhase) (o : Name) (l : Line) (ls : List Line) → line_of o ls ≡ Some l → same_phase Held l.phase ≡ true → share_of Held (record l { phase = p }) ≡ 0 → Left p o l ls
+left : (p : LinePhase) (o : Name) (l : Line) (ls : List Line) → line_of o ls ≡ Some l → same_phase Held l.phase ≡ true
+    → share_of Held (record l { phase = p }) ≡ 0 → Left p o l ls
 left p o l ls at held none =
     let h = sum_by-with_phase (share_of Held) p o l ls at in
     let d = sum_by-with_phase (share_of Done) p o l ls at in
@@ -150,7 +164,8 @@ none_is (Some l) h = absurd (cc)
 
 -- ---- stocks
 
-stock_line : (x : StockState) (s : Name) (n : ℕ) → s.kind ≡ Order → line_of s x.lines ≡ None → IsStockSound x → IsStockSound (stock_request x s n).0
+stock_line : (x : StockState) (s : Name) (n : ℕ) → s.kind ≡ Order → line_of s x.lines ≡ None → IsStockSound x
+    → IsStockSound (stock_request x s n).0
 stock_line x s n kind none h = by_case (nat_le (x.held + n) x.on_hand) refl
   where
     by_case : (t : Bool) → nat_le (x.held + n) x.on_hand ≡ t → IsStockSound (stock_request x s n).0
@@ -158,32 +173,64 @@ stock_line x s n kind none h = by_case (nat_le (x.held + n) x.on_hand) refl
         let fits : x.held + n ≤ x.on_hand = grind (arith, nat_tests) in
         let a = sum_by-with (share_of Held) (record { order = s; n = n; phase = Held }) x.lines in
         let b = sum_by-with (share_of Done) (record { order = s; n = n; phase = Held }) x.lines in
-        rw e (record { conserved = h.conserved; bounded = h.bounded; covered = fits; held = omega arith; shipped = omega arith; lines = lines_sound-with (record { order = s; n = n; phase = Held }) x.lines kind none h.lines })
+        rw e (record {
+          conserved = h.conserved;
+          bounded = h.bounded;
+          covered = fits;
+          held = omega arith;
+          shipped = omega arith;
+          lines = lines_sound-with (record { order = s; n = n; phase = Held }) x.lines kind none h.lines;
+        })
     by_case false e =
         let a = sum_by-with (share_of Held) (record { order = s; n = n; phase = LinePhase.Refused }) x.lines in
         let b = sum_by-with (share_of Done) (record { order = s; n = n; phase = LinePhase.Refused }) x.lines in
-        rw e (record { conserved = h.conserved; bounded = h.bounded; covered = h.covered; held = omega arith; shipped = omega arith; lines = lines_sound-with (record { order = s; n = n; phase = LinePhase.Refused }) x.lines kind none h.lines })
+        rw e (record {
+          conserved = h.conserved;
+          bounded = h.bounded;
+          covered = h.covered;
+          held = omega arith;
+          shipped = omega arith;
+          lines = lines_sound-with (record { order = s; n = n; phase = LinePhase.Refused }) x.lines kind none h.lines;
+        })
 
 stock_ships : (x : StockState) (s : Name) (l : Option Line) → line_of s x.lines ≡ l → IsStockSound x → IsStockSound (stock_confirm x s l).0
 stock_ships x s None at h = h
 stock_ships x s (Some l) at h = by_case (same_phase Held l.phase) refl
   where
     by_case : (t : Bool) → same_phase Held l.phase ≡ t → IsStockSound (stock_confirm x s (Some l)).0
-    by_case true e = let m = left Done s l x.lines at e refl in rw e (record { conserved = omega arith; bounded = h.bounded; covered = omega arith; held = omega arith; shipped = omega arith; lines = lines_sound-with_phase s Done x.lines h.lines })
+    by_case true e = let m = left Done s l x.lines at e refl in
+        rw e (record {
+          conserved = omega arith;
+          bounded = h.bounded;
+          covered = omega arith;
+          held = omega arith;
+          shipped = omega arith;
+          lines = lines_sound-with_phase s Done x.lines h.lines;
+        })
     by_case false e = rw e h
 
-stock_releases : (x : StockState) (s : Name) (l : Option Line) → line_of s x.lines ≡ l → IsStockSound x → IsStockSound (stock_cancel x s l).0
+stock_releases : (x : StockState) (s : Name) (l : Option Line) → line_of s x.lines ≡ l → IsStockSound x
+    → IsStockSound (stock_cancel x s l).0
 stock_releases x s None at h = h
 stock_releases x s (Some l) at h = by_case (same_phase Held l.phase) refl
   where
     by_case : (t : Bool) → same_phase Held l.phase ≡ t → IsStockSound (stock_cancel x s (Some l)).0
-    by_case true e = let m = left Released s l x.lines at e refl in rw e (record { conserved = h.conserved; bounded = h.bounded; covered = omega arith; held = omega arith; shipped = omega arith; lines = lines_sound-with_phase s Released x.lines h.lines })
+    by_case true e = let m = left Released s l x.lines at e refl in
+        rw e (record {
+          conserved = h.conserved;
+          bounded = h.bounded;
+          covered = omega arith;
+          held = omega arith;
+          shipped = omega arith;
+          lines = lines_sound-with_phase s Released x.lines h.lines;
+        })
     by_case false e = rw e h
 
 stock_message : (x : StockState) (s : Name) (m : Message) → IsStockSound x → IsStockSound (on_stock_message x s m).0
 stock_message x s (Request n) h = by_case (is_order s.kind && is_none (line_of s x.lines)) refl
   where
-    by_case : (t : Bool) → (is_order s.kind && is_none (line_of s x.lines)) ≡ t → IsStockSound (if t then stock_request x s n else (x, [])).0
+    by_case : (t : Bool) → (is_order s.kind && is_none (line_of s x.lines)) ≡ t
+        → IsStockSound (if t then stock_request x s n else (x, [])).0
     by_case true e =
         let none : is_none (line_of s x.lines) ≡ true = grind arith in
         let kind : is_order s.kind ≡ true = grind arith in
@@ -194,27 +241,44 @@ stock_message x s Cancel h = stock_releases x s _ refl h
 stock_message x s Tentative h = h
 stock_message x s Refused h = h
 
-stock_kept : (x : StockState) (input : Input StockCommand) → IsStockSound x → IfOk (react stock_reactions x input) (λ done. IsStockSound done.0)
+stock_kept : (x : StockState) (input : Input StockCommand) → IsStockSound x
+    → IfOk (react stock_reactions x input) (λ done. IsStockSound done.0)
 stock_kept x (FromEntity s number m) h = stock_message x s m h
 stock_kept x (FromSeat seat (Receive n)) h = by_case (n == 0 || nat_lt 1099511627776 (x.received + n)) refl
   where
-    by_case : (t : Bool) → (n == 0 || nat_lt 1099511627776 (x.received + n)) ≡ t → IfOk (react stock_reactions x (FromSeat seat (Receive n))) (λ done. IsStockSound done.0)
+    by_case : (t : Bool) → (n == 0 || nat_lt 1099511627776 (x.received + n)) ≡ t
+        → IfOk (react stock_reactions x (FromSeat seat (Receive n))) (λ done. IsStockSound done.0)
     by_case true e = rw e tt
     by_case false e =
         let fits : x.received + n ≤ 1099511627776 = grind (arith, nat_tests) in
         let whole = h.conserved in
         let there = h.covered in
-        rw e (record { conserved = omega arith; bounded = fits; covered = omega arith; held = h.held; shipped = h.shipped; lines = h.lines })
+        rw e (record {
+          conserved = omega arith;
+          bounded = fits;
+          covered = omega arith;
+          held = h.held;
+          shipped = h.shipped;
+          lines = h.lines;
+        })
 
 pub stocks-invariant : IsInvariant stock_reactions IsStockSound
 stocks-invariant = record {
-  opening = record { conserved = refl; bounded = omega arith; covered = omega arith; held = refl; shipped = refl; lines = lines_sound-none };
+  opening = record {
+    conserved = refl;
+    bounded = omega arith;
+    covered = omega arith;
+    held = refl;
+    shipped = refl;
+    lines = lines_sound-none;
+  };
   kept = stock_kept;
 }
 
 -- ---- accounts
 
-account_line : (x : AccountState) (s : Name) (n : ℕ) → s.kind ≡ Order → line_of s x.lines ≡ None → IsAccountSound x → IsAccountSound (account_request x s n).0
+account_line : (x : AccountState) (s : Name) (n : ℕ) → s.kind ≡ Order → line_of s x.lines ≡ None → IsAccountSound x
+    → IsAccountSound (account_request x s n).0
 account_line x s n kind none h = by_case (nat_le (x.billed + x.held + n) x.limit) refl
   where
     by_case : (t : Bool) → nat_le (x.billed + x.held + n) x.limit ≡ t → IsAccountSound (account_request x s n).0
@@ -222,32 +286,61 @@ account_line x s n kind none h = by_case (nat_le (x.billed + x.held + n) x.limit
         let fits : x.billed + x.held + n ≤ x.limit = grind (arith, nat_tests) in
         let a = sum_by-with (share_of Held) (record { order = s; n = n; phase = Held }) x.lines in
         let b = sum_by-with (share_of Done) (record { order = s; n = n; phase = Held }) x.lines in
-        rw e (record { bounded = h.bounded; covered = omega arith; held = omega arith; billed = omega arith; lines = lines_sound-with (record { order = s; n = n; phase = Held }) x.lines kind none h.lines })
+        rw e (record {
+          bounded = h.bounded;
+          covered = omega arith;
+          held = omega arith;
+          billed = omega arith;
+          lines = lines_sound-with (record { order = s; n = n; phase = Held }) x.lines kind none h.lines;
+        })
     by_case false e =
         let a = sum_by-with (share_of Held) (record { order = s; n = n; phase = LinePhase.Refused }) x.lines in
         let b = sum_by-with (share_of Done) (record { order = s; n = n; phase = LinePhase.Refused }) x.lines in
-        rw e (record { bounded = h.bounded; covered = h.covered; held = omega arith; billed = omega arith; lines = lines_sound-with (record { order = s; n = n; phase = LinePhase.Refused }) x.lines kind none h.lines })
+        rw e (record {
+          bounded = h.bounded;
+          covered = h.covered;
+          held = omega arith;
+          billed = omega arith;
+          lines = lines_sound-with (record { order = s; n = n; phase = LinePhase.Refused }) x.lines kind none h.lines;
+        })
 
-account_bills : (x : AccountState) (s : Name) (l : Option Line) → line_of s x.lines ≡ l → IsAccountSound x → IsAccountSound (account_confirm x s l).0
+account_bills : (x : AccountState) (s : Name) (l : Option Line) → line_of s x.lines ≡ l → IsAccountSound x
+    → IsAccountSound (account_confirm x s l).0
 account_bills x s None at h = h
 account_bills x s (Some l) at h = by_case (same_phase Held l.phase) refl
   where
     by_case : (t : Bool) → same_phase Held l.phase ≡ t → IsAccountSound (account_confirm x s (Some l)).0
-    by_case true e = let m = left Done s l x.lines at e refl in rw e (record { bounded = h.bounded; covered = omega arith; held = omega arith; billed = omega arith; lines = lines_sound-with_phase s Done x.lines h.lines })
+    by_case true e = let m = left Done s l x.lines at e refl in
+        rw e (record {
+          bounded = h.bounded;
+          covered = omega arith;
+          held = omega arith;
+          billed = omega arith;
+          lines = lines_sound-with_phase s Done x.lines h.lines;
+        })
     by_case false e = rw e h
 
-account_releases : (x : AccountState) (s : Name) (l : Option Line) → line_of s x.lines ≡ l → IsAccountSound x → IsAccountSound (account_cancel x s l).0
+account_releases : (x : AccountState) (s : Name) (l : Option Line) → line_of s x.lines ≡ l → IsAccountSound x
+    → IsAccountSound (account_cancel x s l).0
 account_releases x s None at h = h
 account_releases x s (Some l) at h = by_case (same_phase Held l.phase) refl
   where
     by_case : (t : Bool) → same_phase Held l.phase ≡ t → IsAccountSound (account_cancel x s (Some l)).0
-    by_case true e = let m = left Released s l x.lines at e refl in rw e (record { bounded = h.bounded; covered = omega arith; held = omega arith; billed = omega arith; lines = lines_sound-with_phase s Released x.lines h.lines })
+    by_case true e = let m = left Released s l x.lines at e refl in
+        rw e (record {
+          bounded = h.bounded;
+          covered = omega arith;
+          held = omega arith;
+          billed = omega arith;
+          lines = lines_sound-with_phase s Released x.lines h.lines;
+        })
     by_case false e = rw e h
 
 account_message : (x : AccountState) (s : Name) (m : Message) → IsAccountSound x → IsAccountSound (on_account_message x s m).0
 account_message x s (Request n) h = by_case (is_order s.kind && is_none (line_of s x.lines)) refl
   where
-    by_case : (t : Bool) → (is_order s.kind && is_none (line_of s x.lines)) ≡ t → IsAccountSound (if t then account_request x s n else (x, [])).0
+    by_case : (t : Bool) → (is_order s.kind && is_none (line_of s x.lines)) ≡ t
+        → IsAccountSound (if t then account_request x s n else (x, [])).0
     by_case true e =
         let none : is_none (line_of s x.lines) ≡ true = grind arith in
         let kind : is_order s.kind ≡ true = grind arith in
@@ -258,11 +351,13 @@ account_message x s Cancel h = account_releases x s _ refl h
 account_message x s Tentative h = h
 account_message x s Refused h = h
 
-account_kept : (x : AccountState) (input : Input AccountCommand) → IsAccountSound x → IfOk (react account_reactions x input) (λ done. IsAccountSound done.0)
+account_kept : (x : AccountState) (input : Input AccountCommand) → IsAccountSound x
+    → IfOk (react account_reactions x input) (λ done. IsAccountSound done.0)
 account_kept x (FromEntity s number m) h = account_message x s m h
 account_kept x (FromSeat seat (SetLimit n)) h = by_case (nat_lt 1099511627776 n) (nat_lt n (x.billed + x.held)) refl refl
   where
-    by_case : (t u : Bool) → nat_lt 1099511627776 n ≡ t → nat_lt n (x.billed + x.held) ≡ u → IfOk (react account_reactions x (FromSeat seat (SetLimit n))) (λ done. IsAccountSound done.0)
+    by_case : (t u : Bool) → nat_lt 1099511627776 n ≡ t → nat_lt n (x.billed + x.held) ≡ u
+        → IfOk (react account_reactions x (FromSeat seat (SetLimit n))) (λ done. IsAccountSound done.0)
     by_case true u e f = rw e tt
     by_case false true e f = rw (e, f) tt
     by_case false false e f =

@@ -37,8 +37,16 @@ line order n phase = record { order = order; n = n; phase = phase }
 
 -- an order asks stocks, of which each differs from those behind it, and then one account
 stocks_and_then_an_account : AreStocksThenAccount (bolts ∷ acme ∷ []) × AreStocksThenAccount (bolts ∷ nuts ∷ acme ∷ [])
-    × IsOrderSound (Some (record { status = Open; partners = record { entity = bolts; n = 3; phase = Phase.Requested } ∷ record { entity = acme; n = 500; phase = Phase.Tentative } ∷ [] }))
-stocks_and_then_an_account = ((refl, (λ e. apart e, tt), refl), (refl, (λ e. others e, (λ e. apart e, tt)), (refl, (λ e. apart_too e, tt), refl)), (refl, (λ e. apart e, tt), refl))
+    × IsOrderSound (Some (record {
+      status = Open;
+      partners = record { entity = bolts; n = 3; phase = Phase.Requested } ∷ record { entity = acme; n = 500; phase = Phase.Tentative }
+          ∷ [];
+    }))
+stocks_and_then_an_account = (
+  (refl, (λ e. apart e, tt), refl),
+  (refl, (λ e. others e, (λ e. apart e, tt)), (refl, (λ e. apart_too e, tt), refl)),
+  (refl, (λ e. apart e, tt), refl),
+)
   where
     first : Name → ℕ
     first e = get_or e.key 0 0
@@ -102,14 +110,16 @@ abbrev account : ℕ → ℕ → ℕ → List Line → AccountState
 account limit billed held ls = record { limit = limit; billed = billed; held = held; lines = ls }
 
 -- all that ever came in may be there, and be 2^40; all of the limit may be used
-these_are_sound : IsStockSound (stock 1099511627770 3 6 1099511627776 both) × IsAccountSound (account 9 6 3 both) × IsAccountSound (account 1099511627776 0 0 [])
+these_are_sound : IsStockSound (stock 1099511627770 3 6 1099511627776 both) × IsAccountSound (account 9 6 3 both)
+    × IsAccountSound (account 1099511627776 0 0 [])
 these_are_sound = (
   record { conserved = refl; bounded = omega arith; covered = omega arith; held = refl; shipped = refl; lines = both_sound },
   record { bounded = omega arith; covered = omega arith; held = refl; billed = refl; lines = both_sound },
   record { bounded = omega arith; covered = omega arith; held = refl; billed = refl; lines = lines_sound-none },
 )
 
--- a bolt is gone; more is held than is there; more is held, or shipped, than the lines say; more came in than ever may; lines aren't in order
+-- a bolt is gone; more is held than is there; more is held, or shipped, than the lines say; more came in than ever may; lines aren't in
+-- order
 stocks_are_unsound :
     (IsStockSound (stock 9 0 0 10 []) → ⊥)
     × (IsStockSound (stock 2 3 0 2 (line o1 3 LinePhase.Held ∷ [])) → ⊥)
@@ -127,7 +137,8 @@ stocks_are_unsound = (
   λ h. let e = h.lines.in_order.0.0 in absurd (cc),
 )
 
--- the limit leaves too little for what is billed and held together; more is held, or billed, than the lines say; the limit is too great; an order has two lines
+-- the limit leaves too little for what is billed and held together; more is held, or billed, than the lines say; the limit is too great; an
+-- order has two lines
 accounts_are_unsound :
     (IsAccountSound (account 5 3 3 (line o1 3 LinePhase.Done ∷ line o2 3 LinePhase.Held ∷ [])) → ⊥)
     × (IsAccountSound (account 5 0 3 []) → ⊥)

@@ -15,7 +15,8 @@ use Rattle.activities.specs.Numbered.{numbered}
 use Rattle.activities.specs.Lines.{Line}
 use Rattle.activities.specs.Orders.{order_reactions}
 use Rattle.agreement.specs.Journals.{Journals, sent_by, sent_in, letters_by, letters_in, HandlesPrefixes}
-use Rattle.agreement.specs.Agreement.{states_in, line_by, line_at, IsShippedOrBilled, IsReleasedOrRefused, IsPartner, PartnersAgree, RefusedAreLeftAlone, AreSound}
+use Rattle.agreement.specs.Agreement.{states_in, line_by, line_at, IsShippedOrBilled, IsReleasedOrRefused, IsPartner, PartnersAgree}
+use Rattle.agreement.specs.Agreement.{RefusedAreLeftAlone, AreSound}
 use Rattle.agreement.proofs.Partners.{Heard, Told, ByPhase, ByLine, heard-left, stock_line-tells, account_line-tells}
 use Rattle.agreement.proofs.Orders.{order_tells, told-partner, Agreed, agreed, left_alone}
 use Rattle.activities.specs.Stocks.{stock_reactions}
@@ -34,19 +35,22 @@ heard-numbered m n [] h = h
 heard-numbered m n (x ∷ ms) (inl e) = inl e
 heard-numbered m n (x ∷ ms) (inr h) = inr (heard-numbered m (suc n) ms h)
 
-told-in : (js : Journals) → HandlesPrefixes js → (m : Message) (s r : Name) → Heard m (letters_in js (from_to s r)) → Told m (sent_in js (from_to s r))
+told-in : (js : Journals) → HandlesPrefixes js → (m : Message) (s r : Name) → Heard m (letters_in js (from_to s r))
+    → Told m (sent_in js (from_to s r))
 told-in js prefixes m s r h =
     let p = prefixes (from_to s r) in
     heard-numbered m 0 (sent_in js (from_to s r)) (subst (Heard m) p.1 (heard-left m (letters_in js (from_to s r)) p.0 h))
 
 -- a line tells what its stock or account heard of the order and told it
-line_tells : (js : Journals) (k : Kind) (at o : Name) (l : Line) → line_by (states_in js) o k at ≡ Some l → ByLine (Some l) (letters_by js k (from_to o at)) (sent_by js k (from_to at o))
+line_tells : (js : Journals) (k : Kind) (at o : Name) (l : Line) → line_by (states_in js) o k at ≡ Some l
+    → ByLine (Some l) (letters_by js k (from_to o at)) (sent_by js k (from_to at o))
 line_tells js Order at o l e = absurd (cc)
 line_tells js Stock at o l e = rw e at (stock_line-tells o (part at js.stocks))
 line_tells js Account at o l e = rw e at (account_line-tells o (part at js.accounts))
 
 -- what an order sends and handles stands in the journal of orders
-order_sent : (js : Journals) (o : Name) → o.kind ≡ Order → (r : Name) → sent_in js (from_to o r) ≡ messages_to r (course order_reactions (part o js.orders)).1
+order_sent : (js : Journals) (o : Name) → o.kind ≡ Order → (r : Name)
+    → sent_in js (from_to o r) ≡ messages_to r (course order_reactions (part o js.orders)).1
 order_sent js o k r = rw k refl
 
 order_handled : (js : Journals) (o : Name) → o.kind ≡ Order → (s : Name) → letters_in js (from_to s o) ≡ letters_from s (part o js.orders)
@@ -54,11 +58,14 @@ order_handled js o k s = rw k refl
 
 -- where a partner's line is done, no partner's line is released or refused
 one_way : (js : Journals) → HandlesPrefixes js → (o : Name) → o.kind ≡ Order → (p q : Name) → IsPartner ((states_in js).orders o) q
-    → (l : Line) → line_at (states_in js) o p ≡ Some l → l.phase ≡ Done → (m : Line) → line_at (states_in js) o q ≡ Some m → (m.phase ≡ Released) ⊎ (m.phase ≡ LinePhase.Refused) → ⊥
+    → (l : Line) → line_at (states_in js) o p ≡ Some l → l.phase ≡ Done → (m : Line) → line_at (states_in js) o q ≡ Some m
+    → (m.phase ≡ Released) ⊎ (m.phase ≡ LinePhase.Refused) → ⊥
 one_way js prefixes o k p q partner l at done m to undone = go undone
   where
     confirmed : Told Confirm (sent_in js (from_to o p))
-    confirmed = told-in js prefixes Confirm o p (let w : ByPhase l.phase (letters_in js (from_to o p)) (sent_in js (from_to p o)) = (line_tells js p.kind p o l at).1 in rw done at w)
+    confirmed = told-in js prefixes Confirm o p
+        (let w : ByPhase l.phase (letters_in js (from_to o p)) (sent_in js (from_to p o)) = (line_tells js p.kind p o l at).1 in
+        rw done at w)
 
     all : Agreed ((states_in js).orders o) (part o js.orders) (course order_reactions (part o js.orders)).1
     all = agreed ((states_in js).orders o) (part o js.orders) _ p (order_tells (part o js.orders)) (rw (order_sent js o k p) at confirmed)
@@ -83,23 +90,28 @@ none_or : (l : Option Line) → ((x : Line) → l ≡ Some x → ⊥) → IsNone
 none_or None f = refl
 none_or (Some x) f = absurd (f x refl)
 
-pub partners_agree : (js : Journals) → HandlesPrefixes js → (o : Name) → o.kind ≡ Order → PartnersAgree ((states_in js).orders o) (line_at (states_in js) o)
+pub partners_agree : (js : Journals) → HandlesPrefixes js → (o : Name) → o.kind ≡ Order
+    → PartnersAgree ((states_in js).orders o) (line_at (states_in js) o)
 partners_agree js prefixes o k = record {
   one_way = λ p q a b d u. go p q b (line_at (states_in js) o p) (line_at (states_in js) o q) refl refl d u;
   nowhere_else = λ at not. none_or (line_at (states_in js) o at) (λ l e.
       let asked = (line_tells js at.kind at o l e).0 in
-      not (told-partner ((states_in js).orders o) (part o js.orders) _ at (Request asked.0) (order_tells (part o js.orders)) (rw (order_sent js o k at) at (told-in js prefixes (Request asked.0) o at asked.1))));
+      not (told-partner ((states_in js).orders o) (part o js.orders) _ at (Request asked.0) (order_tells (part o js.orders))
+          (rw (order_sent js o k at) at (told-in js prefixes (Request asked.0) o at asked.1))));
 }
   where
-    go : (p q : Name) → IsPartner ((states_in js).orders o) q → (x y : Option Line) → line_at (states_in js) o p ≡ x → line_at (states_in js) o q ≡ y → IsShippedOrBilled x → IsReleasedOrRefused y → ⊥
+    go : (p q : Name) → IsPartner ((states_in js).orders o) q → (x y : Option Line) → line_at (states_in js) o p ≡ x
+        → line_at (states_in js) o q ≡ y → IsShippedOrBilled x → IsReleasedOrRefused y → ⊥
     go p q b None y e f d u = d
     go p q b (Some l) None e f d u = u
     go p q b (Some l) (Some m) e f d u = one_way js prefixes o k p q b l e d m f u
 
-pub refused_left : (js : Journals) (o : Name) → o.kind ≡ Order → RefusedAreLeftAlone ((states_in js).orders o) (λ p. sent_in js (from_to o p))
+pub refused_left : (js : Journals) (o : Name) → o.kind ≡ Order
+    → RefusedAreLeftAlone ((states_in js).orders o) (λ p. sent_in js (from_to o p))
 refused_left js o k p refused there =
     let told : Told Cancel (sent_in js (from_to o p)) = told_at Cancel (sent_in js (from_to o p)) there.0 there.1 there.2 in
-    left_alone ((states_in js).orders o) (part o js.orders) (course order_reactions (part o js.orders)).1 p (order_tells (part o js.orders)) refused (rw (order_sent js o k p) at told)
+    left_alone ((states_in js).orders o) (part o js.orders) (course order_reactions (part o js.orders)).1 p
+        (order_tells (part o js.orders)) refused (rw (order_sent js o k p) at told)
 
 -- ---- soundness
 

@@ -41,7 +41,8 @@ from_to sender receiver = record { from = sender; to = receiver }
 -- answer twice, and the stock says how far it has handled
 abbrev pub schedule : List Action
 schedule =
-    ToStock (codes "bolts") 0 (Receive 10) ∷ ToAccount (codes "acme") 0 (SetLimit 500) ∷ ToOrder (codes "o1") 0 (Place (codes "bolts") 3 (codes "acme") 500)
+    ToStock (codes "bolts") 0 (Receive 10) ∷ ToAccount (codes "acme") 0 (SetLimit 500)
+        ∷ ToOrder (codes "o1") 0 (Place (codes "bolts") 3 (codes "acme") 500)
     ∷ SendsLetter (from_to order stock) 1 ∷ Arrives 0 ∷ SendsLetter (from_to order account) 1 ∷ Arrives 0
     ∷ SendsLetter (from_to stock order) 1 ∷ Arrives 0 ∷ Arrives 0 ∷ SendsLetter (from_to account order) 1 ∷ Arrives 0
     ∷ SendsLetter (from_to order stock) 2 ∷ Arrives 0 ∷ SendsLetter (from_to order account) 2 ∷ Arrives 0
@@ -60,10 +61,12 @@ order_at status bolts acme = Some (record {
 
 -- the stock and the account, with the order's line in this phase
 abbrev pub stock_at : ℕ → ℕ → ℕ → LinePhase → StockState
-stock_at on_hand held shipped phase = record { on_hand = on_hand; held = held; shipped = shipped; received = 10; lines = record { order = order; n = 3; phase = phase } ∷ [] }
+stock_at on_hand held shipped phase =
+    record { on_hand = on_hand; held = held; shipped = shipped; received = 10; lines = record { order = order; n = 3; phase = phase } ∷ [] }
 
 abbrev pub account_at : ℕ → ℕ → LinePhase → AccountState
-account_at billed held phase = record { limit = 500; billed = billed; held = held; lines = record { order = order; n = 500; phase = phase } ∷ [] }
+account_at billed held phase = record
+    { limit = 500; billed = billed; held = held; lines = record { order = order; n = 500; phase = phase } ∷ [] }
 
 -- how the order comes to be confirmed
 pub record IsOnItsWay : Type 0 where

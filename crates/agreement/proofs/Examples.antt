@@ -74,7 +74,8 @@ unfolding same_entity
 others_are_not_authentic = (λ h. absurd (cc), λ h. absurd (cc), λ h. absurd (cc), λ h. absurd (cc))
 
 -- nothing was handled yet: a settle that says so is true, and one ahead of that isn't, though so much was sent
-a_settle_is_not_ahead : IsAuthentic (after_first 3).journals (Settle (from_to order stock) 0) × (IsAuthentic (after_first 3).journals (Settle (from_to order stock) 1) → ⊥)
+a_settle_is_not_ahead : IsAuthentic (after_first 3).journals (Settle (from_to order stock) 0)
+    × (IsAuthentic (after_first 3).journals (Settle (from_to order stock) 1) → ⊥)
 unfolding same_entity
 a_settle_is_not_ahead = (omega arith, λ h. omega arith)
 
@@ -92,7 +93,8 @@ a_wrong_settle_marks_nothing = refl
 abbrev unasked : Journals
 unasked = record {
   orders = [];
-  stocks = record { entity = stock; input = FromSeat 0 (Receive 10) } ∷ record { entity = stock; input = FromEntity order 1 (Request 3) } ∷ [];
+  stocks = record { entity = stock; input = FromSeat 0 (Receive 10) } ∷ record { entity = stock; input = FromEntity order 1 (Request 3) }
+      ∷ [];
   accounts = [];
 }
 
@@ -110,7 +112,8 @@ apart limit = record {
   orders = record { entity = order; input = FromSeat 0 (Place (codes "bolts") 3 (codes "acme") 500) } ∷ [];
   stocks = record { entity = stock; input = FromSeat 0 (Receive 10) } ∷ record { entity = stock; input = FromEntity order 1 (Request 3) }
       ∷ record { entity = stock; input = FromEntity order 2 Confirm } ∷ [];
-  accounts = record { entity = account; input = FromSeat 0 (SetLimit limit) } ∷ record { entity = account; input = FromEntity order 1 (Request 500) }
+  accounts = record { entity = account; input = FromSeat 0 (SetLimit limit) }
+      ∷ record { entity = account; input = FromEntity order 1 (Request 500) }
       ∷ record { entity = account; input = FromEntity order 2 Cancel } ∷ [];
 }
 
@@ -123,12 +126,14 @@ unfolding same_entity
 shipped_and_released h = h.one_way stock account (inl refl) (inr (inl refl)) refl (inl refl)
 
 -- an order that knows that its account refused has told its stock to cancel; it may not have told the account too
-the_refused_is_left_alone : RefusedAreLeftAlone (order_at Cancelled Phase.Cancelled Phase.Refused) (λ p. if same_entity p stock then Cancel ∷ [] else [])
+the_refused_is_left_alone : RefusedAreLeftAlone (order_at Cancelled Phase.Cancelled Phase.Refused)
+    (λ p. if same_entity p stock then Cancel ∷ [] else [])
     × (RefusedAreLeftAlone (order_at Cancelled Phase.Cancelled Phase.Refused) (λ p. Cancel ∷ []) → ⊥)
 unfolding same_entity
 the_refused_is_left_alone = (alone, λ h. h account (inr (inl (refl, refl))) (0, omega arith, refl))
   where
-    alone : (p : Name) → HasRefused (order_at Cancelled Phase.Cancelled Phase.Refused) p → Contains (if same_entity p stock then Cancel ∷ [] else []) Cancel → ⊥
+    alone : (p : Name) → HasRefused (order_at Cancelled Phase.Cancelled Phase.Refused) p
+        → Contains (if same_entity p stock then Cancel ∷ [] else []) Cancel → ⊥
     alone p (inl e) told = let phases = e.1 in absurd (cc)
     alone p (inr (inl e)) told = let none : Contains [] Cancel = rw e.0 at told in let short = none.1 in omega arith
     alone p (inr (inr e)) told = e
@@ -145,7 +150,8 @@ a_mark_is_raised = (
   mark_raises (from_to order stock) 2 (λ pair. 1),
   record { own = refl; others = λ other apart. refl },
   λ h. let own = h.own in omega arith,
-  λ h. let other = h.others (from_to order account) (λ same. let kinds : Account ≡ Stock = ap (λ pair. pair.to.kind) same in absurd (cc)) in omega arith,
+  λ h. let other = h.others (from_to order account) (λ same. let kinds : Account ≡ Stock = ap (λ pair. pair.to.kind) same in absurd (cc)) in
+      omega arith,
 )
 
 -- a command is a step from the beginning on; nothing is reached without one

@@ -1,5 +1,6 @@
 -- One more row of one service, and one mark raised, keep the journals lawful, the marks behind the handling, and every envelope authentic.
-use Rattle.std.proofs.Common.{◌≡◌, ℕ, suc, ◌≤◌, Bool, true, false, List, [], ◌∷◌, ◌++◌, ◌⊎◌, refl, arith, sym, inl, inr, Some, length, subst}
+use Rattle.std.proofs.Common.{◌≡◌, ℕ, suc, ◌≤◌, Bool, true, false, List, [], ◌∷◌, ◌++◌, ◌⊎◌, refl, arith, sym, inl, inr, Some, length}
+use Rattle.std.proofs.Common.{subst}
 use Rattle.base.specs.Entity.{Name}
 use Rattle.base.proofs.Entities.{same_pair-Decides}
 use Rattle.base.specs.Order.{same_pair}
@@ -32,7 +33,8 @@ use Rattle.agreement.specs.Growth.{IsFrom, AddsRowFrom, AddsRow, AddsOrder, Adds
 -- each pair handled nothing more, or the next message that its sender's journal sends
 abbrev pub HandlesNext : Journals → Pair → List (ℕ × Message) → List (ℕ × Message) → Type 0
 HandlesNext js pair before later =
-    (later ≡ before) ⊎ ((m : Message) × (later ≡ before ++ (suc (length before), m) ∷ []) × (nth (sent_in js pair) (suc (length before)) ≡ Some m))
+    (later ≡ before) ⊎ ((m : Message) × (later ≡ before ++ (suc (length before), m) ∷ [])
+        × (nth (sent_in js pair) (suc (length before)) ≡ Some m))
 
 -- a step of the three journals: what was sent goes on where it ended
 pub record Follows (js later : Journals) : Type 0 where
@@ -41,27 +43,34 @@ pub record Follows (js later : Journals) : Type 0 where
 
 -- ---- rows of letters that are known to be authentic
 
-from-known : {C : Type 0} (known more : Envelope → Type 0) (e : Name) (input : Input C) → ((x : Envelope) → known x → more x) → IsFrom known e input → IsFrom more e input
+from-known : {C : Type 0} (known more : Envelope → Type 0) (e : Name) (input : Input C) → ((x : Envelope) → known x → more x)
+    → IsFrom known e input → IsFrom more e input
 from-known known more e (FromSeat seat c) all h = tt
 from-known known more e (FromEntity s n m) all h = all _ h
 
-pub adds-known : (known more : Envelope → Type 0) (js later : Journals) → ((x : Envelope) → known x → more x) → AddsRowFrom known js later → AddsRowFrom more js later
+pub adds-known : (known more : Envelope → Type 0) (js later : Journals) → ((x : Envelope) → known x → more x) → AddsRowFrom known js later
+    → AddsRowFrom more js later
 adds-known known more js later all (AddsOrder row may from e) = AddsOrder row may (from-known known more row.entity row.input all from) e
 adds-known known more js later all (AddsStock row may from e) = AddsStock row may (from-known known more row.entity row.input all from) e
-adds-known known more js later all (AddsAccount row may from e) = AddsAccount row may (from-known known more row.entity row.input all from) e
+adds-known known more js later all (AddsAccount row may from e) =
+    AddsAccount row may (from-known known more row.entity row.input all from) e
 
 -- ---- one row
 
 abbrev pair_of : Name → Name → Pair
 pair_of s r = record { from = s; to = r }
 
-row_handles : {C : Type 0} (js : Journals) (rows : List (JournalRow C)) (e : Name) (input : Input C) → HasNextNumber rows e input → IsFrom (IsAuthentic js) e input
+row_handles : {C : Type 0} (js : Journals) (rows : List (JournalRow C)) (e : Name) (input : Input C) → HasNextNumber rows e input
+    → IsFrom (IsAuthentic js) e input
     → (pair : Pair) → HandlesNext js pair (letters_of rows pair) (letters_of (rows ++ record { entity = e; input = input } ∷ []) pair)
 row_handles js rows e (FromSeat seat c) next genuine pair = inl (letters_of-command rows e seat c pair)
-row_handles js rows e (FromEntity from n m) next genuine pair = either (letters_of-cases rows (pair_of from e) n m pair) inl (λ h. inr (own h.0 h.1 h.2))
+row_handles js rows e (FromEntity from n m) next genuine pair =
+    either (letters_of-cases rows (pair_of from e) n m pair) inl (λ h. inr (own h.0 h.1 h.2))
   where
-    own : pair.from ≡ from → pair.to ≡ e → letters_of (rows ++ record { entity = e; input = FromEntity from n m } ∷ []) pair ≡ letters_of rows pair ++ (n, m) ∷ []
-        → (k : Message) × (letters_of (rows ++ record { entity = e; input = FromEntity from n m } ∷ []) pair ≡ letters_of rows pair ++ (suc (handled_of rows pair), k) ∷ []) × (nth (sent_in js pair) (suc (handled_of rows pair)) ≡ Some k)
+    own : pair.from ≡ from → pair.to ≡ e
+        → letters_of (rows ++ record { entity = e; input = FromEntity from n m } ∷ []) pair ≡ letters_of rows pair ++ (n, m) ∷ []
+        → (k : Message) × (letters_of (rows ++ record { entity = e; input = FromEntity from n m } ∷ []) pair ≡ letters_of rows pair
+            ++ (suc (handled_of rows pair), k) ∷ []) × (nth (sent_in js pair) (suc (handled_of rows pair)) ≡ Some k)
     own f t letters =
         let same : pair_of from e ≡ pair = λ i. record { from = sym f i; to = sym t i } in
         let number : n ≡ suc (handled_of rows pair) = subst (λ p. n ≡ suc (handled_of rows p)) same next in
@@ -69,44 +78,53 @@ row_handles js rows e (FromEntity from n m) next genuine pair = either (letters_
         (m, rw (← number) letters, subst (λ (k : ℕ). nth (sent_in js pair) k ≡ Some m) number here)
 
 adds-follows : (js later : Journals) → AddsRow js later → Follows js later
-adds-follows js later (AddsOrder row may genuine e) = rw e (record { sent = λ pair. sent pair.from.kind pair; handled = λ pair. handled pair.to.kind pair })
+adds-follows js later (AddsOrder row may genuine e) =
+    rw e (record { sent = λ pair. sent pair.from.kind pair; handled = λ pair. handled pair.to.kind pair })
   where
     sent : (k : Kind) (pair : Pair) → IsPrefixOf (sent_by js k pair) (sent_by (record js { orders = js.orders ++ row ∷ [] }) k pair)
     sent Order pair = sent_of-grows order_reactions js.orders (row ∷ []) pair
     sent Stock pair = prefix-same _ _ refl
     sent Account pair = prefix-same _ _ refl
 
-    handled : (k : Kind) (pair : Pair) → HandlesNext js pair (letters_by js k pair) (letters_by (record js { orders = js.orders ++ row ∷ [] }) k pair)
+    handled : (k : Kind) (pair : Pair)
+        → HandlesNext js pair (letters_by js k pair) (letters_by (record js { orders = js.orders ++ row ∷ [] }) k pair)
     handled Order pair = row_handles js js.orders row.entity row.input may.next genuine pair
     handled Stock pair = inl refl
     handled Account pair = inl refl
-adds-follows js later (AddsStock row may genuine e) = rw e (record { sent = λ pair. sent pair.from.kind pair; handled = λ pair. handled pair.to.kind pair })
+adds-follows js later (AddsStock row may genuine e) =
+    rw e (record { sent = λ pair. sent pair.from.kind pair; handled = λ pair. handled pair.to.kind pair })
   where
     sent : (k : Kind) (pair : Pair) → IsPrefixOf (sent_by js k pair) (sent_by (record js { stocks = js.stocks ++ row ∷ [] }) k pair)
     sent Order pair = prefix-same _ _ refl
     sent Stock pair = sent_of-grows stock_reactions js.stocks (row ∷ []) pair
     sent Account pair = prefix-same _ _ refl
 
-    handled : (k : Kind) (pair : Pair) → HandlesNext js pair (letters_by js k pair) (letters_by (record js { stocks = js.stocks ++ row ∷ [] }) k pair)
+    handled : (k : Kind) (pair : Pair)
+        → HandlesNext js pair (letters_by js k pair) (letters_by (record js { stocks = js.stocks ++ row ∷ [] }) k pair)
     handled Order pair = inl refl
     handled Stock pair = row_handles js js.stocks row.entity row.input may.next genuine pair
     handled Account pair = inl refl
-adds-follows js later (AddsAccount row may genuine e) = rw e (record { sent = λ pair. sent pair.from.kind pair; handled = λ pair. handled pair.to.kind pair })
+adds-follows js later (AddsAccount row may genuine e) =
+    rw e (record { sent = λ pair. sent pair.from.kind pair; handled = λ pair. handled pair.to.kind pair })
   where
     sent : (k : Kind) (pair : Pair) → IsPrefixOf (sent_by js k pair) (sent_by (record js { accounts = js.accounts ++ row ∷ [] }) k pair)
     sent Order pair = prefix-same _ _ refl
     sent Stock pair = prefix-same _ _ refl
     sent Account pair = sent_of-grows account_reactions js.accounts (row ∷ []) pair
 
-    handled : (k : Kind) (pair : Pair) → HandlesNext js pair (letters_by js k pair) (letters_by (record js { accounts = js.accounts ++ row ∷ [] }) k pair)
+    handled : (k : Kind) (pair : Pair)
+        → HandlesNext js pair (letters_by js k pair) (letters_by (record js { accounts = js.accounts ++ row ∷ [] }) k pair)
     handled Order pair = inl refl
     handled Stock pair = inl refl
     handled Account pair = row_handles js js.accounts row.entity row.input may.next genuine pair
 
 legal-later : (js later : Journals) → AddsRow js later → AreLegal js → AreLegal later
-legal-later js later (AddsOrder row may genuine e) h = rw e (record { orders = legal-more order_reactions Order js.orders row h.orders may; stocks = h.stocks; accounts = h.accounts })
-legal-later js later (AddsStock row may genuine e) h = rw e (record { orders = h.orders; stocks = legal-more stock_reactions Stock js.stocks row h.stocks may; accounts = h.accounts })
-legal-later js later (AddsAccount row may genuine e) h = rw e (record { orders = h.orders; stocks = h.stocks; accounts = legal-more account_reactions Account js.accounts row h.accounts may })
+legal-later js later (AddsOrder row may genuine e) h =
+    rw e (record { orders = legal-more order_reactions Order js.orders row h.orders may; stocks = h.stocks; accounts = h.accounts })
+legal-later js later (AddsStock row may genuine e) h =
+    rw e (record { orders = h.orders; stocks = legal-more stock_reactions Stock js.stocks row h.stocks may; accounts = h.accounts })
+legal-later js later (AddsAccount row may genuine e) h =
+    rw e (record { orders = h.orders; stocks = h.stocks; accounts = legal-more account_reactions Account js.accounts row h.accounts may })
 
 -- ---- what follows
 
@@ -118,7 +136,8 @@ prefixes-later js later f h pair = prefix_trans _ _ _
     (numbered-prefix 0 (sent_in js pair) (sent_in later pair) (f.sent pair))
 
 pub lawful-later : (js later : Journals) → AddsRow js later → AreLawful js → AreLawful later
-lawful-later js later adds h = record { legal = legal-later js later adds h.legal; prefixes = prefixes-later js later (adds-follows js later adds) h.prefixes }
+lawful-later js later adds h = record
+    { legal = legal-later js later adds h.legal; prefixes = prefixes-later js later (adds-follows js later adds) h.prefixes }
 
 orders_grow : (js : Journals) (more : List (JournalRow OrderCommand)) → Grows js (record js { orders = js.orders ++ more })
 orders_grow js more = record { sent = λ pair. sent pair.from.kind pair; handled = λ pair. handled pair.to.kind pair }
@@ -128,7 +147,8 @@ orders_grow js more = record { sent = λ pair. sent pair.from.kind pair; handled
     sent Stock pair = prefix-same _ _ refl
     sent Account pair = prefix-same _ _ refl
 
-    handled : (k : Kind) (pair : Pair) → length (letters_by js k pair) ≤ length (letters_by (record js { orders = js.orders ++ more }) k pair)
+    handled : (k : Kind) (pair : Pair)
+        → length (letters_by js k pair) ≤ length (letters_by (record js { orders = js.orders ++ more }) k pair)
     handled Order pair = handled_of-grows js.orders more pair
     handled Stock pair = omega arith
     handled Account pair = omega arith
@@ -141,7 +161,8 @@ stocks_grow js more = record { sent = λ pair. sent pair.from.kind pair; handled
     sent Stock pair = sent_of-grows stock_reactions js.stocks more pair
     sent Account pair = prefix-same _ _ refl
 
-    handled : (k : Kind) (pair : Pair) → length (letters_by js k pair) ≤ length (letters_by (record js { stocks = js.stocks ++ more }) k pair)
+    handled : (k : Kind) (pair : Pair)
+        → length (letters_by js k pair) ≤ length (letters_by (record js { stocks = js.stocks ++ more }) k pair)
     handled Order pair = omega arith
     handled Stock pair = handled_of-grows js.stocks more pair
     handled Account pair = omega arith
@@ -154,7 +175,8 @@ accounts_grow js more = record { sent = λ pair. sent pair.from.kind pair; handl
     sent Stock pair = prefix-same _ _ refl
     sent Account pair = sent_of-grows account_reactions js.accounts more pair
 
-    handled : (k : Kind) (pair : Pair) → length (letters_by js k pair) ≤ length (letters_by (record js { accounts = js.accounts ++ more }) k pair)
+    handled : (k : Kind) (pair : Pair)
+        → length (letters_by js k pair) ≤ length (letters_by (record js { accounts = js.accounts ++ more }) k pair)
     handled Order pair = omega arith
     handled Stock pair = omega arith
     handled Account pair = handled_of-grows js.accounts more pair
@@ -183,11 +205,13 @@ authentic-later js later g (Letter l) h = nth-prefix l.number l.message (sent_in
 authentic-later js later g (Settle pair count) h = let l = g.handled pair in omega arith
 
 -- and marks stay behind
-pub settled-later : (js later : Journals) → Grows js later → (settled : Pair → ℕ) → SettledAreHandled js settled → SettledAreHandled later settled
+pub settled-later : (js later : Journals) → Grows js later → (settled : Pair → ℕ) → SettledAreHandled js settled
+    → SettledAreHandled later settled
 settled-later js later g settled h pair = let l = g.handled pair in let k = h pair in omega arith
 
 -- also where one is raised to what was handled
-pub raised-handled : (js : Journals) (pair : Pair) (count : ℕ) (settled later : Pair → ℕ) → IsAuthentic js (Settle pair count) → Raises pair count settled later → SettledAreHandled js settled → SettledAreHandled js later
+pub raised-handled : (js : Journals) (pair : Pair) (count : ℕ) (settled later : Pair → ℕ) → IsAuthentic js (Settle pair count)
+    → Raises pair count settled later → SettledAreHandled js settled → SettledAreHandled js later
 raised-handled js pair count settled later a raises h other = by_case (same_pair other pair) refl
   where
     by_case : (b : Bool) → same_pair other pair ≡ b → later other ≤ handled_in js other

@@ -1,5 +1,6 @@
 -- A machine of actions, by which the examples compute: what each does is a step, or nothing.
-use Rattle.std.proofs.Common.{◌≡◌, ℕ, zero, suc, ◌≤◌, List, [], ◌∷◌, ◌++◌, Bool, true, false, ◌⊎◌, ◌≢◌, refl, ap, arith, inl, inr, Option, Some, None, Result, Ok, Err, length}
+use Rattle.std.proofs.Common.{◌≡◌, ℕ, zero, suc, ◌≤◌, List, [], ◌∷◌, ◌++◌, Bool, true, false, ◌⊎◌, ◌≢◌, refl, ap, arith, inl, inr, Option}
+use Rattle.std.proofs.Common.{Some, None, Result, Ok, Err, length}
 use Rattle.std.specs.Prelude.{Contains, slice_get, max, ◌==◌, nat_le, nat_lt, if◌then◌else◌}
 use Rattle.std.proofs.lemmas.Bool.Decides.{nat_tests}
 use Rattle.base.specs.Entity.{Name, order_of, stock_of, account_of}
@@ -58,9 +59,12 @@ with_command t e seat command rows =
 
 -- the journals after a receiver of this kind took a letter in
 abbrev pub with_letter : Journals → Kind → LetterOf → Journals
-with_letter js Order l = record js { orders = js.orders ++ record { entity = l.pair.to; input = FromEntity l.pair.from l.number l.message } ∷ [] }
-with_letter js Stock l = record js { stocks = js.stocks ++ record { entity = l.pair.to; input = FromEntity l.pair.from l.number l.message } ∷ [] }
-with_letter js Account l = record js { accounts = js.accounts ++ record { entity = l.pair.to; input = FromEntity l.pair.from l.number l.message } ∷ [] }
+with_letter js Order l = record js
+    { orders = js.orders ++ record { entity = l.pair.to; input = FromEntity l.pair.from l.number l.message } ∷ [] }
+with_letter js Stock l = record js
+    { stocks = js.stocks ++ record { entity = l.pair.to; input = FromEntity l.pair.from l.number l.message } ∷ [] }
+with_letter js Account l = record js
+    { accounts = js.accounts ++ record { entity = l.pair.to; input = FromEntity l.pair.from l.number l.message } ∷ [] }
 
 -- the marks with one pair's at least this
 abbrev pub with_mark : Pair → ℕ → (Pair → ℕ) → Pair → ℕ
@@ -70,8 +74,10 @@ with_mark of count settled pair = if same_pair pair of then max (settled pair) c
 -- early changes nothing, and may arrive again, as one that was held does when its turn comes.
 abbrev pub arrives : Configuration → Option Envelope → Configuration
 arrives w None = w
-arrives w (Some (Letter l)) = if l.number == suc (handled_in w.journals l.pair) then record w { journals = with_letter w.journals l.pair.to.kind l } else w
-arrives w (Some (Settle pair count)) = if nat_le count (length (sent_in w.journals pair)) then record w { settled = with_mark pair count w.settled } else w
+arrives w (Some (Letter l)) = if l.number == suc
+    (handled_in w.journals l.pair) then record w { journals = with_letter w.journals l.pair.to.kind l } else w
+arrives w (Some (Settle pair count)) =
+    if nat_le count (length (sent_in w.journals pair)) then record w { settled = with_mark pair count w.settled } else w
 
 -- a letter with this number is sent, if there is such a message
 abbrev pub sends : Configuration → Pair → ℕ → Option Message → Configuration
@@ -80,9 +86,12 @@ sends w pair number (Some m) = record w { sent = Letter (record { pair = pair; n
 
 -- the configuration after one action
 abbrev pub act : Configuration → Action → Configuration
-act w (ToOrder key seat c) = record w { journals = record w.journals { orders = with_command order_reactions (order_of key) seat c w.journals.orders } }
-act w (ToStock key seat c) = record w { journals = record w.journals { stocks = with_command stock_reactions (stock_of key) seat c w.journals.stocks } }
-act w (ToAccount key seat c) = record w { journals = record w.journals { accounts = with_command account_reactions (account_of key) seat c w.journals.accounts } }
+act w (ToOrder key seat c) = record w
+    { journals = record w.journals { orders = with_command order_reactions (order_of key) seat c w.journals.orders } }
+act w (ToStock key seat c) = record w
+    { journals = record w.journals { stocks = with_command stock_reactions (stock_of key) seat c w.journals.stocks } }
+act w (ToAccount key seat c) = record w
+    { journals = record w.journals { accounts = with_command account_reactions (account_of key) seat c w.journals.accounts } }
 act w (SendsLetter pair number) = sends w pair number (nth (sent_in w.journals pair) number)
 act w (SendsSettle pair) = record w { sent = Settle pair (handled_in w.journals pair) ∷ w.sent }
 act w (Arrives which) = arrives w (slice_get w.sent which)
@@ -98,11 +107,13 @@ act_all (a ∷ actions) w = act_all actions (act w a)
 abbrev Commanded : {S C : Type 0} → Reactions S C → Kind → List (JournalRow C) → JournalRow C → List (JournalRow C) → Type 0
 Commanded t kind rows row later = (later ≡ rows) ⊎ (MayFollow t kind rows row × (later ≡ rows ++ row ∷ []))
 
-answered : {S C : Type 0} (t : Reactions S C) (kind : Kind) (e : Name) (seat : ℕ) (c : C) (rows : List (JournalRow C)) (answer : Result (S × List Out) Refusal)
+answered : {S C : Type 0} (t : Reactions S C) (kind : Kind) (e : Name) (seat : ℕ) (c : C) (rows : List (JournalRow C))
+    (answer : Result (S × List Out) Refusal)
     → e.kind ≡ kind → nat_lt seat 16 ≡ true → react t (state_of t rows e) (FromSeat seat c) ≡ answer
     → Commanded t kind rows (command_row e seat c) (unless_refused answer rows (command_row e seat c))
 answered t kind e seat c rows (Err refusal) k seated is = inl refl
-answered t kind e seat c rows (Ok done) k seated is = inr (record { of_kind = k; seated = grind (arith, nat_tests); accepted = rw is refl; next = tt }, refl)
+answered t kind e seat c rows (Ok done) k seated is =
+    inr (record { of_kind = k; seated = grind (arith, nat_tests); accepted = rw is refl; next = tt }, refl)
 
 commanded : {S C : Type 0} (t : Reactions S C) (kind : Kind) (e : Name) (seat : ℕ) (c : C) (rows : List (JournalRow C))
     → e.kind ≡ kind → Commanded t kind rows (command_row e seat c) (with_command t e seat c rows)
@@ -119,7 +130,8 @@ abbrev Does : Configuration → Configuration → Type 0
 Does old new = (new ≡ old) ⊎ Step old new
 
 -- the next letter of its pair adds a row, if it is known
-letter_adds : (known : Envelope → Type 0) (js : Journals) (k : Kind) (l : LetterOf) → l.pair.to.kind ≡ k → known (Letter l) → l.number ≡ suc (length (letters_by js k l.pair)) → AddsRowFrom known js (with_letter js k l)
+letter_adds : (known : Envelope → Type 0) (js : Journals) (k : Kind) (l : LetterOf) → l.pair.to.kind ≡ k → known (Letter l)
+    → l.number ≡ suc (length (letters_by js k l.pair)) → AddsRowFrom known js (with_letter js k l)
 letter_adds known js Order l k from next = AddsOrder _ (record { of_kind = k; seated = tt; accepted = refl; next = next }) from refl
 letter_adds known js Stock l k from next = AddsStock _ (record { of_kind = k; seated = tt; accepted = refl; next = next }) from refl
 letter_adds known js Account l k from next = AddsAccount _ (record { of_kind = k; seated = tt; accepted = refl; next = next }) from refl
@@ -143,7 +155,8 @@ mark_raises pair count settled = record {
     by_case other apart true e = absurd (apart ((same_pair-Decides other pair).0 e))
     by_case other apart false e = rw e refl
 
-settle_does : (w : Configuration) (pair : Pair) (count : ℕ) → Contains w.sent (Settle pair count) → Does w (arrives w (Some (Settle pair count)))
+settle_does : (w : Configuration) (pair : Pair) (count : ℕ) → Contains w.sent (Settle pair count)
+    → Does w (arrives w (Some (Settle pair count)))
 settle_does w pair count there = by_case (nat_le count (length (sent_in w.journals pair)))
   where
     by_case : (b : Bool) → Does w (if b then record w { settled = with_mark pair count w.settled } else w)
@@ -160,7 +173,8 @@ arrives_does w None at = inl refl
 arrives_does w (Some (Letter l)) at = letter_does w l (at _ refl)
 arrives_does w (Some (Settle pair count)) at = settle_does w pair count (at _ refl)
 
-sends_does : (w : Configuration) (pair : Pair) (number : ℕ) (m : Option Message) → nth (sent_in w.journals pair) number ≡ m → Does w (sends w pair number m)
+sends_does : (w : Configuration) (pair : Pair) (number : ℕ) (m : Option Message) → nth (sent_in w.journals pair) number ≡ m
+    → Does w (sends w pair number m)
 sends_does w pair number None at = inl refl
 sends_does w pair number (Some m) at = inr (Sends _ at refl)
 
@@ -175,7 +189,8 @@ act_does w (ToAccount key seat c) = either (commanded account_reactions Account 
     (λ e. inl (ap (λ rows. record w { journals = record w.journals { accounts = rows } }) e))
     (λ e. inr (Writes (AddsAccount _ e.0 tt (rw e.1 refl)) refl refl))
 act_does w (SendsLetter pair number) = sends_does w pair number _ refl
-act_does w (SendsSettle pair) = let so_far : handled_in w.journals pair ≤ handled_in w.journals pair = omega arith in inr (Sends _ so_far refl)
+act_does w (SendsSettle pair) = let so_far : handled_in w.journals pair ≤ handled_in w.journals pair = omega arith in
+    inr (Sends _ so_far refl)
 act_does w (Arrives which) = arrives_does w (slice_get w.sent which) (λ x at. there w.sent which x at)
 
 -- so steps lead wherever actions do

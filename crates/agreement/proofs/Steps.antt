@@ -15,7 +15,8 @@ use Rattle.agreement.specs.Journals.{Journals, sent_in, letters_by}
 use Rattle.agreement.specs.Envelopes.{IsAuthentic}
 use Rattle.agreement.specs.Growth.{Grows}
 use Rattle.agreement.specs.Steps.{Configuration, start, Step, Writes, Marks, Sends, IsPath, Reaches, AreAuthentic, IsGood}
-use Rattle.agreement.proofs.Growth.{adds-known, lawful-later, grows, grows-from, grows-same, grows_trans, authentic-later, settled-later, raised-handled, raised-up}
+use Rattle.agreement.proofs.Growth.{adds-known, lawful-later, grows, grows-from, grows-same, grows_trans, authentic-later, settled-later}
+use Rattle.agreement.proofs.Growth.{raised-handled, raised-up}
 
 all_authentic-later : (js later : Journals) → Grows js later → (es : List Envelope) → AreAuthentic js es → AreAuthentic later es
 all_authentic-later js later g [] h = tt
@@ -28,7 +29,8 @@ sent_authentic js es h e there = All-contains (IsAuthentic js) es e (All-from_re
 
 pub step_good : (old new : Configuration) → Step old new → IsGood old → IsGood new
 step_good old new (Writes from settled sent) h =
-    let adds = adds-known (Contains old.sent) (IsAuthentic old.journals) old.journals new.journals (sent_authentic old.journals old.sent h.authentic) from in
+    let adds = adds-known (Contains old.sent) (IsAuthentic old.journals) old.journals new.journals
+        (sent_authentic old.journals old.sent h.authentic) from in
     let g = grows old.journals new.journals adds in
     record {
       lawful = lawful-later old.journals new.journals adds h.lawful;
@@ -42,7 +44,8 @@ step_good old new (Marks pair count among raises journals sent) h =
       settled = rw journals (raised-handled old.journals pair count old.settled new.settled authentic raises h.settled);
       authentic = rw (journals, sent) h.authentic;
     }
-step_good old new (Sends envelope authentic e) h = rw e (record { lawful = h.lawful; settled = h.settled; authentic = (authentic, h.authentic) })
+step_good old new (Sends envelope authentic e) h =
+    rw e (record { lawful = h.lawful; settled = h.settled; authentic = (authentic, h.authentic) })
 
 step_grows : (old new : Configuration) → Step old new → Grows old.journals new.journals
 step_grows old new (Writes from settled sent) = grows-from (Contains old.sent) old.journals new.journals from
@@ -65,7 +68,8 @@ reached_good old new h good = path_good h.0 old new h.1 good
 
 path_grows : (path : List Configuration) (old new : Configuration) → IsPath old path new → Grows old.journals new.journals
 path_grows [] old new h = rw h (grows-same old.journals)
-path_grows (next ∷ path) old new h = grows_trans old.journals next.journals new.journals (step_grows old next h.0) (path_grows path next new h.1)
+path_grows (next ∷ path) old new h =
+    grows_trans old.journals next.journals new.journals (step_grows old next h.0) (path_grows path next new h.1)
 
 pub reached_grows : (old new : Configuration) → Reaches old new → Grows old.journals new.journals
 reached_grows old new h = path_grows h.0 old new h.1
@@ -85,7 +89,8 @@ reached_marks old new pair h = path_marks h.0 old new pair h.1
 pub start_good : IsGood start
 start_good = record {
   lawful = record {
-    legal = record { orders = legal-none order_reactions Order; stocks = legal-none stock_reactions Stock; accounts = legal-none account_reactions Account };
+    legal = record { orders = legal-none order_reactions Order; stocks = legal-none stock_reactions Stock;
+        accounts = legal-none account_reactions Account };
     prefixes = λ pair. prefixes pair.to.kind pair;
   };
   settled = λ pair. omega arith;

@@ -12,11 +12,13 @@ use Rattle.keep.specs.Tables.{Tables}
 use Rattle.endpoint.specs.Matches.{TablesMatchJournal, MayBeHeld}
 use Rattle.endpoint.specs.Parts.Handling.{Prepares}
 
-pub command-prepares : {S C : Type 0} (service : Service S C) (old : Tables S C) (e : Name) (seat : ℕ) (command : C) (first : List (Change S C))
+pub command-prepares : {S C : Type 0} (service : Service S C) (old : Tables S C) (e : Name) (seat : ℕ) (command : C)
+    (first : List (Change S C))
     → TablesMatchJournal service old → seat < SEATS → first ≡ [] → Prepares service.kind old (command_row e seat command) first
 command-prepares {S} {C} service old e seat command first h seated none =
     let row : JournalRow C = command_row e seat command in
-    let same : (p : Pair) → handled_of (old.journal ++ row ∷ []) p ≡ handled_of old.journal p = λ p. handled_of-command old.journal e seat command p in
+    let same : (p : Pair) → handled_of (old.journal ++ row ∷ []) p ≡ handled_of old.journal p =
+    λ p. handled_of-command old.journal e seat command p in
     let P : List (Change S C) → Type 0 = λ cs. Prepares service.kind old row cs in
     subst P (sym none) (record {
       seated = seated;

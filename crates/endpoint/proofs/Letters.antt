@@ -10,15 +10,19 @@ use Rattle.endpoint.specs.Parts.Outbox.{IsLimit, outbox_cause, outbox_end}
 
 -- a store's fault is told as it is
 module _ {E T : Type 0} (seen : E → Seen T) (old new : E) where
-  pub read_told : {R S : Type 0} (gives : T → R → Type 0) (gives' : T → S → Type 0) (May : OutboxFault → Type 0) (Why : T → OutboxFault → Type 0) (fault : KeepFault) (r : Result S OutboxFault) (told : OutboxFault)
-      → r ≡ Err told → told ≡ Store fault → Reads seen old new gives (keep_end (Err fault)) → ReadsOr seen old new gives' May Why (outbox_end r)
+  pub read_told : {R S : Type 0} (gives : T → R → Type 0) (gives' : T → S → Type 0) (May : OutboxFault → Type 0)
+      (Why : T → OutboxFault → Type 0) (fault : KeepFault) (r : Result S OutboxFault) (told : OutboxFault)
+      → r ≡ Err told → told ≡ Store fault → Reads seen old new gives (keep_end (Err fault))
+      → ReadsOr seen old new gives' May Why (outbox_end r)
   read_told gives gives' May Why Memory r told is e h = rw (is, e) (record { call = h.call; doubt = h.doubt; clean = h.clean })
   read_told gives gives' May Why Failed r told is e h = rw (is, e) (record { call = h.call; doubt = h.doubt; clean = h.clean })
   read_told gives gives' May Why WrongFile r told is e h = absurd h.call.1
 
 -- a call after others that left the tables
-module _ {E T : Type 0} (seen : E → Seen T) (old mid new : E) (served : IsServed seen old mid) (doubt : (seen old).doubt ≤ (seen mid).doubt) (same : (seen mid).doubt ≡ 0 → (seen mid).tables ≡ (seen old).tables) where
-  pub read_later : (Why More : T → OutboxFault → Type 0) (fault : OutboxFault) → ((seen mid).doubt ≡ 0 → Why (seen mid).tables NumberLimit → More (seen old).tables NumberLimit)
+module _ {E T : Type 0} (seen : E → Seen T) (old mid new : E) (served : IsServed seen old mid) (doubt : (seen old).doubt ≤ (seen mid).doubt)
+    (same : (seen mid).doubt ≡ 0 → (seen mid).tables ≡ (seen old).tables) where
+  pub read_later : (Why More : T → OutboxFault → Type 0) (fault : OutboxFault)
+      → ((seen mid).doubt ≡ 0 → Why (seen mid).tables NumberLimit → More (seen old).tables NumberLimit)
       → Tells seen mid new (IsCallCause seen mid new IsLimit (outbox_cause fault)) (IsReadCause seen mid new Why (outbox_cause fault))
       → Tells seen old new (IsCallCause seen old new IsLimit (outbox_cause fault)) (IsReadCause seen old new More (outbox_cause fault))
   read_later Why More (Store Memory) f h = let a = h.doubt in record {

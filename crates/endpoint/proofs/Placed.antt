@@ -6,7 +6,8 @@ use Rattle.keep.specs.Tables.{Tables, changed, changed_by, ArePlaced}
 
 -- changes take no row of the journal away
 rows_stay : {S C : Type 0} (c : Change S C) (t : Tables S C) → length t.journal ≤ length (changed_by c t).journal
-rows_stay (Journal position row) t = let l : length (t.journal ++ row ∷ []) ≡ length t.journal + 1 = length-append t.journal (row ∷ []) in omega arith
+rows_stay (Journal position row) t = let l : length (t.journal ++ row ∷ []) ≡ length t.journal + 1 = length-append t.journal (row ∷ []) in
+    omega arith
 rows_stay (State e row) t = omega arith
 rows_stay (Sent l) t = omega arith
 rows_stay (Settled p n) t = omega arith
@@ -33,6 +34,7 @@ placed-none (Handled p n ∷ cs) t e = (tt, placed-none cs _ e)
 placed-none (Held l ∷ cs) t e = (tt, placed-none cs _ e)
 placed-none (NotHeld p n ∷ cs) t e = (tt, placed-none cs _ e)
 
-pub placed-append : {S C : Type 0} (xs ys : List (Change S C)) (t : Tables S C) → ArePlaced xs t → ArePlaced ys (changed xs t) → ArePlaced (xs ++ ys) t
+pub placed-append : {S C : Type 0} (xs ys : List (Change S C)) (t : Tables S C) → ArePlaced xs t → ArePlaced ys (changed xs t)
+    → ArePlaced (xs ++ ys) t
 placed-append [] ys t none behind = behind
 placed-append (x ∷ xs) ys t first behind = (first.0, placed-append xs ys (changed_by x t) first.1 behind)

@@ -78,7 +78,8 @@ where
     ) -> Result<Committed, EndFault>
         requires { seat < SEATS }
         ensures commit { Commits K.seen self.old self.new H.service (record { entity = entity.now; input = FromSeat seat command }) result }
-        ensures comes { ComesBy K.seen self.old self.new H.service (CommitMay H.service (record { entity = entity.now; input = FromSeat seat command }) result) }
+        ensures comes { ComesBy K.seen self.old self.new H.service
+            (CommitMay H.service (record { entity = entity.now; input = FromSeat seat command }) result) }
         ensures matches { StillMatches K.seen self.old self.new H.service }
     {
         if !self.keep.usable() {

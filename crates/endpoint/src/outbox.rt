@@ -99,7 +99,8 @@ fn number_out<K: Keep>(
 ) -> Result<Letter, OutboxFault>
     requires usable { (K.seen keep.old).usable ≡ true }
     requires room { length before.now < 2 ^ 63 }
-    ensures { ReadsOr K.seen keep.old keep.new (λ t letter. (letter ≡ letter_to t.sent entity.now before.now out.now) × (letter.number ≤ MAX_NUMBER)) IsLimit
+    ensures { ReadsOr K.seen keep.old keep.new
+        (λ t letter. (letter ≡ letter_to t.sent entity.now before.now out.now) × (letter.number ≤ MAX_NUMBER)) IsLimit
         (λ t _. MAX_NUMBER < (letter_to t.sent entity.now before.now out.now).number) (outbox_end result) }
 {
     let count = count_to(before, &out.receiver);

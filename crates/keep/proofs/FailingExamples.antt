@@ -5,7 +5,8 @@ use Rattle.keep.specs.declared.fault.KeepFault.TheVariants.{Failed, Memory, Wron
 use Rattle.keep.specs.declared.faulty.Arming.{Arming}
 use Rattle.keep.specs.declared.faulty.Leaves.{Leaves}
 use Rattle.keep.specs.declared.faulty.Leaves.TheVariants.{Old, New}
-use Rattle.keep.specs.Failing.{Failing, due, counted_down, through, LeavesOnly, LeavesNew, IsLeft, FailsArmed, FailsUnasked, FailsAsInside, IsReadDue, IsTransactionDue, ReadsDue, WritesDue, ReopensThrough}
+use Rattle.keep.specs.Failing.{Failing, due, counted_down, through, LeavesOnly, LeavesNew, IsLeft, FailsArmed, FailsUnasked, FailsAsInside}
+use Rattle.keep.specs.Failing.{IsReadDue, IsTransactionDue, ReadsDue, WritesDue, ReopensThrough}
 use Rattle.keep.proofs.CallExamples.{old, new, third, only, either, may_leave, Store, seen, holds, broken}
 
 -- ---- which call fails

@@ -1,5 +1,6 @@
 -- What pages of the outbox have in common.
-use Rattle.std.proofs.Common.{◌≡◌, ◌⊎◌, inl, inr, ℕ, zero, suc, ◌+◌, ◌<◌, List, [], ◌∷◌, ◌++◌, length, Option, Some, None, Ordering, Less, Equal, Greater, refl, sym, ap, subst, ◌∙◌, arith, zero-add}
+use Rattle.std.proofs.Common.{◌≡◌, ◌⊎◌, inl, inr, ℕ, zero, suc, ◌+◌, ◌<◌, List, [], ◌∷◌, ◌++◌, length, Option, Some, None, Ordering, Less}
+use Rattle.std.proofs.Common.{Equal, Greater, refl, sym, ap, subst, ◌∙◌, arith, zero-add}
 use Rattle.envelope.specs.declared.message.Message.{Message}
 use Rattle.envelope.specs.declared.message.Letter.{Letter}
 use Rattle.keep.specs.declared.change.Place.{Place}
@@ -15,7 +16,8 @@ suc-add : (n b : ℕ) → suc n + b ≡ suc (n + b)
 suc-add n b = omega arith
 
 pub pages_join : PagesJoin
-pages_join messages after zero second [] ys first full behind = subst (λ (n : ℕ). AreFirst messages after n ys) (sym (zero-add second)) behind
+pages_join messages after zero second [] ys first full behind =
+    subst (λ (n : ℕ). AreFirst messages after n ys) (sym (zero-add second)) behind
 pages_join messages after zero second (l ∷ ls) ys first full behind = absurd first
 pages_join messages after (suc n) second [] ys first full behind = absurd (omega (arith, full))
 pages_join messages after (suc n) second (l ∷ ls) ys first full behind =
@@ -25,7 +27,8 @@ pages_join messages after (suc n) second (l ∷ ls) ys first full behind =
 pub short_page_is_last : ShortPageIsLast
 short_page_is_last messages after zero xs are short = absurd (omega (arith, short))
 short_page_is_last messages after (suc n) [] are short = are
-short_page_is_last messages after (suc n) (l ∷ ls) are short = short_page_is_last messages (Some (place_of l)) n ls are.1 (omega (arith, short))
+short_page_is_last messages after (suc n) (l ∷ ls) are short =
+    short_page_is_last messages (Some (place_of l)) n ls are.1 (omega (arith, short))
 
 pub listed_letters_stand : ListedLettersStand
 listed_letters_stand messages after zero [] are l h = absurd h
@@ -39,7 +42,8 @@ listed_letters_stand messages after (suc n) (k ∷ ks) are l (inr more) =
     (r.0, later_than after (place_of k) (place_of l) are.0.later r.1)
 
 -- the first letter of a page, or one behind it
-first_or_behind : (messages : Messages) (after : Option Place) (k : Letter) (x : Place) (m : Message) → IsNext messages after k → IsAfter after x → messages x.pair x.number ≡ Some m
+first_or_behind : (messages : Messages) (after : Option Place) (k : Letter) (x : Place) (m : Message) → IsNext messages after k
+    → IsAfter after x → messages x.pair x.number ≡ Some m
     → (o : Ordering) → place_cmp x (place_of k) ≡ o → (letter x.pair x.number m ≡ k) ⊎ IsBefore (place_of k) x
 first_or_behind messages after k x m next late stands Less e = absurd (never_none _ m stands (next.first x late e))
 first_or_behind messages after k x m next late stands Equal e =

@@ -86,7 +86,8 @@ module _ {K T : Type 0} (seen : K → Seen T) (old new : Failing K) where
     pub writes : Writes (through seen) old new Fit to (keep_end result)
     pub armed : new.armed ≡ counted_down old.armed
     pub fails : IsTransactionDue (due old.armed) result
-    pub left : (seen new.keep).doubt ≡ 0 → Fit (seen old.keep).tables → IsLeft (due old.armed) (seen old.keep).tables (to (seen old.keep).tables) (seen new.keep).may_leave
+    pub left : (seen new.keep).doubt ≡ 0 → Fit (seen old.keep).tables
+        → IsLeft (due old.armed) (seen old.keep).tables (to (seen old.keep).tables) (seen new.keep).may_leave
         (λ answer. IsCall seen old.keep new.keep Never (keep_end answer))
 
   -- a reopening is the keep's inside

@@ -1,5 +1,6 @@
 -- What the tables become as slots are set.
-use Rattle.std.proofs.Common.{◌≡◌, inl, inr, ℕ, ◌++◌, Bool, true, false, List, [], ◌∷◌, Option, Some, None, refl, sym, ap, ◌∙◌, if◌then◌else◌}
+use Rattle.std.proofs.Common.{◌≡◌, inl, inr, ℕ, ◌++◌, Bool, true, false, List, [], ◌∷◌, Option, Some, None, refl, sym, ap, ◌∙◌}
+use Rattle.std.proofs.Common.{if◌then◌else◌}
 use Rattle.std.specs.Option.{unwrap_or}
 use Rattle.std.specs.List.{AllByRecursion}
 use Rattle.std.specs.BTreeMap.{BTreeMap}
@@ -30,13 +31,16 @@ use Rattle.keep_plain.proofs.Upto.{set_at, emptied_is}
 
 -- ---- one table
 
-sets_entity : {S : Type 0} (e : Name) (row : Option S) (old new : BTreeMap Name (Option S)) → SetsAt entity_cmp e row old new → at entity_cmp new ≡ set_entity e row (at entity_cmp old)
+sets_entity : {S : Type 0} (e : Name) (row : Option S) (old new : BTreeMap Name (Option S)) → SetsAt entity_cmp e row old new
+    → at entity_cmp new ≡ set_entity e row (at entity_cmp old)
 sets_entity e row old new h = fun_ext (λ x. h x ∙ ap (λ b. if b then row else at entity_cmp old x) (sym (same_entity-ties e x)))
 
-sets_message : (x : Place) (m : Option Message) (old new : BTreeMap Place (Option Message)) → SetsAt place_cmp x m old new → messages_in new ≡ set_message x.pair x.number m (messages_in old)
+sets_message : (x : Place) (m : Option Message) (old new : BTreeMap Place (Option Message)) → SetsAt place_cmp x m old new
+    → messages_in new ≡ set_message x.pair x.number m (messages_in old)
 sets_message x m old new h = fun_ext (λ q. fun_ext (λ k. set_at x m old new h q k))
 
-without : (p : Pair) (n : ℕ) (old new : BTreeMap Place (Option Message)) → EmptiesFrom p 0 n (messages_in old) (messages_in new) → messages_in new ≡ without_upto p n (messages_in old)
+without : (p : Pair) (n : ℕ) (old new : BTreeMap Place (Option Message)) → EmptiesFrom p 0 n (messages_in old) (messages_in new)
+    → messages_in new ≡ without_upto p n (messages_in old)
 without p n old new h = fun_ext (λ q. fun_ext (λ k. emptied_is p n (messages_in old) (messages_in new) h q k))
 
 abbrev none : Marks
@@ -45,9 +49,11 @@ none = record { sent = 0; settled = 0; handled = 0 }
 -- the marks of a pair are set, and those of others stay
 module _ (p : Pair) (w : Marks) (old new : BTreeMap Pair (Option Marks)) (h : SetsAt pair_cmp p (Some w) old new) where
   marks_set : (q : Pair) → marks_at new q ≡ (if same_pair p q then w else marks_at old q)
-  marks_set q = ap (λ o. unwrap_or o (record { sent = 0; settled = 0; handled = 0 })) (h q ∙ ap (λ b. if b then Some w else at pair_cmp old q) (sym (same_pair-ties p q))) ∙ chosen (same_pair p q)
+  marks_set q = ap (λ o. unwrap_or o (record { sent = 0; settled = 0; handled = 0 }))
+      (h q ∙ ap (λ b. if b then Some w else at pair_cmp old q) (sym (same_pair-ties p q))) ∙ chosen (same_pair p q)
     where
-      chosen : (b : Bool) → unwrap_or (if b then Some w else at pair_cmp old q) (record { sent = 0; settled = 0; handled = 0 }) ≡ (if b then w else marks_at old q)
+      chosen : (b : Bool) → unwrap_or (if b then Some w else at pair_cmp old q) (record { sent = 0; settled = 0; handled = 0 })
+          ≡ (if b then w else marks_at old q)
       chosen true = refl
       chosen false = refl
 
@@ -56,7 +62,8 @@ abbrev each : (Marks → ℕ) → BTreeMap Pair (Option Marks) → Pair → ℕ
 each f marks q = f (marks_at marks q)
 
 -- one of the marks of a pair is set
-mark_is : (f : Marks → ℕ) (p : Pair) (n : ℕ) (w : Marks) (old new : BTreeMap Pair (Option Marks)) → SetsAt pair_cmp p (Some w) old new → f w ≡ n → each f new ≡ set_mark p n (each f old)
+mark_is : (f : Marks → ℕ) (p : Pair) (n : ℕ) (w : Marks) (old new : BTreeMap Pair (Option Marks)) → SetsAt pair_cmp p (Some w) old new
+    → f w ≡ n → each f new ≡ set_mark p n (each f old)
 mark_is f p n w old new h e = fun_ext (λ q. ap f (marks_set p w old new h q) ∙ chosen (same_pair p q) (f (marks_at old q)) q)
   where
     chosen : (b : Bool) (m : ℕ) (q : Pair) → f (if b then w else marks_at old q) ≡ (if b then n else f (marks_at old q))
@@ -64,7 +71,8 @@ mark_is f p n w old new h e = fun_ext (λ q. ap f (marks_set p w old new h q) �
     chosen false m q = refl
 
 -- and another stays
-mark_stays : (f : Marks → ℕ) (p : Pair) (w : Marks) (old new : BTreeMap Pair (Option Marks)) → SetsAt pair_cmp p (Some w) old new → f w ≡ f (marks_at old p) → each f new ≡ each f old
+mark_stays : (f : Marks → ℕ) (p : Pair) (w : Marks) (old new : BTreeMap Pair (Option Marks)) → SetsAt pair_cmp p (Some w) old new
+    → f w ≡ f (marks_at old p) → each f new ≡ each f old
 mark_stays f p w old new h e = fun_ext (λ q. ap f (marks_set p w old new h q) ∙ elim (cases_Bool (same_pair p q)) [
   | inl same ↦ rw same (e ∙ ap (λ x. f (marks_at old x)) ((same_pair-Decides p q).0 same))
   | inr other ↦ rw other refl
@@ -73,10 +81,13 @@ mark_stays f p w old new h e = fun_ext (λ q. ap f (marks_set p w old new h q) �
 -- ---- the tables
 
 -- tables are the same where their parts are
-same_parts : {S C : Type 0} (a b : Tables S C) → a.journal ≡ b.journal → a.entity ≡ b.entity → a.unsettled ≡ b.unsettled → a.sent ≡ b.sent → a.settled ≡ b.settled → a.handled ≡ b.handled → a.held ≡ b.held → a ≡ b
+same_parts : {S C : Type 0} (a b : Tables S C) → a.journal ≡ b.journal → a.entity ≡ b.entity → a.unsettled ≡ b.unsettled → a.sent ≡ b.sent
+    → a.settled ≡ b.settled → a.handled ≡ b.handled → a.held ≡ b.held → a ≡ b
 same_parts {S} {C} a b j e u s t h d =
-    ap (λ x. record a { journal = x }) j ∙ ap (λ x. record a { journal = b.journal; entity = x }) e ∙ ap (λ x. record a { journal = b.journal; entity = b.entity; unsettled = x }) u
-    ∙ ap (λ x. record b { sent = x; settled = a.settled; handled = a.handled; held = a.held }) s ∙ ap (λ x. record b { settled = x; handled = a.handled; held = a.held }) t
+    ap (λ x. record a { journal = x }) j ∙ ap (λ x. record a { journal = b.journal; entity = x }) e
+        ∙ ap (λ x. record a { journal = b.journal; entity = b.entity; unsettled = x }) u
+    ∙ ap (λ x. record b { sent = x; settled = a.settled; handled = a.handled; held = a.held }) s
+    ∙ ap (λ x. record b { settled = x; handled = a.handled; held = a.held }) t
     ∙ ap (λ x. record b { handled = x; held = a.held }) h ∙ ap (λ x. record b { held = x }) d
 
 -- maps with other slots and the same tables
@@ -91,11 +102,14 @@ same_tables old new h = same_parts (tables_in new) (tables_in old)
     (fun_ext (λ q. fun_ext (λ k. h.held (record { pair = q; number = k }))))
 
 module _ {S C : Type 0} (old : Maps S C) where
-  pub state_made : (e : Name) (row : Option S) (rows : BTreeMap Name (Option S)) → SetsAt entity_cmp e row old.rows rows → tables_in (record old { rows = rows }) ≡ changed_by (State e row) (tables_in old)
+  pub state_made : (e : Name) (row : Option S) (rows : BTreeMap Name (Option S)) → SetsAt entity_cmp e row old.rows rows
+      → tables_in (record old { rows = rows }) ≡ changed_by (State e row) (tables_in old)
   state_made e row rows h = ap (λ x. record (tables_in old) { entity = x }) (sets_entity e row old.rows rows h)
 
-  pub sent_made : (l : Letter) (marks : BTreeMap Pair (Option Marks)) (outbox : BTreeMap Place (Option Message)) → SetsAt pair_cmp l.pair (Some (with_mark mark.Sent l.number (marks_at old.marks l.pair))) old.marks marks
-      → SetsAt place_cmp (place_of l) (Some l.message) old.outbox outbox → tables_in (record old { marks = marks; outbox = outbox }) ≡ changed_by (Sent l) (tables_in old)
+  pub sent_made : (l : Letter) (marks : BTreeMap Pair (Option Marks)) (outbox : BTreeMap Place (Option Message))
+      → SetsAt pair_cmp l.pair (Some (with_mark mark.Sent l.number (marks_at old.marks l.pair))) old.marks marks
+      → SetsAt place_cmp (place_of l) (Some l.message) old.outbox outbox
+      → tables_in (record old { marks = marks; outbox = outbox }) ≡ changed_by (Sent l) (tables_in old)
   sent_made l marks outbox h k = same_parts _ _ refl refl
       (sets_message (place_of l) (Some l.message) old.outbox outbox k)
       (mark_is (λ m. m.sent) l.pair l.number _ old.marks marks h refl)
@@ -103,8 +117,10 @@ module _ {S C : Type 0} (old : Maps S C) where
       (mark_stays (λ m. m.handled) l.pair _ old.marks marks h refl)
       refl
 
-  pub settled_made : (p : Pair) (n : ℕ) (marks : BTreeMap Pair (Option Marks)) (outbox : BTreeMap Place (Option Message)) → SetsAt pair_cmp p (Some (with_mark mark.Settled n (marks_at old.marks p))) old.marks marks
-      → EmptiesFrom p 0 n (messages_in old.outbox) (messages_in outbox) → tables_in (record old { marks = marks; outbox = outbox }) ≡ changed_by (Settled p n) (tables_in old)
+  pub settled_made : (p : Pair) (n : ℕ) (marks : BTreeMap Pair (Option Marks)) (outbox : BTreeMap Place (Option Message))
+      → SetsAt pair_cmp p (Some (with_mark mark.Settled n (marks_at old.marks p))) old.marks marks
+      → EmptiesFrom p 0 n (messages_in old.outbox) (messages_in outbox)
+      → tables_in (record old { marks = marks; outbox = outbox }) ≡ changed_by (Settled p n) (tables_in old)
   settled_made p n marks outbox h k = same_parts _ _ refl refl
       (without p n old.outbox outbox k)
       (mark_stays (λ m. m.sent) p _ old.marks marks h refl)
@@ -112,7 +128,8 @@ module _ {S C : Type 0} (old : Maps S C) where
       (mark_stays (λ m. m.handled) p _ old.marks marks h refl)
       refl
 
-  pub handled_made : (p : Pair) (n : ℕ) (marks : BTreeMap Pair (Option Marks)) → SetsAt pair_cmp p (Some (with_mark mark.Handled n (marks_at old.marks p))) old.marks marks
+  pub handled_made : (p : Pair) (n : ℕ) (marks : BTreeMap Pair (Option Marks))
+      → SetsAt pair_cmp p (Some (with_mark mark.Handled n (marks_at old.marks p))) old.marks marks
       → tables_in (record old { marks = marks }) ≡ changed_by (Handled p n) (tables_in old)
   handled_made p n marks h = same_parts _ _ refl refl refl
       (mark_stays (λ m. m.sent) p _ old.marks marks h refl)
@@ -120,11 +137,15 @@ module _ {S C : Type 0} (old : Maps S C) where
       (mark_is (λ m. m.handled) p n _ old.marks marks h refl)
       refl
 
-  pub held_made : (l : Letter) (held : BTreeMap Place (Option Message)) → SetsAt place_cmp (place_of l) (Some l.message) old.held held → tables_in (record old { held = held }) ≡ changed_by (Held l) (tables_in old)
+  pub held_made : (l : Letter) (held : BTreeMap Place (Option Message)) → SetsAt place_cmp (place_of l) (Some l.message) old.held held
+      → tables_in (record old { held = held }) ≡ changed_by (Held l) (tables_in old)
   held_made l held h = ap (λ x. record (tables_in old) { held = x }) (sets_message (place_of l) (Some l.message) old.held held h)
 
-  pub released_made : (p : Pair) (n : ℕ) (held : BTreeMap Place (Option Message)) → SetsAt place_cmp (record { pair = p; number = n }) None old.held held → tables_in (record old { held = held }) ≡ changed_by (NotHeld p n) (tables_in old)
-  released_made p n held h = ap (λ x. record (tables_in old) { held = x }) (sets_message (record { pair = p; number = n }) None old.held held h)
+  pub released_made : (p : Pair) (n : ℕ) (held : BTreeMap Place (Option Message))
+      → SetsAt place_cmp (record { pair = p; number = n }) None old.held held
+      → tables_in (record old { held = held }) ≡ changed_by (NotHeld p n) (tables_in old)
+  released_made p n held h = ap (λ x. record (tables_in old) { held = x })
+      (sets_message (record { pair = p; number = n }) None old.held held h)
 
 -- ---- slots that are there stay
 
@@ -137,11 +158,13 @@ ready_kept old new k (Handled p n) h = k.marks p h
 ready_kept old new k (Held l) h = k.held (place_of l) h
 ready_kept old new k (NotHeld p n) h = tt
 
-pub all_kept : {S C : Type 0} (old new : Maps S C) → KeepsAll old new → (cs : List (Change S C)) → AllByRecursion (IsReady old) cs → AllByRecursion (IsReady new) cs
+pub all_kept : {S C : Type 0} (old new : Maps S C) → KeepsAll old new → (cs : List (Change S C)) → AllByRecursion (IsReady old) cs
+    → AllByRecursion (IsReady new) cs
 all_kept old new k [] h = tt
 all_kept old new k (c ∷ cs) h = (ready_kept old new k c h.0, all_kept old new k cs h.1)
 
-pub all_more : {S C : Type 0} (m : Maps S C) (cs : List (Change S C)) (c : Change S C) → AllByRecursion (IsReady m) cs → IsReady m c → AllByRecursion (IsReady m) (cs ++ c ∷ [])
+pub all_more : {S C : Type 0} (m : Maps S C) (cs : List (Change S C)) (c : Change S C) → AllByRecursion (IsReady m) cs → IsReady m c
+    → AllByRecursion (IsReady m) (cs ++ c ∷ [])
 all_more m [] c h r = (r, tt)
 all_more m (d ∷ cs) c h r = (h.0, all_more m cs c h.1 r)
 
@@ -156,5 +179,6 @@ same_after a b c h k = record {
   held = λ q. k.held q ∙ h.held q;
 }
 
-pub with_room : {S C : Type 0} (m : Maps S C) (journal : Vec (JournalRow C)) → journal.items ≡ m.journal.items → tables_in (record m { journal = journal }) ≡ tables_in m
+pub with_room : {S C : Type 0} (m : Maps S C) (journal : Vec (JournalRow C)) → journal.items ≡ m.journal.items
+    → tables_in (record m { journal = journal }) ≡ tables_in m
 with_room m journal h = ap (λ x. record (tables_in m) { journal = x }) h

@@ -1,5 +1,6 @@
 -- The slots of a pair before a place, and what emptying them one after another makes of the messages.
-use Rattle.std.proofs.Common.{◌≡◌, inl, inr, ℕ, ◌<◌, ◌≤◌, ◌&&◌, ◌==◌, Bool, true, false, Option, Some, None, Ordering, Less, Equal, Greater, refl, sym, ap, subst, ◌∙◌, arith, true≢false, if◌then◌else◌}
+use Rattle.std.proofs.Common.{◌≡◌, inl, inr, ℕ, ◌<◌, ◌≤◌, ◌&&◌, ◌==◌, Bool, true, false, Option, Some, None, Ordering, Less, Equal, Greater}
+use Rattle.std.proofs.Common.{refl, sym, ap, subst, ◌∙◌, arith, true≢false, if◌then◌else◌}
 use Rattle.std.specs.Prelude.{IsSome, nat_le}
 use Rattle.std.specs.Ordering.{is_eq, is_lt, nat_cmp, ordering_then}
 use Rattle.std.specs.Cmp.{tied_itself, nat_cmp_is}
@@ -57,14 +58,16 @@ module _ (m : BTreeMap Place (Option Message)) (last x : Place) (before : IsBefo
   pub last_same : same_pair last.pair x.pair ≡ true → (last.number < x.number) × NoneBetween m x.pair (λ k. last.number < k) x.number
   last_same same =
       let e : last.pair ≡ x.pair = (same_pair-Decides last.pair x.pair).0 same in
-      let l : (p : Pair) → last.pair ≡ p → (k : ℕ) → place_cmp last (place p k) ≡ nat_cmp last.number k = λ p h k. subst (λ (q : Pair). place_cmp last (place q k) ≡ nat_cmp last.number k) h (place_cmp-same last.pair last.number k) in (
+      let l : (p : Pair) → last.pair ≡ p → (k : ℕ) → place_cmp last (place p k) ≡ nat_cmp last.number k =
+          λ p h k. subst (λ (q : Pair). place_cmp last (place q k) ≡ nat_cmp last.number k) h (place_cmp-same last.pair last.number k) in (
         number_less last.number x.number (sym (l x.pair e x.number) ∙ before),
         λ k after high. none_after (place x.pair k) (before_same x.pair k x.number high) (l x.pair e k ∙ nat_less last.number k after),
       )
 
   pub last_other : same_pair last.pair x.pair ≡ false → NoneBetween m x.pair (λ k. 0 ≤ k) x.number
   last_other other = λ k after high.
-      let less : pair_cmp last.pair x.pair ≡ Less = less_parts (pair_cmp last.pair x.pair) (nat_cmp last.number x.number) before (sym (same_pair-ties last.pair x.pair) ∙ other) in
+      let less : pair_cmp last.pair x.pair ≡ Less =
+          less_parts (pair_cmp last.pair x.pair) (nat_cmp last.number x.number) before (sym (same_pair-ties last.pair x.pair) ∙ other) in
       none_after (place x.pair k) (before_same x.pair k x.number high) (ap (λ o. ordering_then o (nat_cmp last.number k)) less)
 
 -- ---- one slot is emptied, and then those before it
@@ -77,13 +80,15 @@ if_false : {A : Type 0} (b : Bool) (x y : A) → b ≡ false → (if b then x el
 if_false b x y h = ap (λ c. if c then x else y) h
 
 -- a slot that is set, as messages
-pub set_at : (x : Place) (v : Option Message) (old new : BTreeMap Place (Option Message)) → SetsAt place_cmp x v old new → (q : Pair) (k : ℕ)
+pub set_at : (x : Place) (v : Option Message) (old new : BTreeMap Place (Option Message)) → SetsAt place_cmp x v old new
+    → (q : Pair) (k : ℕ)
     → messages_in new q k ≡ (if same_pair x.pair q && (x.number == k) then v else messages_in old q k)
 set_at x v old new h q k = h (place q k) ∙ ap (λ b. if b then v else messages_in old q k) (sym (same_place-ties x (place q k)))
 
 module _ (x : Place) (old new : BTreeMap Place (Option Message)) (h : SetsAt place_cmp x None old new) where
   set_here : messages_in new x.pair x.number ≡ None
-  set_here = h x ∙ ap (λ o. if is_eq o then None else at place_cmp old x) (place_cmp-same x.pair x.number x.number ∙ sym (nat_cmp_is x.number x.number Equal refl))
+  set_here = h x ∙ ap (λ o. if is_eq o then None else at place_cmp old x)
+      (place_cmp-same x.pair x.number x.number ∙ sym (nat_cmp_is x.number x.number Equal refl))
 
   set_none : (q : Pair) (k : ℕ) → messages_in old q k ≡ None → messages_in new q k ≡ None
   set_none q k e = set_at x None old new h q k ∙ if_none _ _ e
@@ -103,8 +108,10 @@ module _ (x : Place) (old new : BTreeMap Place (Option Message)) (h : SetsAt pla
   }
 
 -- the slot before, where there are none between
-pub emptied_more : (p : Pair) (n low high : ℕ) (old mid new : BTreeMap Place (Option Message)) → EmptiesFrom p low high (messages_in old) (messages_in mid)
-    → n < low → low ≤ high → NoneBetween mid p (λ k. n < k) low → SetsAt place_cmp (place p n) None mid new → EmptiesFrom p n high (messages_in old) (messages_in new)
+pub emptied_more : (p : Pair) (n low high : ℕ) (old mid new : BTreeMap Place (Option Message))
+    → EmptiesFrom p low high (messages_in old) (messages_in mid)
+    → n < low → low ≤ high → NoneBetween mid p (λ k. n < k) low → SetsAt place_cmp (place p n) None mid new
+    → EmptiesFrom p n high (messages_in old) (messages_in new)
 emptied_more p n low high old mid new was less fits none h = record {
   gone = λ k a b. elim (cases_eq n k) [
     | inl same ↦ subst (λ j. messages_in new p j ≡ None) same (set_here (place p n) mid new h)
@@ -119,7 +126,8 @@ emptied_more p n low high old mid new was less fits none h = record {
 }
 
 -- none is left before
-pub emptied_all : (p : Pair) (low high : ℕ) (old new : BTreeMap Place (Option Message)) → EmptiesFrom p low high (messages_in old) (messages_in new)
+pub emptied_all : (p : Pair) (low high : ℕ) (old new : BTreeMap Place (Option Message))
+    → EmptiesFrom p low high (messages_in old) (messages_in new)
     → NoneBetween new p (λ k. 0 ≤ k) low → EmptiesFrom p 0 high (messages_in old) (messages_in new)
 emptied_all p low high old new was none = record {
   gone = λ k a b. elim (cases_lt k low) [ inl under ↦ ap filled (none k a under) | inr over ↦ was.gone k over b ];
@@ -129,11 +137,14 @@ emptied_all p low high old new was none = record {
 }
 
 -- and so they are the messages without those up to the number
-pub emptied_is : (p : Pair) (n : ℕ) (old new : Messages) → EmptiesFrom p 0 n old new → (q : Pair) (k : ℕ) → new q k ≡ without_upto p n old q k
+pub emptied_is : (p : Pair) (n : ℕ) (old new : Messages) → EmptiesFrom p 0 n old new → (q : Pair) (k : ℕ)
+    → new q k ≡ without_upto p n old q k
 emptied_is p n old new h q k = elim (cases_Bool (same_pair p q)) [
   | inl same ↦ rw same (elim (cases_lt n k) [
-    | inl over ↦ subst (λ r. new r k ≡ (if nat_le k n then None else old r k)) ((same_pair-Decides p q).0 same) (h.above k over ∙ sym (if_false (nat_le k n) None (old p k) (lt-leb k n over)))
-    | inr under ↦ subst (λ r. new r k ≡ (if nat_le k n then None else old r k)) ((same_pair-Decides p q).0 same) (h.gone k (omega arith) under ∙ sym (ap (λ b. if b then None else old p k) (le-leb k n under)))
+    | inl over ↦ subst (λ r. new r k ≡ (if nat_le k n then None else old r k)) ((same_pair-Decides p q).0 same)
+        (h.above k over ∙ sym (if_false (nat_le k n) None (old p k) (lt-leb k n over)))
+    | inr under ↦ subst (λ r. new r k ≡ (if nat_le k n then None else old r k)) ((same_pair-Decides p q).0 same)
+        (h.gone k (omega arith) under ∙ sym (ap (λ b. if b then None else old p k) (le-leb k n under)))
   ])
   | inr other ↦ h.others q k other ∙ sym (if_false (same_pair p q && nat_le k n) None (old q k) (ap (λ b. b && nat_le k n) other))
 ]

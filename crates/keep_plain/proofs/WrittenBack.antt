@@ -1,5 +1,6 @@
 -- A slot that is put where a key has none.
-use Rattle.std.proofs.Common.{◌≡◌, Option, Some, None, Bool, true, false, cond, refl, sym, ap, ◌∙◌, Ordering, Less, Equal, Greater, true≢false, inl, inr}
+use Rattle.std.proofs.Common.{◌≡◌, Option, Some, None, Bool, true, false, cond, refl, sym, ap, ◌∙◌, Ordering, Less, Equal, Greater}
+use Rattle.std.proofs.Common.{true≢false, inl, inr}
 use Rattle.std.specs.Cmp.{IsTotalOrder}
 use Rattle.std.specs.Option.{unwrap_or}
 use Rattle.std.specs.Ordering.{is_eq}
@@ -18,7 +19,8 @@ written_back None = refl
 written_back (Some slot) = refl
 
 -- what stood at a key is written back there
-pub same_slot : {K V : Type 0} {cmp : K → K → Ordering} (o : IsTotalOrder cmp) (m : BTreeMap K (Option V)) (k q : K) (w : Option V) (new : Option (Option V)) → w ≡ unwrap_or (get cmp m k) None
+pub same_slot : {K V : Type 0} {cmp : K → K → Ordering} (o : IsTotalOrder cmp) (m : BTreeMap K (Option V)) (k q : K) (w : Option V)
+    (new : Option (Option V)) → w ≡ unwrap_or (get cmp m k) None
     → new ≡ cond (is_eq (cmp k q)) (Some w) (get cmp m q) → filled new ≡ at cmp m q
 same_slot {cmp = cmp} o m k q w new is h = elim (cases_Bool (is_eq (cmp k q))) [
   | inl same ↦

@@ -129,7 +129,8 @@ fn place(
     outs: &mut Outs,
 ) -> Result<(), HandlerFault>
     ensures applied { (seat : ℕ) →
-        IsApplied order_reactions state.old (FromSeat seat (OrderCommand.Place stock.now quantity account.now amount)) outs.old state.new outs.new result }
+        IsApplied order_reactions state.old (FromSeat seat (OrderCommand.Place stock.now quantity account.now amount)) outs.old state.new
+        outs.new result }
     ensures memory { result ≡ Err HandlerFault.Memory →
         IsSending (order_reactions.on_command state.old (OrderCommand.Place stock.now quantity account.now amount)) }
 {

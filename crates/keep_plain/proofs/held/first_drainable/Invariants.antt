@@ -4,4 +4,5 @@ use Rattle.keep_plain.specs.Maps.{marks_at}
 use Rattle.keep_plain.proofs.held.first_drainable.Given as goal
 
 abbrev pub invariant-loop-place : goal.invariant-loop-place
-invariant-loop-place l = first_next (λ p. (marks_at l.marks p).handled) l.place-iterator ≡ first_next (λ p. (marks_at l.marks p).handled) l.initial.place-iterator
+invariant-loop-place l = first_next (λ p. (marks_at l.marks p).handled) l.place-iterator
+    ≡ first_next (λ p. (marks_at l.marks p).handled) l.initial.place-iterator

@@ -21,9 +21,11 @@ returns-clause-commit g c =
       clean = λ clean good.
           let clean0 : (seen keep).doubt ≡ 0 = omega (arith, clean, above) in
           let matches = good (seen keep).tables ((g.met.K.Keep.sound keep).stays clean0 (sym c.if-not-usable.ensures)) in
-          subst (λ cs. IsCommit g.H.Handler.service (seen keep).tables row (changed cs (seen keep).tables).held (seen c.handle.new.keep).tables (seen c.handle.new.keep).may_leave c.handle.result)
+          subst (λ cs. IsCommit g.H.Handler.service (seen keep).tables row (changed cs (seen keep).tables).held
+          (seen c.handle.new.keep).tables (seen c.handle.new.keep).may_leave c.handle.result)
           c.new-changes.ensures.items
-          (h.clean clean good (command-prepares g.H.Handler.service (seen keep).tables c.args.entity.now c.args.seat c.args.command c.new-changes.result.items matches c.requires c.new-changes.ensures.items));
+          (h.clean clean good (command-prepares g.H.Handler.service (seen keep).tables c.args.entity.now c.args.seat c.args.command
+          c.new-changes.result.items matches c.requires c.new-changes.ensures.items));
     })
 
 pub returns-clause-comes : goal.returns-clause-comes
@@ -32,7 +34,8 @@ returns-clause-comes g c = λ clean good.
     let row = command_row c.args.entity.now c.args.seat c.args.command in
     let told : Commits seen c.args.self.now c.handle.new.keep g.H.Handler.service row c.handle.result = returns-clause-commit g c in
     let above = told.doubt in
-    commit_comes seen c.args.self.now c.handle.new.keep (g.met.K.Keep.sound c.args.self.now) (g.met.K.Keep.sound c.handle.new.keep) g.H.Handler.service (omega (arith, clean, above)) clean
+    commit_comes seen c.args.self.now c.handle.new.keep (g.met.K.Keep.sound c.args.self.now)
+    (g.met.K.Keep.sound c.handle.new.keep) g.H.Handler.service (omega (arith, clean, above)) clean
     c.args.entity.now c.args.seat c.args.command c.handle.result told.call (told.clean clean good)
 
 pub returns-clause-matches : goal.returns-clause-matches
@@ -42,4 +45,5 @@ returns-clause-matches g c = λ clean good.
     let told : Commits seen c.args.self.now c.handle.new.keep g.H.Handler.service row c.handle.result = returns-clause-commit g c in
     let above = told.doubt in
     commit-matches seen g.H.Handler.service c.args.self.now c.handle.new.keep row (seen c.args.self.now).tables.held
-    (g.met.K.Keep.sound c.args.self.now) (g.met.K.Keep.sound c.handle.new.keep) (omega (arith, clean, above)) clean good c.handle.result told.call (told.clean clean good)
+    (g.met.K.Keep.sound c.args.self.now) (g.met.K.Keep.sound c.handle.new.keep) (omega (arith, clean, above)) clean good c.handle.result
+    told.call (told.clean clean good)
