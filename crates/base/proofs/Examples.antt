@@ -1,6 +1,7 @@
 -- Examples: what the definitions are for one order, one stock and one account.
 use Rattle.std.proofs.Common.{◌≡◌, ◌∷◌, [], true, false, refl, arith}
 use Rattle.std.specs.Prelude.{◌^◌, ◌+◌, codes, Ok, Err, replicate}
+use Rattle.std.specs.Str.{is_utf8, chars}
 use Rattle.std.specs.declared.cmp.Ordering.TheVariants.{Less, Greater}
 use Rattle.base.specs.declared.entity.Kind.TheVariants.{Order, Stock, Account}
 use Rattle.base.specs.declared.fault.EntityFault.TheVariants.{BadKey}
@@ -27,10 +28,27 @@ queues_are_named = (refl, refl, refl)
 -- a key has 1 to 64 octets, and no NUL among them; a slash may stand in it
 keys_are_short : (is_key (codes "a/b") ≡ true) × (is_key [] ≡ false) × (is_key (replicate 64 97) ≡ true) × (is_key (replicate 65 97) ≡ false)
     × (is_key (97 ∷ 0 ∷ 98 ∷ []) ≡ false)
+unfolding is_utf8 chars lib.Utf8.encode
 keys_are_short = (refl, refl, refl, refl, refl)
+
+-- a key is UTF-8: characters of two, three and four octets may stand in it
+keys_are_utf8 : (is_key (195 ∷ 169 ∷ []) ≡ true) × (is_key (226 ∷ 130 ∷ 172 ∷ []) ≡ true) × (is_key (240 ∷ 159 ∷ 166 ∷ 128 ∷ []) ≡ true)
+unfolding is_utf8 chars lib.Utf8.encode
+keys_are_utf8 = (refl, refl, refl)
+
+-- a beginning of a character alone is no key, nor is what may follow one, nor a character with an octet too many
+no_half_characters : (is_key (195 ∷ []) ≡ false) × (is_key (97 ∷ 169 ∷ []) ≡ false) × (is_key (195 ∷ 169 ∷ 169 ∷ []) ≡ false)
+unfolding is_utf8 chars lib.Utf8.encode
+no_half_characters = (refl, refl, refl)
+
+-- nor are a slash in two octets, a surrogate in three, and a number above the last character's in four
+no_other_codes : (is_key (192 ∷ 175 ∷ []) ≡ false) × (is_key (237 ∷ 160 ∷ 128 ∷ []) ≡ false) × (is_key (244 ∷ 144 ∷ 128 ∷ 128 ∷ []) ≡ false)
+unfolding is_utf8 chars lib.Utf8.encode
+no_other_codes = (refl, refl, refl)
 
 -- `order/o1` is read as the order of `o1`
 a_text_is_read : IsReading (codes "order/o1") (Ok (order_of (codes "o1")))
+unfolding is_utf8 chars lib.Utf8.encode
 a_text_is_read = (refl, refl)
 
 -- `order/` is the text of an order whose key is none

@@ -1,6 +1,7 @@
 -- Entities: a kind and a key, and the text that names one.
 use Rattle.std.specs.Prelude.{◌≡◌, ◌≢◌, ℕ, Bool, true, false, ◌&&◌, ◌==◌, not, nat_lt, nat_le, List, ◌++◌, length, codes, Result, Ok, Err}
 use Rattle.std.specs.List.{list_any}
+use Rattle.std.specs.Str.{is_utf8}
 use Rattle.base.specs.declared.limits.TheConstants.{MAX_KEY}
 use Rattle.base.specs.declared.entity.Kind.{Kind}
 use Rattle.base.specs.declared.entity.Kind.TheVariants.{Order, Stock, Account}
@@ -42,9 +43,9 @@ queue_of Order = codes "/queue/purchasing"
 queue_of Stock = codes "/queue/warehouse"
 queue_of Account = codes "/queue/billing"
 
--- 1 to MAX_KEY octets, none of them NUL
+-- 1 to MAX_KEY octets of UTF-8, none of them NUL
 abbrev pub is_key : List ℕ → Bool
-is_key key = nat_lt 0 (length key) && nat_le (length key) MAX_KEY && not (list_any (λ o. o == 0) key)
+is_key key = nat_lt 0 (length key) && nat_le (length key) MAX_KEY && not (list_any (λ o. o == 0) key) && is_utf8 key
 
 -- what holds of every entity
 abbrev pub IsEntity : Name → Type 0

@@ -3,3 +3,4 @@ pub mod EntityView
 pub mod Fault
 pub mod Number
 pub mod Order
+pub mod Parts

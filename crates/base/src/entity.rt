@@ -1,7 +1,8 @@
 //! Entities: a kind and a key.
 
-ghost use Rattle.std.specs.Prelude.{◌≡◌, ◌≢◌, IfOk, MatchOption};
+ghost use Rattle.std.specs.Prelude.{◌≡◌, ◌≢◌, IfOk, MatchOption, slice_index};
 ghost use Rattle.base.specs.Entity.{word_of, prefix_of, text_of, queue_of, IsEntity, IsReading};
+ghost use Rattle.base.specs.Parts.Lead.{lead_of};
 ghost use Rattle.base.specs.declared.entity.Kind.{Kind};
 
 use crate::key::is_key;
@@ -71,12 +72,39 @@ impl Kind {
     }
 }
 
+/// The octet at a place, or 0 behind the end.
+fn octet_at(octets: &[u8], place: usize) -> u8
+    ensures { result ≡ slice_index octets.now place }
+{
+    octets.get(place).copied().unwrap_or(0)
+}
+
+/// How an entity's text begins, as one word: the first octet of its kind's word, then the first seven of its key.
+#[tactic(auto, unfolding(crate::specs::Parts::Lead::lead_of))]
+fn lead_of(kind: Kind, key: &str) -> u64
+    ensures { result ≡ lead_of (record { kind = kind; key = key.now }) }
+{
+    let key = key.as_bytes();
+    u64::from_be_bytes([
+        octet_at(kind.word().as_bytes(), 0),
+        octet_at(key, 0),
+        octet_at(key, 1),
+        octet_at(key, 2),
+        octet_at(key, 3),
+        octet_at(key, 4),
+        octet_at(key, 5),
+        octet_at(key, 6),
+    ])
+}
+
 /// An entity: contracts see its kind and the octets of its key.
 ///
 /// The key has 1 to 64 octets of UTF-8 and no NUL. Entities are ordered by the octets of their texts.
 #[derive(Debug, Drop)]
 pub struct Entity {
     kind: Kind,
+    // Orders as the text's beginning does, so that most comparisons read no text.
+    lead: u64,
     text: String,
 }
 
@@ -110,8 +138,9 @@ impl Entity {
         if !is_key(key) {
             return Err(EntityFault::BadKey);
         }
+        let lead = lead_of(kind, key);
         let text = String::from_str(alloc, text)?;
-        Ok(Entity { kind, text })
+        Ok(Entity { kind, lead, text })
     }
 
     /// The entity of a kind and a key.
@@ -124,7 +153,11 @@ impl Entity {
         let key = key.as_str();
         let mut text = String::from_str(alloc, kind.prefix())?;
         text.push_str(key)?;
-        Ok(Entity { kind, text })
+        Ok(Entity {
+            kind,
+            lead: lead_of(kind, key),
+            text,
+        })
     }
 
     /// Its kind.
@@ -158,6 +191,7 @@ impl Entity {
     {
         Ok(Entity {
             kind: self.kind,
+            lead: self.lead,
             text: String::from_str(alloc, &self.text)?,
         })
     }
@@ -173,7 +207,7 @@ impl PartialEq for Entity {
 
     #[tactic(auto, unfolding(crate::specs::Order::same_entity))]
     fn eq(&self, other: &Entity) -> bool {
-        self.text == other.text
+        self.lead == other.lead && self.text == other.text
     }
 }
 
@@ -209,6 +243,9 @@ impl Ord for Entity {
     ghost matches_eq = { same_entity-ties };
 
     fn cmp(&self, other: &Entity) -> Ordering {
-        self.text.cmp(&other.text)
+        match self.lead.cmp(&other.lead) {
+            Ordering::Equal => self.text.cmp(&other.text),
+            unequal => unequal,
+        }
     }
 }

@@ -73,6 +73,9 @@ impl Ord for Pair {
     ghost matches_eq = { same_pair-ties };
 
     fn cmp(&self, other: &Pair) -> Ordering {
-        self.from.cmp(&other.from).then(self.to.cmp(&other.to))
+        match self.from.cmp(&other.from) {
+            Ordering::Equal => self.to.cmp(&other.to),
+            unequal => unequal,
+        }
     }
 }

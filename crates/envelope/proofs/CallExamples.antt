@@ -1,6 +1,7 @@
 -- Examples: which letters and settles can be sent, what a broker may add to them, and what refusals are.
 use Rattle.std.proofs.Common.{◌≡◌, ℕ, ◌≤◌, List, [], ◌∷◌, true, false, refl, sym, ap, arith}
 use Rattle.std.specs.Prelude.{codes, replicate, Some, unwrap_or}
+use Rattle.std.specs.Str.{is_utf8, chars}
 use Rattle.std.specs.Str.Parse.{digits_value}
 use Rattle.std.specs.Fmt.{digits}
 use Rattle.serde_json.specs.Written.{compact_text}
@@ -43,6 +44,7 @@ at_most_so_much_is_asked = (record { positive = omega arith; small = omega arith
 
 -- numbers begin at 1
 numbers_begin_at_1 : (IsNumbered to_account 1) × (IsNumbered to_account 0 → ⊥)
+unfolding is_utf8 chars lib.Utf8.encode
 numbers_begin_at_1 = (record { from = refl; to = refl; number = record { positive = omega arith; small = omega arith } }, λ n. omega (arith, n.number.positive))
 
 -- an order without a key sends no letters
@@ -55,6 +57,7 @@ letters_have_messages = (record { positive = omega arith; small = omega arith },
 
 -- so this letter can be sent, and this settle
 these_are_envelopes : (IsEnvelope (letter 1 (Request 5))) × (IsEnvelope (Settle to_account 2))
+unfolding is_utf8 chars lib.Utf8.encode
 these_are_envelopes = (
   record { numbered = record { from = refl; to = refl; number = record { positive = omega arith; small = omega arith } }; message = record { positive = omega arith; small = omega arith } },
   record { numbered = record { from = refl; to = refl; number = record { positive = omega arith; small = omega arith } }; message = tt },
@@ -80,7 +83,7 @@ delivered = header (codes "message-id") (codes "77") ∷ headers_of (letter 1 Te
 
 -- they still carry the letter
 a_broker_may_add_headers : Carries delivered (codes "{\"op\":\"tentative\"}") (letter 1 Tentative)
-unfolding digits
+unfolding digits is_utf8 chars lib.Utf8.encode
 a_broker_may_add_headers = record {
   kind = refl;
   from = refl;

@@ -2,6 +2,7 @@
 use Rattle.std.proofs.Common.{◌≡◌, [], ◌∷◌, ◌++◌, true, false, refl}
 use Rattle.std.specs.Prelude.{codes, replicate, Some, None}
 use Rattle.std.specs.Fmt.{digits}
+use Rattle.std.specs.Str.{is_utf8, chars}
 use Rattle.base.specs.Entity.{order_of, stock_of, account_of}
 use Rattle.base.specs.declared.pair.Pair.{Pair}
 use Rattle.stomp_frame.specs.Frames.{header, canonical, line_of, escape}
@@ -44,35 +45,36 @@ a_settle_is_sent = refl
 
 -- what was written is read back
 a_request_is_read : read_envelope (headers_of request) (codes "{\"n\":3,\"op\":\"request\"}") ≡ Some request
-unfolding read_envelope digits
+unfolding read_envelope digits is_utf8 chars lib.Utf8.encode
 a_request_is_read = refl
 
 a_settle_is_read : read_envelope (headers_of settle) [] ≡ Some settle
-unfolding read_envelope digits
+unfolding read_envelope digits is_utf8 chars lib.Utf8.encode
 a_settle_is_read = refl
 
 -- the first header of a name counts, and other headers say nothing
 first_headers_are_read : read_envelope (header (codes "number") (codes "7") ∷ headers_of settle ++ header (codes "x") [] ∷ []) []
     ≡ Some (Settle to_stock 7)
-unfolding read_envelope digits
+unfolding read_envelope digits is_utf8 chars lib.Utf8.encode
 first_headers_are_read = refl
 
 -- a body with its keys in another order, with a space, or of a settle is no envelope's
 other_bodies_are_none : (read_envelope (headers_of request) (codes "{\"op\":\"request\",\"n\":3}") ≡ None)
     × (read_envelope (headers_of request) (codes "{\"n\": 3,\"op\":\"request\"}") ≡ None) × (read_envelope (headers_of settle) (codes " ") ≡ None)
-unfolding read_envelope digits
+unfolding read_envelope digits is_utf8 chars lib.Utf8.encode
 other_bodies_are_none = (refl, refl, refl)
 
 -- without a number, or with another word in `kind`, headers are no envelope's
 other_headers_are_none :
     (read_envelope (header (codes "kind") (codes "settle") ∷ header (codes "from") (codes "order/o1") ∷ header (codes "to") (codes "stock/bolts") ∷ []) [] ≡ None)
     × (read_envelope (heading (codes "/queue/warehouse") (codes "letter") to_stock 1) (codes "{\"op\":\"confirm\"}") ≡ None)
-unfolding read_envelope digits
+unfolding read_envelope digits is_utf8 chars lib.Utf8.encode
 other_headers_are_none = (refl, refl)
 
 -- an entity's key may have a slash; no other kinds are there, and no empty keys
 entities_are_read : (read_entity (codes "account/a/b") ≡ Some (account_of (codes "a/b"))) × (read_entity (codes "Order/o1") ≡ None)
     × (read_entity (codes "order/") ≡ None)
+unfolding is_utf8 chars lib.Utf8.encode
 entities_are_read = (refl, refl, refl)
 
 -- a number is 1 to 2^40, without leading zeros or a sign

@@ -59,12 +59,14 @@ Is line answer = event_in line ≡ answer
 -- seat, key, stock, quantity, account, amount; and seat, key
 commands_are_read : (Is (codes "place 0 o1 bolts 3 acme 500") (Some (Some (Order 0 (order_of (codes "o1")) (Place (codes "bolts") 3 (codes "acme") 500)))))
     × (Is (codes "cancel 15 o1") (Some (Some (Order 15 (order_of (codes "o1")) CancelOrder))))
+unfolding is_utf8 chars lib.Utf8.encode
 commands_are_read = (refl, refl)
 
 -- an entity of any kind is shown; of purchasing the frames and the journal are
 looks_are_read : (Is (codes "show order/o1") (Some (Some (Show (order_of (codes "o1"))))))
     × (Is (codes "show stock/bolts") (Some (Some (Show (stock_of (codes "bolts"))))))
     × (Is (codes "frames purchasing") (Some (Some (Frames Purchasing)))) × (Is (codes "journal purchasing") (Some (Some (Journal Purchasing))))
+unfolding is_utf8 chars lib.Utf8.encode
 looks_are_read = (refl, refl, refl, refl)
 
 -- an empty line and one that begins with # have nothing to run
@@ -75,6 +77,7 @@ quiet_lines_have_no_event = (refl, refl)
 faulty_lines_are_none : (Is (codes "place 0 o1 bolts 3 acme") None) × (Is (codes "cancel 0 o1 x") None) × (Is (codes "cancel 16 o1") None)
     × (Is (codes "show order/") None)
     × (Is (codes "journal billing") None) × (Is (codes "stop") None) × (Is (codes " # a") None)
+unfolding is_utf8 chars lib.Utf8.encode
 faulty_lines_are_none = (refl, refl, refl, refl, refl, refl, refl)
 
 -- a line that isn't UTF-8 is faulty, even where nothing is to run
