@@ -142,9 +142,13 @@ read_back headers body e c =
 pub read_envelope-exact : (headers : List Header) (body : List ℕ) (e : Envelope) → (read_envelope headers body ≡ Some e) ↔ Carries headers body e
 read_envelope-exact headers body e = (carried headers body e, read_back headers body e)
 
--- what is written for an envelope is read as that envelope
+-- what is written for an envelope carries it
+written_carries : (e : Envelope) → IsEnvelope e → Carries (headers_of e) (content_of e) e
+written_carries e is = record { kind = refl; from = refl; to = refl; number = refl; content = refl; envelope = is }
+
+-- and so is read as that envelope
 pub read_envelope-written : (e : Envelope) → IsEnvelope e → read_envelope (headers_of e) (content_of e) ≡ Some e
-read_envelope-written e is = read_back (headers_of e) (content_of e) e (record { kind = refl; from = refl; to = refl; number = refl; content = refl; envelope = is })
+read_envelope-written e is = read_back (headers_of e) (content_of e) e (written_carries e is)
 
 -- so two envelopes are not written alike
 pub written_once : (a b : Envelope) → IsEnvelope a → IsEnvelope b → headers_of a ≡ headers_of b → content_of a ≡ content_of b → a ≡ b
@@ -155,7 +159,9 @@ written_once a b p q heads bodies =
     let same : Some a ≡ Some b = sym first ∙ across ∙ second in
     cc
 
--- the SEND of an envelope reads as that envelope
-pub read_back_of : (answer : Result Content EnvelopeFault) (e : Envelope) → HasMessage e → IfOk answer (λ f. f ≡ send_of e) → OnOk answer (IsNumbered (pair_of e) (envelope_number e)) → IfOk answer (λ f. read_envelope f.headers f.body ≡ Some e)
-read_back_of (Ok f) e message is numbered = subst (λ (f : Content). read_envelope f.headers f.body ≡ Some e) (sym is) (read_envelope-written e (record { numbered = numbered; message = message }))
-read_back_of (Err fault) e message is numbered = tt
+-- the SEND of an envelope carries it
+pub sent_carries : (answer : Result Content EnvelopeFault) (e : Envelope) → HasMessage e → IfOk answer (λ f. f ≡ send_of e)
+    → OnOk answer (IsNumbered (pair_of e) (envelope_number e)) → IfOk answer (λ f. Carries f.headers f.body e)
+sent_carries (Ok f) e message is numbered =
+    subst (λ (f : Content). Carries f.headers f.body e) (sym is) (written_carries e (record { numbered = numbered; message = message }))
+sent_carries (Err fault) e message is numbered = tt

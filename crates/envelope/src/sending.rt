@@ -1,12 +1,12 @@
 //! Envelopes as frames.
 
-ghost use Rattle.std.specs.Prelude.{◌≡◌, true, ◌<◌, ◌≤◌, ◌↔◌, length, Some, IfOk, OnOk, IsErrOf, IsOkUnless};
+ghost use Rattle.std.specs.Prelude.{◌≡◌, true, ◌<◌, ◌≤◌, ◌↔◌, length, IfOk, OnOk, IsErrOf, IsOkUnless};
 ghost use Rattle.base.specs.Entity.{queue_of};
 ghost use Rattle.stomp_frame.specs.Frames.{header, with_header};
 ghost use Rattle.stomp_frame.specs.declared.command.Command.TheVariants.{Send};
 ghost use Rattle.envelope.specs.Written.{heading, send_of, IsNumbered, IsBadSettle};
 ghost use Rattle.envelope.specs.Sending.{is_name, IsShort};
-ghost use Rattle.envelope.specs.Reading.{read_envelope};
+ghost use Rattle.envelope.specs.Reading.{Carries};
 
 use crate::{Envelope, EnvelopeFault};
 use base::{Kind, Number, Pair};
@@ -63,7 +63,7 @@ fn send(
 /// `BadEnvelope` for a settle whose number isn't 1 to 2^40; else `Memory` where a growth was refused.
 pub fn to_send(alloc: Global, envelope: &Envelope) -> Result<Frame, EnvelopeFault>
     ensures frame { IfOk result (λ f. f ≡ send_of envelope.now) }
-    ensures read_back { IfOk result (λ f. read_envelope f.headers f.body ≡ Some envelope.now) }
+    ensures carries { IfOk result (λ f. Carries f.headers f.body envelope.now) }
     ensures refused { IsErrOf result EnvelopeFault.BadEnvelope ↔ IsBadSettle envelope.now }
 {
     match envelope {
