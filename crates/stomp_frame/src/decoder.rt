@@ -3,12 +3,11 @@
 ghost use Rattle.std.specs.Prelude.{◌≡◌, [], false};
 ghost use Rattle.stomp_frame.specs.Decoding.{Nexts, Feeds};
 
-use crate::reading::{Found, Parts, Progress, after_gap, read_frame};
+use crate::reading::{Found, Progress, after_gap, read_frame};
 use crate::{Frame, FrameFault};
 use base::limits::MAX_BODY;
 use std::alloc::Global;
 use std::marker::Model;
-use std::mem::replace;
 
 /// No more room than this is kept where no frame is whole: twice what is held then fits, and a piece.
 const ROOM: usize = 262_144;
@@ -16,8 +15,7 @@ const ROOM: usize = 262_144;
 /// Reads frames from the pieces of a text: contracts see the octets that it holds, and whether it has answered a fault.
 ///
 /// However the text is cut into pieces, its frames are the same, and its fault is. Where `next` finds no whole frame, it leaves at
-/// most 101,446 octets held. Of a frame that isn't whole, `next` reads no octet
-/// again but for one.
+/// most 101,446 octets held. Of a frame that isn't whole, a later call of `next` reads no octet again but for one.
 #[derive(Debug, Drop)]
 pub struct Decoder {
     alloc: Global,
@@ -93,25 +91,27 @@ impl Decoder {
         if self.failed {
             return Err(FrameFault::Failed);
         }
-        let progress = replace(&mut self.progress, Progress::Line(0));
-        let text = after_gap(self.held());
-        match read_frame(self.alloc, MAX_BODY, progress, text) {
-            Ok(Found::Whole(parts, left)) => {
-                self.start = self.octets.len() - left;
-                let Parts {
+        let (_, held) = self.octets.split_at(self.start);
+        let text = after_gap(held);
+        match read_frame(self.alloc, MAX_BODY, &mut self.progress, text) {
+            Ok(Some(found)) => {
+                let Found {
                     command,
                     headers,
                     body,
-                } = parts;
+                    left,
+                } = found;
+                self.start = self.octets.len() - left;
+                self.progress = Progress::Line(0);
                 Ok(Some(Frame::of(self.alloc, command, headers, body)))
             }
-            Ok(Found::Waits(progress)) => {
+            Ok(None) => {
                 self.start = self.octets.len() - text.len();
-                self.progress = progress;
                 self.shrink();
                 Ok(None)
             }
             Err(fault) => {
+                self.progress = Progress::Line(0);
                 if fault == FrameFault::Memory {
                     return Err(fault);
                 }
@@ -139,12 +139,5 @@ impl Decoder {
             self.move_to_front();
             self.octets.shrink_to(ROOM / 2);
         }
-    }
-
-    fn held(&self) -> &[u8]
-        ensures { result.now ≡ self.now.octets }
-    {
-        let (_, held) = self.octets.split_at(self.start);
-        held
     }
 }
