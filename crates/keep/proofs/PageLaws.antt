@@ -1,14 +1,13 @@
 -- What pages of the outbox have in common.
-use Rattle.std.proofs.Common.{◌≡◌, ◌⊎◌, inl, inr, ℕ, zero, suc, ◌+◌, ◌<◌, List, [], ◌∷◌, ◌++◌, length, Option, Some, None, Ordering, Less}
+use Rattle.std.proofs.Common.{◌≡◌, ◌⊎◌, inl, inr, ℕ, zero, suc, ◌+◌, [], ◌∷◌, ◌++◌, Option, Some, Ordering, Less}
 use Rattle.std.proofs.Common.{Equal, Greater, refl, sym, ap, subst, ◌∙◌, arith, zero-add}
 use Rattle.envelope.specs.declared.message.Message.{Message}
 use Rattle.envelope.specs.declared.message.Letter.{Letter}
 use Rattle.keep.specs.declared.change.Place.{Place}
 use Rattle.keep.specs.Tables.{Messages}
-use Rattle.keep.specs.Places.{place_cmp, place_cmp-total, IsBefore}
-use Rattle.keep.specs.Listing.{place_of, IsAfter, IsNext, IsNoneAfter, AreFirst}
-use Rattle.keep.specs.Pages.{place_behind, PagesJoin, ShortPageIsLast, ListedLettersStand, StandingLettersAreListed}
-use Rattle.keep.specs.Sorted.{Has}
+use Rattle.keep.specs.Places.{place_cmp, IsBefore}
+use Rattle.keep.specs.Listing.{place_of, IsAfter, IsNext, AreFirst}
+use Rattle.keep.specs.Pages.{PagesJoin, ShortPageIsLast, ListedLettersStand, StandingLettersAreListed}
 use Rattle.keep.proofs.Places.{place_cmp-Equal, place_cmp-Greater}
 use Rattle.keep.proofs.Listings.{later_than, never_none, letter}
 

@@ -10,13 +10,13 @@ use Rattle.base.specs.Order.{entity_cmp, pair_cmp, same_entity, same_pair}
 use Rattle.base.specs.declared.pair.Pair.{Pair}
 use Rattle.activities.specs.declared.input.JournalRow.{JournalRow}
 use Rattle.envelope.specs.declared.message.Message.{Message}
-use Rattle.envelope.specs.declared.message.Message.TheVariants.{Request, Tentative, Confirm}
+use Rattle.envelope.specs.declared.message.Message.TheVariants.{Request, Confirm}
 use Rattle.keep.specs.declared.change.Place.{Place}
-use Rattle.keep.specs.declared.change.Change.TheVariants.{Journal, State, Handled}
-use Rattle.keep.specs.Tables.{Messages, set_message, without_upto}
-use Rattle.keep_plain.specs.Slots.{filled, at, SameAt}
+use Rattle.keep.specs.declared.change.Change.TheVariants.{Journal, Handled}
+use Rattle.keep.specs.Tables.{Messages, set_message}
+use Rattle.keep_plain.specs.Slots.{filled, SameAt}
 use Rattle.keep_plain.specs.Listed.{start_after, letter_in, letters_at, first_next}
-use Rattle.keep_plain.specs.Maps.{mark_of, with_mark, marks_at, messages_in, tables_in}
+use Rattle.keep_plain.specs.Maps.{mark_of, with_mark, tables_in}
 use Rattle.keep_plain.specs.Memory.{in_memory}
 use Rattle.keep_plain.specs.Ready.{IsReady}
 use Rattle.keep_plain.specs.Upto.{EmptiesFrom}

@@ -1,5 +1,5 @@
 -- A slot that is put where a key has none.
-use Rattle.std.proofs.Common.{◌≡◌, Option, Some, None, Bool, true, false, cond, refl, sym, ap, ◌∙◌, Ordering, Less, Equal, Greater}
+use Rattle.std.proofs.Common.{◌≡◌, Option, Some, None, true, cond, refl, sym, ap, ◌∙◌, Ordering, Less, Equal, Greater}
 use Rattle.std.proofs.Common.{true≢false, inl, inr}
 use Rattle.std.specs.Cmp.{IsTotalOrder}
 use Rattle.std.specs.Option.{unwrap_or}
