@@ -1,12 +1,13 @@
 //! Runs a schedule, read from standard input, and prints the outcome of each line.
 #![tactic(auto)]
 
-use programs::{RunFault, run_schedule, tell_fault};
+use programs::{RunFault, run_schedule, tell_bad_words, tell_fault};
 use std::io::{BufReader, BufWriter, ErrorKind, Write};
 use std::process::ExitCode;
 use std::{env, io};
 
-/// Runs the program over the words of its command line and the standard streams. The answer is the status.
+/// Runs the program over the words of its command line and the standard streams. The answer is the status. Words that aren't UTF-8 are
+/// `InvalidData`, which nothing else here is.
 fn run<E: Write>(rt: &HostRuntime, err: &mut E) -> io::Result<u8> {
     let mut words = Vec::new(rt.alloc());
     for word in env::args(rt)? {
@@ -23,6 +24,7 @@ fn main(rt: HostRuntime) -> io::Result<ExitCode> {
         Err(error) if error.kind() == ErrorKind::OutOfMemory => {
             tell_fault(&mut err, RunFault::Memory)?
         }
+        Err(error) if error.kind() == ErrorKind::InvalidData => tell_bad_words(&mut err)?,
         answer => answer?,
     };
     Ok(ExitCode::from(status))

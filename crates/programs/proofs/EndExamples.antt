@@ -1,5 +1,5 @@
 -- Examples: how a run of a text ends, in what its writers hold then and in its status, and what the words of the command line come to.
-use Rattle.std.proofs.Common.{◌≡◌, ◌≢◌, List, [], ◌∷◌, ◌++◌, ℕ, refl, sym, ◌∙◌, ap, inl, inr, get_or, arith}
+use Rattle.std.proofs.Common.{◌≡◌, List, [], ◌∷◌, ◌++◌, ℕ, refl, sym, ◌∙◌, ap, inl, inr, get_or, arith}
 use Rattle.std.specs.Prelude.{codes, Some, None, Ok, Err}
 use Rattle.std.specs.Fmt.{digits}
 use Rattle.std.specs.Str.{is_utf8, chars}
@@ -9,7 +9,7 @@ use Rattle.activities.specs.declared.commands.OrderCommand.TheVariants.{CancelOr
 use Rattle.activities.specs.declared.handler.Refusal.TheVariants.{NotOpen}
 use Rattle.clap.specs.Faults.{walk_fault, defaults_fault}
 use Rattle.clap.specs.Words.{Kinds, fault_of}
-use Rattle.clap.specs.declared.error.kind.ErrorKind.TheVariants.{DisplayHelp, UnknownArgument}
+use Rattle.clap.specs.declared.error.kind.ErrorKind.TheVariants.{DisplayHelp, DisplayVersion, UnknownArgument}
 use Rattle.endpoint.specs.declared.fault.EndFault.TheVariants.{Business}
 use Rattle.schedules.specs.declared.event.Event.{Event}
 use Rattle.schedules.specs.declared.event.Event.TheVariants.{Order}
@@ -159,27 +159,27 @@ an_end_is_told_in_part = (untold, inr (refl, untold), inl (ends_have_a_status.0)
 
 -- ---- the words of the command line
 
--- the name alone has nothing at fault, `--help` asks for help, and there is no other option
+-- the name alone has nothing at fault, `--help` asks for help and `--version` for the version, and there is no other option
 words_have_faults : (fault_of command_line (codes "outbox-schedule" ∷ []) ≡ [])
     × (fault_of command_line (codes "outbox-schedule" ∷ codes "--help" ∷ []) ≡ DisplayHelp ∷ [])
+    × (fault_of command_line (codes "outbox-schedule" ∷ codes "--version" ∷ []) ≡ DisplayVersion ∷ [])
     × (fault_of command_line (codes "outbox-schedule" ∷ codes "--all" ∷ []) ≡ UnknownArgument ∷ [])
 unfolding walk_fault defaults_fault
-words_have_faults = (refl, refl, refl)
+words_have_faults = (refl, refl, refl, refl)
 
--- help has status 0, and `err` is as it was; a fault of usage has status 2, and `out` is as it was
+-- help and the version have status 0, and `err` is as it was; a fault of usage has status 2, and `out` is as it was
 help_is_told : (IsUsage DisplayHelp (hold [] []) (hold (codes "Runs\n") []) 0)
     × (IsUsage UnknownArgument (hold [] []) (hold [] (codes "error\n")) 2)
+    × (IsUsage DisplayVersion (hold [] []) (hold (codes "outbox-schedule 0.1.0\n") []) 0)
     × (IsUsage UnknownArgument (hold [] []) (hold [] (codes "error\n")) 0 → ⊥)
-    × (IsUsage DisplayHelp (hold [] []) (hold (codes "Runs\n") []) 2 → ⊥)
+    × (IsUsage DisplayVersion (hold [] []) (hold (codes "outbox-schedule 0.1.0\n") []) 2 → ⊥)
 help_is_told = (
   inl (refl, refl, refl),
-  inr (other, refl, refl),
-  λ h. elim h [ inl help ↦ other help.0 | inr fault ↦ let status = fault.1 in absurd (cc) ],
-  λ h. elim h [ inl help ↦ let status = help.1 in absurd (cc) | inr fault ↦ fault.0 refl ],
+  inr (refl, refl, refl),
+  inl (refl, refl, refl),
+  λ h. elim h [ inl help ↦ let asked = help.0 in absurd (cc) | inr fault ↦ let status = fault.1 in absurd (cc) ],
+  λ h. elim h [ inl help ↦ let status = help.1 in absurd (cc) | inr fault ↦ let asked = fault.0 in absurd (cc) ],
 )
-  where
-    other : UnknownArgument ≢ DisplayHelp
-    other e = absurd (cc)
 
 -- the stream failed on which help or the fault was to be told; the other is as it was
 help_is_cut : (IsCutUsage DisplayHelp (hold [] []) (hold (codes "Ru") []))
@@ -187,8 +187,8 @@ help_is_cut : (IsCutUsage DisplayHelp (hold [] []) (hold (codes "Ru") []))
     × (IsCutUsage DisplayHelp (hold [] []) (hold (codes "Ru") (codes "err")) → ⊥)
 help_is_cut = (
   inl (refl, refl),
-  inr (λ e. absurd (cc), refl),
-  λ h. elim h [ inl help ↦ let kept = help.1 in absurd (cc) | inr fault ↦ fault.0 refl ],
+  inr (refl, refl),
+  λ h. elim h [ inl help ↦ let kept = help.1 in absurd (cc) | inr fault ↦ let asked = fault.0 in absurd (cc) ],
 )
 
 -- in place of a run: help; a fault of the words; help in part, with status 1; or that memory was refused over the words, on `err`
@@ -213,13 +213,15 @@ streams input writers = record { input = Some input; writers = writers }
 abbrev faults_of : List (List ℕ) → Kinds
 faults_of words = fault_of command_line (codes "outbox-schedule" ∷ words)
 
--- with the name alone the schedule is run; with `--help` it isn't, and the input is as it was
+-- with the name alone the schedule is run; with `--help` or `--version` it isn't, and the input is as it was
 only_a_run_reads : IsAnswered (faults_of []) (streams cancels (hold [] [])) (streams [] (hold refused [])) 0
     × IsAnswered (faults_of (codes "--help" ∷ [])) (streams cancels (hold [] [])) (streams cancels (hold (codes "Runs\n") [])) 0
+    × IsAnswered (faults_of (codes "--version" ∷ [])) (streams cancels (hold [] [])) (streams cancels (hold (codes "outbox-schedule 0.1.0\n") [])) 0
     × (IsAnswered (faults_of (codes "--help" ∷ [])) (streams cancels (hold [] [])) (streams [] (hold (codes "Runs\n") [])) 0 → ⊥)
 unfolding walk_fault defaults_fault
 only_a_run_reads = (
   inl (refl, an_end_is_told_in_part.2),
   inr (refl, words_are_answered.0),
+  inr (refl, inl (DisplayVersion, inl refl, inl (help_is_told.2))),
   λ h. elim h [ inl run ↦ let none = run.0 in absurd (cc) | inr told ↦ let kept = told.0 in absurd (cc) ],
 )

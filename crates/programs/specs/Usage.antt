@@ -1,15 +1,19 @@
 -- What the words of the command line come to.
-use Rattle.std.specs.Prelude.{◌≡◌, ◌≢◌, ◌⊎◌, ℕ, List, [], codes, Option}
+use Rattle.std.specs.Prelude.{◌≡◌, ◌⊎◌, ℕ, Bool, true, false, List, [], codes, Option}
 use Rattle.clap.specs.Words.{App, Kinds, IsAmong, new_app}
 use Rattle.clap.specs.declared.error.kind.ErrorKind.{ErrorKind}
-use Rattle.clap.specs.declared.error.kind.ErrorKind.TheVariants.{DisplayHelp}
+use Rattle.clap.specs.declared.error.kind.ErrorKind.TheVariants.{DisplayHelp, DisplayVersion}
 use Rattle.programs.specs.declared.fault.RunFault.TheVariants.{Memory}
 use Rattle.programs.specs.Ends.{Writers, IsEndOf, IsUntold, fault_line}
 use Rattle.programs.specs.Written.{AppendsPart}
 
--- the command line takes the program's name and no option but `--help`
+-- a command with a version
+abbrev pub with_version : App → App
+with_version app = record app { top = record app.top { has_version = true } }
+
+-- the command line takes the program's name and no options but `--help` and `--version`
 abbrev pub command_line : App
-command_line = new_app (codes "outbox-schedule")
+command_line = with_version (new_app (codes "outbox-schedule"))
 
 -- what the reader has left, where that is known, and what the writers hold
 pub record Streams : Type 0 where
@@ -20,16 +24,23 @@ pub record Streams : Type 0 where
 abbrev pub IsStatusOf : Option (List ℕ) → Writers → Writers → ℕ → Type 0
 IsStatusOf input old new status = IsEndOf input old new status ⊎ ((status ≡ 1) × IsUntold input old new)
 
--- help is told on `out`, with status 0, and a fault of usage on `err`, with status 2; the other stream is as it was
+-- help or the version was asked for, which is no fault
+abbrev pub is_request : ErrorKind → Bool
+is_request DisplayHelp = true
+is_request DisplayVersion = true
+is_request _ = false
+
+-- what was asked for is told on `out`, with status 0, and a fault of usage on `err`, with status 2; the other stream is as it was
 abbrev pub IsUsage : ErrorKind → Writers → Writers → ℕ → Type 0
-IsUsage kind old new status = ((kind ≡ DisplayHelp) × (status ≡ 0) × (new.err ≡ old.err)) ⊎ ((kind ≢ DisplayHelp) × (status ≡ 2) × (new.out ≡ old.out))
+IsUsage kind old new status =
+    ((is_request kind ≡ true) × (status ≡ 0) × (new.err ≡ old.err)) ⊎ ((is_request kind ≡ false) × (status ≡ 2) × (new.out ≡ old.out))
 
--- the stream failed on which help or the fault was told; the other is as it was
+-- the stream failed on which it was told; the other is as it was
 abbrev pub IsCutUsage : ErrorKind → Writers → Writers → Type 0
-IsCutUsage kind old new = ((kind ≡ DisplayHelp) × (new.err ≡ old.err)) ⊎ ((kind ≢ DisplayHelp) × (new.out ≡ old.out))
+IsCutUsage kind old new = ((is_request kind ≡ true) × (new.err ≡ old.err)) ⊎ ((is_request kind ≡ false) × (new.out ≡ old.out))
 
--- What is told in place of a run: help, or a fault of the words, of one of these kinds; or that memory was refused over the words. With
--- status 1 it was the latter, or the stream failed on which it was told.
+-- What is told in place of a run: help, the version, or a fault of the words, of one of these kinds; or that memory was refused over the
+-- words. With status 1 it was the latter, or the stream failed on which it was told.
 abbrev pub IsWordAnswer : Kinds → Writers → Writers → ℕ → Type 0
 IsWordAnswer kinds old new status =
     ((kind : ErrorKind) × IsAmong kind kinds × (IsUsage kind old new status ⊎ ((status ≡ 1) × IsCutUsage kind old new)))

@@ -1,11 +1,13 @@
 //! The words of the command lines.
 
 ghost use Rattle.std.specs.Prelude.{◌≡◌, true, map, IfOk, IfErr, OnErr, MatchResult};
+ghost use Rattle.std.specs.Io.KnownBytes.{Appends};
 ghost use Rattle.clap.specs.Words.{FailsBy, fault_of, kind_of, takes};
-ghost use Rattle.programs.specs.Usage.{command_line, IsStatusOf, IsUsage, IsCutUsage, IsAnswered};
+ghost use Rattle.programs.specs.Usage.{command_line, is_request, IsStatusOf, IsUsage, IsCutUsage, IsAnswered};
+ghost use Rattle.programs.specs.Written.{AppendsPart};
 
 use crate::fault::RunFault;
-use crate::schedule::{run_input, tell_fault};
+use crate::schedule::{run_input, tell_fault, write_octets};
 use clap::error::ErrorKind;
 use clap::{Command, Error};
 use std::alloc::Global;
@@ -13,7 +15,10 @@ use std::convert::AsStr;
 use std::io;
 use std::io::{Read, Write};
 
-/// What a schedule may hold, for `--help`.
+/// What `--version` tells behind the program's name.
+const VERSION: &str = "0.1.0";
+
+/// What a schedule may hold and what it tells, for `--help`.
 const LINES: &str = "\
 Lines of a schedule:
   place SEAT KEY STOCK N ACCOUNT AMOUNT  an order asks for N of a stock and AMOUNT of an account
@@ -23,14 +28,41 @@ Lines of a schedule:
   journal purchasing                     shows what purchasing took in
 
 SEAT is 0 to 15. A key has 1 to 64 octets, with \\s for a space, \\n for LF, \\r for CR and \\\\ for a
-backslash. Empty lines and lines that begin with # are passed over.";
+backslash. Empty lines and lines that begin with # are passed over. The service begins with empty
+tables, and they end with the run.
 
-/// Reads the words of the command line, the program's name first; there is no option but `--help`.
+What a command is answered:
+  committed POS  it was taken in, at this position of the journal
+  refused 60     NotMine: the entity isn't an order
+  refused 61 70  AlreadyPlaced: the order was placed before
+  refused 61 71  NotOpen: the order isn't open
+  refused 61 72  OutOfRange: N or AMOUNT isn't from 1 to 1099511627776
+  refused 64     Memory: out of memory; nothing has changed
+  refused 66     NumberLimit: no position or number is left
+
+Exit status:
+  0  each line was run, whether it was refused or not
+  1  `line N: bad event`: line N is the first that is none of the above, and nothing was run;
+     `fault 81 Memory`: the schedule couldn't be held; `fault 2 Device`: a stream failed
+  2  the words of the command line are at fault";
+
+/// What is told where a word of the command line isn't UTF-8.
+const NOT_UTF8: &[u8] = b"\
+error: invalid UTF-8 was detected in one or more arguments
+
+Usage: outbox-schedule < SCHEDULE
+
+For more information, try '--help'.
+";
+
+/// Reads the words of the command line, the program's name first; there are no options but `--help` and
+/// `--version`.
 fn read_words<S: AsStr>(alloc: Global, words: &[S]) -> Result<(), Error>
     ensures takes { IfErr result (λ e. takes command_line (map S.text words.now) ≡ true → kind_of e ≡ ErrorKind.OutOfMemory) }
     ensures fails { FailsBy (fault_of command_line (map S.text words.now)) result }
 {
     let command = Command::new(alloc, "outbox-schedule")
+        .version(VERSION)
         .about(
             "Runs a schedule of events, read from standard input, and prints the outcome of each line.",
         )
@@ -42,14 +74,21 @@ fn read_words<S: AsStr>(alloc: Global, words: &[S]) -> Result<(), Error>
     }
 }
 
-/// Writes what `clap` says of the words: help to `out`, a fault of usage to `err`. Answers the status.
+/// Whether it was asked for, and is no fault.
+fn is_request(kind: ErrorKind) -> bool
+    ensures { result ≡ is_request kind }
+{
+    matches!(kind, ErrorKind::DisplayHelp | ErrorKind::DisplayVersion)
+}
+
+/// Writes what `clap` says of the words: help and the version to `out`, a fault of usage to `err`. Answers the status.
 fn write_usage<W: Write, E: Write>(out: &mut W, err: &mut E, error: &Error) -> io::Result<u8>
     ensures told { IfOk result (IsUsage (kind_of error.now) (record { out = W.contents out.old; err = E.contents err.old })
         (record { out = W.contents out.new; err = E.contents err.new })) }
     ensures untold { OnErr result (IsCutUsage (kind_of error.now) (record { out = W.contents out.old; err = E.contents err.old })
         (record { out = W.contents out.new; err = E.contents err.new })) }
 {
-    if error.kind() == ErrorKind::DisplayHelp {
+    if is_request(error.kind()) {
         write!(out, "{error}")?;
         out.flush()?;
         Ok(0)
@@ -58,6 +97,19 @@ fn write_usage<W: Write, E: Write>(out: &mut W, err: &mut E, error: &Error) -> i
         err.flush()?;
         Ok(2)
     }
+}
+
+/// Tells on `err` that a word of the command line isn't UTF-8. The status is 2 then.
+///
+/// # Errors
+/// Where `err` failed: it took a beginning of that.
+pub fn tell_bad_words<E: Write>(err: &mut E) -> io::Result<u8>
+    ensures told { IfOk result (λ status. (status ≡ 2) × Appends (E.contents err.old) (E.contents err.new) NOT_UTF8.now) }
+    ensures untold { OnErr result (AppendsPart (E.contents err.old) (E.contents err.new) NOT_UTF8.now) }
+{
+    write_octets(err, NOT_UTF8)?;
+    err.flush()?;
+    Ok(2)
 }
 
 /// The status that an answer comes to: 1 where a writer failed.
@@ -72,7 +124,7 @@ fn status_of(answer: io::Result<u8>) -> u8
 ///
 /// The answer is the status: 0, 2 for a fault of usage, which is told on `err` as `clap` words it, and 1 for another fault, which is
 /// told on `err` too. With words that the command line takes it ends as `run_input` says, or with 1 where memory was refused over
-/// the words or `err` failed. With others nothing is run: `input` isn't read. Help is told on `out`, with status 0.
+/// the words or `err` failed. With others nothing is run: `input` isn't read. Help and the version are told on `out`, with status 0.
 pub fn run_schedule<S: AsStr, R: Read, W: Write, E: Write>(
     alloc: Global,
     words: &[S],

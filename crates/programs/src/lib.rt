@@ -1,4 +1,17 @@
 //! The functions of the programs: schedules of events, run and told.
+//!
+//! What is printed is what the events tell over purchasing's journal, line for line. Where a line is no event nothing is run, and where a
+//! writer fails it holds a beginning of what was to be printed.
+//!
+//! ```rust
+//! pub fn a_schedule_is_run(alloc: Global) -> Result<bool, RunFault> {
+//!     let mut out = Vec::new(alloc);
+//!     run_text(alloc, b"cancel 0 o1\n", &mut out)?;
+//!     Ok(out.as_slice() == b"refused 61 71\n".as_slice())
+//! }
+//! ```
+//!
+//! The answer is true.
 #![tactic(auto)]
 
 mod command_line;
@@ -6,9 +19,7 @@ mod fault;
 mod printing;
 mod running;
 mod schedule;
-#[cfg(test)]
-mod tests;
 
-pub use command_line::run_schedule;
+pub use command_line::{run_schedule, tell_bad_words};
 pub use fault::RunFault;
 pub use schedule::{run_input, run_text, tell_fault};

@@ -30,7 +30,7 @@ fn write_some<W: Write>(out: &mut W, octets: &[u8]) -> io::Result<usize>
 }
 
 /// Writes octets. Where the writer fails, it took a beginning of them.
-fn write_octets<W: Write>(out: &mut W, octets: &[u8]) -> io::Result<()>
+pub(crate) fn write_octets<W: Write>(out: &mut W, octets: &[u8]) -> io::Result<()>
     ensures ok { OnOk result (Appends (W.contents out.old) (W.contents out.new) octets.now) }
     ensures err { OnErr result (AppendsPart (W.contents out.old) (W.contents out.new) octets.now) }
 {

@@ -5,5 +5,6 @@ pub mod Named
 pub mod Faulty
 pub mod Utf8
 pub mod Again
+pub mod Sizes
 pub mod Examples
 pub mod CallExamples

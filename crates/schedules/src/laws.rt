@@ -1,7 +1,10 @@
 //! What holds of all lines, words and numbers: each law is the contract of a function with nothing to do.
 
-ghost use Rattle.std.specs.Prelude.{◌≡◌, ◌<◌, ◌^◌, ◌∷◌, [], ◌++◌, ℕ, List, All, Some, length, decimal};
+ghost use Rattle.std.specs.Prelude.{◌≡◌, ◌<◌, ◌≤◌, ◌==◌, ◌^◌, ◌∷◌, [], ◌++◌, ℕ, List, All, Some, length, decimal};
+ghost use Rattle.std.specs.List.{slice_split};
+ghost use Rattle.schedules.specs.declared.event.Event.{Event};
 ghost use Rattle.schedules.specs.Cuts.{Lacks};
+ghost use Rattle.schedules.specs.Events.{event_on};
 ghost use Rattle.schedules.specs.Lines.{lines_of, ended};
 ghost use Rattle.schedules.specs.Numbers.{numeral_value};
 ghost use Rattle.schedules.specs.Words.{word_of, escaped};
@@ -23,4 +26,10 @@ pub fn written_lines_are_read_again()
     ensures ended { (lines : List (List ℕ)) → All (Lacks 10) lines → lines_of (ended lines) ≡ lines }
     ensures unended { (lines : List (List ℕ)) (last : List ℕ) → All (Lacks 10) lines → Lacks 10 last → 0 < length last → lines_of (ended lines ++ last) ≡ lines ++ last ∷ [] }
     ensures each { (text : List ℕ) → (lines : List (List ℕ)) × (last : List ℕ) × All (Lacks 10) lines × Lacks 10 last × (text ≡ ended lines ++ last) }
+{}
+
+/// The line of an event has at most 524 octets and 7 words.
+pub fn an_event_has_few_words()
+    ensures { (line : List ℕ) (event : Event) → event_on line ≡ Some (Some event)
+        → (length line ≤ 524) × (length (slice_split (λ o. o == 32) line) ≤ 7) }
 {}

@@ -1,4 +1,16 @@
 //! Schedules: texts of events, one a line, and how they are read.
+//!
+//! A schedule is read exactly: its events in order, or the number of its first line that is none. What no event can be isn't kept: a line
+//! of any length costs no more than an event.
+//!
+//! ```rust
+//! pub fn a_schedule_is_read(alloc: Global) -> Result<usize, ScheduleFault> {
+//!     let events = read_schedule(alloc, b"cancel 0 o1\n# a comment\nshow thing\n")?;
+//!     Ok(events.len())
+//! }
+//! ```
+//!
+//! The answer is the fault `BadEvent(3)`: the third line is no event, and the comment is counted.
 #![tactic(auto)]
 
 mod event;
@@ -6,11 +18,12 @@ mod fault;
 mod laws;
 mod numbers;
 mod reading;
-#[cfg(test)]
-mod tests;
 mod words;
 
 pub use event::{Event, SeatNumber, Service};
 pub use fault::ScheduleFault;
-pub use laws::{a_number_has_one_word, a_printed_word_is_read_again, written_lines_are_read_again};
+pub use laws::{
+    a_number_has_one_word, a_printed_word_is_read_again, an_event_has_few_words,
+    written_lines_are_read_again,
+};
 pub use reading::read_schedule;

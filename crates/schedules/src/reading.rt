@@ -1,6 +1,6 @@
 //! Schedules, read from text.
 
-ghost use Rattle.std.specs.Prelude.{◌≡◌, ◌<◌, ◌∷◌, ◌++◌, ◌==◌, length, position, option_to_list, OnOk};
+ghost use Rattle.std.specs.Prelude.{◌≡◌, ◌<◌, ◌∷◌, ◌++◌, ◌==◌, ◌||◌, nat_lt, nat_le, length, count_by, position, option_to_list, OnOk};
 ghost use Rattle.schedules.specs.Events.{seat_of, key_of, entity_of, service_of, placing_of, place_of, cancel_of, show_of, the_service, event_of, is_quiet, event_in, event_on};
 ghost use Rattle.schedules.specs.Numbers.{numeral_value};
 ghost use Rattle.schedules.specs.Lines.{lines_of};
@@ -14,6 +14,12 @@ use crate::words::{Word, read_words};
 use activities::OrderCommand;
 use base::{Entity, EntityFault, Key, Kind};
 use std::alloc::{AllocError, Global};
+
+/// The most octets of an event's line, were each octet of its words escaped.
+const LONGEST_LINE: usize = 524;
+
+/// The most words of an event: those of `place`.
+const MOST_WORDS: usize = 7;
 
 fn number_at(word: &Word) -> Result<u64, LineFault>
     ensures { Reads (λ n. n) result (numeral_value word.now) }
@@ -164,12 +170,23 @@ fn is_quiet(line: &str) -> bool
     line.is_empty() || line.as_bytes()[0] == b'#'
 }
 
+/// Whether a line has more octets or more words than any event, so that none of them need be kept.
+fn exceeds_events(line: &str) -> bool
+    ensures { result ≡ (nat_lt LONGEST_LINE (length line.now) || nat_le MOST_WORDS (count_by (λ o. o == 32) line.now)) }
+{
+    line.len() > LONGEST_LINE
+        || line.as_bytes().iter().filter(|o| **o == b' ').count() >= MOST_WORDS
+}
+
 /// What a line of text has to run.
 fn read_text(alloc: Global, line: &str) -> Result<Option<Event>, LineFault>
     ensures { Reads (λ found. found) result (event_in line.now) }
 {
     if is_quiet(line) {
         return Ok(None);
+    }
+    if exceeds_events(line) {
+        return Err(LineFault::Bad);
     }
     let words = read_words(alloc, line)?;
     let event = read_event(alloc, words.as_slice())?;

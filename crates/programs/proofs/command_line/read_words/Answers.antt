@@ -3,7 +3,7 @@ use Rattle.std.proofs.Common.{◌≡◌, true, [], sym, subst, ap, ◌∙◌, re
 use Rattle.std.specs.Prelude.{map}
 use Rattle.clap.specs.Words.{App, HasKind, fault_of, is_simple_and_free, takes}
 use Rattle.clap.specs.Simple.{app_of_fields}
-use Rattle.programs.specs.Usage.{command_line}
+use Rattle.programs.specs.Usage.{command_line, with_version}
 use Rattle.programs.proofs.command_line.read_words.Goals as goal
 
 -- the command is one of those whose faults are known
@@ -12,19 +12,22 @@ is_known = refl
 
 pub returns-clause-takes : goal.returns-clause-takes
 returns-clause-takes g c = λ taken.
-    let shape = ap app_of_fields c.after_help-command.ensures ∙ ap app_of_fields c.override_usage.ensures ∙ ap app_of_fields c.about.ensures in
-    c.in-Err.ensures.passes (subst (λ (app : App). takes app (map g.S.AsStr.text c.args.words.now) ≡ true) (sym (shape ∙ c.new.ensures.app)) taken)
+    let shape = ap app_of_fields c.after_help-command.ensures ∙ ap app_of_fields c.override_usage.ensures ∙ ap app_of_fields c.about.ensures
+    ∙ ap app_of_fields c.version.ensures in
+    c.in-Err.ensures.passes (subst (λ (app : App). takes app (map g.S.AsStr.text c.args.words.now) ≡ true) (sym (shape ∙ ap with_version c.new.ensures.app)) taken)
 
 pub returns-clause-fails : goal.returns-clause-fails
 returns-clause-fails g c =
-    let shape = ap app_of_fields c.after_help-command.ensures ∙ ap app_of_fields c.override_usage.ensures ∙ ap app_of_fields c.about.ensures in
-    let same = shape ∙ c.new.ensures.app in
+    let shape = ap app_of_fields c.after_help-command.ensures ∙ ap app_of_fields c.override_usage.ensures ∙ ap app_of_fields c.about.ensures
+    ∙ ap app_of_fields c.version.ensures in
+    let same = shape ∙ ap with_version c.new.ensures.app in
     subst (λ (app : App). HasKind (fault_of app (map g.S.AsStr.text c.args.words.now)) c.in-Err.error) same
     (c.in-Err.ensures.kinds (subst (λ (app : App). is_simple_and_free app ≡ true) (sym same) is_known))
 
 pub returns-in-Ok-clause-fails : goal.returns-in-Ok-clause-fails
 returns-in-Ok-clause-fails g c =
-    let shape = ap app_of_fields c.after_help-command.ensures ∙ ap app_of_fields c.override_usage.ensures ∙ ap app_of_fields c.about.ensures in
-    let same = shape ∙ c.new.ensures.app in
+    let shape = ap app_of_fields c.after_help-command.ensures ∙ ap app_of_fields c.override_usage.ensures ∙ ap app_of_fields c.about.ensures
+    ∙ ap app_of_fields c.version.ensures in
+    let same = shape ∙ ap with_version c.new.ensures.app in
     subst (λ (app : App). fault_of app (map g.S.AsStr.text c.args.words.now) ≡ []) same
     (c.in-Ok.ensures.kinds (subst (λ (app : App). is_simple_and_free app ≡ true) (sym same) is_known))

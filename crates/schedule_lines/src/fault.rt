@@ -1,0 +1,37 @@
+//! Why a line wasn't done.
+
+use std::alloc::{AllocError, AllocFailed};
+use thiserror::Error;
+
+/// Why a line wasn't done.
+#[derive(Debug, Drop, Error)]
+pub enum LineFault {
+    /// No line is so, or a number of it isn't one.
+    #[error("no such line")]
+    Unknown,
+    /// What was written isn't text.
+    #[error("what was written isn't UTF-8")]
+    NotText,
+    /// A growth was refused.
+    #[error("out of memory")]
+    Memory,
+}
+
+impl LineFault {
+    /// Whether a growth was refused.
+    pub fn is_memory(&self) -> bool {
+        matches!(self, LineFault::Memory)
+    }
+}
+
+impl From<AllocError> for LineFault {
+    fn from(_: AllocError) -> LineFault {
+        LineFault::Memory
+    }
+}
+
+impl<T: Drop> From<AllocFailed<T>> for LineFault {
+    fn from(_: AllocFailed<T>) -> LineFault {
+        LineFault::Memory
+    }
+}

@@ -1,0 +1,82 @@
+//! Reads schedules from lines, runs them over readers and writers that fail on purpose, and prints what was told.
+//!
+//! A comment, which begins with `#`, an empty line, and a line of a schedule are printed as they are. Each other line has an answer:
+//! `done`, or what follows from the call. Where a growth is refused, the program ends there with status 3.
+//!
+//! A schedule:
+//! - `schedule`: from now on it's empty, and no reader and no writer fails;
+//! - `| TEXT`, `|- TEXT`: a line of it; its last one, which lacks its LF;
+//! - `repeat N TEXT`: N such lines; `octets N OCTET`: N equal octets.
+//!
+//! Devices, for the runs of this schedule:
+//! - `reader fails`: it fails where the schedule ends;
+//! - `reader gives N`: at most N octets a read;
+//! - `out takes N`, `err takes N`: it takes so many octets in all, and fails then;
+//! - `out takes-at-once N`, `err takes-at-once N`: at most N octets a write;
+//! - `out is-interrupted`, `err is-interrupted`: its first write is.
+//!
+//! Calls:
+//! - `read`: `read_schedule` over it;
+//! - `run WORD..`: `run_schedule` with these words behind the program's name; `measure WORD..`: the same, and only sizes are printed;
+//! - `run-text`, `run-input`: these calls;
+//! - `tell N`, `tell device`, `tell not-utf8`: a faulty line, a failed stream, or words that aren't text are told.
+//!
+//! A line of what was written to `out` stands behind `>`, one of `err` behind `!`; behind `>-` and `!-` one that lacks its LF. Then comes
+//! what was answered, and how many octets of the schedule weren't read, if any.
+#![tactic(auto)]
+
+mod devices;
+mod fault;
+mod runs;
+mod session;
+
+use session::Session;
+use std::alloc::Global;
+use std::io;
+use std::io::{BufWriter, ErrorKind, Write};
+use std::process::ExitCode;
+
+/// The status where a growth was refused.
+const NO_MEMORY: u8 = 3;
+
+/// Prints the answer to a line.
+fn answer<W: Write>(
+    alloc: Global,
+    out: &mut W,
+    session: &mut Session,
+    line: &str,
+) -> io::Result<()> {
+    if line.is_empty() || line.starts_with('#') {
+        return writeln!(out, "{line}");
+    }
+    match session.answer(alloc, line) {
+        Ok(text) => writeln!(out, "{text}"),
+        Err(fault) if fault.is_memory() => Err(io::Error::from(ErrorKind::OutOfMemory)),
+        Err(fault) => writeln!(out, "{fault}"),
+    }
+}
+
+/// Prints the answer to each line of standard input.
+fn answer_all<W: Write>(rt: &HostRuntime, out: &mut W) -> io::Result<()> {
+    let mut session = Session::new(rt.alloc());
+    for line in rt.lines(rt.alloc()) {
+        answer(rt.alloc(), out, &mut session, line?.as_str())?;
+    }
+    Ok(())
+}
+
+/// The same on standard output: what was answered is written out, whatever ended it.
+fn run(rt: &HostRuntime) -> io::Result<()> {
+    let mut out = BufWriter::new(rt.alloc(), io::writer(rt))?;
+    let answered = answer_all(rt, &mut out);
+    out.flush()?;
+    answered
+}
+
+fn main(rt: HostRuntime) -> io::Result<ExitCode> {
+    match run(&rt) {
+        Ok(()) => Ok(ExitCode::SUCCESS),
+        Err(error) if error.kind() == ErrorKind::OutOfMemory => Ok(ExitCode::from(NO_MEMORY)),
+        Err(error) => Err(error),
+    }
+}
