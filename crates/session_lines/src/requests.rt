@@ -1,0 +1,106 @@
+//! Requests as text: the name of the case, and then each part that is there, as `receipt "r"`.
+
+use crate::octets::push_octets;
+use std::alloc::{AllocError, Global};
+use stomp_frame::Header;
+use stomp_session::{Acknowledge, Connect, Demarcate, Request, Send, Subscribe, Text};
+
+/// Appends a part.
+pub fn push_part(text: &mut String, name: &str, value: &[u8]) -> Result<(), AllocError> {
+    text.push_str("; ")?;
+    text.push_str(name)?;
+    text.push_str(" \"")?;
+    push_octets(text, value)?;
+    text.push('"')
+}
+
+/// Appends a text that may be missing.
+fn push_text(text: &mut String, name: &str, value: &Option<Text>) -> Result<(), AllocError> {
+    match value {
+        Some(value) => push_part(text, name, value.as_str().as_bytes()),
+        None => Ok(()),
+    }
+}
+
+/// Appends headers, each as a part of its own.
+fn push_headers(text: &mut String, alloc: Global, headers: &[Header]) -> Result<(), AllocError> {
+    for header in headers {
+        let line = format!(in alloc; "{}:{}", header.name(), header.value())?;
+        push_part(text, "header", line.as_bytes())?;
+    }
+    Ok(())
+}
+
+fn push_connect(text: &mut String, connect: &Connect) -> Result<(), AllocError> {
+    push_part(
+        text,
+        "accept-version",
+        connect.accept_version.as_str().as_bytes(),
+    )?;
+    push_part(text, "host", connect.host.as_str().as_bytes())
+}
+
+fn push_send(text: &mut String, alloc: Global, send: &Send) -> Result<(), AllocError> {
+    push_part(text, "destination", send.destination.as_str().as_bytes())?;
+    push_headers(text, alloc, send.headers.as_slice())?;
+    push_part(text, "body", send.body.as_slice())?;
+    push_text(text, "transaction", &send.transaction)
+}
+
+fn push_subscribe(text: &mut String, subscribe: &Subscribe) -> Result<(), AllocError> {
+    push_part(text, "id", subscribe.id.as_str().as_bytes())?;
+    push_part(
+        text,
+        "destination",
+        subscribe.destination.as_str().as_bytes(),
+    )?;
+    push_text(text, "ack", &subscribe.ack)?;
+    push_part(text, "mode", subscribe.ack_mode().as_bytes())
+}
+
+fn push_acknowledge(text: &mut String, answer: &Acknowledge) -> Result<(), AllocError> {
+    push_part(text, "id", answer.id.as_str().as_bytes())?;
+    push_text(text, "transaction", &answer.transaction)
+}
+
+fn push_demarcate(text: &mut String, edge: &Demarcate) -> Result<(), AllocError> {
+    push_part(text, "transaction", edge.transaction.as_str().as_bytes())
+}
+
+/// The name of a request's case.
+fn name(request: &Request) -> &'static str {
+    match request {
+        Request::Connect(_) => "Connect",
+        Request::Send(_) => "Send",
+        Request::Subscribe(_) => "Subscribe",
+        Request::Unsubscribe(_) => "Unsubscribe",
+        Request::Ack(_) => "Ack",
+        Request::Nack(_) => "Nack",
+        Request::Begin(_) => "Begin",
+        Request::Commit(_) => "Commit",
+        Request::Abort(_) => "Abort",
+        Request::Disconnect(_) => "Disconnect",
+    }
+}
+
+/// A request.
+pub fn request_text(alloc: Global, request: &Request) -> Result<String, AllocError> {
+    let mut text = String::from_str(alloc, name(request))?;
+    match request {
+        Request::Connect(connect) => push_connect(&mut text, connect)?,
+        Request::Send(send) => push_send(&mut text, alloc, send)?,
+        Request::Subscribe(subscribe) => push_subscribe(&mut text, subscribe)?,
+        Request::Unsubscribe(unsubscribe) => {
+            push_part(&mut text, "id", unsubscribe.id.as_str().as_bytes())?
+        }
+        Request::Ack(answer) | Request::Nack(answer) => push_acknowledge(&mut text, answer)?,
+        Request::Begin(edge) | Request::Commit(edge) | Request::Abort(edge) => {
+            push_demarcate(&mut text, edge)?
+        }
+        Request::Disconnect(_) => {}
+    }
+    if let Some(receipt) = request.receipt() {
+        push_part(&mut text, "receipt", receipt.as_bytes())?;
+    }
+    Ok(text)
+}

@@ -1,0 +1,34 @@
+//! What stands between two lines, and whom a line asks.
+
+use crate::fault::{LineFault, session_fault};
+use crate::replies::answer_reply;
+use crate::server::Server;
+use std::alloc::Global;
+
+/// The session of a server.
+#[derive(Drop)]
+pub struct Sessions {
+    server: Server,
+}
+
+impl Sessions {
+    /// Sessions that aren't connected.
+    pub fn new() -> Sessions {
+        Sessions {
+            server: Server::new(),
+        }
+    }
+
+    /// The answer to a line.
+    pub fn answer(&mut self, alloc: Global, line: &str) -> Result<String, LineFault> {
+        match line.split_once(' ') {
+            Some(("server", line)) => self.server.answer(alloc, line),
+            Some(("reply", line)) => answer_reply(alloc, line),
+            Some(("fault", number)) => {
+                let fault = session_fault(number)?;
+                Ok(format!(in alloc; "{fault}")?)
+            }
+            _ => Err(LineFault::Unknown),
+        }
+    }
+}

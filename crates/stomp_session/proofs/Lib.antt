@@ -1,0 +1,6 @@
+pub mod Accepting
+pub mod Framing
+pub mod Owning
+pub mod ReplyExamples
+pub mod RequestExamples
+pub mod Taking

@@ -1,0 +1,20 @@
+use Rattle.std.proofs.Common.{codes, refl}
+use Rattle.stomp_session.proofs.Taking.{behind_one, behind_two, behind_three, second_is_there}
+use Rattle.stomp_session.proofs.reading.subscribe.Goals as goal
+
+pub take_required-requires-2 : goal.take_required-requires-2
+take_required-requires-2 c = rw (c.take_required.ensures.rest, behind_one (codes "id") (codes "destination") c.args.headers.items refl) (second_is_there _ _ c.requires)
+
+pub returns : goal.returns
+returns c = rw (
+  c.take-2.ensures.value,
+  c.take.ensures.rest,
+  c.take.ensures.value,
+  c.take_required-2.ensures.rest,
+  c.take_required-2.ensures.value,
+  c.take_required.ensures.rest,
+  c.take_required.ensures.value,
+  behind_one (codes "id") (codes "destination") c.args.headers.items refl,
+  behind_two (codes "id") (codes "destination") (codes "ack") c.args.headers.items refl refl,
+  behind_three (codes "id") (codes "destination") (codes "ack") (codes "receipt") c.args.headers.items refl refl refl,
+) refl

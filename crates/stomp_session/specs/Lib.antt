@@ -1,0 +1,6 @@
+pub mod Faults
+pub mod Fitting
+pub mod Headers
+pub mod Parts
+pub mod Replies
+pub mod Requests

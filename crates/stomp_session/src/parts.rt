@@ -1,0 +1,123 @@
+//! What a request keeps of its frame: texts, octets and headers, each taken over without memory and given back so.
+
+ghost use Rattle.std.specs.Prelude.{◌≡◌};
+ghost use Rattle.std.specs.String.{string_bytes};
+
+use std::marker::Model;
+use stomp_frame::Header;
+
+/// A text: contracts see its octets.
+#[derive(Debug, Drop)]
+pub struct Text {
+    text: String,
+}
+
+impl Model for Text {
+    ghost use Rattle.std.specs.Prelude.{List, ℕ};
+    ghost use Rattle.std.specs.String.{string_bytes};
+
+    ghost Value = { List ℕ };
+
+    ghost view = { λ t. string_bytes t.text };
+}
+
+impl Text {
+    /// The text of this string, which it takes over.
+    pub fn new(text: String) -> Text
+        ensures { result ≡ string_bytes text }
+    {
+        Text { text }
+    }
+
+    /// The text itself.
+    pub fn as_str(&self) -> &str
+        ensures { result.now ≡ self.now }
+    {
+        self.text.as_str()
+    }
+
+    /// Its string. It takes no memory.
+    pub fn into_string(self) -> String
+        ensures { string_bytes result ≡ self }
+    {
+        let Text { text } = self;
+        text
+    }
+}
+
+/// The octets of a body: contracts see them in order.
+#[derive(Debug, Drop)]
+pub struct Octets {
+    octets: Vec<u8>,
+}
+
+impl Model for Octets {
+    ghost use Rattle.std.specs.Prelude.{List, ℕ};
+
+    ghost Value = { List ℕ };
+
+    ghost view = { λ o. o.octets.items };
+}
+
+impl Octets {
+    /// These octets, which it takes over.
+    pub fn new(octets: Vec<u8>) -> Octets
+        ensures { result ≡ octets.items }
+    {
+        Octets { octets }
+    }
+
+    /// The octets themselves.
+    pub fn as_slice(&self) -> &[u8]
+        ensures { result.now ≡ self.now }
+    {
+        self.octets.as_slice()
+    }
+
+    /// The vector of them. It takes no memory.
+    pub fn into_vec(self) -> Vec<u8>
+        ensures { result.items ≡ self }
+    {
+        let Octets { octets } = self;
+        octets
+    }
+}
+
+/// Headers in order.
+#[derive(Debug, Drop)]
+pub struct Headers {
+    headers: Vec<Header>,
+}
+
+impl Model for Headers {
+    ghost use Rattle.std.specs.Prelude.{List};
+    ghost use Rattle.stomp_frame.specs.Frames.{Header};
+
+    ghost Value = { List Header };
+
+    ghost view = { λ hs. hs.headers.items };
+}
+
+impl Headers {
+    /// These headers, which it takes over.
+    pub fn new(headers: Vec<Header>) -> Headers
+        ensures { result ≡ headers.items }
+    {
+        Headers { headers }
+    }
+
+    /// The headers themselves.
+    pub fn as_slice(&self) -> &[Header]
+        ensures { result.now ≡ self.now }
+    {
+        self.headers.as_slice()
+    }
+
+    /// The vector of them. It takes no memory.
+    pub fn into_vec(self) -> Vec<Header>
+        ensures { result.items ≡ self }
+    {
+        let Headers { headers } = self;
+        headers
+    }
+}

@@ -1,0 +1,130 @@
+//! Why a frame is refused at once.
+
+ghost use Rattle.std.specs.Prelude.{◌≡◌, filter, length};
+ghost use Rattle.std.specs.List.{list_any};
+ghost use Rattle.stomp_session.specs.Headers.{has_none, has_long, is_own, offers_version};
+ghost use Rattle.stomp_session.specs.Requests.{opens, is_server, lacks, is_large, refusal_of};
+
+use crate::SessionFault;
+use base::limits::{MAX_ECHOED, MAX_OWN_HEADERS};
+use stomp_frame::{Command, Frame, Header};
+
+/// Why a frame is refused at once: the first fault that applies.
+pub fn refusal(connected: bool, frame: &Frame) -> Option<SessionFault>
+    ensures { result ≡ refusal_of connected frame.now }
+{
+    let opens = opens(frame.command());
+    if is_server(frame.command()) {
+        Some(SessionFault::WrongCommand)
+    } else if !connected && !opens {
+        Some(SessionFault::NotConnected)
+    } else if connected && opens {
+        Some(SessionFault::AlreadyConnected)
+    } else if lacks(frame) {
+        Some(SessionFault::MissingHeader)
+    } else if is_large(frame) {
+        Some(SessionFault::TooLarge)
+    } else if opens && !offers_version(frame.get("accept-version").unwrap_or("")) {
+        Some(SessionFault::Version)
+    } else {
+        None
+    }
+}
+
+/// Whether a command opens a session.
+pub fn opens(command: Command) -> bool
+    ensures { result ≡ opens command }
+{
+    matches!(command, Command::Connect | Command::Stomp)
+}
+
+/// Whether a command is a server's.
+fn is_server(command: Command) -> bool
+    ensures { result ≡ is_server command }
+{
+    matches!(
+        command,
+        Command::Connected | Command::Message | Command::Receipt | Command::Error
+    )
+}
+
+/// Whether one of these headers is missing.
+fn lacks_any(frame: &Frame, names: &[&str]) -> bool
+    ensures { result ≡ list_any (λ name. has_none frame.now name.now) names.now }
+{
+    names.iter().any(|name| frame.get(name).is_none())
+}
+
+/// Whether a header is missing that the command requires.
+fn lacks(frame: &Frame) -> bool
+    ensures { result ≡ lacks frame.now }
+{
+    match frame.command() {
+        Command::Connect | Command::Stomp => lacks_any(frame, &["accept-version", "host"]),
+        Command::Send => lacks_any(frame, &["destination"]),
+        Command::Subscribe => lacks_any(frame, &["id", "destination"]),
+        Command::Unsubscribe | Command::Ack | Command::Nack => lacks_any(frame, &["id"]),
+        Command::Begin | Command::Commit | Command::Abort => lacks_any(frame, &["transaction"]),
+        _ => false,
+    }
+}
+
+/// Whether the first value of a name has more octets than may be echoed.
+fn has_long(frame: &Frame, name: &str) -> bool
+    ensures { result ≡ has_long frame.now name.now }
+{
+    match frame.get(name) {
+        Some(value) => value.len() > MAX_ECHOED,
+        None => false,
+    }
+}
+
+/// Whether one of these values has more octets than may be echoed.
+fn exceeds_any(frame: &Frame, names: &[&str]) -> bool
+    ensures { result ≡ list_any (λ name. has_long frame.now name.now) names.now }
+{
+    names.iter().any(|name| has_long(frame, name))
+}
+
+/// Whether a value that is echoed is too long, or a SEND has too many headers of its own.
+fn is_large(frame: &Frame) -> bool
+    ensures { result ≡ is_large frame.now }
+{
+    match frame.command() {
+        Command::Send => {
+            exceeds_any(frame, &["receipt", "transaction"])
+                || own_count(frame.headers()) > MAX_OWN_HEADERS
+        }
+        Command::Subscribe | Command::Unsubscribe => exceeds_any(frame, &["receipt", "id"]),
+        Command::Ack | Command::Nack => exceeds_any(frame, &["receipt", "id", "transaction"]),
+        Command::Begin | Command::Commit | Command::Abort => {
+            exceeds_any(frame, &["receipt", "transaction"])
+        }
+        Command::Disconnect => exceeds_any(frame, &["receipt"]),
+        _ => false,
+    }
+}
+
+/// Whether a header of a SEND is taken over by its MESSAGEs.
+pub fn is_own(header: &Header) -> bool
+    ensures { result ≡ is_own header.now }
+{
+    !matches!(
+        header.name(),
+        "destination" | "transaction" | "receipt" | "message-id" | "subscription" | "ack"
+    )
+}
+
+/// How many headers of a SEND its MESSAGEs take over.
+fn own_count(headers: &[Header]) -> usize
+    ensures { result ≡ length (filter is_own headers.now) }
+{
+    headers.iter().filter(|header| is_own(header)).count()
+}
+
+/// Whether 1.2 is one of the versions between commas.
+fn offers_version(versions: &str) -> bool
+    ensures { result ≡ offers_version versions.now }
+{
+    versions.split(',').any(|version| version == "1.2")
+}

@@ -1,0 +1,72 @@
+//! A session as its server knows it.
+
+ghost use Rattle.std.specs.Prelude.{◌≡◌, false};
+ghost use Rattle.stomp_session.specs.Requests.{Accepts};
+
+use crate::reading::read_request;
+use crate::refusing::refusal;
+use crate::{Request, SessionFault};
+use std::marker::Model;
+use stomp_frame::Frame;
+
+/// A frame that was refused, given back, and why.
+#[derive(Debug, Drop)]
+pub struct Refused {
+    /// The first fault that applies.
+    pub fault: SessionFault,
+    /// The frame as it came.
+    pub frame: Frame,
+}
+
+/// A session of a client: contracts see whether it is connected.
+#[derive(Clone, Copy, Debug, Drop)]
+pub struct ServerSession {
+    connected: bool,
+}
+
+impl Model for ServerSession {
+    ghost use Rattle.std.specs.Prelude.{Bool};
+
+    ghost Value = { Bool };
+
+    ghost view = { λ s. s.connected };
+
+    ghost inverse = { λ connected. record { connected = connected } };
+}
+
+impl ServerSession {
+    /// A session that isn't connected.
+    pub fn new() -> ServerSession
+        ensures { result ≡ false }
+    {
+        ServerSession { connected: false }
+    }
+
+    /// Whether it is connected: a CONNECT or STOMP was accepted.
+    pub fn is_connected(&self) -> bool
+        ensures { result ≡ self.now }
+    {
+        self.connected
+    }
+
+    /// What a client frame asks. After CONNECT or STOMP the session is connected.
+    ///
+    /// It takes no memory, and so never fails for want of it: the request is made of the frame's own parts.
+    ///
+    /// # Errors
+    /// The first that applies; then the frame is given back, and nothing has changed:
+    /// - `WrongCommand` for a command of a server;
+    /// - `NotConnected` for another than CONNECT or STOMP before one of these, `AlreadyConnected` for one of these after it;
+    /// - `MissingHeader` where a header is missing that the command requires;
+    /// - `TooLarge` where a value that is echoed has more than 128 octets, or a SEND more than 28 headers of its own;
+    /// - `Version` for CONNECT and STOMP, where `accept-version` doesn't offer 1.2.
+    pub fn accept(&mut self, frame: Frame) -> Result<Request, Refused>
+        ensures { Accepts self.old frame self.new result }
+    {
+        if let Some(fault) = refusal(self.connected, &frame) {
+            return Err(Refused { fault, frame });
+        }
+        *self = ServerSession { connected: true };
+        Ok(read_request(frame))
+    }
+}
