@@ -1,0 +1,9 @@
+pub mod Fault
+pub mod Numbers
+pub mod Frames
+pub mod Delivered
+pub mod Clients
+pub mod Written
+pub mod Calls
+pub mod Accepting
+pub mod Parts

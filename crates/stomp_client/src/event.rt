@@ -1,0 +1,16 @@
+//! What a server's frame tells.
+
+use stomp_frame::Frame;
+
+/// What a server's frame tells.
+#[derive(Debug, Drop)]
+pub enum Event<T: Drop> {
+    /// The session is connected.
+    Connected,
+    /// A MESSAGE for a subscription. It has a `destination`, a `message-id`, a `subscription` and an `ack`.
+    Message(Frame),
+    /// The server has processed the frame with this receipt number: the number and its tag.
+    Receipt(u64, T),
+    /// The server refused a frame and ends the session: the `message` of its ERROR, empty where it has none.
+    Error(String),
+}

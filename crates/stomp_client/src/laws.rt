@@ -1,0 +1,41 @@
+//! What holds of clients over any calls: each law is the contract of a function with nothing to do.
+
+ghost use Rattle.std.specs.Prelude.{◌≡◌, ◌<◌, ◌^◌, ◌++◌, ℕ, List, [], Some};
+ghost use Rattle.std.specs.Fmt.{decimal};
+ghost use Rattle.base.specs.declared.limits.TheConstants.{MAX_BODY};
+ghost use Rattle.stomp_frame.specs.Frames.{Content};
+ghost use Rattle.stomp_frame.specs.Spelling.{NoFrame};
+ghost use Rattle.stomp_frame.specs.Decoding.{Held};
+ghost use Rattle.stomp_frame.specs.Awaiting.{Awaits};
+ghost use Rattle.stomp_frame.specs.Calls.{Call, Happened, fed, given};
+ghost use Rattle.stomp_wire.specs.Travel.{Travels};
+ghost use Rattle.stomp_client.specs.Numbers.{number_of};
+ghost use Rattle.stomp_client.specs.Written.{Wrote};
+
+/// A session in which nothing was written wrote no frame. With the clauses `wrote` of its calls this says what was written over any of
+/// them.
+pub fn a_new_session_wrote_nothing()
+    ensures { Wrote [] [] [] }
+{}
+
+/// What a client wrote is what a server's decoder gives, in order and nothing else, however its text is cut on the way. The octets taken
+/// from the client were put on a wire, in any pieces; what was taken at the wire's other end was fed to a decoder, in any pieces. Then the
+/// frames that the decoder gave are the first of those that the client wrote, and it awaits the others from what is held, what was
+/// carried, what waits on the wire and what the client still has to send. Where nothing is on its way and no frame is left to give, it gave
+/// them all.
+pub fn what_a_client_wrote_is_read()
+    ensures awaits { (frames : List Content) (gone out received waiting carried : List ℕ) (calls : List Call) (held : Held)
+        → Wrote frames gone out → Travels gone received (Some waiting) (Some carried) → Happened MAX_BODY calls held
+        → fed calls ≡ received
+        → (others : List Content) × (frames ≡ given calls ++ others) × Awaits MAX_BODY others held (carried ++ waiting ++ out) }
+    ensures all { (frames : List Content) (gone received : List ℕ) (calls : List Call) (held : Held)
+        → Wrote frames gone [] → Travels gone received (Some []) (Some []) → Happened MAX_BODY calls held → fed calls ≡ received
+        → NoFrame MAX_BODY held.octets → given calls ≡ frames }
+{}
+
+/// A number that is written in decimal is read as that number, and no other text is: so the `receipt-id` that answers a `receipt` names
+/// its number.
+pub fn receipt_numbers_are_read()
+    ensures read { (number : ℕ) → number < 2 ^ 64 → number_of (decimal number) ≡ Some number }
+    ensures only { (text : List ℕ) (number : ℕ) → number_of text ≡ Some number → decimal number ≡ text }
+{}

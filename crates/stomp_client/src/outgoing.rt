@@ -1,0 +1,103 @@
+//! Octets on their way out.
+
+ghost use Rattle.std.specs.Prelude.{◌≡◌, ◌+◌, ◌++◌, ◌≤◌, [], length, take, drop, OnOk, OnErr, IsOk};
+ghost use Rattle.stomp_frame.specs.Frames.{canonical};
+
+use std::alloc::{AllocError, Global};
+use std::marker::Model;
+use stomp_frame::{Frame, encode};
+
+/// Octets on their way out: contracts see those that weren't taken yet, and how many more fit without memory.
+///
+/// Taking a few from the front moves nothing. What was taken is given up once it is more than what wasn't, so that each octet is moved
+/// once at most for each one that is taken.
+#[derive(Drop)]
+pub struct Outgoing {
+    octets: Vec<u8>,
+    // where those begin that weren't taken yet
+    start: usize,
+}
+
+impl Model for Outgoing {
+    ghost use Rattle.stomp_client.specs.Parts.Outgoing.{Pending};
+
+    ghost Value = { Pending };
+
+    ghost use Rattle.stomp_client.specs.Parts.OutgoingView.{pending_of, IsInside};
+
+    ghost view = { pending_of };
+
+    ghost invariant = { IsInside };
+}
+
+impl Outgoing {
+    /// Nothing. It takes no memory.
+    pub fn new(alloc: Global) -> Outgoing
+        ensures { result.octets ≡ [] }
+    {
+        Outgoing {
+            octets: Vec::new(alloc),
+            start: 0,
+        }
+    }
+
+    /// The octets that weren't taken yet.
+    pub fn as_slice(&self) -> &[u8]
+        ensures { result.now ≡ self.now.octets }
+    {
+        let (_, octets) = self.octets.split_at(self.start);
+        octets
+    }
+
+    /// Takes the first of them away. It takes no memory.
+    pub fn taken(&mut self, count: usize)
+        requires { count ≤ length self.old.octets }
+        ensures octets { self.new.octets ≡ drop count self.old.octets }
+        ensures room { self.old.room ≤ self.new.room }
+    {
+        self.start += count;
+        if self.start > self.octets.len() / 2 {
+            drop(self.octets.drain(..self.start));
+            self.start = 0;
+        }
+    }
+
+    /// Makes room for so many more.
+    pub fn reserve(&mut self, additional: usize) -> Result<(), AllocError>
+        ensures octets { self.new.octets ≡ self.old.octets }
+        ensures room { OnOk result (additional ≤ self.new.room) }
+        ensures kept { self.old.room ≤ self.new.room }
+        ensures within { additional ≤ self.old.room → IsOk result }
+    {
+        self.octets.reserve(additional)
+    }
+
+    /// Appends octets, all or none.
+    pub fn append(&mut self, more: &[u8]) -> Result<(), AllocError>
+        ensures ok { OnOk result (self.new.octets ≡ self.old.octets ++ more.now) }
+        ensures err { OnErr result (self.new.octets ≡ self.old.octets) }
+        ensures room { self.old.room ≤ self.new.room + length more.now }
+        ensures within { length more.now ≤ self.old.room → IsOk result }
+    {
+        self.octets.extend_from_slice(more)
+    }
+
+    /// Appends the canonical text of a frame, or nothing.
+    pub fn write(&mut self, frame: &Frame) -> Result<(), AllocError>
+        ensures ok { OnOk result (self.new.octets ≡ self.old.octets ++ canonical frame.now) }
+        ensures err { OnErr result (self.new.octets ≡ self.old.octets) }
+    {
+        match encode(frame, &mut self.octets) {
+            Ok(()) => Ok(()),
+            Err(_) => Err(AllocError),
+        }
+    }
+
+    /// Takes all away but the first so many.
+    pub fn truncate(&mut self, len: usize)
+        ensures { self.new.octets ≡ take len self.old.octets }
+    {
+        let kept = len.min(self.octets.len() - self.start);
+        self.octets.truncate(self.start + kept);
+    }
+}

@@ -1,0 +1,464 @@
+//! A client's session.
+
+ghost use Rattle.std.specs.Prelude.{◌≡◌, ℕ, List, ◌≤◌, ◌<◌, ◌-◌, ◌^◌, ◌+◌, ◌++◌, ◌∷◌, [], false, Ok, Err, None, length, take};
+ghost use Rattle.std.specs.Prelude.{OnOk, OnErr, IsOk, IsOkUnless, IfOk, IfErr};
+ghost use Rattle.std.specs.String.{string_bytes};
+ghost use Rattle.base.specs.declared.limits.TheConstants.{MAX_BODY};
+ghost use Rattle.stomp_frame.specs.declared.command.Command.TheVariants.{Begin, Commit, Abort, Ack, Nack};
+ghost use Rattle.stomp_frame.specs.declared.command.Command.TheVariants.{Connected, Message, Receipt, Error};
+ghost use Rattle.stomp_frame.specs.Frames.{Content, IsFrame, value_of};
+ghost use Rattle.stomp_frame.specs.Streams.{AreFrames, canonical_texts};
+ghost use Rattle.stomp_client.specs.declared.fault.ClientFault.TheVariants.{Memory, Unexpected};
+ghost use Rattle.stomp_client.specs.Frames.{IsShort, IsPlain, connect_frame, subscribe_frame, disconnect_frame, transaction_frame};
+ghost use Rattle.stomp_client.specs.Frames.{in_transaction, answer_frame, with_receipt, text_or_empty};
+ghost use Rattle.stomp_client.specs.Delivered.{IsDelivered, is_whole};
+ghost use Rattle.stomp_client.specs.Clients.{new_client, written, counting, appended, without_first, closing};
+ghost use Rattle.stomp_client.specs.Written.{Wrote, Adds, AreWhole, frames_if};
+ghost use Rattle.stomp_client.specs.Calls.{unready, or_used, Refuses, WritesFrame, Connects, SendsWithReceipt, Begins, Disconnects};
+ghost use Rattle.stomp_client.specs.Accepting.{Accepts, is_closed, receipt_number};
+
+use crate::frames::{
+    answer_frame, connect_frame, in_transaction, subscribe_frame, transaction_frame, with_number,
+};
+use crate::numbers::read_number;
+use crate::outgoing::Outgoing;
+use crate::{ClientFault, Event};
+use receipts::Receipts;
+use std::alloc::{AllocError, Global};
+use std::marker::Model;
+use stomp_frame::{Command, Frame, Header};
+
+/// How far a session is.
+#[derive(Clone, Copy, Debug, PartialEq, Eq)]
+pub enum Stage {
+    /// Nothing was written.
+    Fresh,
+    /// CONNECT was written, and CONNECTED didn't come yet.
+    Connecting,
+    /// CONNECTED came.
+    Connected,
+    /// An ERROR came or a frame that no server may send, or DISCONNECT was written.
+    Closed,
+}
+
+/// A client's session: contracts see its stage, the octets still to be sent, its receipts by number with a tag each, the last number of a
+/// transaction, and how many more octets can be appended without memory.
+#[derive(Drop)]
+pub struct ClientSession<T: Drop> {
+    alloc: Global,
+    stage: Stage,
+    out: Outgoing,
+    receipts: Receipts<T>,
+    transactions: u64,
+}
+
+impl<T: Drop> Model for ClientSession<T> {
+    ghost use Rattle.stomp_client.specs.Clients.{Seen};
+
+    ghost Value = { Seen T };
+
+    ghost view = { λ s. record {
+      client = record { stage = s.stage; out = s.out.octets; receipts = s.receipts; transactions = s.transactions };
+      room = s.out.room;
+    } };
+}
+
+impl<T: Drop> ClientSession<T> {
+    /// A session in which nothing was written. It takes no memory.
+    pub fn new(alloc: Global) -> ClientSession<T>
+        ensures { result.client ≡ new_client }
+    {
+        ClientSession {
+            alloc,
+            stage: Stage::Fresh,
+            out: Outgoing::new(alloc),
+            receipts: Receipts::new(alloc),
+            transactions: 0,
+        }
+    }
+
+    /// How far it is.
+    pub fn stage(&self) -> Stage
+        ensures { result ≡ self.now.client.stage }
+    {
+        self.stage
+    }
+
+    /// The octets still to be sent.
+    pub fn out(&self) -> &[u8]
+        ensures { result.now ≡ self.now.client.out }
+    {
+        self.out.as_slice()
+    }
+
+    /// Takes the first octets away, which were sent. It takes no memory.
+    pub fn taken(&mut self, count: usize)
+        requires { count ≤ length self.old.client.out }
+        ensures taken { self.new.client ≡ without_first count self.old.client }
+        ensures wrote { (frames : List Content) (gone : List ℕ) → Wrote frames gone self.old.client.out
+            → Wrote frames (gone ++ take count self.old.client.out) self.new.client.out }
+        ensures room { self.old.room ≤ self.new.room }
+    {
+        self.out.taken(count);
+    }
+
+    /// The last receipt number given, and 0 where none was.
+    pub fn receipts(&self) -> u64
+        ensures { result ≡ self.now.client.receipts.last }
+    {
+        self.receipts.last()
+    }
+
+    /// The last number of a transaction, and 0 where none was begun.
+    pub fn transactions(&self) -> u64
+        ensures { result ≡ self.now.client.transactions }
+    {
+        self.transactions
+    }
+
+    /// Counts the next transaction, whose BEGIN is written by `append`. It takes no memory.
+    pub fn count_transaction(&mut self)
+        requires { self.old.client.transactions < 2 ^ 64 - 1 }
+        ensures counted { self.new.client ≡ counting self.old.client }
+        ensures room { self.new.room ≡ self.old.room }
+    {
+        self.transactions += 1;
+    }
+
+    /// Makes room for so many more octets: `append` takes no memory then.
+    ///
+    /// # Errors
+    /// `Memory` where a growth was refused.
+    pub fn room(&mut self, octets: usize) -> Result<(), ClientFault>
+        ensures room { OnOk result (octets ≤ self.new.room) }
+        ensures kept { self.old.room ≤ self.new.room }
+        ensures same { self.new.client ≡ self.old.client }
+        ensures fault { IsOkUnless result Memory }
+        ensures within { octets ≤ self.old.room → IsOk result }
+    {
+        self.out.reserve(octets)?;
+        Ok(())
+    }
+
+    /// Appends frames whose canonical texts were made before, all or none. Within the room that was asked for it takes no memory.
+    ///
+    /// # Errors
+    /// `Memory` where a growth was refused, and then nothing was appended.
+    pub fn append(&mut self, octets: &[u8]) -> Result<(), ClientFault>
+        requires { AreWhole octets.now }
+        ensures ok { OnOk result (self.new.client ≡ appended octets.now self.old.client) }
+        ensures err { OnErr result (self.new.client ≡ self.old.client) }
+        ensures fault { IsOkUnless result Memory }
+        ensures within { length octets.now ≤ self.old.room → IsOk result }
+        ensures room { self.old.room ≤ self.new.room + length octets.now }
+        ensures wrote { (more : List Content) → AreFrames MAX_BODY more → octets.now ≡ canonical_texts more
+            → Adds (frames_if result more) self.old.client.out self.new.client.out }
+    {
+        self.out.append(octets)?;
+        Ok(())
+    }
+
+    /// Writes a frame, or changes nothing.
+    fn write(&mut self, frame: &Frame) -> Result<(), AllocError>
+        ensures ok { OnOk result (self.new.client ≡ written frame.now self.old.client) }
+        ensures err { OnErr result (self.new.client ≡ self.old.client) }
+        ensures frame { IsFrame MAX_BODY frame.now }
+        ensures wrote { Adds (frames_if result (frame.now ∷ [])) self.old.client.out self.new.client.out }
+    {
+        frame.holds();
+        self.out.write(frame)
+    }
+
+    /// Tells why no frame but CONNECT may be written now.
+    fn ready(&self) -> Result<(), ClientFault>
+        ensures ok { OnOk result (unready self.now.client.stage ≡ None) }
+        ensures err { IfErr result (λ fault. Refuses (unready self.now.client.stage) self.now.client self.now.client fault) }
+    {
+        match self.stage {
+            Stage::Connected => Ok(()),
+            Stage::Closed => Err(ClientFault::Closed),
+            _ => Err(ClientFault::NotConnected),
+        }
+    }
+
+    /// The number behind the last one, or why no frame may be written with it now.
+    fn next(&self, last: u64) -> Result<u64, ClientFault>
+        ensures ok { IfOk result (λ n. (or_used last (unready self.now.client.stage) ≡ None) × (n ≡ last + 1) × (n < 2 ^ 64)) }
+        ensures err { IfErr result (λ fault. Refuses (or_used last (unready self.now.client.stage)) self.now.client self.now.client fault) }
+    {
+        match self.stage {
+            Stage::Connected => {
+                if last == u64::MAX {
+                    return Err(ClientFault::NumbersUsed);
+                }
+                Ok(last + 1)
+            }
+            Stage::Closed => Err(ClientFault::Closed),
+            _ => Err(ClientFault::NotConnected),
+        }
+    }
+
+    /// Writes CONNECT.
+    ///
+    /// # Errors
+    /// `Closed` after the end of the session, else `AlreadyConnected` where CONNECT was written, else `Memory`. Nothing has changed then.
+    pub fn connect(&mut self) -> Result<(), ClientFault>
+        ensures does { Connects self.old.client self.new.client result }
+        ensures wrote { Adds (frames_if result (connect_frame ∷ [])) self.old.client.out self.new.client.out }
+    {
+        match self.stage {
+            Stage::Fresh => (),
+            Stage::Closed => return Err(ClientFault::Closed),
+            _ => return Err(ClientFault::AlreadyConnected),
+        }
+        let frame = connect_frame(self.alloc)?;
+        self.write(&frame)?;
+        self.stage = Stage::Connecting;
+        Ok(())
+    }
+
+    /// Writes SUBSCRIBE to a destination.
+    ///
+    /// # Errors
+    /// `NotConnected` before CONNECTED and `Closed` after the end of the session, else `Memory`. Nothing has changed then. The same
+    /// holds of every call below that writes.
+    pub fn subscribe(&mut self, destination: &str) -> Result<(), ClientFault>
+        requires { IsShort destination.now }
+        ensures does { WritesFrame (subscribe_frame destination.now) self.old.client self.new.client result }
+        ensures wrote { Adds (frames_if result (subscribe_frame destination.now ∷ [])) self.old.client.out self.new.client.out }
+    {
+        self.ready()?;
+        let frame = subscribe_frame(self.alloc, destination)?;
+        self.write(&frame)?;
+        Ok(())
+    }
+
+    /// Writes a SEND, in a transaction where one is given.
+    pub fn send(&mut self, message: Frame, transaction: Option<u64>) -> Result<(), ClientFault>
+        requires { IsPlain message }
+        ensures does { WritesFrame (in_transaction transaction message) self.old.client self.new.client result }
+        ensures wrote { Adds (frames_if result (in_transaction transaction message ∷ [])) self.old.client.out self.new.client.out }
+    {
+        self.ready()?;
+        let frame = in_transaction(message, transaction)?;
+        self.write(&frame)?;
+        Ok(())
+    }
+
+    /// Writes a SEND with the next receipt number, 1, 2, .., which is answered: a RECEIPT of that number gives the tag back.
+    ///
+    /// # Errors
+    /// Besides those of `subscribe`, and before `Memory`: `NumbersUsed` where the last number is 2^64 - 1.
+    pub fn send_with_receipt(&mut self, message: Frame, tag: T) -> Result<u64, ClientFault>
+        requires { IsPlain message }
+        ensures does { SendsWithReceipt message tag self.old.client self.new.client result }
+        ensures wrote { Adds (frames_if result (with_receipt (self.old.client.receipts.last + 1) message ∷ []))
+            self.old.client.out self.new.client.out }
+    {
+        let number = self.next(self.receipts.last())?;
+        let frame = with_number(message, "receipt", number)?;
+        let before = self.out.as_slice().len();
+        self.write(&frame)?;
+        match self.receipts.open(tag) {
+            Ok(number) => Ok(number),
+            Err(_) => {
+                self.out.truncate(before);
+                Err(ClientFault::Memory)
+            }
+        }
+    }
+
+    /// Writes BEGIN of the next transaction, and answers its number: 1, 2, ..
+    ///
+    /// # Errors
+    /// Besides those of `subscribe`, and before `Memory`: `NumbersUsed` where the last number is 2^64 - 1.
+    pub fn begin(&mut self) -> Result<u64, ClientFault>
+        ensures does { Begins self.old.client self.new.client result }
+        ensures wrote { Adds (frames_if result (transaction_frame Begin (self.old.client.transactions + 1) ∷ []))
+            self.old.client.out self.new.client.out }
+    {
+        let number = self.next(self.transactions)?;
+        let frame = transaction_frame(self.alloc, Command::Begin, number)?;
+        self.write(&frame)?;
+        self.transactions = number;
+        Ok(number)
+    }
+
+    /// Writes COMMIT of a transaction.
+    pub fn commit(&mut self, transaction: u64) -> Result<(), ClientFault>
+        ensures does { WritesFrame (transaction_frame Commit transaction) self.old.client self.new.client result }
+        ensures wrote { Adds (frames_if result (transaction_frame Commit transaction ∷ [])) self.old.client.out self.new.client.out }
+    {
+        self.ready()?;
+        let frame = transaction_frame(self.alloc, Command::Commit, transaction)?;
+        self.write(&frame)?;
+        Ok(())
+    }
+
+    /// Writes ABORT of a transaction.
+    pub fn abort(&mut self, transaction: u64) -> Result<(), ClientFault>
+        ensures does { WritesFrame (transaction_frame Abort transaction) self.old.client self.new.client result }
+        ensures wrote { Adds (frames_if result (transaction_frame Abort transaction ∷ [])) self.old.client.out self.new.client.out }
+    {
+        self.ready()?;
+        let frame = transaction_frame(self.alloc, Command::Abort, transaction)?;
+        self.write(&frame)?;
+        Ok(())
+    }
+
+    /// Writes ACK of a MESSAGE that was accepted, in a transaction where one is given: it was handled.
+    pub fn ack(&mut self, message: &Frame, transaction: Option<u64>) -> Result<(), ClientFault>
+        requires { IsDelivered message.now }
+        ensures does { WritesFrame (answer_frame Ack message.now transaction) self.old.client self.new.client result }
+        ensures wrote { Adds (frames_if result (answer_frame Ack message.now transaction ∷ [])) self.old.client.out self.new.client.out }
+    {
+        self.ready()?;
+        let frame = answer_frame(self.alloc, Command::Ack, message, transaction)?;
+        self.write(&frame)?;
+        Ok(())
+    }
+
+    /// Writes NACK of a MESSAGE that was accepted, in a transaction where one is given: it wasn't handled.
+    pub fn nack(&mut self, message: &Frame, transaction: Option<u64>) -> Result<(), ClientFault>
+        requires { IsDelivered message.now }
+        ensures does { WritesFrame (answer_frame Nack message.now transaction) self.old.client self.new.client result }
+        ensures wrote { Adds (frames_if result (answer_frame Nack message.now transaction ∷ [])) self.old.client.out self.new.client.out }
+    {
+        self.ready()?;
+        let frame = answer_frame(self.alloc, Command::Nack, message, transaction)?;
+        self.write(&frame)?;
+        Ok(())
+    }
+
+    /// Writes DISCONNECT, and closes the session.
+    pub fn disconnect(&mut self) -> Result<(), ClientFault>
+        ensures does { Disconnects self.old.client self.new.client result }
+        ensures wrote { Adds (frames_if result (disconnect_frame ∷ [])) self.old.client.out self.new.client.out }
+    {
+        self.ready()?;
+        let frame = Frame::new(self.alloc, Command::Disconnect);
+        self.write(&frame)?;
+        self.stage = Stage::Closed;
+        Ok(())
+    }
+
+    /// What a server's frame tells. After an ERROR the session is closed. It takes no memory.
+    ///
+    /// # Errors
+    /// - `Closed` where the session is closed.
+    /// - `Unexpected` where no server may send the frame now, and then the session is closed: a client's command; CONNECTED but for the one
+    ///   that answers CONNECT; before CONNECTED any other but ERROR; a RECEIPT whose number isn't open; a MESSAGE without `destination`,
+    ///   `message-id`, `subscription` or `ack`.
+    pub fn accept(&mut self, frame: Frame) -> Result<Event<T>, ClientFault>
+        ensures accepts { Accepts frame self.old.client self.new.client result }
+        ensures room { self.new.room ≡ self.old.room }
+    {
+        if self.stage == Stage::Closed {
+            return Err(ClientFault::Closed);
+        }
+        match frame.command() {
+            Command::Connected => self.accept_connected(frame),
+            Command::Message => self.accept_message(frame),
+            Command::Receipt => self.accept_receipt(frame),
+            Command::Error => Ok(self.accept_error(frame)),
+            _ => Err(self.refuse()),
+        }
+    }
+
+    /// Closes the session over a frame that no server may send now.
+    fn refuse(&mut self) -> ClientFault
+        ensures closed { self.new.client ≡ closing self.old.client }
+        ensures room { self.new.room ≡ self.old.room }
+        ensures fault { result ≡ Unexpected }
+    {
+        self.stage = Stage::Closed;
+        ClientFault::Unexpected
+    }
+
+    fn accept_connected(&mut self, frame: Frame) -> Result<Event<T>, ClientFault>
+        requires command { frame.command ≡ Connected }
+        requires stage { is_closed self.old.client.stage ≡ false }
+        ensures accepts { Accepts frame self.old.client self.new.client result }
+        ensures room { self.new.room ≡ self.old.room }
+    {
+        if self.stage != Stage::Connecting {
+            return Err(self.refuse());
+        }
+        self.stage = Stage::Connected;
+        Ok(Event::Connected)
+    }
+
+    fn accept_message(&mut self, frame: Frame) -> Result<Event<T>, ClientFault>
+        requires command { frame.command ≡ Message }
+        requires stage { is_closed self.old.client.stage ≡ false }
+        ensures accepts { Accepts frame self.old.client self.new.client result }
+        ensures room { self.new.room ≡ self.old.room }
+    {
+        if self.stage != Stage::Connected || !is_whole(&frame) {
+            return Err(self.refuse());
+        }
+        Ok(Event::Message(frame))
+    }
+
+    fn accept_receipt(&mut self, frame: Frame) -> Result<Event<T>, ClientFault>
+        requires command { frame.command ≡ Receipt }
+        requires stage { is_closed self.old.client.stage ≡ false }
+        ensures accepts { Accepts frame self.old.client self.new.client result }
+        ensures room { self.new.room ≡ self.old.room }
+    {
+        if self.stage != Stage::Connected {
+            return Err(self.refuse());
+        }
+        let Some(number) = receipt_number(&frame) else {
+            return Err(self.refuse());
+        };
+        match self.receipts.close(number) {
+            Some(tag) => Ok(Event::Receipt(number, tag)),
+            None => Err(self.refuse()),
+        }
+    }
+
+    fn accept_error(&mut self, frame: Frame) -> Event<T>
+        requires command { frame.command ≡ Error }
+        requires stage { is_closed self.old.client.stage ≡ false }
+        ensures accepts { Accepts frame self.old.client self.new.client (Ok result) }
+        ensures room { self.new.room ≡ self.old.room }
+    {
+        let (_, headers, _) = frame.into_parts();
+        let text = first_value(self.alloc, headers, "message");
+        self.stage = Stage::Closed;
+        Event::Error(text)
+    }
+}
+
+/// Whether a MESSAGE has all headers that it needs.
+fn is_whole(frame: &Frame) -> bool
+    ensures { result ≡ is_whole frame.now }
+{
+    frame.get("destination").is_some()
+        && frame.get("message-id").is_some()
+        && frame.get("subscription").is_some()
+        && frame.get("ack").is_some()
+}
+
+/// The number of a RECEIPT.
+fn receipt_number(frame: &Frame) -> Option<u64>
+    ensures { result ≡ receipt_number frame.now }
+{
+    match frame.get("receipt-id") {
+        Some(text) => read_number(text),
+        None => None,
+    }
+}
+
+/// The first value of a name, taken out of the headers; empty where there is none.
+fn first_value(alloc: Global, mut headers: Vec<Header>, name: &str) -> String
+    ensures { string_bytes result ≡ text_or_empty (value_of name.now headers.items) }
+{
+    for (index, header) in headers.iter().enumerate() {
+        if header.name() == name {
+            return headers.swap_remove(index).into_value();
+        }
+    }
+    String::new(alloc)
+}
