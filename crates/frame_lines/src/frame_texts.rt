@@ -1,0 +1,65 @@
+//! Frames and their parts as text.
+
+use crate::octets::push_octets;
+use std::alloc::{AllocError, Global};
+use stomp_frame::{Frame, Header, RefusedParts};
+
+/// Headers in brackets.
+fn headers_text(alloc: Global, headers: &[Header]) -> Result<String, AllocError> {
+    let mut text = String::from_str(alloc, "[")?;
+    for header in headers {
+        if text.len() > 1 {
+            text.push(' ')?;
+        }
+        push_octets(&mut text, header.name().as_bytes())?;
+        text.push('=')?;
+        push_octets(&mut text, header.value().as_bytes())?;
+    }
+    text.push(']')?;
+    Ok(text)
+}
+
+/// Headers and a body.
+fn parts_text(alloc: Global, headers: &[Header], body: &[u8]) -> Result<String, AllocError> {
+    let mut text = headers_text(alloc, headers)?;
+    text.push(' ')?;
+    push_octets(&mut text, body)?;
+    Ok(text)
+}
+
+/// A frame: the word of its command, its headers and its body.
+pub fn frame_text(alloc: Global, frame: &Frame) -> Result<String, AllocError> {
+    let parts = parts_text(alloc, frame.headers(), frame.body())?;
+    format!(in alloc; "{} {parts}", frame.command().word())
+}
+
+/// A frame, or `none`.
+pub fn found_text(alloc: Global, frame: &Option<Frame>) -> Result<String, AllocError> {
+    match frame {
+        Some(frame) => frame_text(alloc, frame),
+        None => String::from_str(alloc, "none"),
+    }
+}
+
+/// Why parts make no frame, and the parts.
+pub fn refused_text(alloc: Global, refused: &RefusedParts) -> Result<String, AllocError> {
+    let parts = parts_text(alloc, &refused.headers, &refused.body)?;
+    format!(in alloc; "{}; {parts}", refused.fault)
+}
+
+/// A header: its name and its value, each again out of a copy that was taken apart, and both in one text.
+pub fn header_text(alloc: Global, header: Header) -> Result<String, AllocError> {
+    let mut text = String::new(alloc);
+    push_octets(&mut text, header.name().as_bytes())?;
+    text.push(' ')?;
+    push_octets(&mut text, header.value().as_bytes())?;
+    text.push(' ')?;
+    push_octets(&mut text, header.copy(alloc)?.into_name().as_bytes())?;
+    text.push(' ')?;
+    push_octets(&mut text, header.copy(alloc)?.into_value().as_bytes())?;
+    let (both, len) = header.into_parts();
+    text.push(' ')?;
+    push_octets(&mut text, both.as_bytes())?;
+    write!(text, " {len}")?;
+    Ok(text)
+}

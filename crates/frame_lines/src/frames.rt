@@ -1,0 +1,171 @@
+//! Frames and their builder. What wants memory is done again: nothing has changed then.
+
+use crate::fault::LineFault;
+use crate::frame_texts::{frame_text, header_text, refused_text};
+use crate::octets::{octets, shown, text};
+use crate::words::command;
+use std::alloc::Global;
+use std::mem;
+use stomp_frame::{Command, Frame, FrameFault, Header, encode};
+
+/// Appends a header.
+fn push_header(frame: &mut Frame, name: &str, value: &str) -> Result<(), FrameFault> {
+    match frame.push_header(name, value) {
+        Err(FrameFault::Memory) => frame.push_header(name, value),
+        answer => answer,
+    }
+}
+
+/// Sets the body.
+fn set_body(frame: &mut Frame, body: &[u8]) -> Result<(), FrameFault> {
+    match frame.set_body(body) {
+        Err(FrameFault::Memory) => frame.set_body(body),
+        answer => answer,
+    }
+}
+
+/// A frame's copy.
+fn copy(frame: &Frame) -> Result<Frame, FrameFault> {
+    match frame.copy() {
+        Err(FrameFault::Memory) => frame.copy(),
+        answer => answer,
+    }
+}
+
+/// Appends a frame's spelling.
+fn push_frame(frame: &Frame, out: &mut Vec<u8>) -> Result<(), FrameFault> {
+    match encode(frame, out) {
+        Err(FrameFault::Memory) => encode(frame, out),
+        answer => answer,
+    }
+}
+
+/// The spelling of a frame behind a text.
+pub fn spelled(alloc: Global, frame: &Frame, before: &str) -> Result<String, LineFault> {
+    let mut out = octets(alloc, before)?;
+    push_frame(frame, &mut out)?;
+    Ok(shown(alloc, &out)?)
+}
+
+/// An answer of the builder, and the frame then.
+fn told(alloc: Global, answer: Result<(), FrameFault>, frame: &Frame) -> Result<String, LineFault> {
+    let text = frame_text(alloc, frame)?;
+    match answer {
+        Ok(()) => Ok(text),
+        Err(FrameFault::Memory) => Err(LineFault::Memory),
+        Err(fault) => Ok(format!(in alloc; "{fault}; {text}")?),
+    }
+}
+
+/// A header is appended.
+fn header(alloc: Global, frame: &mut Frame, name: &str, value: &str) -> Result<String, LineFault> {
+    let name = text(alloc, name)?;
+    let value = text(alloc, value)?;
+    let answer = push_header(frame, &name, &value);
+    told(alloc, answer, frame)
+}
+
+/// A body is set.
+fn body(alloc: Global, frame: &mut Frame, word: &str) -> Result<String, LineFault> {
+    let body = octets(alloc, word)?;
+    let answer = set_body(frame, &body);
+    told(alloc, answer, frame)
+}
+
+/// The first value of a name.
+fn value(alloc: Global, frame: &Frame, word: &str) -> Result<String, LineFault> {
+    let name = text(alloc, word)?;
+    match frame.get(&name) {
+        Some(value) => Ok(shown(alloc, value.as_bytes())?),
+        None => Ok(String::from_str(alloc, "none")?),
+    }
+}
+
+/// A frame is made of parts, and where they are refused there is an empty SEND in its place.
+fn make(
+    alloc: Global,
+    frame: &mut Frame,
+    command: Command,
+    headers: Vec<Header>,
+    body: Vec<u8>,
+) -> Result<String, LineFault> {
+    match Frame::from_parts(alloc, command, headers, body) {
+        Ok(made) => {
+            *frame = made;
+            Ok(frame_text(alloc, frame)?)
+        }
+        Err(refused) => Ok(refused_text(alloc, &refused)?),
+    }
+}
+
+/// A frame is taken apart, and its parts are to make one of another command.
+fn change_command(alloc: Global, frame: &mut Frame, command: Command) -> Result<String, LineFault> {
+    let old = mem::replace(frame, Frame::new(alloc, Command::Send));
+    let (_, headers, body) = old.into_parts();
+    make(alloc, frame, command, headers, body)
+}
+
+/// Headers: `NAME VALUE` each.
+fn headers(alloc: Global, words: &[&str]) -> Result<Vec<Header>, LineFault> {
+    let mut headers = Vec::new(alloc);
+    for words in words.chunks(2) {
+        let [name, value] = words else {
+            return Err(LineFault::Unknown);
+        };
+        let name = text(alloc, name)?;
+        let value = text(alloc, value)?;
+        headers.push(Header::new(alloc, &name, &value)?)?;
+    }
+    Ok(headers)
+}
+
+/// The same of parts that stand in a line.
+fn make_of(
+    alloc: Global,
+    frame: &mut Frame,
+    command: Command,
+    body: &str,
+    words: &[&str],
+) -> Result<String, LineFault> {
+    let body = octets(alloc, body)?;
+    let headers = headers(alloc, words)?;
+    make(alloc, frame, command, headers, body)
+}
+
+/// A frame's copy.
+fn copy_text(alloc: Global, frame: &Frame) -> Result<String, LineFault> {
+    let copy = copy(frame)?;
+    Ok(frame_text(alloc, &copy)?)
+}
+
+/// The answer to a line that begins with `frame`.
+pub fn answer_frame(alloc: Global, frame: &mut Frame, words: &[&str]) -> Result<String, LineFault> {
+    match words {
+        ["new", word] => *frame = Frame::new(alloc, command(word)?),
+        ["header", name, value] => return header(alloc, frame, name, value),
+        ["body", word] => return body(alloc, frame, word),
+        ["get", name] => return value(alloc, frame, name),
+        ["copy"] => return copy_text(alloc, frame),
+        ["encode", before] => return spelled(alloc, frame, before),
+        ["under", word] => return change_command(alloc, frame, command(word)?),
+        ["of", word, body, words @ ..] => return make_of(alloc, frame, command(word)?, body, words),
+        ["show"] => frame.holds(),
+        _ => return Err(LineFault::Unknown),
+    }
+    Ok(frame_text(alloc, frame)?)
+}
+
+/// The answer to a line of a command: its word, whether it may have a body, whether nothing is escaped.
+pub fn answer_command(alloc: Global, word: &str) -> Result<String, LineFault> {
+    let command = command(word)?;
+    let (body, exempt) = (command.may_have_body(), command.is_exempt());
+    Ok(format!(in alloc; "{} {body} {exempt}", command.word())?)
+}
+
+/// The answer to a line of a header alone.
+pub fn answer_header(alloc: Global, name: &str, value: &str) -> Result<String, LineFault> {
+    let name = text(alloc, name)?;
+    let value = text(alloc, value)?;
+    let header = Header::new(alloc, &name, &value)?;
+    Ok(header_text(alloc, header)?)
+}

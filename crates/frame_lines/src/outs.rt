@@ -1,0 +1,104 @@
+//! Messages that go out, and a handler that is called through its trait.
+
+use crate::fault::LineFault;
+use crate::switch::Switch;
+use crate::words::{entity, message, number, size};
+use activities::{Handler, HandlerFault, Input, Out, Outs};
+use std::alloc::{AllocError, Global};
+
+/// A message and its receiver.
+fn out_text(alloc: Global, out: &Out) -> Result<String, AllocError> {
+    let receiver = out.receiver.text();
+    format!(in alloc; "{:?} to {receiver}", out.message)
+}
+
+/// Messages with their receivers, or `none`.
+fn outs_text(alloc: Global, outs: &Outs) -> Result<String, AllocError> {
+    let mut text = String::new(alloc);
+    for out in outs.as_slice() {
+        if !text.is_empty() {
+            text.push_str(", ")?;
+        }
+        text.push_str(&out_text(alloc, out)?)?;
+    }
+    if text.is_empty() {
+        text.push_str("none")?;
+    }
+    Ok(text)
+}
+
+/// The answer to a line that begins with `outs`.
+pub fn answer_outs(alloc: Global, outs: &mut Outs, words: &[&str]) -> Result<String, LineFault> {
+    match words {
+        ["new"] => *outs = Outs::new(alloc),
+        ["send", receiver, said @ ..] => {
+            let message = message(said)?;
+            outs.send(entity(alloc, receiver)?, message)?;
+        }
+        ["truncate", count] => outs.truncate(size(count)?),
+        _ => return Err(LineFault::Unknown),
+    }
+    Ok(outs_text(alloc, outs)?)
+}
+
+/// What a handler that took nothing in is, and a copy of it that took a copy of a seat's command in.
+fn applied<H: Handler>(
+    alloc: Global,
+    seat: u8,
+    command: &H::Command,
+    outs: &mut Outs,
+) -> Result<H::State, HandlerFault> {
+    let opening = H::opening(alloc)?;
+    let mut state = H::copy_state(alloc, &opening)?;
+    let input = Input::FromSeat(seat, H::copy_command(alloc, command)?);
+    H::apply(alloc, &mut state, &input, outs)?;
+    Ok(state)
+}
+
+/// The kind of a handler's entities, and whether no row stands for a state of it.
+fn state_text<H: Handler>(alloc: Global, state: &H::State) -> Result<String, AllocError> {
+    format!(in alloc; "{:?} {}", H::kind(), H::is_none(state))
+}
+
+/// Whether a switch is turned on: `on` or `off`.
+fn is_on(word: &str) -> Result<bool, LineFault> {
+    match word {
+        "on" => Ok(true),
+        "off" => Ok(false),
+        _ => Err(LineFault::Unknown),
+    }
+}
+
+/// A switch takes a message in.
+fn take(alloc: Global, state: &mut bool, outs: &mut Outs, words: &[&str]) -> Result<(), LineFault> {
+    let [sender, text, said @ ..] = words else {
+        return Err(LineFault::Unknown);
+    };
+    let number = number(text)?;
+    let message = message(said)?;
+    let input = Input::FromEntity(entity(alloc, sender)?, number, message);
+    Ok(Switch::apply(alloc, state, &input, outs)?)
+}
+
+/// The answer to a line that begins with `switch`: the kind, whether no row stands for the switch, and all that was sent.
+pub fn answer_switch(
+    alloc: Global,
+    state: &mut bool,
+    outs: &mut Outs,
+    words: &[&str],
+) -> Result<String, LineFault> {
+    match words {
+        ["opening"] => *state = Switch::opening(alloc)?,
+        ["seat", seat, word] => {
+            let Ok(seat) = seat.parse::<u8>() else {
+                return Err(LineFault::Unknown);
+            };
+            *state = applied::<Switch>(alloc, seat, &is_on(word)?, outs)?;
+        }
+        ["from", words @ ..] => take(alloc, state, outs, words)?,
+        _ => return Err(LineFault::Unknown),
+    }
+    let text = state_text::<Switch>(alloc, state)?;
+    let outs = outs_text(alloc, outs)?;
+    Ok(format!(in alloc; "{text}; {outs}")?)
+}

@@ -1,0 +1,99 @@
+//! What stands between two lines, and whom a line asks.
+
+use crate::cuts::answer_decode;
+use crate::decoders::answer_decoder;
+use crate::entities::{answer_entity, answer_key, answer_kind, answer_number, answer_pair};
+use crate::envelopes::answer_envelope;
+use crate::fault::LineFault;
+use crate::fault_texts::answer_fault;
+use crate::frames::{answer_command, answer_frame, answer_header};
+use crate::laws::answer_laws;
+use crate::links::{FailingLink, answer_file, answer_link};
+use crate::outs::{answer_outs, answer_switch};
+use crate::trickle::Trickle;
+use crate::wires::answer_wire;
+use activities::Outs;
+use std::alloc::Global;
+use stomp_frame::{Command, Decoder, Frame};
+use stomp_wire::{MemoryWire, StreamLink};
+
+/// A frame, a decoder, a wire, a link over a reader and a writer that fail where they are told to, a switch, and what goes out.
+#[derive(Drop)]
+pub struct Session {
+    frame: Frame,
+    decoder: Decoder,
+    wire: MemoryWire,
+    link: FailingLink,
+    switch: bool,
+    outs: Outs,
+}
+
+impl Session {
+    /// An empty SEND, and all others as new ones are.
+    pub fn new(alloc: Global) -> Session {
+        Session {
+            frame: Frame::new(alloc, Command::Send),
+            decoder: Decoder::new(alloc),
+            wire: MemoryWire::new(alloc),
+            link: StreamLink::new(Trickle::empty(alloc), Trickle::empty(alloc)),
+            switch: false,
+            outs: Outs::new(alloc),
+        }
+    }
+
+    /// The answer to a line that begins so, and changes what stands here.
+    fn answer_own(
+        &mut self,
+        alloc: Global,
+        first: &str,
+        words: &[&str],
+    ) -> Result<String, LineFault> {
+        match first {
+            "frame" => answer_frame(alloc, &mut self.frame, words),
+            "decoder" => answer_decoder(alloc, &mut self.decoder, words),
+            "wire" => answer_wire(alloc, &mut self.wire, words),
+            "link" => answer_link(alloc, &mut self.link, words),
+            "outs" => answer_outs(alloc, &mut self.outs, words),
+            "switch" => answer_switch(alloc, &mut self.switch, &mut self.outs, words),
+            _ => Err(LineFault::Unknown),
+        }
+    }
+
+    /// The answer to the words of a line.
+    fn answer_words(&mut self, rt: &HostRuntime, words: &[&str]) -> Result<String, LineFault> {
+        let alloc = rt.alloc();
+        let [first, rest @ ..] = words else {
+            return Err(LineFault::Unknown);
+        };
+        match *first {
+            "entity" => answer_entity(alloc, rest),
+            "key" => answer_key(alloc, rest),
+            "pair" => answer_pair(alloc, rest),
+            "number" => answer_number(alloc, rest),
+            "decode" => answer_decode(alloc, rest),
+            "fault" => answer_fault(alloc, rest),
+            "body" | "letter" | "letter-copy" | "settle" => answer_envelope(alloc, words),
+            "kind" | "command" | "header" | "file" | "laws" => answer_short(rt, words),
+            _ => self.answer_own(alloc, first, rest),
+        }
+    }
+
+    /// The answer to a line.
+    pub fn answer(&mut self, rt: &HostRuntime, line: &str) -> Result<String, LineFault> {
+        let words: Vec<&str> = line.split_whitespace().collect(rt.alloc())?;
+        self.answer_words(rt, words.as_slice())
+    }
+}
+
+/// The answer to a line that has one form.
+fn answer_short(rt: &HostRuntime, words: &[&str]) -> Result<String, LineFault> {
+    let alloc = rt.alloc();
+    match words {
+        ["kind", word] => answer_kind(alloc, word),
+        ["command", word] => answer_command(alloc, word),
+        ["header", name, value] => answer_header(alloc, name, value),
+        ["file", times, text] => answer_file(rt, times, text),
+        ["laws"] => answer_laws(alloc),
+        _ => Err(LineFault::Unknown),
+    }
+}

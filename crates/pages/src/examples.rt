@@ -1,0 +1,129 @@
+//! One example for the page of each library.
+
+ghost use Rattle.std.specs.Prelude.{◌≤◌, ℕ};
+ghost use Rattle.agreement.specs.Steps.{Configuration, Reaches};
+ghost use Rattle.base.specs.declared.pair.Pair.{Pair};
+
+use activities::{Handler, HandlerFault, Input, OrderCommand, Outs};
+use agreement::stays_authentic;
+use base::{Entity, EntityFault, Key, Kind, Pair};
+use endpoint::{EndFault, Endpoint};
+use envelope::{Envelope, EnvelopeFault, to_send};
+use keep::{Keep, KeepFault};
+use keep_plain::PlainKeep;
+use programs::{RunFault, run_text};
+use purchasing::Orders;
+use receipts::{ReceiptFault, Receipts};
+use schedules::{ScheduleFault, read_schedule};
+use std::alloc::Global;
+use stomp_client::{ClientFault, ClientSession};
+use stomp_frame::{Command, Decoder, Frame, FrameFault};
+use stomp_session::ServerSession;
+use stomp_wire::{Link, LinkFault, MemoryWire, Way, pump_out};
+
+pub fn an_entity_is_named_again(alloc: Global) -> Result<bool, EntityFault> {
+    let key = Key::read(alloc, "o1")?;
+    let order = Entity::new(alloc, Kind::Order, &key)?;
+    let again = Entity::read(alloc, "order/o1")?;
+    Ok(again == order)
+}
+
+pub fn what_was_put_is_taken(alloc: Global) -> Result<Vec<u8>, LinkFault> {
+    let mut wire = MemoryWire::new(alloc);
+    let _gone = pump_out(&mut wire.near, b"hello");
+    wire.carry(Way::Up, 2)?;
+    let mut taken = Vec::new(alloc);
+    wire.far.take(&mut taken, 9)?;
+    Ok(taken)
+}
+
+pub fn a_frame_is_read_from_pieces(alloc: Global) -> Result<bool, FrameFault> {
+    let mut decoder = Decoder::new(alloc);
+    decoder.feed(b"SEND\ndestination:/queue/bil")?;
+    decoder.feed(b"ling\n\nhello\0")?;
+    let found = decoder.next()?;
+    Ok(found.is_some_and(|frame| frame.get("destination") == Some("/queue/billing")))
+}
+
+pub fn a_frame_before_connect_is_refused(alloc: Global) -> Option<u8> {
+    let mut session = ServerSession::new();
+    let frame = Frame::new(alloc, Command::Disconnect);
+    let refused = session.accept(frame).err()?;
+    Some(refused.fault.number())
+}
+
+pub fn a_receipt_is_closed_once(alloc: Global) -> Result<bool, ReceiptFault> {
+    let mut receipts = Receipts::new(alloc);
+    let number = receipts.open('a')?;
+    let tag = receipts.close(number);
+    let again = receipts.close(number);
+    Ok(tag == Some('a') && again.is_none())
+}
+
+pub fn a_client_asks_to_connect(alloc: Global) -> Result<bool, ClientFault> {
+    let mut client: ClientSession<u64> = ClientSession::new(alloc);
+    client.connect()?;
+    Ok(client.out() == b"CONNECT\naccept-version:1.2\nhost:outbox\n\n\0".as_slice())
+}
+
+pub fn a_settle_is_sent(alloc: Global, pair: Pair) -> Result<bool, EnvelopeFault> {
+    let frame = to_send(alloc, &Envelope::Settle(pair, 7))?;
+    Ok(frame.get("number") == Some("7"))
+}
+
+pub fn first_state_of<H: Handler>(
+    alloc: Global,
+    command: H::Command,
+    outs: &mut Outs,
+) -> Result<H::State, HandlerFault> {
+    let mut state = H::opening(alloc)?;
+    H::apply(alloc, &mut state, &Input::FromSeat(0, command), outs)?;
+    Ok(state)
+}
+
+pub fn an_order_is_refused(alloc: Global) -> Result<(), HandlerFault> {
+    let mut order = Orders::opening(alloc)?;
+    let mut outs = Outs::new(alloc);
+    let input = Input::FromSeat(0, OrderCommand::CancelOrder);
+    Orders::apply(alloc, &mut order, &input, &mut outs)
+}
+
+pub fn no_mark_is_taken_back()
+    ensures { (old new : Configuration) (pair : Pair) → Reaches old new → old.settled pair ≤ new.settled pair }
+{
+    stays_authentic();
+}
+
+pub fn a_mark_is_read<K: Keep>(keep: &mut K, alloc: Global, pair: &Pair) -> Result<u64, KeepFault> {
+    if !keep.usable() {
+        return Err(KeepFault::Failed);
+    }
+    keep.sent(alloc, pair)
+}
+
+pub fn tables_hold_nothing_at_first(alloc: Global) -> Result<bool, KeepFault> {
+    let mut keep: PlainKeep<Orders> = PlainKeep::new(alloc);
+    let letters = keep.unsettled(alloc, &None, usize::MAX)?;
+    Ok(letters.is_empty())
+}
+
+pub fn a_command_is_taken_in(
+    alloc: Global,
+    order: &Entity,
+    command: OrderCommand,
+) -> Result<u64, EndFault> {
+    let mut purchasing: Endpoint<Orders, PlainKeep<Orders>> = Endpoint::new(PlainKeep::new(alloc));
+    let committed = purchasing.commit(alloc, 0, order, command)?;
+    Ok(committed.pos)
+}
+
+pub fn a_schedule_is_read(alloc: Global) -> Result<usize, ScheduleFault> {
+    let events = read_schedule(alloc, b"cancel 0 o1\n# a comment\nshow thing\n")?;
+    Ok(events.len())
+}
+
+pub fn a_schedule_is_run(alloc: Global) -> Result<bool, RunFault> {
+    let mut out = Vec::new(alloc);
+    run_text(alloc, b"cancel 0 o1\n", &mut out)?;
+    Ok(out.as_slice() == b"refused 61 71\n".as_slice())
+}
