@@ -26,13 +26,16 @@ book = record { last = 3; tags = (2, 20) ∷ [] }
 -- ---- calls that write
 
 -- what refuses a call at each stage
-stages_refuse : (unready Fresh ≡ Some fault.NotConnected) × (unready Connecting ≡ Some fault.NotConnected) × (unready Connected ≡ None) × (unready Closed ≡ Some fault.Closed)
-    × (unconnectable Fresh ≡ None) × (unconnectable Connecting ≡ Some fault.AlreadyConnected) × (unconnectable Connected ≡ Some fault.AlreadyConnected)
+stages_refuse : (unready Fresh ≡ Some fault.NotConnected) × (unready Connecting ≡ Some fault.NotConnected) × (unready Connected ≡ None)
+    × (unready Closed ≡ Some fault.Closed)
+    × (unconnectable Fresh ≡ None) × (unconnectable Connecting ≡ Some fault.AlreadyConnected)
+    × (unconnectable Connected ≡ Some fault.AlreadyConnected)
     × (unconnectable Closed ≡ Some fault.Closed)
 stages_refuse = (refl, refl, refl, refl, refl, refl, refl, refl)
 
 -- the last number is 2^64 - 1; a stage refuses first
-numbers_end : (or_used (2 ^ 64 - 1) None ≡ Some fault.NumbersUsed) × (or_used (2 ^ 64 - 2) None ≡ None) × (or_used (2 ^ 64 - 1) (Some fault.Closed) ≡ Some fault.Closed)
+numbers_end : (or_used (2 ^ 64 - 1) None ≡ Some fault.NumbersUsed) × (or_used (2 ^ 64 - 2) None ≡ None)
+    × (or_used (2 ^ 64 - 1) (Some fault.Closed) ≡ Some fault.Closed)
 numbers_end = (refl, refl, refl)
 
 -- the numbers of the faults
@@ -40,8 +43,10 @@ faults_are_numbered : (client_fault_number fault.NotConnected ≡ 40) × (client
 faults_are_numbered = (refl, refl)
 
 -- a call that is refused tells why and changes nothing; want of memory is told only where nothing refuses
-refusals_change_nothing : (Connects (client Connected book) (client Connected book) (Err fault.AlreadyConnected)) × (WritesFrame disconnect_frame (client Fresh book) (client Fresh book) (Err fault.NotConnected))
-    × (Connects (client Fresh book) (client Fresh book) (Err fault.Memory)) × (Connects (client Closed book) (client Closed book) (Err fault.Memory) → ⊥)
+refusals_change_nothing : (Connects (client Connected book) (client Connected book) (Err fault.AlreadyConnected))
+    × (WritesFrame disconnect_frame (client Fresh book) (client Fresh book) (Err fault.NotConnected))
+    × (Connects (client Fresh book) (client Fresh book) (Err fault.Memory))
+    × (Connects (client Closed book) (client Closed book) (Err fault.Memory) → ⊥)
     × (Connects (client Fresh book) (client Connecting book) (Err fault.Memory) → ⊥)
 refusals_change_nothing = (
   (refl, refl),
@@ -72,26 +77,33 @@ abbrev receipt : List ℕ → Content
 receipt number = frame command.Receipt (header (codes "receipt-id") number ∷ []) []
 
 -- what no server may send, and when
-unexpected_frames : (unaccepted (client Connected book) (frame command.Send [] []) ≡ Some fault.Unexpected) × (unaccepted (client Connected book) (frame command.Connected [] []) ≡ Some fault.Unexpected)
-    × (unaccepted (client Fresh book) (frame command.Connected [] []) ≡ Some fault.Unexpected) × (unaccepted (client Connecting book) (frame command.Connected [] []) ≡ None)
-    × (unaccepted (client Connected book) (frame command.Message [] []) ≡ Some fault.Unexpected) × (unaccepted (client Fresh book) (frame command.Error [] []) ≡ None)
+unexpected_frames : (unaccepted (client Connected book) (frame command.Send [] []) ≡ Some fault.Unexpected)
+    × (unaccepted (client Connected book) (frame command.Connected [] []) ≡ Some fault.Unexpected)
+    × (unaccepted (client Fresh book) (frame command.Connected [] []) ≡ Some fault.Unexpected)
+    × (unaccepted (client Connecting book) (frame command.Connected [] []) ≡ None)
+    × (unaccepted (client Connected book) (frame command.Message [] []) ≡ Some fault.Unexpected)
+    × (unaccepted (client Fresh book) (frame command.Error [] []) ≡ None)
     × (unaccepted (client Closed book) (frame command.Error [] []) ≡ Some fault.Closed)
 unexpected_frames = (refl, refl, refl, refl, refl, refl, refl)
 
 -- a receipt is told where it is open
-receipts_are_told : (unaccepted (client Connected book) (receipt (codes "2")) ≡ None) × (unaccepted (client Connected book) (receipt (codes "1")) ≡ Some fault.Unexpected)
-    × (unaccepted (client Connected book) (receipt (codes "02")) ≡ Some fault.Unexpected) × (unaccepted (client Connecting book) (receipt (codes "2")) ≡ Some fault.Unexpected)
+receipts_are_told : (unaccepted (client Connected book) (receipt (codes "2")) ≡ None)
+    × (unaccepted (client Connected book) (receipt (codes "1")) ≡ Some fault.Unexpected)
+    × (unaccepted (client Connected book) (receipt (codes "02")) ≡ Some fault.Unexpected)
+    × (unaccepted (client Connecting book) (receipt (codes "2")) ≡ Some fault.Unexpected)
     × (receipt_number (frame command.Receipt [] []) ≡ None)
 unfolding book digits
 receipts_are_told = (refl, refl, refl, refl, refl)
 
 -- the event of that receipt, and the client after it
-a_receipt_is_closed : Accepts (receipt (codes "2")) (client Connected book) (client Connected (record { last = 3; tags = [] })) (Ok (event.Receipt 2 20))
+a_receipt_is_closed : Accepts (receipt (codes "2")) (client Connected book) (client Connected (record { last = 3; tags = [] }))
+    (Ok (event.Receipt 2 20))
 unfolding book digits
 a_receipt_is_closed = (refl, (refl, refl, refl, refl))
 
 -- an unexpected frame closes the session, and a closed one stays as it is
-sessions_end : (Accepts (receipt (codes "1")) (client Connected book) (client Closed book) (Err fault.Unexpected)) × (Accepts (receipt (codes "2")) (client Closed book) (client Closed book) (Err fault.Closed))
+sessions_end : (Accepts (receipt (codes "1")) (client Connected book) (client Closed book) (Err fault.Unexpected))
+    × (Accepts (receipt (codes "2")) (client Closed book) (client Closed book) (Err fault.Closed))
     × (Accepts (receipt (codes "2")) (client Connected book) (client Connected book) (Err fault.Memory) → ⊥)
 unfolding book digits
 sessions_end = ((refl, refl), (refl, refl), λ h. h)

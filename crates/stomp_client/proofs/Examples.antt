@@ -7,7 +7,8 @@ use Rattle.stomp_frame.specs.Frames.{Content, frame, header, canonical, escape, 
 use Rattle.stomp_client.specs.declared.fault.ClientFault.{ClientFault}
 use Rattle.stomp_client.specs.declared.fault.ClientFault.TheVariants.{Memory}
 use Rattle.stomp_client.specs.Numbers.{number_of}
-use Rattle.stomp_client.specs.Frames.{IsShort, IsPlain, connect_frame, subscribe_frame, disconnect_frame, transaction_frame, in_transaction, answer_frame, with_receipt, text_or_empty}
+use Rattle.stomp_client.specs.Frames.{IsShort, IsPlain, connect_frame, subscribe_frame, disconnect_frame, transaction_frame, in_transaction}
+use Rattle.stomp_client.specs.Frames.{answer_frame, with_receipt, text_or_empty}
 use Rattle.stomp_client.specs.Delivered.{is_whole, IsDelivered}
 use Rattle.stomp_client.specs.Written.{Wrote, frames_if, AreWhole}
 
@@ -28,11 +29,13 @@ transactions_are_named = refl
 -- a message handed out under the ack 9
 delivered : Content
 delivered = frame Message
-    (header (codes "destination") (codes "/queue/a") ∷ header (codes "message-id") (codes "7") ∷ header (codes "subscription") (codes "0") ∷ header (codes "ack") (codes "9") ∷ [])
+    (header (codes "destination") (codes "/queue/a") ∷ header (codes "message-id") (codes "7") ∷ header (codes "subscription") (codes "0")
+    ∷ header (codes "ack") (codes "9") ∷ [])
     (codes "hi")
 
 -- it is answered under its ack, in a transaction or not
-answers_have_the_ack : (canonical (answer_frame Ack delivered None) ≡ codes "ACK\nid:9\n\n\0") × (canonical (answer_frame Nack delivered (Some 3)) ≡ codes "NACK\nid:9\ntransaction:3\n\n\0")
+answers_have_the_ack : (canonical (answer_frame Ack delivered None) ≡ codes "ACK\nid:9\n\n\0")
+    × (canonical (answer_frame Nack delivered (Some 3)) ≡ codes "NACK\nid:9\ntransaction:3\n\n\0")
 unfolding delivered canonical line_of escape digits
 answers_have_the_ack = (refl, refl)
 
@@ -42,7 +45,8 @@ letter = frame Send (header (codes "destination") (codes "/queue/a") ∷ []) (co
 
 -- its receipt or its transaction stands behind its own headers
 sends_are_marked : (canonical (with_receipt 1 letter) ≡ codes "SEND\ncontent-length:2\ndestination:/queue/a\nreceipt:1\n\nhi\0")
-    × (canonical (in_transaction (Some 2) letter) ≡ codes "SEND\ncontent-length:2\ndestination:/queue/a\ntransaction:2\n\nhi\0") × (in_transaction None letter ≡ letter)
+    × (canonical (in_transaction (Some 2) letter) ≡ codes "SEND\ncontent-length:2\ndestination:/queue/a\ntransaction:2\n\nhi\0")
+    × (in_transaction None letter ≡ letter)
 unfolding letter canonical line_of escape digits
 sends_are_marked = (refl, refl, refl)
 
@@ -56,8 +60,11 @@ marked_once = (
 )
 
 -- without one of its headers a MESSAGE isn't whole; empty values count
-messages_are_whole : (IsDelivered delivered) × (is_whole (frame Message (header (codes "destination") [] ∷ header (codes "message-id") [] ∷ header (codes "subscription") [] ∷ []) []) ≡ false)
-    × (is_whole (frame Message (header (codes "destination") [] ∷ header (codes "message-id") [] ∷ header (codes "subscription") [] ∷ header (codes "ack") [] ∷ []) []) ≡ true)
+messages_are_whole : (IsDelivered delivered)
+    × (is_whole (frame Message (header (codes "destination") [] ∷ header (codes "message-id") [] ∷ header (codes "subscription") [] ∷ [])
+    []) ≡ false)
+    × (is_whole (frame Message (header (codes "destination") [] ∷ header (codes "message-id") [] ∷ header (codes "subscription") []
+    ∷ header (codes "ack") [] ∷ []) []) ≡ true)
 unfolding delivered
 messages_are_whole = (record { command = refl; whole = refl }, refl, refl)
 
@@ -76,7 +83,8 @@ values_are_texts = (refl, refl)
 -- ---- numbers
 
 -- a number is written in one way
-numbers_are_written_in_one_way : (number_of (codes "12") ≡ Some 12) × (number_of (codes "0") ≡ Some 0) × (number_of (codes "012") ≡ None) × (number_of (codes "+12") ≡ None)
+numbers_are_written_in_one_way : (number_of (codes "12") ≡ Some 12) × (number_of (codes "0") ≡ Some 0) × (number_of (codes "012") ≡ None)
+    × (number_of (codes "+12") ≡ None)
     × (number_of [] ≡ None) × (number_of (codes "1a") ≡ None)
 unfolding digits
 numbers_are_written_in_one_way = (refl, refl, refl, refl, refl, refl)
@@ -102,7 +110,8 @@ unfolding canonical
 no_half_was_written w = let short : codes "DISCON" ≡ codes "DISCONNECT\n\n\0" = w.whole in absurd cc
 
 -- a call that isn't done writes nothing
-no_frame_without_an_answer : (frames_if {R = Unit {0}} {E = ClientFault} (Err Memory) (disconnect_frame ∷ []) ≡ []) × (frames_if {R = ℕ} {E = ClientFault} (Ok 1) (disconnect_frame ∷ []) ≡ disconnect_frame ∷ [])
+no_frame_without_an_answer : (frames_if {R = Unit {0}} {E = ClientFault} (Err Memory) (disconnect_frame ∷ []) ≡ [])
+    × (frames_if {R = ℕ} {E = ClientFault} (Ok 1) (disconnect_frame ∷ []) ≡ disconnect_frame ∷ [])
 no_frame_without_an_answer = (refl, refl)
 
 -- two frames made before are whole; no octet is too, and half of one isn't told by these frames

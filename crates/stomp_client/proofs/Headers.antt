@@ -1,5 +1,6 @@
 -- Headers that a client's frames take.
-use Rattle.std.proofs.Common.{◌≡◌, ℕ, ◌<◌, ◌≤◌, ◌^◌, Bool, true, false, ◌||◌, ◌&&◌, not, List, [], ◌∷◌, length, codes, decimal, Some, None, refl, sym, ap, subst, ◌∙◌, arith, inl, inr}
+use Rattle.std.proofs.Common.{◌≡◌, ℕ, ◌<◌, ◌≤◌, ◌^◌, Bool, true, false, ◌||◌, ◌&&◌, not, List, [], ◌∷◌, length, codes, decimal, Some, None}
+use Rattle.std.proofs.Common.{refl, sym, ap, subst, ◌∙◌, arith, inl, inr}
 use Rattle.std.specs.Prelude.{nat_lt, nat_le, ◌==◌, if◌then◌else◌}
 use Rattle.std.specs.List.{AllByRecursion}
 use Rattle.std.specs.Str.{bytes_eq, all_ascii_digits}
@@ -35,26 +36,31 @@ none_refuses : (a b c d : Bool) → a ≡ false → b ≡ false → c ≡ false 
 none_refuses a b c d p q r s = rw (p, q, r, s) refl
 
 -- a header that a frame can own, and for which there is room, isn't refused
-pub own_unrefused : (f : Content) (h : Header) → is_bad f.command h ≡ false → gives_length h ≡ false → length (line_of f.command h) ≤ 1024 → length f.headers < 32 → header_refused f h ≡ None
+pub own_unrefused : (f : Content) (h : Header) → is_bad f.command h ≡ false → gives_length h ≡ false → length (line_of f.command h) ≤ 1024
+    → length f.headers < 32 → header_refused f h ≡ None
 own_unrefused f h good own short room =
     none_refuses (is_bad f.command h) (gives_length h) (nat_lt 1024 (length (line_of f.command h))) (nat_lt (length f.headers) 32)
     good own (not_above 1024 (length (line_of f.command h)) short) (lt-ltb (length f.headers) 32 room)
 
 -- where escapes are written, a name and a value without NUL can stand on a line
-plain_good : (c : Command) (h : Header) → is_exempt c ≡ false → 0 < length h.name → has 0 h.name ≡ false → has 0 h.value ≡ false → is_bad c h ≡ false
+plain_good : (c : Command) (h : Header) → is_exempt c ≡ false → 0 < length h.name → has 0 h.name ≡ false → has 0 h.value ≡ false
+    → is_bad c h ≡ false
 plain_good c h escapes some plain value_plain = rw (not_zero (length h.name) some, plain, value_plain, escapes) refl
 
 -- a short value under a name isn't refused
-pub short_unrefused : (f : Content) (name value : List ℕ) → is_exempt f.command ≡ false → length f.headers < 32 → is_name name ≡ true → IsShort value
+pub short_unrefused : (f : Content) (name value : List ℕ) → is_exempt f.command ≡ false → length f.headers < 32 → is_name name ≡ true
+    → IsShort value
     → header_refused f (header name value) ≡ None
 short_unrefused f name value escapes room named is =
     let h = header name value in
-    let last = both_true (nat_lt 0 (length name) && nat_le (length name) 128 && not (has 0 name)) (not (bytes_eq name (codes "content-length"))) named in
+    let last = both_true (nat_lt 0 (length name) && nat_le (length name) 128 && not (has 0 name))
+    (not (bytes_eq name (codes "content-length"))) named in
     let plain = both_true (nat_lt 0 (length name) && nat_le (length name) 128) (not (has 0 name)) last.0 in
     let sizes = both_true (nat_lt 0 (length name)) (nat_le (length name) 128) plain.0 in
     let some : 0 < length name = ltb-true 0 (length name) sizes.0 in
     let small : length name ≤ 128 = leb-true (length name) 128 sizes.1 in
-    own_unrefused f h (plain_good f.command h escapes some (not_true (has 0 name) plain.1) is.plain) (not_true (bytes_eq name (codes "content-length")) last.1)
+    own_unrefused f h (plain_good f.command h escapes some (not_true (has 0 name) plain.1) is.plain)
+    (not_true (bytes_eq name (codes "content-length")) last.1)
     (omega (arith, line_doubles f.command h, small, is.short)) room
 
 -- ---- numbers
@@ -81,14 +87,16 @@ short_number n small = record {
 -- ---- what a MESSAGE has
 
 own_step : (c : Command) (name v : List ℕ) (h : Header) (hs : List Header) (b : Bool) → bytes_eq h.name name ≡ b → IsOwn c h
-    → (value_of name hs ≡ Some v → IsOwn c (header name v)) → (if b then Some h.value else value_of name hs) ≡ Some v → IsOwn c (header name v)
+    → (value_of name hs ≡ Some v → IsOwn c (header name v)) → (if b then Some h.value else value_of name hs) ≡ Some v
+    → IsOwn c (header name v)
 own_step c name v h hs true e own others found =
     let its : h.value ≡ v = cc in
     subst (IsOwn c) (ap (λ (n : List ℕ). header n h.value) (same_text h.name name e) ∙ ap (header name) its) own
 own_step c name v h hs false e own others found = others found
 
 -- the first value of a name, as a header of the frame
-found_own : (c : Command) (name v : List ℕ) (hs : List Header) → AllByRecursion (IsOwn c) hs → value_of name hs ≡ Some v → IsOwn c (header name v)
+found_own : (c : Command) (name v : List ℕ) (hs : List Header) → AllByRecursion (IsOwn c) hs → value_of name hs ≡ Some v
+    → IsOwn c (header name v)
 found_own c name v [] all e = absurd cc
 found_own c name v (h ∷ hs) all e = own_step c name v h hs (bytes_eq h.name name) refl all.0 (found_own c name v hs all.1) e
 
@@ -103,20 +111,23 @@ id_short : length (escape (codes "id")) ≤ length (escape (codes "ack"))
 unfolding escape
 id_short = omega arith
 
-shorter : (c : Command) (v : List ℕ) → is_exempt c ≡ false → length (line_of c (header (codes "ack") v)) ≤ 1024 → length (line_of c (header (codes "id") v)) ≤ 1024
+shorter : (c : Command) (v : List ℕ) → is_exempt c ≡ false → length (line_of c (header (codes "ack") v)) ≤ 1024
+    → length (line_of c (header (codes "id") v)) ≤ 1024
 shorter c v escapes short =
     let id : length (written c (codes "id")) ≤ length (written c (codes "ack")) = rw escapes id_short in
     omega (arith, short, line_length c (codes "ack") v, line_length c (codes "id") v, id)
 
 -- what a MESSAGE has as its ack can be the id of an answer: its line is shorter
-pub id_unrefused : (c : Command) (v : List ℕ) (hs : List Header) → is_exempt c ≡ false → AllByRecursion (IsOwn Message) hs → value_of (codes "ack") hs ≡ Some v
+pub id_unrefused : (c : Command) (v : List ℕ) (hs : List Header) → is_exempt c ≡ false → AllByRecursion (IsOwn Message) hs
+    → value_of (codes "ack") hs ≡ Some v
     → header_refused (frame c [] []) (header (codes "id") v) ≡ None
 id_unrefused c v hs escapes all found =
     let own = found_own Message (codes "ack") v hs all found in
     let f : Content = frame c [] [] in
     let same : is_exempt Message ≡ is_exempt c = sym escapes in
     let alike = owned_alike Message c (header (codes "ack") v) same own in
-    own_unrefused f (header (codes "id") v) (plain_good c (header (codes "id") v) escapes (omega arith) refl (value_plain Message (codes "ack") v own.header.good)) refl
+    own_unrefused f (header (codes "id") v)
+    (plain_good c (header (codes "id") v) escapes (omega arith) refl (value_plain Message (codes "ack") v own.header.good)) refl
     (shorter c v escapes alike.header.short) (omega arith)
 
 -- ---- CONNECT

@@ -1,5 +1,7 @@
 pub mod Numerals
 pub mod Headers
 pub mod Writing
+pub mod Serving
 pub mod Examples
 pub mod CallExamples
+pub mod ServedExamples

@@ -15,7 +15,8 @@ use Rattle.stomp_client.specs.Written.{Wrote}
 
 -- what was fed and what is to come are what was written
 whole_text : (frames : List Content) (gone out received waiting carried : List ℕ) (calls : List Call) → Wrote frames gone out
-    → Travels gone received (Some waiting) (Some carried) → fed calls ≡ received → canonical_texts frames ≡ fed calls ++ (carried ++ waiting ++ out)
+    → Travels gone received (Some waiting) (Some carried) → fed calls ≡ received
+    → canonical_texts frames ≡ fed calls ++ (carried ++ waiting ++ out)
 whole_text frames gone out received waiting carried calls wrote travels e =
     let kept : gone ≡ received ++ carried ++ waiting = travels_keep gone received (Some waiting) (Some carried) travels in
     sym wrote.whole ∙ rw (kept, e) (simp append_assoc)
@@ -25,10 +26,12 @@ pub awaited : (frames : List Content) (gone out received waiting carried : List 
     → (others : List Content) × (frames ≡ given calls ++ others) × Awaits 65536 others held (carried ++ waiting ++ out)
 awaited frames gone out received waiting carried calls held wrote travels happened e =
     let spelled : SpellsAll 65536 frames (fed calls ++ (carried ++ waiting ++ out)) =
-    subst (SpellsAll 65536 frames) (whole_text frames gone out received waiting carried calls wrote travels e) (canonical_texts_are_spelled 65536 (omega arith) frames wrote.each) in
+    subst (SpellsAll 65536 frames) (whole_text frames gone out received waiting carried calls wrote travels e)
+    (canonical_texts_are_spelled 65536 (omega arith) frames wrote.each) in
     sent_is_given 65536 calls held frames (carried ++ waiting ++ out) happened spelled
 
-pub all_given : (frames : List Content) (gone received : List ℕ) (calls : List Call) (held : Held) → Wrote frames gone [] → Travels gone received (Some []) (Some [])
+pub all_given : (frames : List Content) (gone received : List ℕ) (calls : List Call) (held : Held) → Wrote frames gone []
+    → Travels gone received (Some []) (Some [])
     → Happened 65536 calls held → fed calls ≡ received → NoFrame 65536 held.octets → given calls ≡ frames
 all_given frames gone received calls held wrote travels happened e none =
     let found = awaited frames gone [] received [] [] calls held wrote travels happened e in

@@ -4,6 +4,7 @@ pub mod Frames
 pub mod Delivered
 pub mod Clients
 pub mod Written
+pub mod Served
 pub mod Calls
 pub mod Accepting
 pub mod Parts

@@ -1,6 +1,7 @@
 //! What holds of clients over any calls: each law is the contract of a function with nothing to do.
 
-ghost use Rattle.std.specs.Prelude.{◌≡◌, ◌<◌, ◌^◌, ◌++◌, ℕ, List, [], Some};
+ghost use Rattle.std.specs.Prelude.{◌≡◌, ◌<◌, ◌^◌, ◌++◌, ℕ, List, [], ◌∷◌, Some, Ok, IsOk, true, false};
+ghost use Rattle.std.specs.List.{AllByRecursion};
 ghost use Rattle.std.specs.Fmt.{decimal};
 ghost use Rattle.base.specs.declared.limits.TheConstants.{MAX_BODY};
 ghost use Rattle.stomp_frame.specs.Frames.{Content};
@@ -9,7 +10,10 @@ ghost use Rattle.stomp_frame.specs.Decoding.{Held};
 ghost use Rattle.stomp_frame.specs.Awaiting.{Awaits};
 ghost use Rattle.stomp_frame.specs.Calls.{Call, Happened, fed, given};
 ghost use Rattle.stomp_wire.specs.Travel.{Travels};
+ghost use Rattle.stomp_session.specs.Requests.{request_of, asked};
+ghost use Rattle.stomp_client.specs.Frames.{connect_frame};
 ghost use Rattle.stomp_client.specs.Numbers.{number_of};
+ghost use Rattle.stomp_client.specs.Served.{answers_of, IsClients};
 ghost use Rattle.stomp_client.specs.Written.{Wrote};
 
 /// A session in which nothing was written wrote no frame. With the clauses `wrote` of its calls this says what was written over any of
@@ -31,6 +35,19 @@ pub fn what_a_client_wrote_is_read()
     ensures all { (frames : List Content) (gone received : List ℕ) (calls : List Call) (held : Held)
         → Wrote frames gone [] → Travels gone received (Some []) (Some []) → Happened MAX_BODY calls held → fed calls ≡ received
         → NoFrame MAX_BODY held.octets → given calls ≡ frames }
+{}
+
+/// A server's session refuses nothing that a client writes, however its text is cut on the way: CONNECT connects it, and each frame behind
+/// that asks what it says. The calls have to be given what a server takes: a SEND with a destination and at most 28 headers of its own,
+/// and a MESSAGE whose `ack` has at most 128 octets.
+pub fn what_a_client_wrote_is_taken()
+    ensures connect { request_of false connect_frame ≡ Ok (asked connect_frame) }
+    ensures each { (f : Content) → IsClients f → request_of true f ≡ Ok (asked f) }
+    ensures all { (frames : List Content) → AllByRecursion IsClients frames
+        → AllByRecursion (λ answer. IsOk answer) (answers_of false (connect_frame ∷ frames)) }
+    ensures read { (frames : List Content) (gone out received waiting carried : List ℕ) (calls : List Call) (held : Held)
+        → AllByRecursion IsClients frames → Wrote (connect_frame ∷ frames) gone out → Travels gone received (Some waiting) (Some carried)
+        → Happened MAX_BODY calls held → fed calls ≡ received → AllByRecursion (λ answer. IsOk answer) (answers_of false (given calls)) }
 {}
 
 /// A number that is written in decimal is read as that number, and no other text is: so the `receipt-id` that answers a `receipt` names
