@@ -45,6 +45,9 @@
 //!
 //! Envelopes and activities:
 //! - `body MESSAGE`, `letter FROM TO N MESSAGE`, `letter-copy FROM TO N MESSAGE`, `settle FROM TO N`: the octets;
+//! - `envelope receive TEXT`: the envelope that the first frame of a text carries, as the line `letter ..` or `settle ..` that asks for its
+//!   octets, or `none` where no frame is whole;
+//! - `envelope body TEXT`: the MESSAGE whose body this is;
 //! - `outs new`, `outs send ENTITY MESSAGE`, `outs truncate N`: what goes out then;
 //! - `switch opening`, `switch seat N COMMAND`, `switch from ENTITY N MESSAGE`: the handler of a switch, whose commands are `on` and
 //!   `off`: its kind, whether no row stands for its state, and what goes out.
@@ -72,6 +75,7 @@ mod links;
 mod octets;
 mod outs;
 mod puts;
+mod received;
 mod session;
 mod switch;
 mod trickle;

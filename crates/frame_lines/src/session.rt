@@ -10,6 +10,7 @@ use crate::frames::{answer_command, answer_frame, answer_header};
 use crate::laws::answer_laws;
 use crate::links::{FailingLink, answer_file, answer_link};
 use crate::outs::{answer_outs, answer_switch};
+use crate::received::answer_received;
 use crate::trickle::Trickle;
 use crate::wires::answer_wire;
 use activities::Outs;
@@ -72,6 +73,7 @@ impl Session {
             "number" => answer_number(alloc, rest),
             "decode" => answer_decode(alloc, rest),
             "fault" => answer_fault(alloc, rest),
+            "envelope" => answer_received(alloc, rest),
             "body" | "letter" | "letter-copy" | "settle" => answer_envelope(alloc, words),
             "kind" | "command" | "header" | "file" | "laws" => answer_short(rt, words),
             _ => self.answer_own(alloc, first, rest),

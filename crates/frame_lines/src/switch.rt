@@ -21,7 +21,11 @@ impl Handler for Switch {
 
     ghost service = { record {
       kind = Order;
-      reactions = record { opening = false; on_command = λ s on. if on then Ok (true, []) else Err NotOpen; on_message = λ s sender message. (s, reply sender message) };
+      reactions = record {
+        opening = false;
+        on_command = λ s on. if on then Ok (true, []) else Err NotOpen;
+        on_message = λ s sender message. (s, reply sender message);
+      };
       is_none = not;
     } };
 
