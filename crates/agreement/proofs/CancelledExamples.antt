@@ -23,7 +23,7 @@ use Rattle.agreement.proofs.Machine.{Action, ToOrder, ToStock, ToAccount, SendsL
 abbrev pub schedule : List Action
 schedule =
     ToStock (codes "bolts") 0 (Receive 10) ∷ ToAccount (codes "acme") 0 (SetLimit 500)
-        ∷ ToOrder (codes "o1") 0 (Place (codes "bolts") 3 (codes "acme") 501)
+    ∷ ToOrder (codes "o1") 0 (Place (codes "bolts") 3 (codes "acme") 501)
     ∷ SendsLetter (from_to order account) 1 ∷ Arrives 0 ∷ SendsLetter (from_to account order) 1 ∷ Arrives 0
     ∷ SendsLetter (from_to order stock) 2 ∷ Arrives 0 ∷ SendsLetter (from_to order stock) 1 ∷ Arrives 0 ∷ SendsSettle (from_to order stock)
     ∷ Arrives 2 ∷ SendsSettle (from_to order stock) ∷ Arrives 0 ∷ Arrives 1

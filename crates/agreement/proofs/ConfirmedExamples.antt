@@ -42,7 +42,7 @@ from_to sender receiver = record { from = sender; to = receiver }
 abbrev pub schedule : List Action
 schedule =
     ToStock (codes "bolts") 0 (Receive 10) ∷ ToAccount (codes "acme") 0 (SetLimit 500)
-        ∷ ToOrder (codes "o1") 0 (Place (codes "bolts") 3 (codes "acme") 500)
+    ∷ ToOrder (codes "o1") 0 (Place (codes "bolts") 3 (codes "acme") 500)
     ∷ SendsLetter (from_to order stock) 1 ∷ Arrives 0 ∷ SendsLetter (from_to order account) 1 ∷ Arrives 0
     ∷ SendsLetter (from_to stock order) 1 ∷ Arrives 0 ∷ Arrives 0 ∷ SendsLetter (from_to account order) 1 ∷ Arrives 0
     ∷ SendsLetter (from_to order stock) 2 ∷ Arrives 0 ∷ SendsLetter (from_to order account) 2 ∷ Arrives 0

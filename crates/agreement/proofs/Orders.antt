@@ -265,8 +265,10 @@ cancelled_keeps inputs outs o e h =
       each-append _ outs _ (each-map _ _ (λ out x. among-all_in out.receiver Phase.Cancelled o.partners x) outs k.0)
           (each-map _ _ (λ out x. among-all_in out.receiver Phase.Cancelled o.partners x) (to_all Cancel o.partners)
           (to_all-partners Cancel o.partners)),
-      (each-append _ outs _ k.1.0 (to_all-never Cancel Confirm o.partners (λ x. cc)),
-          refused-none o.partners (outs ++ to_all Cancel o.partners)),
+      (
+        each-append _ outs _ k.1.0 (to_all-never Cancel Confirm o.partners (λ x. cc)),
+        refused-none o.partners (outs ++ to_all Cancel o.partners),
+      ),
     )
 
 tentative_keeps : (inputs : List (Input OrderCommand)) (outs : List Out) (o : OrderState) (s : Name) → is_open o.status ≡ true
@@ -302,7 +304,7 @@ refused_keeps : (inputs : List (Input OrderCommand)) (outs : List Out) (o : Orde
 refused_keeps inputs outs o s e h =
     let k = opened o inputs outs e h in
     let f = λ (out : Out) (x : IsAmong out.receiver o.partners). among-with_phase out.receiver s Phase.Refused
-        (all_in Phase.Cancelled o.partners) (among-all_in out.receiver Phase.Cancelled o.partners x) in (
+    (all_in Phase.Cancelled o.partners) (among-all_in out.receiver Phase.Cancelled o.partners x) in (
       each-append _ outs _ (each-map _ _ f outs k.0)
           (each-map _ _ f (to_others s Cancel o.partners) (to_others-partners s Cancel o.partners)),
       (
@@ -333,7 +335,7 @@ message_keeps inputs outs (Some o) s n m h = by_message m refl
         let unended : is_open o.status ≡ true = grind arith in
         let heard : Heard Tentative (letters_from s one) = rw (same_entity-same s) (inl is) in
         tentative_keeps (inputs ++ one) outs o s unended
-            (rw letters_from-append (heard-right Tentative (letters_from s inputs) (letters_from s one) heard)) more
+        (rw letters_from-append (heard-right Tentative (letters_from s inputs) (letters_from s one) heard)) more
     tentative is false e = same
 
     refused : (t : Bool) → (is_open o.status && awaits s o.partners) ≡ t

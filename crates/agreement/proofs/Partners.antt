@@ -109,9 +109,10 @@ own_keeps o k m lines later outs heard told (Holds n is none e f) h =
 own_keeps o k m lines later outs heard told (Refuses n is none e f) h =
     let line = line_of-with_same (record { order = o; n = n; phase = LinePhase.Refused }) lines none in
     let quiet : Told Tentative told → ⊥ = rw none at h in
-    rw (e, line, f, answered-self o Refused)
-        ((n, heard-right (Request n) heard ((k, m) ∷ []) (inl is)),
-        λ t. either (told-append Tentative told (Refused ∷ []) t) quiet (λ t. either t (λ x. cc) (λ x. x)))
+    rw (e, line, f, answered-self o Refused) (
+      (n, heard-right (Request n) heard ((k, m) ∷ []) (inl is)),
+      λ t. either (told-append Tentative told (Refused ∷ []) t) quiet (λ t. either t (λ x. cc) (λ x. x)),
+    )
 own_keeps o k m lines later outs heard told (Ends l is at e f) h =
     let line = line_of-with_phase_same o Done l lines at in
     let was : ByLine (Some l) heard told = rw at at h in
@@ -124,7 +125,7 @@ own_keeps o k m lines later outs heard told (Frees l is at e f) h =
 -- a message of another order
 other_keeps : (o s : Name) (m : Message) (lines later : List Line) (outs : List Out) (told : List Message)
     → same_entity o s ≡ false → o ≢ s → Effect s m lines later outs → (line_of o later ≡ line_of o lines)
-        × (told ++ messages_to o outs ≡ told)
+    × (told ++ messages_to o outs ≡ told)
 other_keeps o s m lines later outs told t ne (Same e f) = (ap (line_of o) e, told-no_more o told outs f)
 other_keeps o s m lines later outs told t ne (Holds n is none e f) =
     (ap (line_of o) e ∙ line_of-with_other o _ lines t, rw (f, answered-other o s Tentative t) (append-nil told))
@@ -143,7 +144,7 @@ effect_keeps {C} o s k m inputs lines later before outs effect h =
     let one : List (Input C) = FromEntity s k m ∷ [] in
     rw (letters_from-append o inputs one, messages_to-append o before outs) (either (same_entity-tells o s)
     (λ e. rw e.0 (own_keeps o k m lines later outs (letters_from o inputs) (messages_to o before)
-        (subst (λ x. Effect x m lines later outs) (sym e.1) effect) h))
+    (subst (λ x. Effect x m lines later outs) (sym e.1) effect) h))
     (λ e. let w = other_keeps o s m lines later outs (messages_to o before) e.0 e.1 effect in
     rw (e.0, append-nil, w.0, w.1) h))
 
@@ -206,7 +207,7 @@ stock_effect x s Refused = Same refl refl
 stock_step : (o : Name) (inputs : List (Input StockCommand)) (i : Input StockCommand) (at : StockState × List Out)
     → ByLine (line_of o at.0.lines) (letters_from o inputs) (messages_to o at.1)
     → ByLine (line_of o (after stock_reactions at i).0.lines) (letters_from o (inputs ++ i ∷ []))
-        (messages_to o (after stock_reactions at i).1)
+    (messages_to o (after stock_reactions at i).1)
 stock_step o inputs (FromEntity s k m) at h = effect_keeps o s k m inputs at.0.lines _ at.1 _ (stock_effect at.0 s m) h
 stock_step o inputs (FromSeat seat (Receive n)) at h = by_case (n == 0 || nat_lt 1099511627776 (at.0.received + n)) refl
   where
@@ -272,7 +273,7 @@ account_effect x s Refused = Same refl refl
 account_step : (o : Name) (inputs : List (Input AccountCommand)) (i : Input AccountCommand) (at : AccountState × List Out)
     → ByLine (line_of o at.0.lines) (letters_from o inputs) (messages_to o at.1)
     → ByLine (line_of o (after account_reactions at i).0.lines) (letters_from o (inputs ++ i ∷ []))
-        (messages_to o (after account_reactions at i).1)
+    (messages_to o (after account_reactions at i).1)
 account_step o inputs (FromEntity s k m) at h = effect_keeps o s k m inputs at.0.lines _ at.1 _ (account_effect at.0 s m) h
 account_step o inputs (FromSeat seat (SetLimit n)) at h = by_case (nat_lt 1099511627776 n) (nat_lt n (at.0.billed + at.0.held)) refl refl
   where

@@ -41,8 +41,14 @@ nothing_is_sound : AreSound (states_in start.journals)
 nothing_is_sound = record {
   agree = λ order kind. record { one_way = λ p q partner other done undone. partner; nowhere_else = λ at none. no_line order at.kind at };
   orders = λ e. tt;
-  stocks = λ e. record { conserved = refl; bounded = omega arith; covered = omega arith; held = refl; shipped = refl;
-      lines = lines_sound-none };
+  stocks = λ e. record {
+    conserved = refl;
+    bounded = omega arith;
+    covered = omega arith;
+    held = refl;
+    shipped = refl;
+    lines = lines_sound-none;
+  };
   accounts = λ e. record { bounded = omega arith; covered = omega arith; held = refl; billed = refl; lines = lines_sound-none };
 }
   where
@@ -52,8 +58,11 @@ nothing_is_sound = record {
     no_line order Account at = refl
 
 -- an order that asks nobody isn't sound
-asks_nobody : AreSound (record { orders = λ e. Some (record { status = Open; partners = [] }); stocks = (states_in start.journals).stocks;
-    accounts = (states_in start.journals).accounts }) → ⊥
+asks_nobody : AreSound (record {
+  orders = λ e. Some (record { status = Open; partners = [] });
+  stocks = (states_in start.journals).stocks;
+  accounts = (states_in start.journals).accounts;
+}) → ⊥
 asks_nobody h = h.orders order
 
 -- it isn't sound that a stock shipped to an order that nobody placed, though its own numbers are right

@@ -30,7 +30,7 @@ sent_authentic js es h e there = All-contains (IsAuthentic js) es e (All-from_re
 pub step_good : (old new : Configuration) → Step old new → IsGood old → IsGood new
 step_good old new (Writes from settled sent) h =
     let adds = adds-known (Contains old.sent) (IsAuthentic old.journals) old.journals new.journals
-        (sent_authentic old.journals old.sent h.authentic) from in
+    (sent_authentic old.journals old.sent h.authentic) from in
     let g = grows old.journals new.journals adds in
     record {
       lawful = lawful-later old.journals new.journals adds h.lawful;
@@ -89,8 +89,11 @@ reached_marks old new pair h = path_marks h.0 old new pair h.1
 pub start_good : IsGood start
 start_good = record {
   lawful = record {
-    legal = record { orders = legal-none order_reactions Order; stocks = legal-none stock_reactions Stock;
-        accounts = legal-none account_reactions Account };
+    legal = record {
+      orders = legal-none order_reactions Order;
+      stocks = legal-none stock_reactions Stock;
+      accounts = legal-none account_reactions Account;
+    };
     prefixes = λ pair. prefixes pair.to.kind pair;
   };
   settled = λ pair. omega arith;

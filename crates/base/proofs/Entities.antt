@@ -53,7 +53,8 @@ same_pair-Decides p q = Decides-like (same_pair p q)
     (Decides-and (same_entity p.from q.from) (same_entity p.to q.to) (same_entity-Decides p.from q.from) (same_entity-Decides p.to q.to))
 
 -- reading an entity's text gives it back, unless memory is refused
-pub read_back : (e : Name) (answer : Result Name EntityFault) → IsEntity e → IsReading (text_of e) answer → IsOkUnless answer Memory × IfOk answer (λ found. found ≡ e)
+pub read_back : (e : Name) (answer : Result Name EntityFault) → IsEntity e → IsReading (text_of e) answer → IsOkUnless answer Memory
+    × IfOk answer (λ found. found ≡ e)
 read_back e (Ok found) is reads = (tt, text_of-injective found e reads.0)
 read_back e (Err BadKey) is reads =
     let same : reads.0 ≡ e = text_of-injective reads.0 e reads.1 in

@@ -26,7 +26,8 @@ queues_are_named : (queue_of Order ≡ codes "/queue/purchasing") × (queue_of S
 queues_are_named = (refl, refl, refl)
 
 -- a key has 1 to 64 octets, and no NUL among them; a slash may stand in it
-keys_are_short : (is_key (codes "a/b") ≡ true) × (is_key [] ≡ false) × (is_key (replicate 64 97) ≡ true) × (is_key (replicate 65 97) ≡ false)
+keys_are_short : (is_key (codes "a/b") ≡ true) × (is_key [] ≡ false) × (is_key (replicate 64 97) ≡ true)
+    × (is_key (replicate 65 97) ≡ false)
     × (is_key (97 ∷ 0 ∷ 98 ∷ []) ≡ false)
 unfolding is_utf8 chars lib.Utf8.encode
 keys_are_short = (refl, refl, refl, refl, refl)
@@ -68,17 +69,21 @@ kinds_are_in_order = (refl, refl)
 
 -- `o10` comes before `o9`, `o` before `o1`, and capitals before small letters
 keys_are_in_order : (entity_cmp (order_of (codes "o10")) (order_of (codes "o9")) ≡ Less)
-    × (entity_cmp (order_of (codes "o")) (order_of (codes "o1")) ≡ Less) × (entity_cmp (order_of (codes "a")) (order_of (codes "B")) ≡ Greater)
+    × (entity_cmp (order_of (codes "o")) (order_of (codes "o1")) ≡ Less)
+    × (entity_cmp (order_of (codes "a")) (order_of (codes "B")) ≡ Greater)
 keys_are_in_order = (refl, refl, refl)
 
 -- pairs stand by their senders first, and by their receivers where the sender is one
 pairs_are_in_order :
-    (pair_cmp (record { from = order_of (codes "a"); to = stock_of (codes "z") }) (record { from = order_of (codes "b"); to = account_of (codes "a") }) ≡ Less)
-    × (pair_cmp (record { from = order_of (codes "a"); to = stock_of (codes "a") }) (record { from = order_of (codes "a"); to = account_of (codes "a") }) ≡ Greater)
+    (pair_cmp (record { from = order_of (codes "a"); to = stock_of (codes "z") })
+    (record { from = order_of (codes "b"); to = account_of (codes "a") }) ≡ Less)
+    × (pair_cmp (record { from = order_of (codes "a"); to = stock_of (codes "a") })
+    (record { from = order_of (codes "a"); to = account_of (codes "a") }) ≡ Greater)
 pairs_are_in_order = (refl, refl)
 
 -- the way back is another pair
-a_pair_has_a_direction : same_pair (record { from = order_of (codes "a"); to = stock_of (codes "a") }) (record { from = stock_of (codes "a"); to = order_of (codes "a") })
+a_pair_has_a_direction : same_pair (record { from = order_of (codes "a"); to = stock_of (codes "a") })
+    (record { from = stock_of (codes "a"); to = order_of (codes "a") })
     ≡ false
 unfolding same_pair same_entity
 a_pair_has_a_direction = refl

@@ -1,5 +1,6 @@
 -- Leads order as the texts do: octets with a lower lead are less.
-use Rattle.std.proofs.Common.{◌≡◌, ◌≢◌, refl, ℕ, zero, suc, ◌+◌, ◌*◌, ◌^◌, ◌<◌, ◌≤◌, true, List, [], ◌∷◌, ◌++◌, get_or, arith, sym, ◌∙◌, ap, subst}
+use Rattle.std.proofs.Common.{◌≡◌, ◌≢◌, refl, ℕ, zero, suc, ◌+◌, ◌*◌, ◌^◌, ◌<◌, ◌≤◌, true, List, [], ◌∷◌, ◌++◌, get_or, arith, sym, ◌∙◌, ap}
+use Rattle.std.proofs.Common.{subst}
 use Rattle.std.proofs.Math.Utf8.{scalars, scalar}
 use Rattle.std.specs.Char.{encode_utf8}
 use Rattle.std.specs.Int.{w64, from_be_bytes}
@@ -78,7 +79,8 @@ lead_Less (suc n) (x ∷ xs) (y ∷ ys) p q lower =
     (λ e more. absurd (omega (arith, lead_fits n ys (λ i. q (suc i)), mul-le-mul_right (256 ^ n) more)))
 
 -- so nothing changes where leads are compared first
-lead_then : (n : ℕ) (xs ys : List ℕ) → AreOctets xs → AreOctets ys → ordering_then (nat_cmp (lead n xs) (lead n ys)) (slice_cmp nat_cmp xs ys) ≡ slice_cmp nat_cmp xs ys
+lead_then : (n : ℕ) (xs ys : List ℕ) → AreOctets xs → AreOctets ys
+    → ordering_then (nat_cmp (lead n xs) (lead n ys)) (slice_cmp nat_cmp xs ys) ≡ slice_cmp nat_cmp xs ys
 lead_then n xs ys p q =
     by_ranked _ _ _ (nat_cmp (lead n xs) (lead n ys)) (ranked (lead n xs) (lead n ys) (nat_cmp (lead n xs) (lead n ys)) refl)
     (λ e lower. rw e (sym (lead_Less n xs ys p q lower)))
@@ -106,7 +108,9 @@ brief e = get_or (word_of e.kind) 0 0 ∷ e.key
 brief_cmp : (a b : Name) → slice_cmp nat_cmp (brief a) (brief b) ≡ entity_cmp a b
 brief_cmp a b = by_kinds a.kind b.kind a.key b.key
   where
-    by_kinds : (j k : Kind) (x y : List ℕ) → slice_cmp nat_cmp (get_or (word_of j) 0 0 ∷ x) (get_or (word_of k) 0 0 ∷ y) ≡ slice_cmp nat_cmp (prefix_of j ++ x) (prefix_of k ++ y)
+    by_kinds : (j k : Kind) (x y : List ℕ)
+        → slice_cmp nat_cmp (get_or (word_of j) 0 0 ∷ x) (get_or (word_of k) 0 0 ∷ y)
+        ≡ slice_cmp nat_cmp (prefix_of j ++ x) (prefix_of k ++ y)
     by_kinds Order Order x y = refl
     by_kinds Order Stock x y = refl
     by_kinds Order Account x y = refl
@@ -130,14 +134,16 @@ brief-octets e is zero = initial e.kind
     initial Account = omega arith
 brief-octets e is (suc i) = octets_behind (prefix_of e.kind) e.key is i
 
-lead_of-then : (a b : Name) → AreOctets (text_of a) → AreOctets (text_of b) → ordering_then (nat_cmp (lead_of a) (lead_of b)) (entity_cmp a b) ≡ entity_cmp a b
+lead_of-then : (a b : Name) → AreOctets (text_of a) → AreOctets (text_of b)
+    → ordering_then (nat_cmp (lead_of a) (lead_of b)) (entity_cmp a b) ≡ entity_cmp a b
 unfolding lead_of
 lead_of-then a b p q =
     subst (λ o. ordering_then (nat_cmp (lead_of a) (lead_of b)) o ≡ o) (brief_cmp a b)
     (rw (word_of_eight (brief a), word_of_eight (brief b)) (lead_then 8 (brief a) (brief b) (brief-octets a p) (brief-octets b q)))
 
 -- where leads differ, they order the entities
-pub lead_of-decides : (a b : Name) (o : Ordering) → IsUtf8 (text_of a) → IsUtf8 (text_of b) → o ≡ nat_cmp (lead_of a) (lead_of b) → o ≢ Equal → o ≡ entity_cmp a b
+pub lead_of-decides : (a b : Name) (o : Ordering) → IsUtf8 (text_of a) → IsUtf8 (text_of b) → o ≡ nat_cmp (lead_of a) (lead_of b)
+    → o ≢ Equal → o ≡ entity_cmp a b
 lead_of-decides a b o p q is unequal =
     then_decided o (nat_cmp (lead_of a) (lead_of b)) (entity_cmp a b) is unequal
     ∙ lead_of-then a b (octets_of_text (text_of a) p) (octets_of_text (text_of b) q)

@@ -2,7 +2,8 @@
 use Rattle.std.specs.Prelude.{◌≡◌, Bool, ◌&&◌, refl}
 use Rattle.std.specs.declared.cmp.Ordering.{Ordering}
 use Rattle.std.specs.Ordering.{nat_cmp, then_cmp, on, is_eq, as_partial_cmp}
-use Rattle.std.specs.Cmp.{IsEquivalence, IsPartialOrder, IsTotalOrder, on_equiv, and_equiv, then_total, on_total, both_tied, partial_order_from_agreeing_total}
+use Rattle.std.specs.Cmp.{IsEquivalence, IsPartialOrder, IsTotalOrder, on_equiv, and_equiv, then_total, on_total, both_tied}
+use Rattle.std.specs.Cmp.{partial_order_from_agreeing_total}
 use Rattle.std.specs.Cmp.Lexicographic.{slice_cmp, on_texts, on_texts_equal, texts_ties}
 use Rattle.std.specs.Str.{bytes_eq}
 use Rattle.base.specs.Entity.{Name, text_of}
@@ -42,14 +43,16 @@ entity_cmp-partial = partial_order_from_agreeing_total entity_cmp entity_cmp-tot
 
 pub same_pair-equivalence : IsEquivalence same_pair
 unfolding same_pair
-same_pair-equivalence = and_equiv (on_equiv (λ (p : Pair). p.from) same_entity-equivalence) (on_equiv (λ (p : Pair). p.to) same_entity-equivalence)
+same_pair-equivalence = and_equiv (on_equiv (λ (p : Pair). p.from) same_entity-equivalence)
+    (on_equiv (λ (p : Pair). p.to) same_entity-equivalence)
 
 pub pair_cmp-total : IsTotalOrder pair_cmp
 pair_cmp-total = then_total (on_total (λ (p : Pair). p.from) entity_cmp-total) (on_total (λ (p : Pair). p.to) entity_cmp-total)
 
 pub same_pair-ties : (p q : Pair) → same_pair p q ≡ is_eq (pair_cmp p q)
 unfolding same_pair
-same_pair-ties p q = both_tied _ _ (entity_cmp p.from q.from) (entity_cmp p.to q.to) (same_entity-ties p.from q.from) (same_entity-ties p.to q.to)
+same_pair-ties p q = both_tied _ _ (entity_cmp p.from q.from) (entity_cmp p.to q.to) (same_entity-ties p.from q.from)
+    (same_entity-ties p.to q.to)
 
 pub pair_cmp-partial : IsPartialOrder same_pair (as_partial_cmp pair_cmp)
 pair_cmp-partial = partial_order_from_agreeing_total pair_cmp pair_cmp-total (λ p q. refl) same_pair-ties

@@ -38,7 +38,8 @@ fn send(
 ) -> Result<Frame, EnvelopeFault>
     requires word { IsShort word.now }
     requires body { length body.now ≤ 64 }
-    ensures frame { IfOk result (λ f. f ≡ record { command = Send; headers = heading (queue_of receiver) word.now pair.now number; body = body.now }) }
+    ensures frame { IfOk result (λ f. f
+        ≡ record { command = Send; headers = heading (queue_of receiver) word.now pair.now number; body = body.now }) }
     ensures numbered { OnOk result (IsNumbered pair.now number) }
     ensures fault { IsOkUnless result EnvelopeFault.Memory }
 {

@@ -103,7 +103,7 @@ module _ {K T : Type 0} (seen : K → Seen T) (old new : Failing K) where
   module _ (mid : Failing K) (sound : IsSound (seen old.keep)) (usable : (through seen old).usable ≡ true)
       (armed : mid ≡ record old { armed = counted_down old.armed })
       (counted : new ≡ record mid { is_down = true; failures = min (mid.failures + 1) (2 ^ 64 - 1) })
-          (more_own : MoreFailures mid.failures new.failures) where
+      (more_own : MoreFailures mid.failures new.failures) where
     was_own : mid.failures ≡ old.failures
     was_own = ap (λ (f : Failing K). f.failures) armed
 
@@ -154,7 +154,7 @@ module _ {K T : Type 0} (seen : K → Seen T) (old new : Failing K) where
   module _ (mid asked : Failing K) (sound : IsSound (seen asked.keep)) (usable : (through seen old).usable ≡ true)
       (armed : mid ≡ record old { armed = counted_down old.armed })
       (counted : new ≡ record asked { is_down = true; failures = min (asked.failures + 1) (2 ^ 64 - 1) })
-          (more_own : MoreFailures asked.failures new.failures)
+      (more_own : MoreFailures asked.failures new.failures)
       (same_own : asked.failures ≡ mid.failures) (same_armed : asked.armed ≡ mid.armed) where
     hidden_own : asked.failures ≡ old.failures
     hidden_own = same_own ∙ ap (λ (f : Failing K). f.failures) armed
@@ -191,7 +191,7 @@ module _ {K T : Type 0} (seen : K → Seen T) (old new : Failing K) where
         → Writes seen mid.keep asked.keep Fit to (keep_end answer) → WritesDue seen old new Fit to r
     write_hidden Fit to r answer due_is fails did =
         let inner : Writes seen old.keep asked.keep Fit to (keep_end answer) =
-            subst (λ k. Writes seen k asked.keep Fit to (keep_end answer)) (ap (λ (f : Failing K). f.keep) armed) did in
+        subst (λ k. Writes seen k asked.keep Fit to (keep_end answer)) (ap (λ (f : Failing K). f.keep) armed) did in
         let rose = rises answer inner.call in
         let e : (seen new.keep).failures ≡ (seen asked.keep).failures = ap (λ k. (seen k).failures) hidden_keep in
         let d : (seen new.keep).doubt ≡ (seen asked.keep).doubt = ap (λ k. (seen k).doubt) hidden_keep in
@@ -201,12 +201,15 @@ module _ {K T : Type 0} (seen : K → Seen T) (old new : Failing K) where
         let own = hidden_own in
         let later : (P : K → Type 0) → P asked.keep → P new.keep = λ P p. subst P (sym hidden_keep) p in
         let left : (seen asked.keep).doubt ≡ 0 → Fit (seen old.keep).tables
-            → LeavesNew (seen old.keep).tables (to (seen old.keep).tables) (seen asked.keep).may_leave answer
+        → LeavesNew (seen old.keep).tables (to (seen old.keep).tables) (seen asked.keep).may_leave answer
         = λ clean fit. left_by to answer inner.call clean (inner.clean clean fit) in
         rw fails (record {
           writes = record {
-            call = (usable, ap (λ (f : Failing K). not f.is_down && (seen f.keep).usable) counted,
-                (omega (arith, own, a, e, rose), omega (arith, own, b, e, rose)));
+            call = (
+              usable,
+              ap (λ (f : Failing K). not f.is_down && (seen f.keep).usable) counted,
+              (omega (arith, own, a, e, rose), omega (arith, own, b, e, rose)),
+            );
             doubt = omega (arith, d, above);
             clean = later (λ k. (seen k).doubt ≡ 0 → Fit (seen old.keep).tables
                 → LeavesEither (seen old.keep).tables (to (seen old.keep).tables) (seen k).may_leave)
@@ -217,5 +220,5 @@ module _ {K T : Type 0} (seen : K → Seen T) (old new : Failing K) where
           left = rw due_is (later (λ k. (seen k).doubt ≡ 0 → Fit (seen old.keep).tables → (answer : Result Unit KeepFault)
               × IsCall seen old.keep k Never (keep_end answer)
               × LeavesNew (seen old.keep).tables (to (seen old.keep).tables) (seen k).may_leave answer)
-                  (λ clean fit. (answer, inner.call, left clean fit)));
+              (λ clean fit. (answer, inner.call, left clean fit)));
         })

@@ -81,7 +81,7 @@ letters_stand [] o l h = absurd h
 letters_stand ((y, None) ∷ es) o l h = later_found (y, None) es l o.0 h (letters_stand es o.1 l h)
 letters_stand ((y, Some m) ∷ es) o l (inl e) =
     stopped (y, Some m) es (place_of l) (ap (λ (k : Letter). is_eq (place_cmp (place_of k) y)) e ∙ ap is_eq (tied_itself place_cmp-total y))
-        ∙ ap (λ (k : Letter). Some k.message) (sym e)
+    ∙ ap (λ (k : Letter). Some k.message) (sym e)
 letters_stand ((y, Some m) ∷ es) o l (inr h) = later_found (y, Some m) es l o.0 h (letters_stand es o.1 l h)
 
 equal_is : (o : Ordering) → is_eq o ≡ true → o ≡ Equal
@@ -185,8 +185,8 @@ module _ (handled : Pair → ℕ) where
         let parts = and_parts (is_some e.1) ((handled e.0.pair + 1) == e.0.number) next in
         let at : place e.0.pair (handled e.0.pair + 1) ≡ e.0 = ap (place e.0.pair) (eqb-true (handled e.0.pair + 1) e.0.number parts.1) in
         let here : next_in (e ∷ es) e.0.pair ≡ e.1 =
-            stopped e es (place e.0.pair (handled e.0.pair + 1))
-            (ap (λ x. is_eq (place_cmp x e.0)) at ∙ ap is_eq (tied_itself place_cmp-total e.0)) in (
+        stopped e es (place e.0.pair (handled e.0.pair + 1))
+        (ap (λ x. is_eq (place_cmp x e.0)) at ∙ ap is_eq (tied_itself place_cmp-total e.0)) in (
           ap is_some here ∙ parts.0,
           λ q less.
               let before : IsBefore (place q (handled q + 1)) e.0 = ap (λ r. ordering_then r (nat_cmp (handled q + 1) e.0.number)) less in
@@ -212,4 +212,4 @@ pub page_more : (xs more rest left ys : List Letter) (l : Letter) (n k : ℕ) �
     → xs ++ take n rest ≡ ys → more ++ take k left ≡ ys
 page_more xs more rest left ys l n k pushed next one e =
     ap (λ m. m ++ take k left) pushed ∙ append_assoc xs (l ∷ []) (take k left)
-        ∙ subst (λ r. xs ++ take (suc k) r ≡ ys) next (subst (λ j. xs ++ take j rest ≡ ys) one e)
+    ∙ subst (λ r. xs ++ take (suc k) r ≡ ys) next (subst (λ j. xs ++ take j rest ≡ ys) one e)

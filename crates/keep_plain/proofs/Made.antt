@@ -85,7 +85,7 @@ same_parts : {S C : Type 0} (a b : Tables S C) → a.journal ≡ b.journal → a
     → a.settled ≡ b.settled → a.handled ≡ b.handled → a.held ≡ b.held → a ≡ b
 same_parts {S} {C} a b j e u s t h d =
     ap (λ x. record a { journal = x }) j ∙ ap (λ x. record a { journal = b.journal; entity = x }) e
-        ∙ ap (λ x. record a { journal = b.journal; entity = b.entity; unsettled = x }) u
+    ∙ ap (λ x. record a { journal = b.journal; entity = b.entity; unsettled = x }) u
     ∙ ap (λ x. record b { sent = x; settled = a.settled; handled = a.handled; held = a.held }) s
     ∙ ap (λ x. record b { settled = x; handled = a.handled; held = a.held }) t
     ∙ ap (λ x. record b { handled = x; held = a.held }) h ∙ ap (λ x. record b { held = x }) d

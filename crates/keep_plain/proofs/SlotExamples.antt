@@ -74,8 +74,11 @@ a_row_changes old new e f h = let z : some_row ≡ None = sym (ap (λ es. row_in
 -- without slots a row of the journal may be added, and no mark be set
 slots_are_needed : (m : Maps ℕ ℕ) (row : JournalRow ℕ) → m.marks.entries ≡ [] → IsReady m (Journal 1 row)
     × (IsReady m (Handled there 1) → ⊥)
-slots_are_needed m row e = (tt, λ h. let z : false ≡ true = sym (ap (λ es. is_some (lookup (λ y. is_eq (pair_cmp there y)) es)) e) ∙ h in
-    cc)
+slots_are_needed m row e = (
+  tt,
+  λ h. let z : false ≡ true = sym (ap (λ es. is_some (lookup (λ y. is_eq (pair_cmp there y)) es)) e) ∙ h in
+      cc,
+)
 
 -- nothing fails in memory, and what is seen is what stands there
 memory_never_fails : (m : Maps ℕ ℕ) → ((in_memory m).usable ≡ true) × ((in_memory m).doubt ≡ 0) × ((in_memory m).failures ≡ 0)
@@ -119,5 +122,8 @@ both = set_message there 1 (Some (Request 3)) (set_message there 2 (Some Confirm
 -- a settle up to 1 leaves the second letter: with both gone it's none, and with both there
 settles_are_exact : (EmptiesFrom there 0 1 both (λ _ _. None) → ⊥) × (EmptiesFrom there 0 1 both both → ⊥)
 unfolding same_entity same_pair
-settles_are_exact = (λ h. let z : None ≡ Some Confirm = h.above 2 (omega arith) in
-    cc, λ h. let z : Some (Request 3) ≡ None = h.gone 1 (omega arith) (omega arith) in cc)
+settles_are_exact = (
+  λ h. let z : None ≡ Some Confirm = h.above 2 (omega arith) in
+      cc,
+  λ h. let z : Some (Request 3) ≡ None = h.gone 1 (omega arith) (omega arith) in cc,
+)

@@ -59,7 +59,7 @@ module _ (m : BTreeMap Place (Option Message)) (last x : Place) (before : IsBefo
   last_same same =
       let e : last.pair ≡ x.pair = (same_pair-Decides last.pair x.pair).0 same in
       let l : (p : Pair) → last.pair ≡ p → (k : ℕ) → place_cmp last (place p k) ≡ nat_cmp last.number k =
-          λ p h k. subst (λ (q : Pair). place_cmp last (place q k) ≡ nat_cmp last.number k) h (place_cmp-same last.pair last.number k) in (
+      λ p h k. subst (λ (q : Pair). place_cmp last (place q k) ≡ nat_cmp last.number k) h (place_cmp-same last.pair last.number k) in (
         number_less last.number x.number (sym (l x.pair e x.number) ∙ before),
         λ k after high. none_after (place x.pair k) (before_same x.pair k x.number high) (l x.pair e k ∙ nat_less last.number k after),
       )
@@ -67,7 +67,7 @@ module _ (m : BTreeMap Place (Option Message)) (last x : Place) (before : IsBefo
   pub last_other : same_pair last.pair x.pair ≡ false → NoneBetween m x.pair (λ k. 0 ≤ k) x.number
   last_other other = λ k after high.
       let less : pair_cmp last.pair x.pair ≡ Less =
-          less_parts (pair_cmp last.pair x.pair) (nat_cmp last.number x.number) before (sym (same_pair-ties last.pair x.pair) ∙ other) in
+      less_parts (pair_cmp last.pair x.pair) (nat_cmp last.number x.number) before (sym (same_pair-ties last.pair x.pair) ∙ other) in
       none_after (place x.pair k) (before_same x.pair k x.number high) (ap (λ o. ordering_then o (nat_cmp last.number k)) less)
 
 -- ---- one slot is emptied, and then those before it

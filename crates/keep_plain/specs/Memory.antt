@@ -11,8 +11,11 @@ abbrev pub in_memory : {S C : Type 0} → Maps S C → Seen (Tables S C)
 in_memory k = record { tables = tables_in k; may_leave = λ t. t ≡ tables_in k; failures = 0; usable = true; doubt = 0 }
 
 pub in_memory_sound : {S C : Type 0} (k : Maps S C) → IsSound (in_memory k)
-in_memory_sound k = record { only_now = λ clean usable t left. left; stays = λ clean usable. refl;
-    leaves = λ clean. ∣ (tables_in k, refl) ∣₁ }
+in_memory_sound k = record {
+  only_now = λ clean usable t left. left;
+  stays = λ clean usable. refl;
+  leaves = λ clean. ∣ (tables_in k, refl) ∣₁;
+}
 
 -- the tables of a store in memory
 abbrev pub tables_of : {H S C : Type 0} → PlainKeep H S C → Tables S C

@@ -216,7 +216,8 @@ faults_of words = fault_of command_line (codes "outbox-schedule" ∷ words)
 -- with the name alone the schedule is run; with `--help` or `--version` it isn't, and the input is as it was
 only_a_run_reads : IsAnswered (faults_of []) (streams cancels (hold [] [])) (streams [] (hold refused [])) 0
     × IsAnswered (faults_of (codes "--help" ∷ [])) (streams cancels (hold [] [])) (streams cancels (hold (codes "Runs\n") [])) 0
-    × IsAnswered (faults_of (codes "--version" ∷ [])) (streams cancels (hold [] [])) (streams cancels (hold (codes "outbox-schedule 0.1.0\n") [])) 0
+    × IsAnswered (faults_of (codes "--version" ∷ [])) (streams cancels (hold [] []))
+    (streams cancels (hold (codes "outbox-schedule 0.1.0\n") [])) 0
     × (IsAnswered (faults_of (codes "--help" ∷ [])) (streams cancels (hold [] [])) (streams [] (hold (codes "Runs\n") [])) 0 → ⊥)
 unfolding walk_fault defaults_fault
 only_a_run_reads = (

@@ -17,7 +17,8 @@ use Rattle.programs.specs.Usage.{IsStatusOf}
 use Rattle.std.specs.declared.io.Error.{Error}
 
 -- a schedule that can't be read
-pub unread : (text : List ℕ) (out : Option (List ℕ)) (fault : ScheduleFault) → IsRead text (Err fault) → IsRunOf text out out (Err (run_fault_of fault))
+pub unread : (text : List ℕ) (out : Option (List ℕ)) (fault : ScheduleFault) → IsRead text (Err fault)
+    → IsRunOf text out out (Err (run_fault_of fault))
 unread text out (read.BadEvent number) told = (told, refl)
 unread text out read.Memory told = refl
 
@@ -34,16 +35,20 @@ ran_cut text events out out' journal read none cut =
     (events.items, cut.0, read, (cut.1, subst (λ (j : Orders). IsRun events.items j cut.0 cut.1) none cut.2), cut.3)
 
 -- a run of the text that was read is one of what the reader had left
-pub from_text : (input : Option (List ℕ)) (text : List ℕ) (out out' : Option (List ℕ)) (r : Result Unit RunFault) → IfSome input (λ xs. text ≡ xs) → IsRunOf text out out' r → IsRunFrom input out out' r
+pub from_text : (input : Option (List ℕ)) (text : List ℕ) (out out' : Option (List ℕ)) (r : Result Unit RunFault)
+    → IfSome input (λ xs. text ≡ xs) → IsRunOf text out out' r → IsRunFrom input out out' r
 from_text input text out out' r is told = inl (text, is, told)
 
 -- nothing was read
-pub from_nothing : (input out : Option (List ℕ)) (fault : RunFault) → (fault ≡ Memory) ⊎ (fault ≡ Device) → IsRunFrom input out out (Err fault)
+pub from_nothing : (input out : Option (List ℕ)) (fault : RunFault) → (fault ≡ Memory) ⊎ (fault ≡ Device)
+    → IsRunFrom input out out (Err fault)
 from_nothing input out fault (inl is) = subst (λ (f : RunFault). IsRunFrom input out out (Err f)) (sym is) (inr refl)
 from_nothing input out fault (inr is) = subst (λ (f : RunFault). IsRunFrom input out out (Err f)) (sym is) (inr refl)
 
 -- the status where nothing was run for want of memory
-pub memory_status : (input out err err' : Option (List ℕ)) (r : Result ℕ Error) (status : ℕ) → MatchResult r (λ s. status ≡ s) (λ _. status ≡ 1)
-    → IfOk r (λ s. (s ≡ 1) × Appends err err' (fault_line Memory)) → OnErr r (AppendsPart err err' (fault_line Memory)) → IsStatusOf input (record { out = out; err = err }) (record { out = out; err = err' }) status
+pub memory_status : (input out err err' : Option (List ℕ)) (r : Result ℕ Error) (status : ℕ)
+    → MatchResult r (λ s. status ≡ s) (λ _. status ≡ 1)
+    → IfOk r (λ s. (s ≡ 1) × Appends err err' (fault_line Memory)) → OnErr r (AppendsPart err err' (fault_line Memory))
+    → IsStatusOf input (record { out = out; err = err }) (record { out = out; err = err' }) status
 memory_status input out err err' (Ok s) status is told untold = inl (inr (is ∙ told.0, Memory, inr refl, told.1))
 memory_status input out err err' (Err e) status is told untold = inr (is, (Memory, inr refl, untold))

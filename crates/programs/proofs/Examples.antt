@@ -21,7 +21,8 @@ use Rattle.schedules.specs.declared.fault.ScheduleFault.TheVariants as read
 use Rattle.programs.specs.declared.fault.RunFault.TheVariants.{BadEvent, Memory, Device}
 use Rattle.programs.specs.declared.running.Outcome.TheVariants.{Committed, Refused, Shown}
 use Rattle.programs.specs.Ends.{fault_line}
-use Rattle.programs.specs.Printed.{shown_entity, status_word, phase_word, shown_partner, shown_order, show_line, shown_command, shown_message, shown_input, row_line, row_lines, hexadecimal_octet, shown_octet, frame_line, frame_lines}
+use Rattle.programs.specs.Printed.{shown_entity, status_word, phase_word, shown_partner, shown_order, show_line, shown_command}
+use Rattle.programs.specs.Printed.{shown_message, shown_input, row_line, row_lines, hexadecimal_octet, shown_octet, frame_line, frame_lines}
 use Rattle.programs.specs.RunFaults.{run_fault_of}
 use Rattle.programs.specs.Runs.{shown_fault, printed}
 

@@ -28,7 +28,8 @@ use Rattle.schedules.specs.declared.event.Event.TheVariants as event
 use Rattle.schedules.specs.declared.event.Service.TheVariants.{Purchasing}
 use Rattle.programs.specs.declared.running.Outcome.TheVariants.{Committed, Refused, Shown}
 use Rattle.programs.specs.Printed.{frame_line, frame_lines}
-use Rattle.programs.specs.Runs.{orders_service, IsSound, IsRun, order_row, IsTaken, IsShow, IsFrames, IsJournal, IsTakenAs, IsShown, Tells, Prints}
+use Rattle.programs.specs.Runs.{orders_service, IsSound, IsRun, order_row, IsTaken, IsShow, IsFrames, IsJournal, IsTakenAs, IsShown, Tells}
+use Rattle.programs.specs.Runs.{Prints}
 use Rattle.programs.proofs.Examples.{o1, bolts, from_order, placing, placed}
 
 -- ---- a command
@@ -217,7 +218,8 @@ the_service_is_of_orders : (orders_service.kind ≡ Order) × (orders_service.re
 the_service_is_of_orders = (refl, refl, refl, refl)
 
 -- a run of no events prints nothing, and the journal stays
-no_event_is_run : IsRun [] (placing ∷ []) [] (placing ∷ []) × (IsRun [] (placing ∷ []) [] [] → ⊥) × (IsRun [] [] (codes "committed 1\n") [] → ⊥)
+no_event_is_run : IsRun [] (placing ∷ []) [] (placing ∷ []) × (IsRun [] (placing ∷ []) [] [] → ⊥)
+    × (IsRun [] [] (codes "committed 1\n") [] → ⊥)
 no_event_is_run = ((refl, refl), λ h. let e = h.1 in absurd (cc), λ h. let e = h.0 in absurd (cc))
 
 -- without events nothing is printed, and each command prints a line

@@ -1,5 +1,6 @@
 -- What is printed, piece by piece.
-use Rattle.std.proofs.Common.{◌≡◌, ℕ, suc, ◌+◌, ◌<◌, List, [], ◌∷◌, ◌++◌, length, get_or, take, drop, sym, ap, ◌∙◌, arith, add-one, drop-cons}
+use Rattle.std.proofs.Common.{◌≡◌, ℕ, suc, ◌+◌, ◌<◌, List, [], ◌∷◌, ◌++◌, length, get_or, take, drop, sym, ap, ◌∙◌, arith, add-one}
+use Rattle.std.proofs.Common.{drop-cons}
 use Rattle.std.specs.Prelude.{slice_get, Option, Some, None}
 use Rattle.std.specs.List.{flat_map, enumerate_from}
 use Rattle.std.proofs.lemmas.List.{take_more, append-nil}
@@ -12,13 +13,17 @@ use Rattle.activities.specs.Orders.{Partner}
 use Rattle.programs.specs.Printed.{shown_partner, row_line, frame_line}
 
 -- one item more
-pub flat_more : {X : Type 0} (f : X → List ℕ) (xs : List X) (i : ℕ) (d : X) → i < length xs → flat_map f (take (i + 1) xs) ≡ flat_map f (take i xs) ++ f (get_or xs i d)
-flat_more f xs i d lt = rw (take_more xs i d lt) (flat_map-append f (take i xs) (get_or xs i d ∷ []) ∙ ap (λ (x : List ℕ). flat_map f (take i xs) ++ x) (append-nil (f (get_or xs i d))))
+pub flat_more : {X : Type 0} (f : X → List ℕ) (xs : List X) (i : ℕ) (d : X) → i < length xs
+    → flat_map f (take (i + 1) xs) ≡ flat_map f (take i xs) ++ f (get_or xs i d)
+flat_more f xs i d lt = rw (take_more xs i d lt)
+    (flat_map-append f (take i xs) (get_or xs i d ∷ []) ∙ ap (λ (x : List ℕ). flat_map f (take i xs) ++ x) (append-nil (f (get_or xs i d))))
 
-pub octets_more : (f : ℕ → List ℕ) (xs : List ℕ) (i : ℕ) → i < length xs → flat_map f (take (i + 1) xs) ≡ flat_map f (take i xs) ++ f (get_or xs i 0)
+pub octets_more : (f : ℕ → List ℕ) (xs : List ℕ) (i : ℕ) → i < length xs
+    → flat_map f (take (i + 1) xs) ≡ flat_map f (take i xs) ++ f (get_or xs i 0)
 octets_more f xs i lt = flat_more f xs i 0 lt
 
-pub partners_more : (ps : List Partner) (i : ℕ) (p : Partner) → i < length ps → slice_get ps i ≡ Some p → flat_map shown_partner (take (i + 1) ps) ≡ flat_map shown_partner (take i ps) ++ shown_partner p
+pub partners_more : (ps : List Partner) (i : ℕ) (p : Partner) → i < length ps → slice_get ps i ≡ Some p
+    → flat_map shown_partner (take (i + 1) ps) ≡ flat_map shown_partner (take i ps) ++ shown_partner p
 partners_more ps i p lt at =
     let there : get_or ps i p ≡ p = get_or_from_slice_get ps i p p at in
     flat_more shown_partner ps i p lt ∙ ap (λ q. flat_map shown_partner (take i ps) ++ shown_partner q) there
@@ -31,7 +36,8 @@ pub partner_is : (ps : List Partner) (i : ℕ) → i < length ps → slice_get p
 partner_is [] i lt none = absurd (omega arith)
 partner_is (p ∷ ps) i lt none = no_none _ (get_or (p ∷ ps) i p) (slice_get-get_or (p ∷ ps) i p lt) none
 
-pub letters_more : (ls : List Letter) (i : ℕ) (l : Letter) → i < length ls → l ≡ get_or ls i l → flat_map frame_line (take (i + 1) ls) ≡ flat_map frame_line (take i ls) ++ frame_line l
+pub letters_more : (ls : List Letter) (i : ℕ) (l : Letter) → i < length ls → l ≡ get_or ls i l
+    → flat_map frame_line (take (i + 1) ls) ≡ flat_map frame_line (take i ls) ++ frame_line l
 letters_more ls i l lt at = flat_more frame_line ls i l lt ∙ ap (λ q. flat_map frame_line (take i ls) ++ frame_line q) (sym at)
 
 -- the lines of rows of which the first has this position
@@ -39,7 +45,8 @@ abbrev pub lines_from : ℕ → List (JournalRow OrderCommand) → List ℕ
 lines_from pos rows = flat_map (λ at. row_line at.0 at.1) (enumerate_from pos rows)
 
 -- one row more
-pub rows_more : (pos : ℕ) (rows : List (JournalRow OrderCommand)) (i : ℕ) (row : JournalRow OrderCommand) → i < length rows → row ≡ get_or rows i row
+pub rows_more : (pos : ℕ) (rows : List (JournalRow OrderCommand)) (i : ℕ) (row : JournalRow OrderCommand) → i < length rows
+    → row ≡ get_or rows i row
     → lines_from pos (drop i rows) ≡ row_line pos row ++ lines_from (pos + 1) (drop (i + 1) rows)
 rows_more pos rows i row lt at =
     let first : drop i rows ≡ row ∷ drop (i + 1) rows = rw add-one (drop-cons rows i row lt ∙ ap (λ r. r ∷ drop (suc i) rows) (sym at)) in

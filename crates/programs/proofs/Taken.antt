@@ -1,5 +1,6 @@
 -- What the service's answers say of a run.
-use Rattle.std.proofs.Common.{◌≡◌, ◌+◌, ◌-◌, ◌≤◌, ◌<◌, ◌^◌, [], ◌∷◌, length, take, drop, inl, inr, refl, sym, ap, subst, ◌∙◌, arith, Option, Result, Ok, Err}
+use Rattle.std.proofs.Common.{◌≡◌, ◌+◌, ◌-◌, ◌≤◌, ◌<◌, ◌^◌, [], ◌∷◌, length, take, drop, inl, inr, refl, sym, ap, subst, ◌∙◌, arith, Option}
+use Rattle.std.proofs.Common.{Result, Ok, Err}
 use Rattle.std.proofs.lemmas.List.{length-append, take_all}
 use Rattle.activities.specs.declared.commands.OrderCommand.{OrderCommand}
 use Rattle.activities.specs.declared.input.JournalRow.{JournalRow}
@@ -7,7 +8,8 @@ use Rattle.activities.specs.Orders.{OrderState}
 use Rattle.keep.specs.Tables.{Tables}
 use Rattle.endpoint.specs.declared.answer.Committed.{Committed}
 use Rattle.endpoint.specs.declared.fault.EndFault.{EndFault}
-use Rattle.endpoint.specs.declared.fault.EndFault.TheVariants.{NotMine, Business, TooEarly, StoreFailed, Memory, Unusable, NumberLimit, NotSent}
+use Rattle.endpoint.specs.declared.fault.EndFault.TheVariants.{NotMine, Business, TooEarly, StoreFailed, Memory, Unusable, NumberLimit}
+use Rattle.endpoint.specs.declared.fault.EndFault.TheVariants.{NotSent}
 use Rattle.endpoint.specs.Matches.{TablesMatchJournal, AllMatch}
 use Rattle.endpoint.specs.Calls.{IsCommit, Appends}
 use Rattle.programs.specs.Runs.{Orders, orders_service, IsSound, IsTaken}
@@ -23,7 +25,8 @@ all_match t sound = λ left same. subst (TablesMatchJournal orders_service) (sym
 pub sound_stays : (old new : OrderTables) → IsSound old → new ≡ old → IsSound new
 sound_stays old new sound same = subst IsSound (sym same) sound
 
-sound_after : (old new : OrderTables) (row : JournalRow OrderCommand) → IsSound old → Appends orders_service old row old.held new → IsSound new
+sound_after : (old new : OrderTables) (row : JournalRow OrderCommand) → IsSound old → Appends orders_service old row old.held new
+    → IsSound new
 sound_after old new row sound done = record {
   matches = done.matches;
   unsettled = done.settled ∙ sound.unsettled;
@@ -42,7 +45,8 @@ module _ (old new : OrderTables) (row : JournalRow OrderCommand) where
   sound_commit (Err NotMine) sound told = sound_stays old new sound told.1
   sound_commit (Err (Business refusal)) sound told = sound_stays old new sound told.1
   sound_commit (Err TooEarly) sound told = sound_stays old new sound told.1
-  sound_commit (Err StoreFailed) sound told = elim ((told new refl).1) [ inl same ↦ sound_stays old new sound same | inr done ↦ sound_after old new row sound done ]
+  sound_commit (Err StoreFailed) sound told =
+      elim ((told new refl).1) [ inl same ↦ sound_stays old new sound same | inr done ↦ sound_after old new row sound done ]
   sound_commit (Err Memory) sound told = sound_stays old new sound told.1
   sound_commit (Err Unusable) sound told = sound_stays old new sound told.1
   sound_commit (Err NumberLimit) sound told = sound_stays old new sound told.1
@@ -52,7 +56,8 @@ module _ (old new : OrderTables) (row : JournalRow OrderCommand) where
   pub taken_ok : (c : Committed) → Commits (Ok c) → IsTaken row old.journal (Ok c.pos) new.journal
   taken_ok c told = told.0
 
-  pub taken_err : (fault : EndFault) → Commits (Err fault) → (fault ≡ StoreFailed → ⊥) → (fault ≡ Unusable → ⊥) → IsTaken row old.journal (Err fault) new.journal
+  pub taken_err : (fault : EndFault) → Commits (Err fault) → (fault ≡ StoreFailed → ⊥) → (fault ≡ Unusable → ⊥)
+      → IsTaken row old.journal (Err fault) new.journal
   taken_err NotMine told usable sound = told.0
   taken_err (Business refusal) told usable sound = told.0
   taken_err TooEarly told usable sound = told.0

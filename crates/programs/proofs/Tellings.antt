@@ -1,5 +1,6 @@
 -- What the events of a run tell, one after another.
-use Rattle.std.proofs.Common.{◌≡◌, ℕ, suc, ◌+◌, ◌<◌, ◌≤◌, List, [], ◌∷◌, ◌++◌, length, get_or, drop, refl, sym, ap, subst, ◌∙◌, add-one, drop-cons, Result, Ok, Err}
+use Rattle.std.proofs.Common.{◌≡◌, ℕ, suc, ◌+◌, ◌<◌, ◌≤◌, List, [], ◌∷◌, ◌++◌, length, get_or, drop, refl, sym, ap, subst, ◌∙◌, add-one}
+use Rattle.std.proofs.Common.{drop-cons, Result, Ok, Err}
 use Rattle.std.specs.Prelude.{MatchResult}
 use Rattle.std.specs.Global.{Vec}
 use Rattle.std.proofs.lemmas.List.{drop_all}
@@ -19,17 +20,21 @@ pub shown_told : (r : Result (Vec ℕ) EndFault) (outcome : Outcome) (Answers : 
 shown_told (Ok lines) outcome Answers after is answer = subst (λ (o : Outcome). IsShown Answers o after) (sym is) answer
 shown_told (Err fault) outcome Answers after is answer = subst (λ (o : Outcome). IsShown Answers o after) (sym is) answer
 
-pub tells_frames : (journal : Orders) (outcome : Outcome) (after : Orders) (shown : Event) (service : Service) → shown ≡ event.Frames service → IsShown (IsFrames journal) outcome after → Tells shown journal outcome after
+pub tells_frames : (journal : Orders) (outcome : Outcome) (after : Orders) (shown : Event) (service : Service)
+    → shown ≡ event.Frames service → IsShown (IsFrames journal) outcome after → Tells shown journal outcome after
 tells_frames journal outcome after shown Purchasing is told = subst (λ (e : Event). Tells e journal outcome after) (sym is) told
 
-pub tells_journal : (journal : Orders) (outcome : Outcome) (after : Orders) (shown : Event) (service : Service) → shown ≡ event.Journal service → IsShown (IsJournal journal) outcome after → Tells shown journal outcome after
+pub tells_journal : (journal : Orders) (outcome : Outcome) (after : Orders) (shown : Event) (service : Service)
+    → shown ≡ event.Journal service → IsShown (IsJournal journal) outcome after → Tells shown journal outcome after
 tells_journal journal outcome after shown Purchasing is told = subst (λ (e : Event). Tells e journal outcome after) (sym is) told
 
 -- one event, and then the others
 pub run_step : (events : List Event) (i : ℕ) (event : Event) (outcome : Outcome) (journal between : Orders) (rest : List ℕ) (after : Orders)
-    → i < length events → event ≡ get_or events i event → Tells event journal outcome between → IsRun (drop (i + 1) events) between rest after → IsRun (drop i events) journal (printed outcome ++ rest) after
+    → i < length events → event ≡ get_or events i event → Tells event journal outcome between
+    → IsRun (drop (i + 1) events) between rest after → IsRun (drop i events) journal (printed outcome ++ rest) after
 run_step events i event outcome journal between rest after lt at tells run =
-    let first : drop i events ≡ event ∷ drop (i + 1) events = rw add-one (drop-cons events i event lt ∙ ap (λ e. e ∷ drop (suc i) events) (sym at)) in
+    let first : drop i events ≡ event ∷ drop (i + 1) events =
+    rw add-one (drop-cons events i event lt ∙ ap (λ e. e ∷ drop (suc i) events) (sym at)) in
     subst (λ (es : List Event). IsRun es journal (printed outcome ++ rest) after) (sym first) (outcome, between, rest, tells, refl, run)
 
 -- no event is left

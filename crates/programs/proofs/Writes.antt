@@ -35,7 +35,12 @@ on_ok_always (Err e) p = tt
 
 -- a beginning of the octets is one of more octets
 pub part_first : (a b : Option (List ℕ)) (x y : List ℕ) → AppendsPart a b x → AppendsPart a b (x ++ y)
-part_first a b x y p = record { part = p.part; rest = p.rest ++ y; whole = ap (λ t. t ++ y) p.whole ∙ append_assoc p.part p.rest y; appended = p.appended }
+part_first a b x y p = record {
+  part = p.part;
+  rest = p.rest ++ y;
+  whole = ap (λ t. t ++ y) p.whole ∙ append_assoc p.part p.rest y;
+  appended = p.appended;
+}
 
 -- octets, and then a beginning of others
 pub part_then : (a b c : Option (List ℕ)) (x y : List ℕ) → Appends a b x → AppendsPart b c y → AppendsPart a c (x ++ y)

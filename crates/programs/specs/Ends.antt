@@ -22,10 +22,12 @@ IsCutRun events journal old new = (told : List ℕ) × (after : Orders) × IsRun
 -- print is written, or a beginning of it where the writer failed; or the first faulty line is told, and nothing is written; or memory was
 -- refused before the first line ran.
 abbrev pub IsRunOf : List ℕ → Option (List ℕ) → Option (List ℕ) → Result Unit RunFault → Type 0
-IsRunOf text old new (Ok _) = (events : List Event) × (told : List ℕ) × (events_of text ≡ Ok events) × Prints events told × Appends old new told
+IsRunOf text old new (Ok _) = (events : List Event) × (told : List ℕ) × (events_of text ≡ Ok events) × Prints events told
+    × Appends old new told
 IsRunOf text old new (Err (BadEvent number)) = (events_of text ≡ Err number) × (new ≡ old)
 IsRunOf text old new (Err Memory) = new ≡ old
-IsRunOf text old new (Err Device) = (events : List Event) × (told : List ℕ) × (events_of text ≡ Ok events) × Prints events told × AppendsPart old new told
+IsRunOf text old new (Err Device) = (events : List Event) × (told : List ℕ) × (events_of text ≡ Ok events) × Prints events told
+    × AppendsPart old new told
 
 -- nothing was read, for want of memory or since the reader failed; nothing is written
 abbrev pub IsUnread : Option (List ℕ) → Option (List ℕ) → Result Unit RunFault → Type 0

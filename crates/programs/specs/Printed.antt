@@ -1,5 +1,6 @@
 -- What is printed of entities, orders, rows and frames.
-use Rattle.std.specs.Prelude.{ℕ, ◌/◌, ◌%◌, ◌==◌, ◌&&◌, nat_le, false, List, [], ◌∷◌, ◌++◌, codes, decimal, Option, Some, None, if◌then◌else◌}
+use Rattle.std.specs.Prelude.{ℕ, ◌/◌, ◌%◌, ◌==◌, ◌&&◌, nat_le, false, List, [], ◌∷◌, ◌++◌, codes, decimal, Option, Some, None}
+use Rattle.std.specs.Prelude.{if◌then◌else◌}
 use Rattle.std.specs.List.{flat_map, enumerate_from}
 use Rattle.std.specs.Fmt.{digit_glyph}
 use Rattle.base.specs.Entity.{Name, text_of}
@@ -54,7 +55,8 @@ show_line e order = shown_entity e ++ shown_order order ++ 10 ∷ []
 
 -- a command as the journal shows it
 abbrev pub shown_command : OrderCommand → List ℕ
-shown_command (Place stock n account amount) = codes "place " ++ escaped stock ++ codes " " ++ decimal n ++ codes " " ++ escaped account ++ codes " " ++ decimal amount
+shown_command (Place stock n account amount) = codes "place " ++ escaped stock ++ codes " " ++ decimal n ++ codes " " ++ escaped account
+    ++ codes " " ++ decimal amount
 shown_command CancelOrder = codes "cancel_order"
 
 -- a message as the journal shows it
@@ -68,7 +70,8 @@ shown_message Cancel = codes "cancel"
 -- a command with its seat, or a message with its sender and number
 abbrev pub shown_input : Input OrderCommand → List ℕ
 shown_input (FromSeat seat command) = codes "seat " ++ decimal seat ++ codes " " ++ shown_command command
-shown_input (FromEntity sender number message) = codes "from " ++ shown_entity sender ++ codes " " ++ decimal number ++ codes " " ++ shown_message message
+shown_input (FromEntity sender number message) = codes "from " ++ shown_entity sender ++ codes " " ++ decimal number ++ codes " "
+    ++ shown_message message
 
 -- the line of a journal's row at a position
 abbrev pub row_line : ℕ → JournalRow OrderCommand → List ℕ

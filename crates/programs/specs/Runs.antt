@@ -1,5 +1,6 @@
 -- What running events tells, over the journal of purchasing.
-use Rattle.std.specs.Prelude.{◌≡◌, ◌≢◌, ℕ, ◌-◌, ◌≤◌, ◌^◌, List, [], ◌∷◌, ◌++◌, codes, decimal, length, Option, None, is_none, Result, Ok, Err}
+use Rattle.std.specs.Prelude.{◌≡◌, ◌≢◌, ℕ, ◌-◌, ◌≤◌, ◌^◌, List, [], ◌∷◌, ◌++◌, codes, decimal, length, Option, None, is_none, Result, Ok}
+use Rattle.std.specs.Prelude.{Err}
 use Rattle.std.specs.Global.{Vec}
 use Rattle.std.specs.Option.{option_flatten}
 use Rattle.base.specs.Entity.{Name}
@@ -54,14 +55,16 @@ IsTaken row journal (Err fault) after = CommitAt order_reactions Order journal r
 
 -- what is shown of an order is its row; an entity of another kind is none of purchasing's
 abbrev pub IsShow : Name → Orders → Result (Vec ℕ) EndFault → Orders → Type 0
-IsShow e journal (Ok line) after = (after ≡ journal) × (e.kind ≡ Order) × (line.items ≡ show_line e (option_flatten (row_of orders_service journal e)))
+IsShow e journal (Ok line) after = (after ≡ journal) × (e.kind ≡ Order)
+    × (line.items ≡ show_line e (option_flatten (row_of orders_service journal e)))
 IsShow e journal (Err NotMine) after = (after ≡ journal) × (e.kind ≢ Order)
 IsShow e journal (Err Memory) after = after ≡ journal
 IsShow e journal (Err _) after = ⊥
 
 -- the frames of all messages that the journal sends, in order of pair and number
 abbrev pub IsFrames : Orders → Result (Vec ℕ) EndFault → Orders → Type 0
-IsFrames journal (Ok lines) after = (after ≡ journal) × (letters : List Letter) × AreFirst (unsettled_of order_reactions journal (λ _. 0)) None (2 ^ 64 - 1) letters × (lines.items ≡ frame_lines letters)
+IsFrames journal (Ok lines) after = (after ≡ journal) × (letters : List Letter)
+    × AreFirst (unsettled_of order_reactions journal (λ _. 0)) None (2 ^ 64 - 1) letters × (lines.items ≡ frame_lines letters)
 IsFrames journal (Err Memory) after = after ≡ journal
 IsFrames journal (Err _) after = ⊥
 

@@ -46,7 +46,8 @@ fn commit(
     command: &OrderCommand,
 ) -> Result<u64, EndFault>
     ensures sound { IsSound (tables_of purchasing.old) → IsSound (tables_of purchasing.new) }
-    ensures taken { IsSound (tables_of purchasing.old) → IsTaken (order_row seat order.now command.now) (tables_of purchasing.old).journal result (tables_of purchasing.new).journal }
+    ensures taken { IsSound (tables_of purchasing.old)
+        → IsTaken (order_row seat order.now command.now) (tables_of purchasing.old).journal result (tables_of purchasing.new).journal }
 {
     let command = Orders::copy_command(alloc, command)?;
     match purchasing.commit(alloc, seat.get(), order, command) {
@@ -58,7 +59,8 @@ fn commit(
 /// Shows an order's row.
 fn show(alloc: Global, purchasing: &mut Purchasing, entity: &Entity) -> Result<Vec<u8>, EndFault>
     ensures sound { IsSound (tables_of purchasing.old) → IsSound (tables_of purchasing.new) }
-    ensures shown { IsSound (tables_of purchasing.old) → IsShow entity.now (tables_of purchasing.old).journal result (tables_of purchasing.new).journal }
+    ensures shown { IsSound (tables_of purchasing.old)
+        → IsShow entity.now (tables_of purchasing.old).journal result (tables_of purchasing.new).journal }
 {
     let row = purchasing.view(alloc, entity)?;
     let order = row.flatten();
@@ -70,7 +72,8 @@ fn show(alloc: Global, purchasing: &mut Purchasing, entity: &Entity) -> Result<V
 /// Shows the frames that purchasing is to send.
 fn frames(alloc: Global, purchasing: &mut Purchasing) -> Result<Vec<u8>, EndFault>
     ensures sound { IsSound (tables_of purchasing.old) → IsSound (tables_of purchasing.new) }
-    ensures shown { IsSound (tables_of purchasing.old) → IsFrames (tables_of purchasing.old).journal result (tables_of purchasing.new).journal }
+    ensures shown { IsSound (tables_of purchasing.old)
+        → IsFrames (tables_of purchasing.old).journal result (tables_of purchasing.new).journal }
 {
     let letters = purchasing.unsettled(alloc, &None, usize::MAX)?;
     let mut lines = Vec::new(alloc);
@@ -81,7 +84,8 @@ fn frames(alloc: Global, purchasing: &mut Purchasing) -> Result<Vec<u8>, EndFaul
 /// Shows the journal of purchasing.
 fn journal(alloc: Global, purchasing: &mut Purchasing) -> Result<Vec<u8>, EndFault>
     ensures sound { IsSound (tables_of purchasing.old) → IsSound (tables_of purchasing.new) }
-    ensures shown { IsSound (tables_of purchasing.old) → IsJournal (tables_of purchasing.old).journal result (tables_of purchasing.new).journal }
+    ensures shown { IsSound (tables_of purchasing.old)
+        → IsJournal (tables_of purchasing.old).journal result (tables_of purchasing.new).journal }
 {
     let rows = purchasing.journal(alloc, 1, usize::MAX)?;
     let mut lines = Vec::new(alloc);
@@ -102,7 +106,8 @@ fn shown(answer: Result<Vec<u8>, EndFault>) -> Outcome
 /// Runs one event. Where memory is refused, it is refused with 64 and nothing is changed.
 pub(crate) fn run_event(alloc: Global, purchasing: &mut Purchasing, event: &Event) -> Outcome
     ensures sound { IsSound (tables_of purchasing.old) → IsSound (tables_of purchasing.new) }
-    ensures tells { IsSound (tables_of purchasing.old) → Tells event.now (tables_of purchasing.old).journal result (tables_of purchasing.new).journal }
+    ensures tells { IsSound (tables_of purchasing.old)
+        → Tells event.now (tables_of purchasing.old).journal result (tables_of purchasing.new).journal }
 {
     match event {
         Event::Order {

@@ -13,7 +13,8 @@ module _ {T : Type 0} where
   at_most above last [] h = h
   at_most above last (e ∷ es) h = omega (arith, h.0, at_most e.0 last es h.1)
 
-  pub at_end : (above last : ℕ) (tag : T) (es : List (ℕ × T)) → Rise above last es → insert_entry nat_cmp es (last + 1) tag ≡ es ++ (last + 1, tag) ∷ []
+  pub at_end : (above last : ℕ) (tag : T) (es : List (ℕ × T)) → Rise above last es
+      → insert_entry nat_cmp es (last + 1) tag ≡ es ++ (last + 1, tag) ∷ []
   at_end above last tag [] h = refl
   at_end above last tag (e ∷ es) h =
       ap (λ o. match_ordering o ((last + 1, tag) ∷ e ∷ es) ((e.0, tag) ∷ es) (e ∷ insert_entry nat_cmp es (last + 1) tag))
@@ -36,13 +37,16 @@ module _ {T : Type 0} where
   pub removed : (test : ℕ → Bool) (above last : ℕ) (es : List (ℕ × T)) → Rise above last es → Rise above last (remove_entry test es)
   removed test above last [] h = h
   removed test above last (e ∷ es) h =
-      either above last (test e.0) es (e ∷ remove_entry test es) (lowered above e.0 last es (omega (arith, h.0)) h.1) (h.0, removed test e.0 last es h.1)
+      either above last (test e.0) es (e ∷ remove_entry test es) (lowered above e.0 last es (omega (arith, h.0)) h.1)
+      (h.0, removed test e.0 last es h.1)
 
   -- the book with one more entry
-  pub is_book : (n : ℕ) (tag : T) (es : List (ℕ × T)) {new : List (ℕ × T)} → IsBook (record { last = n; tags = es }) → new ≡ insert_entry nat_cmp es (n + 1) tag
+  pub is_book : (n : ℕ) (tag : T) (es : List (ℕ × T)) {new : List (ℕ × T)} → IsBook (record { last = n; tags = es })
+      → new ≡ insert_entry nat_cmp es (n + 1) tag
       → IsBook (record { last = n + 1; tags = new })
   is_book n tag es b e = record { numbered = rw (e ∙ at_end 0 n tag es b.numbered) (added 0 n tag es b.numbered) }
 
-  pub is_opened : (n : ℕ) (tag : T) (es : List (ℕ × T)) {new : List (ℕ × T)} {b : Book T} → b ≡ record { last = n; tags = es } → IsBook (record { last = n; tags = es })
+  pub is_opened : (n : ℕ) (tag : T) (es : List (ℕ × T)) {new : List (ℕ × T)} {b : Book T} → b ≡ record { last = n; tags = es }
+      → IsBook (record { last = n; tags = es })
       → new ≡ insert_entry nat_cmp es (n + 1) tag → record { last = n + 1; tags = new } ≡ opened tag b
   is_opened n tag es s b e = rw s (ap (λ (l : List (ℕ × T)). record { last = n + 1; tags = l }) (e ∙ at_end 0 n tag es b.numbered))

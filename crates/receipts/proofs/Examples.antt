@@ -24,16 +24,19 @@ no_other_is_given : Leads new_book (Opened 20 ∷ Closed 1 (Some 30) ∷ []) (bo
 no_other_is_given leads = let other : ◌≡◌ {A = Option ℕ} (Some 30) (Some 20) = leads.0 in absurd cc
 
 -- one tag was given, the second that was opened
-the_second_was_given : (opened_tags calls ≡ 20 ∷ 30 ∷ 40 ∷ []) × (given calls ≡ (2, 30) ∷ []) × (AreOpened (opened_tags calls) (given calls))
+the_second_was_given : (opened_tags calls ≡ 20 ∷ 30 ∷ 40 ∷ []) × (given calls ≡ (2, 30) ∷ [])
+    × (AreOpened (opened_tags calls) (given calls))
 unfolding calls
 the_second_was_given = (refl, refl, (omega arith, refl, tt))
 
 -- a number under which nothing was opened yet is not open, nor is 0
-nothing_is_open_there : (open_under 3 (book 2 ((1, 20) ∷ (2, 30) ∷ [])) ≡ None) × (open_under 0 (book 2 ((1, 20) ∷ [])) ≡ None) × (open_under 1 (book 2 ((1, 20) ∷ [])) ≡ Some 20)
+nothing_is_open_there : (open_under 3 (book 2 ((1, 20) ∷ (2, 30) ∷ [])) ≡ None) × (open_under 0 (book 2 ((1, 20) ∷ [])) ≡ None)
+    × (open_under 1 (book 2 ((1, 20) ∷ [])) ≡ Some 20)
 nothing_is_open_there = (refl, refl, refl)
 
 -- closing leaves the others, and what isn't open changes nothing
-others_stay_open : (closed 1 (book 2 ((1, 20) ∷ (2, 30) ∷ [])) ≡ book 2 ((2, 30) ∷ [])) × (closed 9 (book 2 ((2, 30) ∷ [])) ≡ book 2 ((2, 30) ∷ []))
+others_stay_open : (closed 1 (book 2 ((1, 20) ∷ (2, 30) ∷ [])) ≡ book 2 ((2, 30) ∷ []))
+    × (closed 9 (book 2 ((2, 30) ∷ [])) ≡ book 2 ((2, 30) ∷ []))
 others_stay_open = (refl, refl)
 
 -- the number behind the last is given, also where nothing is open
@@ -46,7 +49,8 @@ numbers_end : (Opens 50 (book (2 ^ 64 - 1) []) (book (2 ^ 64 - 1) []) (Err Numbe
 numbers_end = ((refl, refl), (omega arith, refl), λ h. omega (arith, h.0), λ h. omega (arith, h.0))
 
 -- numbers rise, from 1 up to the last
-books_rise : (IsBook (book 3 ((1, 20) ∷ (3, 40) ∷ []))) × (IsBook (book 3 ((3, 40) ∷ (1, 20) ∷ [])) → ⊥) × (IsBook (book 3 ((0, 40) ∷ [])) → ⊥) × (IsBook (book 3 ((4, 40) ∷ [])) → ⊥)
+books_rise : (IsBook (book 3 ((1, 20) ∷ (3, 40) ∷ []))) × (IsBook (book 3 ((3, 40) ∷ (1, 20) ∷ [])) → ⊥)
+    × (IsBook (book 3 ((0, 40) ∷ [])) → ⊥) × (IsBook (book 3 ((4, 40) ∷ [])) → ⊥)
 books_rise = (
   record { numbered = (omega arith, (omega arith, omega arith)) },
   λ b. omega (arith, b.numbered.1.0),

@@ -1,5 +1,6 @@
 -- What is given is gone, and was opened.
-use Rattle.std.proofs.Common.{◌≡◌, ℕ, zero, suc, ◌+◌, ◌-◌, ◌≤◌, ◌<◌, Bool, true, false, List, [], ◌∷◌, ◌++◌, length, Some, None, refl, sym, ap, subst, ◌∙◌, arith, inl, inr, append_assoc}
+use Rattle.std.proofs.Common.{◌≡◌, ℕ, zero, suc, ◌+◌, ◌-◌, ◌≤◌, ◌<◌, Bool, true, false, List, [], ◌∷◌, ◌++◌, length, Some, None, refl, sym}
+use Rattle.std.proofs.Common.{ap, subst, ◌∙◌, arith, inl, inr, append_assoc}
 use Rattle.std.specs.Prelude.{nat_lt, slice_get}
 use Rattle.std.specs.declared.cmp.Ordering.TheVariants.{Less, Greater}
 use Rattle.std.specs.Ordering.{nat_cmp, is_eq}
@@ -84,21 +85,27 @@ module _ {T : Type 0} where
 
   still_book : (calls : List (Call T)) (old new : Book T) → IsBook old → Leads old calls new → IsBook new
   still_book [] old new b leads = subst IsBook (sym leads) b
-  still_book (Opened tag ∷ calls) old new b leads = still_book calls (opened tag old) new (record { numbered = added 0 old.last tag old.tags b.numbered }) leads
-  still_book (Closed n answer ∷ calls) old new b leads = still_book calls (closed n old) new (record { numbered = removed (is n) 0 old.last old.tags b.numbered }) leads.1
+  still_book (Opened tag ∷ calls) old new b leads =
+      still_book calls (opened tag old) new (record { numbered = added 0 old.last tag old.tags b.numbered }) leads
+  still_book (Closed n answer ∷ calls) old new b leads =
+      still_book calls (closed n old) new (record { numbered = removed (is n) 0 old.last old.tags b.numbered }) leads.1
 
-  parted : (xs ys : List (Call T)) (old new : Book T) → Leads old (xs ++ ys) new → (between : Book T) × Leads old xs between × Leads between ys new
+  parted : (xs ys : List (Call T)) (old new : Book T) → Leads old (xs ++ ys) new → (between : Book T) × Leads old xs between
+      × Leads between ys new
   parted [] ys old new leads = (old, refl, leads)
   parted (Opened tag ∷ xs) ys old new leads = parted xs ys (opened tag old) new leads
   parted (Closed n answer ∷ xs) ys old new leads =
       let rest = parted xs ys (closed n old) new leads.1 in (rest.0, (leads.0, rest.1), rest.2)
 
   -- a number that was given and isn't open is open never again
-  stays_closed : (calls : List (Call T)) (n : ℕ) (old new : Book T) → n ≤ old.last → open_under n old ≡ None → Leads old calls new → open_under n new ≡ None
+  stays_closed : (calls : List (Call T)) (n : ℕ) (old new : Book T) → n ≤ old.last → open_under n old ≡ None → Leads old calls new
+      → open_under n new ≡ None
   stays_closed [] n old new le e leads = rw leads e
   stays_closed (Opened tag ∷ calls) n old new le e leads =
-      stays_closed calls n (opened tag old) new (omega (arith, le)) (not_under_more n (old.last + 1) tag old.tags (omega (arith, le)) e) leads
-  stays_closed (Closed k answer ∷ calls) n old new le e leads = stays_closed calls n (closed k old) new le (stays_gone n (is k) old.tags e) leads.1
+      stays_closed calls n (opened tag old) new (omega (arith, le)) (not_under_more n (old.last + 1) tag old.tags (omega (arith, le)) e)
+      leads
+  stays_closed (Closed k answer ∷ calls) n old new le e leads =
+      stays_closed calls n (closed k old) new le (stays_gone n (is k) old.tags e) leads.1
 
   pub closed_once : (before between : List (Call T)) (n : ℕ) (tag other : T) (old new : Book T) → IsBook old
       → Leads old (before ++ Closed n (Some tag) ∷ between ++ Closed n (Some other) ∷ []) new → ⊥
@@ -127,7 +134,8 @@ module _ {T : Type 0} where
   more_opened tags more [] are = tt
   more_opened tags more (e ∷ es) are = (are.0, kept_at tags more (e.0 - 1) e.1 are.1, more_opened tags more es are.2)
 
-  one_opened : (tags : List T) (n : ℕ) (tag : T) (es : List (ℕ × T)) → AreOpened tags es → length tags ≡ n → AreOpened (tags ++ tag ∷ []) (es ++ (n + 1, tag) ∷ [])
+  one_opened : (tags : List T) (n : ℕ) (tag : T) (es : List (ℕ × T)) → AreOpened tags es → length tags ≡ n
+      → AreOpened (tags ++ tag ∷ []) (es ++ (n + 1, tag) ∷ [])
   one_opened tags n tag [] are len =
       let at : n + 1 - 1 ≡ length tags = omega (arith, len) in
       (omega arith, ap (λ (k : ℕ). slice_get (tags ++ tag ∷ []) k) at ∙ last_at tags tag, tt)
@@ -140,7 +148,8 @@ module _ {T : Type 0} where
     | inr kept ↦ rw kept (are.0, are.1, fewer_opened tags test es are.2)
   ]
 
-  opened_at : (tags : List T) (n : ℕ) (tag : T) (es : List (ℕ × T)) → AreOpened tags es → lookup (is n) es ≡ Some tag → (0 < n) × (slice_get tags (n - 1) ≡ Some tag)
+  opened_at : (tags : List T) (n : ℕ) (tag : T) (es : List (ℕ × T)) → AreOpened tags es → lookup (is n) es ≡ Some tag
+      → (0 < n) × (slice_get tags (n - 1) ≡ Some tag)
   opened_at tags n tag [] are e = absurd cc
   opened_at tags n tag (entry ∷ es) are e = elim (cases_Bool (is n entry.0)) [
     | inl here ↦
@@ -150,13 +159,19 @@ module _ {T : Type 0} where
     | inr there ↦ opened_at tags n tag es are.2 (rw there at e)
   ]
 
-  pub given_opened : (calls : List (Call T)) (tags : List T) (old new : Book T) → AreOpened tags old.tags → length tags ≡ old.last → Leads old calls new
+  pub given_opened : (calls : List (Call T)) (tags : List T) (old new : Book T) → AreOpened tags old.tags → length tags ≡ old.last
+      → Leads old calls new
       → AreOpened (tags ++ opened_tags calls) (given calls)
   given_opened [] tags old new are len leads = tt
   given_opened (Opened tag ∷ calls) tags old new are len leads =
       let more : length (tags ++ tag ∷ []) ≡ old.last + 1 = length-append tags (tag ∷ []) ∙ ap (λ (n : ℕ). n + 1) len in
-      rw (← append_assoc tags (tag ∷ []) (opened_tags calls)) (given_opened calls (tags ++ tag ∷ []) (opened tag old) new (one_opened tags old.last tag old.tags are len) more leads)
-  given_opened (Closed n None ∷ calls) tags old new are len leads = given_opened calls tags (closed n old) new (fewer_opened tags (is n) old.tags are) len leads.1
+      rw (← append_assoc tags (tag ∷ []) (opened_tags calls))
+      (given_opened calls (tags ++ tag ∷ []) (opened tag old) new (one_opened tags old.last tag old.tags are len) more leads)
+  given_opened (Closed n None ∷ calls) tags old new are len leads =
+      given_opened calls tags (closed n old) new (fewer_opened tags (is n) old.tags are) len leads.1
   given_opened (Closed n (Some tag) ∷ calls) tags old new are len leads =
-      let it = opened_at tags n tag old.tags are (sym leads.0) in
-      (it.0, kept_at tags (opened_tags calls) (n - 1) tag it.1, given_opened calls tags (closed n old) new (fewer_opened tags (is n) old.tags are) len leads.1)
+      let it = opened_at tags n tag old.tags are (sym leads.0) in (
+        it.0,
+        kept_at tags (opened_tags calls) (n - 1) tag it.1,
+        given_opened calls tags (closed n old) new (fewer_opened tags (is n) old.tags are) len leads.1,
+      )

@@ -1,5 +1,6 @@
 -- What is printed is read again.
-use Rattle.std.proofs.Common.{◌≡◌, ℕ, zero, suc, ◌<◌, ◌^◌, List, [], ◌∷◌, ◌++◌, length, get_or, Bool, true, false, ◌&&◌, not, eqb, ltb, refl, sym, ap, subst, ◌∙◌, append_assoc, arith, Some, inl, inr, decimal}
+use Rattle.std.proofs.Common.{◌≡◌, ℕ, zero, suc, ◌<◌, ◌^◌, List, [], ◌∷◌, ◌++◌, length, get_or, Bool, true, false, ◌&&◌, not, eqb, ltb}
+use Rattle.std.proofs.Common.{refl, sym, ap, subst, ◌∙◌, append_assoc, arith, Some, inl, inr, decimal}
 use Rattle.std.specs.List.{All, AllByRecursion as ByRecursion, flat_map}
 use Rattle.std.specs.Option.{option_map}
 use Rattle.std.specs.Str.Parse.{digits_value}
@@ -8,7 +9,8 @@ use Rattle.std.proofs.lemmas.Option.{cond_some}
 use Rattle.std.proofs.lemmas.List.{append-nil}
 use Rattle.std.proofs.lemmas.List.Concat.{flat_map-cons}
 use Rattle.std.proofs.lemmas.List.Elements.{recursion_from_All, All-from_recursion}
-use Rattle.std.proofs.lemmas.Fmt.{digits_decimal, digits_value-decimal, decimal_nonempty, first_decimal, decimal_digit, decimal-digits_value}
+use Rattle.std.proofs.lemmas.Fmt.{digits_decimal, digits_value-decimal, decimal_nonempty, first_decimal, decimal_digit}
+use Rattle.std.proofs.lemmas.Fmt.{decimal-digits_value}
 use Rattle.schedules.specs.Words.{spelled, escaped, unescaped, word_of}
 use Rattle.schedules.specs.Numbers.{numeral_value, has_leading_zero}
 use Rattle.schedules.specs.Cuts.{Lacks}
@@ -17,16 +19,20 @@ use Rattle.schedules.proofs.Cuts.{Lacks-cons, lines_at, lines_none, unescaped_oc
 use Rattle.schedules.proofs.Numerals.{own, both_true}
 
 -- written lines, and what stands behind them
-lines_again : (lines : List (List ℕ)) (more : List ℕ) → ByRecursion (Lacks 10) lines → lines_of (ended lines ++ more) ≡ lines ++ lines_of more
+lines_again : (lines : List (List ℕ)) (more : List ℕ) → ByRecursion (Lacks 10) lines
+    → lines_of (ended lines ++ more) ≡ lines ++ lines_of more
 lines_again [] more lacks = refl
 lines_again (line ∷ lines) more lacks =
-    let apart : ended (line ∷ lines) ++ more ≡ line ++ 10 ∷ (ended lines ++ more) = append_assoc (line ++ 10 ∷ []) (ended lines) more ∙ append_assoc line (10 ∷ []) (ended lines ++ more) in
+    let apart : ended (line ∷ lines) ++ more ≡ line ++ 10 ∷ (ended lines ++ more) = append_assoc (line ++ 10 ∷ []) (ended lines) more
+    ∙ append_assoc line (10 ∷ []) (ended lines ++ more) in
     ap lines_of apart ∙ lines_at line (ended lines ++ more) lacks.0 ∙ ap (λ ls. line ∷ ls) (lines_again lines more lacks.1)
 
 pub ended_again : (lines : List (List ℕ)) → All (Lacks 10) lines → lines_of (ended lines) ≡ lines
-ended_again lines lacks = sym (ap lines_of (append-nil (ended lines))) ∙ lines_again lines [] (recursion_from_All (Lacks 10) lines lacks) ∙ append-nil lines
+ended_again lines lacks = sym (ap lines_of (append-nil (ended lines))) ∙ lines_again lines [] (recursion_from_All (Lacks 10) lines lacks)
+    ∙ append-nil lines
 
-pub unended_again : (lines : List (List ℕ)) (last : List ℕ) → All (Lacks 10) lines → Lacks 10 last → 0 < length last → lines_of (ended lines ++ last) ≡ lines ++ last ∷ []
+pub unended_again : (lines : List (List ℕ)) (last : List ℕ) → All (Lacks 10) lines → Lacks 10 last → 0 < length last
+    → lines_of (ended lines ++ last) ≡ lines ++ last ∷ []
 unended_again lines last lacks last_lacks some =
     lines_again lines last (recursion_from_All (Lacks 10) lines lacks) ∙ ap (λ ls. lines ++ ls) (lines_none last some last_lacks)
 
@@ -46,10 +52,18 @@ written (o ∷ os) = elim (cases_Bool (eqb o 10)) [
 ]
   where
     lf : Written os → o ≡ 10 → Written (o ∷ os)
-    lf w e = record { lines = [] ∷ w.lines; last = w.last; lines_lack = ((λ i l same. omega arith), w.lines_lack); last_lacks = w.last_lacks; is = rw e (ap (λ t. 10 ∷ t) w.is) }
+    lf w e = record {
+      lines = [] ∷ w.lines;
+      last = w.last;
+      lines_lack = ((λ i l same. omega arith), w.lines_lack);
+      last_lacks = w.last_lacks;
+      is = rw e (ap (λ t. 10 ∷ t) w.is);
+    }
 
-    longer : (lines : List (List ℕ)) (last : List ℕ) → ByRecursion (Lacks 10) lines → Lacks 10 last → os ≡ ended lines ++ last → eqb o 10 ≡ false → Written (o ∷ os)
-    longer [] last none lacks is other = record { lines = []; last = o ∷ last; lines_lack = tt; last_lacks = Lacks-cons 10 o last other lacks; is = ap (λ t. o ∷ t) is }
+    longer : (lines : List (List ℕ)) (last : List ℕ) → ByRecursion (Lacks 10) lines → Lacks 10 last → os ≡ ended lines ++ last
+        → eqb o 10 ≡ false → Written (o ∷ os)
+    longer [] last none lacks is other =
+        record { lines = []; last = o ∷ last; lines_lack = tt; last_lacks = Lacks-cons 10 o last other lacks; is = ap (λ t. o ∷ t) is }
     longer (line ∷ lines) last all lacks is other = record {
       lines = (o ∷ line) ∷ lines;
       last = last;
@@ -58,7 +72,8 @@ written (o ∷ os) = elim (cases_Bool (eqb o 10)) [
       is = ap (λ t. o ∷ t) is;
     }
 
-pub each_is_written : (text : List ℕ) → (lines : List (List ℕ)) × (last : List ℕ) × All (Lacks 10) lines × Lacks 10 last × (text ≡ ended lines ++ last)
+pub each_is_written : (text : List ℕ) → (lines : List (List ℕ)) × (last : List ℕ) × All (Lacks 10) lines × Lacks 10 last
+    × (text ≡ ended lines ++ last)
 each_is_written text =
     let w = written text in
     (w.lines, w.last, All-from_recursion (Lacks 10) w.lines w.lines_lack, w.last_lacks, w.is)
@@ -81,7 +96,8 @@ unescaped_spelled o rest =
       ]
     ]
   where
-    plain : (o : ℕ) (rest : List ℕ) → eqb o 92 ≡ false → eqb o 10 ≡ false → eqb o 13 ≡ false → eqb o 32 ≡ false → unescaped (spelled o ++ rest) ≡ option_map (λ w. o ∷ w) (unescaped rest)
+    plain : (o : ℕ) (rest : List ℕ) → eqb o 92 ≡ false → eqb o 10 ≡ false → eqb o 13 ≡ false → eqb o 32 ≡ false
+        → unescaped (spelled o ++ rest) ≡ option_map (λ w. o ∷ w) (unescaped rest)
     plain o rest backslash lf cr space =
         let spelled_so : spelled o ≡ o ∷ [] = rw (backslash, lf, cr, space) refl in
         ap (λ t. unescaped (t ++ rest)) spelled_so ∙ unescaped_octet o rest backslash
@@ -89,7 +105,8 @@ unescaped_spelled o rest =
 unescaped_escaped : (word : List ℕ) → unescaped (escaped word) ≡ Some word
 unescaped_escaped [] = refl
 unescaped_escaped (o ∷ os) =
-    ap unescaped (flat_map-cons spelled o os) ∙ unescaped_spelled o (flat_map spelled os) ∙ ap (option_map (λ w. o ∷ w)) (unescaped_escaped os)
+    ap unescaped (flat_map-cons spelled o os) ∙ unescaped_spelled o (flat_map spelled os)
+    ∙ ap (option_map (λ w. o ∷ w)) (unescaped_escaped os)
 
 some_spelled : (o : ℕ) (rest : List ℕ) → word_of (spelled o ++ rest) ≡ unescaped (spelled o ++ rest)
 some_spelled o rest = first (spelled o) (long o) rest
@@ -116,7 +133,8 @@ some_spelled o rest = first (spelled o) (long o) rest
 pub word_again : (word : List ℕ) → 0 < length word → word_of (escaped word) ≡ Some word
 word_again [] some = absurd (omega arith)
 word_again (o ∷ os) some =
-    ap word_of (flat_map-cons spelled o os) ∙ some_spelled o (flat_map spelled os) ∙ sym (ap unescaped (flat_map-cons spelled o os)) ∙ unescaped_escaped (o ∷ os)
+    ap word_of (flat_map-cons spelled o os) ∙ some_spelled o (flat_map spelled os) ∙ sym (ap unescaped (flat_map-cons spelled o os))
+    ∙ unescaped_escaped (o ∷ os)
 
 -- a number's digits have no leading zero
 leads : (n : ℕ) → n < 2 ^ 64 → has_leading_zero (decimal n) ≡ false

@@ -1,5 +1,6 @@
 -- Texts that are cut at an octet.
-use Rattle.std.proofs.Common.{◌≡◌, ◌<◌, ◌≤◌, ◌-◌, ℕ, zero, suc, ◌+◌, List, [], ◌∷◌, ◌++◌, length, get_or, take, drop, Bool, true, false, cond, eqb, refl, ap, ◌∙◌, arith, Option, Some, None, rules, ltb, inl, inr}
+use Rattle.std.proofs.Common.{◌≡◌, ◌<◌, ◌≤◌, ◌-◌, ℕ, zero, suc, ◌+◌, List, [], ◌∷◌, ◌++◌, length, get_or, take, drop, Bool, true, false}
+use Rattle.std.proofs.Common.{cond, eqb, refl, ap, ◌∙◌, arith, Option, Some, None, rules, ltb, inl, inr}
 use Rattle.std.specs.List.{slice_split, onto_first, position, position_or_len, before_first, after_first}
 use Rattle.std.specs.Option.{option_map}
 use Rattle.std.proofs.lemmas.Bool.{ne_eqb, eqb-false, eqb-true, ltb-true, ltb-false, cases_Bool}
@@ -28,7 +29,8 @@ split_at o [] ys h = ap (λ b. cond b ([] ∷ slice_split (λ x. eqb x o) ys) (o
     eqb-refl : (n : ℕ) → eqb n n ≡ true
     eqb-refl n = search rules
 split_at o (x ∷ xs) ys h =
-    ap (λ b. cond b ([] ∷ slice_split (λ x. eqb x o) (xs ++ o ∷ ys)) (onto_first x (slice_split (λ x. eqb x o) (xs ++ o ∷ ys)))) (Lacks-head o x xs h)
+    ap (λ b. cond b ([] ∷ slice_split (λ x. eqb x o) (xs ++ o ∷ ys)) (onto_first x (slice_split (λ x. eqb x o) (xs ++ o ∷ ys))))
+    (Lacks-head o x xs h)
     ∙ ap (onto_first x) (split_at o xs ys (Lacks-tail o x xs h))
 
 -- where there is none, there is one part
@@ -59,20 +61,24 @@ front_lacks text = λ i l same.
     eqb-false _ _ here same
 
 -- a line that ends at the first LF
-pub line_found : (text : List ℕ) (at : ℕ) → position (λ x. eqb x 10) text ≡ Some at → lines_of text ≡ take at text ∷ lines_of (drop (at + 1) text)
+pub line_found : (text : List ℕ) (at : ℕ) → position (λ x. eqb x 10) text ≡ Some at
+    → lines_of text ≡ take at text ∷ lines_of (drop (at + 1) text)
 line_found text at e =
     let found = cond_some _ _ _ e in
     let within : position_or_len (λ x. eqb x 10) text < length text = ltb-true _ _ found.0 in
     let parts = split_at_first (λ x. eqb x 10) text 0 within in
     let lf : get_or text (position_or_len (λ x. eqb x 10) text) 0 ≡ 10 = eqb-true _ _ (passes_at_first (λ x. eqb x 10) text 0 within) in
     let front : Lacks 10 (before_first (λ x. eqb x 10) text) = front_lacks text in
-    let whole : text ≡ before_first (λ x. eqb x 10) text ++ 10 ∷ after_first (λ x. eqb x 10) text = parts ∙ ap (λ o. before_first (λ x. eqb x 10) text ++ o ∷ after_first (λ x. eqb x 10) text) lf in
-    let line : lines_of text ≡ before_first (λ x. eqb x 10) text ∷ lines_of (after_first (λ x. eqb x 10) text) = ap lines_of whole ∙ lines_at (before_first (λ x. eqb x 10) text) (after_first (λ x. eqb x 10) text) front in
+    let whole : text ≡ before_first (λ x. eqb x 10) text ++ 10 ∷ after_first (λ x. eqb x 10) text = parts
+    ∙ ap (λ o. before_first (λ x. eqb x 10) text ++ o ∷ after_first (λ x. eqb x 10) text) lf in
+    let line : lines_of text ≡ before_first (λ x. eqb x 10) text ∷ lines_of (after_first (λ x. eqb x 10) text) = ap lines_of whole
+    ∙ lines_at (before_first (λ x. eqb x 10) text) (after_first (λ x. eqb x 10) text) front in
     let at_is : position_or_len (λ x. eqb x 10) text ≡ at = found.1 in
     rw (← at_is) line
 
 -- the same, of the rest as a range
-pub line_cut : (text : List ℕ) (at : ℕ) → position (λ x. eqb x 10) text ≡ Some at → lines_of text ≡ take at text ∷ lines_of (take (length text - (at + 1)) (drop (at + 1) text))
+pub line_cut : (text : List ℕ) (at : ℕ) → position (λ x. eqb x 10) text ≡ Some at
+    → lines_of text ≡ take at text ∷ lines_of (take (length text - (at + 1)) (drop (at + 1) text))
 line_cut text at e =
     let all : take (length text - (at + 1)) (drop (at + 1) text) ≡ drop (at + 1) text = grind (arith, common_steps) in
     rw all (line_found text at e)
@@ -84,19 +90,22 @@ none_is_none false n is e = cc
 -- the last line, which no LF ends
 pub line_left : (text : List ℕ) → 0 < length text → position (λ x. eqb x 10) text ≡ None → lines_of text ≡ text ∷ []
 line_left text some e = lines_none text some (λ i l same.
-    let far : length text ≤ position_or_len (λ x. eqb x 10) text = elim (cases_Bool (ltb (position_or_len (λ x. eqb x 10) text) (length text))) [
+    let far : length text ≤ position_or_len (λ x. eqb x 10) text =
+    elim (cases_Bool (ltb (position_or_len (λ x. eqb x 10) text) (length text))) [
       | inl within ↦ absurd (none_is_none _ _ within e)
       | inr far ↦ ltb-false _ _ far
     ] in
     eqb-false _ _ (fails_before_first (λ x. eqb x 10) text i 0 (omega arith)) same)
 
-pub line_last : (text : List ℕ) → 0 < length text → position (λ x. eqb x 10) text ≡ None → lines_of text ≡ text ∷ lines_of (take (length text - length text) (drop (length text) text))
+pub line_last : (text : List ℕ) → 0 < length text → position (λ x. eqb x 10) text ≡ None
+    → lines_of text ≡ text ∷ lines_of (take (length text - length text) (drop (length text) text))
 line_last text some e =
     let none : take (length text - length text) (drop (length text) text) ≡ [] = grind (arith, common_steps) in
     rw none (line_left text some e)
 
 -- what stands before a backslash stands for itself
-option_map-cons : (x : ℕ) (xs : List ℕ) (o : Option (List ℕ)) → option_map (λ w. x ∷ w) (option_map (λ w. xs ++ w) o) ≡ option_map (λ w. (x ∷ xs) ++ w) o
+option_map-cons : (x : ℕ) (xs : List ℕ) (o : Option (List ℕ))
+    → option_map (λ w. x ∷ w) (option_map (λ w. xs ++ w) o) ≡ option_map (λ w. (x ∷ xs) ++ w) o
 option_map-cons x xs None = refl
 option_map-cons x xs (Some w) = refl
 
@@ -111,21 +120,26 @@ then_is o (Some rest) = refl
 pub unescaped_octet : (o : ℕ) (text : List ℕ) → eqb o 92 ≡ false → unescaped (o ∷ text) ≡ option_map (λ w. o ∷ w) (unescaped text)
 unescaped_octet o [] other = ap (λ b. cond b None (Some (o ∷ []))) other
 unescaped_octet o (next ∷ text) other =
-    ap (λ b. cond b (octet_then (meant_by next) (unescaped text)) (octet_then (Some o) (unescaped (next ∷ text)))) other ∙ then_is o (unescaped (next ∷ text))
+    ap (λ b. cond b (octet_then (meant_by next) (unescaped text)) (octet_then (Some o) (unescaped (next ∷ text)))) other
+    ∙ then_is o (unescaped (next ∷ text))
 
 pub unescaped_front : (xs ys : List ℕ) → Lacks 92 xs → unescaped (xs ++ ys) ≡ option_map (λ w. xs ++ w) (unescaped ys)
 unescaped_front [] ys h = option_map-nothing (unescaped ys)
 unescaped_front (x ∷ xs) ys h =
-    unescaped_octet x (xs ++ ys) (Lacks-head 92 x xs h) ∙ ap (option_map (λ w. x ∷ w)) (unescaped_front xs ys (Lacks-tail 92 x xs h)) ∙ option_map-cons x xs (unescaped ys)
+    unescaped_octet x (xs ++ ys) (Lacks-head 92 x xs h) ∙ ap (option_map (λ w. x ∷ w)) (unescaped_front xs ys (Lacks-tail 92 x xs h))
+    ∙ option_map-cons x xs (unescaped ys)
 
 pub unescaped_plain : (xs : List ℕ) → Lacks 92 xs → unescaped xs ≡ Some xs
 unescaped_plain [] h = refl
-unescaped_plain (x ∷ xs) h = unescaped_octet x xs (Lacks-head 92 x xs h) ∙ ap (option_map (λ w. x ∷ w)) (unescaped_plain xs (Lacks-tail 92 x xs h))
+unescaped_plain (x ∷ xs) h = unescaped_octet x xs (Lacks-head 92 x xs h)
+    ∙ ap (option_map (λ w. x ∷ w)) (unescaped_plain xs (Lacks-tail 92 x xs h))
 
 -- an escape
-pub unescaped_escape : (letter o : ℕ) (ys : List ℕ) → meant_by letter ≡ Some o → unescaped (92 ∷ letter ∷ ys) ≡ option_map (λ w. o ∷ w) (unescaped ys)
+pub unescaped_escape : (letter o : ℕ) (ys : List ℕ) → meant_by letter ≡ Some o
+    → unescaped (92 ∷ letter ∷ ys) ≡ option_map (λ w. o ∷ w) (unescaped ys)
 unescaped_escape letter o ys e = ap (λ found. octet_then found (unescaped ys)) e ∙ then_is o (unescaped ys)
 
-pub unescaped_bad : (after : List ℕ) → ((letter : ℕ) (rest : List ℕ) → after ≡ letter ∷ rest → meant_by letter ≡ None) → unescaped (92 ∷ after) ≡ None
+pub unescaped_bad : (after : List ℕ) → ((letter : ℕ) (rest : List ℕ) → after ≡ letter ∷ rest → meant_by letter ≡ None)
+    → unescaped (92 ∷ after) ≡ None
 unescaped_bad [] bad = refl
 unescaped_bad (letter ∷ rest) bad = ap (λ found. octet_then found (unescaped rest)) (bad letter rest refl)

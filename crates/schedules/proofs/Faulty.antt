@@ -1,5 +1,6 @@
 -- Schedules that are read line by line.
-use Rattle.std.proofs.Common.{◌≡◌, ℕ, suc, ◌+◌, Bool, true, false, ◌||◌, not, cond, List, [], ◌∷◌, ◌++◌, length, take, refl, sym, ap, ◌∙◌, arith, Option, Some, None, Result, Ok, Err, append_assoc, length-append}
+use Rattle.std.proofs.Common.{◌≡◌, ℕ, suc, ◌+◌, Bool, true, false, ◌||◌, not, cond, List, [], ◌∷◌, ◌++◌, length, take, refl, sym, ap, ◌∙◌}
+use Rattle.std.proofs.Common.{arith, Option, Some, None, Result, Ok, Err, append_assoc, length-append}
 use Rattle.std.specs.Prelude.{is_none, option_to_list}
 use Rattle.std.specs.List.{list_any, before_first, position_or_len, cons_option}
 use Rattle.std.specs.Option.{option_flatten}
@@ -22,13 +23,15 @@ event_of_line line None read = ap (λ o. cons_option (option_flatten o) []) read
 event_of_line line (Some event) read = ap (λ o. cons_option (option_flatten o) []) read
 
 -- one line more
-pub one_read : (text rest after line : List ℕ) (number : ℕ) (events : List Event) (found : Option Event) → AreRead text rest number events → lines_of rest ≡ line ∷ lines_of after → event_on line ≡ Some found
+pub one_read : (text rest after line : List ℕ) (number : ℕ) (events : List Event) (found : Option Event) → AreRead text rest number events
+    → lines_of rest ≡ line ∷ lines_of after → event_on line ≡ Some found
     → AreRead text after (number + 1) (events ++ option_to_list found)
 one_read text rest after line number events found r first read = record {
   lines = r.lines ++ line ∷ [];
   cut = r.cut ∙ ap (λ ls. r.lines ++ ls) first ∙ sym (append_assoc r.lines (line ∷ []) (lines_of after));
   counted = omega (arith, r.counted, length-append r.lines (line ∷ []));
-  faultless = list_any-append is_faulty r.lines (line ∷ []) ∙ ap (λ b. b || list_any is_faulty (line ∷ [])) r.faultless ∙ ap (λ o. is_none o || false) read;
+  faultless = list_any-append is_faulty r.lines (line ∷ []) ∙ ap (λ b. b || list_any is_faulty (line ∷ [])) r.faultless
+      ∙ ap (λ o. is_none o || false) read;
   told = ap (λ es. es ++ option_to_list found) r.told ∙ ap (λ es. events_on r.lines ++ es) (sym (event_of_line line found read))
       ∙ sym (filter_map-append (λ l. option_flatten (event_on l)) r.lines (line ∷ []));
 }
@@ -38,25 +41,30 @@ told_of : List (List ℕ) → Result (List Event) ℕ
 told_of lines = cond (list_any is_faulty lines) (Err (length (before_first is_faulty lines) + 1)) (Ok (events_on lines))
 
 -- what stands before the first that passes
-before_at : {X : Type 0} (p : X → Bool) (xs : List X) (y : X) (ys : List X) → list_any p xs ≡ false → p y ≡ true → before_first p (xs ++ y ∷ ys) ≡ xs
+before_at : {X : Type 0} (p : X → Bool) (xs : List X) (y : X) (ys : List X) → list_any p xs ≡ false → p y ≡ true
+    → before_first p (xs ++ y ∷ ys) ≡ xs
 before_at p [] y ys none passes = ap (λ b. take (cond (not b) (1 + position_or_len p ys) 0) (y ∷ ys)) passes
 before_at p (x ∷ xs) y ys none passes =
     let both = neither (p x) (list_any p xs) none in
     let next : 1 + position_or_len p (xs ++ y ∷ ys) ≡ suc (position_or_len p (xs ++ y ∷ ys)) = omega arith in
-    ap (λ b. take (cond (not b) (1 + position_or_len p (xs ++ y ∷ ys)) 0) (x ∷ xs ++ y ∷ ys)) both.0 ∙ ap (λ n. take n (x ∷ xs ++ y ∷ ys)) next ∙ ap (λ zs. x ∷ zs) (before_at p xs y ys both.1 passes)
+    ap (λ b. take (cond (not b) (1 + position_or_len p (xs ++ y ∷ ys)) 0) (x ∷ xs ++ y ∷ ys)) both.0
+    ∙ ap (λ n. take n (x ∷ xs ++ y ∷ ys)) next ∙ ap (λ zs. x ∷ zs) (before_at p xs y ys both.1 passes)
   where
     neither : (a b : Bool) → (a || b) ≡ false → (a ≡ false) × (b ≡ false)
     neither true b e = absurd cc
     neither false b e = (refl, e)
 
 -- the first faulty line
-pub fault_read : (text rest after line : List ℕ) (number : ℕ) (events : List Event) → AreRead text rest number events → lines_of rest ≡ line ∷ lines_of after → event_on line ≡ None → events_of text ≡ Err (number + 1)
+pub fault_read : (text rest after line : List ℕ) (number : ℕ) (events : List Event) → AreRead text rest number events
+    → lines_of rest ≡ line ∷ lines_of after → event_on line ≡ None → events_of text ≡ Err (number + 1)
 unfolding told_of
 fault_read text rest after line number events r first bad =
     let lines = r.lines ++ line ∷ lines_of after in
     let whole : lines_of text ≡ lines = r.cut ∙ ap (λ ls. r.lines ++ ls) first in
     let faulty : is_faulty line ≡ true = ap is_none bad in
     let some : list_any is_faulty lines ≡ true =
-    list_any-append is_faulty r.lines (line ∷ lines_of after) ∙ ap (λ b. b || list_any is_faulty (line ∷ lines_of after)) r.faultless ∙ ap (λ b. b || list_any is_faulty (lines_of after)) faulty in
+    list_any-append is_faulty r.lines (line ∷ lines_of after) ∙ ap (λ b. b || list_any is_faulty (line ∷ lines_of after)) r.faultless
+    ∙ ap (λ b. b || list_any is_faulty (lines_of after)) faulty in
     ap told_of whole ∙ ap (λ b. cond b (Err (length (before_first is_faulty lines) + 1)) (Ok (events_on lines))) some
-    ∙ ap (λ ls. Err (length ls + 1)) (before_at is_faulty r.lines line (lines_of after) r.faultless faulty) ∙ ap (λ n. Err (n + 1)) (sym r.counted)
+    ∙ ap (λ ls. Err (length ls + 1)) (before_at is_faulty r.lines line (lines_of after) r.faultless faulty)
+    ∙ ap (λ n. Err (n + 1)) (sym r.counted)

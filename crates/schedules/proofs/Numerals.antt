@@ -1,5 +1,6 @@
 -- Numbers, as `parse` reads them.
-use Rattle.std.proofs.Common.{◌≡◌, ℕ, ◌<◌, ◌^◌, List, length, Bool, true, false, ◌&&◌, cond, refl, sym, ap, ◌∙◌, arith, Some, None, Result, Ok, Err, rules, ltb, inl, inr}
+use Rattle.std.proofs.Common.{◌≡◌, ℕ, ◌<◌, ◌^◌, List, length, Bool, true, false, ◌&&◌, cond, refl, sym, ap, ◌∙◌, arith, Some, None, Result}
+use Rattle.std.proofs.Common.{Ok, Err, rules, ltb, inl, inr}
 use Rattle.std.specs.List.{list_all}
 use Rattle.std.specs.Char.{is_ascii_digit}
 use Rattle.std.specs.Result.{OkIff, result_ok}
@@ -19,7 +20,8 @@ both_true true b e = (refl, e)
 both_true false b e = absurd cc
 
 -- what `parse` gives for a numeral
-parsed_is : {E : Type 0} (word : List ℕ) (r : Result ℕ E) → OkIff r ((0 < length word) × (digits_value 10 word < 2 ^ 64)) (digits_value 10 word) → 0 < length word
+parsed_is : {E : Type 0} (word : List ℕ) (r : Result ℕ E)
+    → OkIff r ((0 < length word) × (digits_value 10 word < 2 ^ 64)) (digits_value 10 word) → 0 < length word
     → result_ok r ≡ (cond (ltb (digits_value 10 word) (2 ^ 64)) (Some (digits_value 10 word)) None)
 parsed_is word (Ok n) h some = rw (lt-ltb (digits_value 10 word) (2 ^ 64) h.0.1, h.1) refl
 parsed_is word (Err e) h some =
@@ -28,7 +30,8 @@ parsed_is word (Err e) h some =
       | inr large ↦ rw large refl
     ]
 
-pub parsed : {E : Type 0} (word : List ℕ) (r : Result ℕ E) → ParsesUnsigned 64 10 word r → is_numeral word ≡ true → result_ok r ≡ numeral_value word
+pub parsed : {E : Type 0} (word : List ℕ) (r : Result ℕ E) → ParsesUnsigned 64 10 word r → is_numeral word ≡ true
+    → result_ok r ≡ numeral_value word
 parsed word r h numeral =
     let outer = both_true _ _ numeral in
     let inner = both_true _ _ outer.0 in

@@ -1,5 +1,6 @@
 -- How long the line of an event is.
-use Rattle.std.proofs.Common.{◌≡◌, ◌⊎◌, ◌<◌, ◌≤◌, ◌+◌, ◌*◌, ◌^◌, ℕ, suc, List, [], ◌∷◌, length, drop, Bool, true, false, ◌||◌, cond, eqb, nat_eq, ltb, leb, refl, sym, ap, ◌∙◌, arith, Option, Some, None, inl, inr, count_by}
+use Rattle.std.proofs.Common.{◌≡◌, ◌⊎◌, ◌<◌, ◌≤◌, ◌+◌, ◌*◌, ◌^◌, ℕ, suc, List, [], ◌∷◌, length, drop, Bool, true, false, ◌||◌, cond, eqb}
+use Rattle.std.proofs.Common.{nat_eq, ltb, leb, refl, sym, ap, ◌∙◌, arith, Option, Some, None, inl, inr, count_by}
 use Rattle.std.specs.Prelude.{codes}
 use Rattle.std.specs.List.{slice_split, onto_first, starts_with}
 use Rattle.std.specs.Option.{option_map}
@@ -18,7 +19,8 @@ use Rattle.schedules.specs.declared.event.Event.TheVariants as event
 use Rattle.schedules.specs.declared.event.Service.{Service}
 use Rattle.schedules.specs.Words.{◌>>=◌, meant_by, octet_then, unescaped, word_of, words_in, words_of}
 use Rattle.schedules.specs.Numbers.{numeral_value, seat_number}
-use Rattle.schedules.specs.Events.{seat_of, key_of, named, entity_of, placing_of, place_of, cancel_of, show_of, the_service, event_of, is_quiet, event_in, event_on}
+use Rattle.schedules.specs.Events.{seat_of, key_of, named, entity_of, placing_of, place_of, cancel_of, show_of, the_service, event_of}
+use Rattle.schedules.specs.Events.{is_quiet, event_in, event_on}
 use Rattle.schedules.proofs.Numerals.{both_true}
 use Rattle.schedules.proofs.Again.{number_only}
 
@@ -38,7 +40,8 @@ chosen false x y v e = inr e
 
 -- ---- words and their spellings
 
-then_some : (first : Option ℕ) (rest : Option (List ℕ)) (word : List ℕ) → octet_then first rest ≡ Some word → (tail : List ℕ) × (rest ≡ Some tail) × (length word ≡ suc (length tail))
+then_some : (first : Option ℕ) (rest : Option (List ℕ)) (word : List ℕ) → octet_then first rest ≡ Some word
+    → (tail : List ℕ) × (rest ≡ Some tail) × (length word ≡ suc (length tail))
 then_some None rest word e = absurd cc
 then_some (Some o) None word e = absurd cc
 then_some (Some o) (Some tail) word e = let same : o ∷ tail ≡ word = cc in (tail, refl, ap length (sym same))
@@ -50,7 +53,8 @@ one_size false o word e = let same : o ∷ [] ≡ word = cc in rw (← same) (om
 
 two_size : (b : Bool) (o next : ℕ) (text word : List ℕ) → ((w : List ℕ) → unescaped text ≡ Some w → length text ≤ 2 * length w)
     → ((w : List ℕ) → unescaped (next ∷ text) ≡ Some w → length (next ∷ text) ≤ 2 * length w)
-    → cond b (octet_then (meant_by next) (unescaped text)) (octet_then (Some o) (unescaped (next ∷ text))) ≡ Some word → length (o ∷ next ∷ text) ≤ 2 * length word
+    → cond b (octet_then (meant_by next) (unescaped text)) (octet_then (Some o) (unescaped (next ∷ text))) ≡ Some word
+    → length (o ∷ next ∷ text) ≤ 2 * length word
 two_size true o next text word behind _ e =
     let t = then_some (meant_by next) (unescaped text) word e in
     let rest : length text ≤ 2 * length t.0 = behind t.0 t.1 in
@@ -83,7 +87,8 @@ abbrev widest : List (List ℕ) → ℕ
 widest [] = 0
 widest (word ∷ words) = 2 * length word + 1 + widest words
 
-front_size : (b : Bool) (o : ℕ) (parts : List (List ℕ)) (n : ℕ) → 0 < length parts → spaced parts ≡ n → spaced (cond b ([] ∷ parts) (onto_first o parts)) ≡ suc n
+front_size : (b : Bool) (o : ℕ) (parts : List (List ℕ)) (n : ℕ) → 0 < length parts → spaced parts ≡ n
+    → spaced (cond b ([] ∷ parts) (onto_first o parts)) ≡ suc n
 front_size true o parts n some is = omega arith
 front_size false o [] n some is = absurd (omega arith)
 front_size false o (part ∷ parts) n some is = omega arith
@@ -91,9 +96,11 @@ front_size false o (part ∷ parts) n some is = omega arith
 split_size : (line : List ℕ) → spaced (slice_split (λ o. eqb o 32) line) ≡ suc (length line)
 split_size [] = refl
 split_size (o ∷ os) =
-    front_size (eqb o 32) o (slice_split (λ x. eqb x 32) os) (suc (length os)) (omega (arith, length-slice_split (λ x. eqb x 32) os)) (split_size os)
+    front_size (eqb o 32) o (slice_split (λ x. eqb x 32) os) (suc (length os)) (omega (arith, length-slice_split (λ x. eqb x 32) os))
+    (split_size os)
 
-words_more : (part : List ℕ) (parts words : List (List ℕ)) → ((ws : List (List ℕ)) → words_in parts ≡ Some ws → (spaced parts ≤ widest ws) × (length parts ≡ length ws))
+words_more : (part : List ℕ) (parts words : List (List ℕ))
+    → ((ws : List (List ℕ)) → words_in parts ≡ Some ws → (spaced parts ≤ widest ws) × (length parts ≡ length ws))
     → words_in (part ∷ parts) ≡ Some words → (spaced (part ∷ parts) ≤ widest words) × (length (part ∷ parts) ≡ length words)
 words_more part parts words behind e =
     let first = bound (word_of part) (λ word. option_map (λ ws. word ∷ ws) (words_in parts)) words e in
@@ -123,14 +130,16 @@ is_key_size key e = grind (arith, e)
 key_size : (word key : List ℕ) → key_of word ≡ Some key → length word ≤ 64
 key_size word key e = is_key_size word (cond_some _ _ _ e).0
 
-named_size : (entity : List ℕ → Name) (prefix word : List ℕ) (e : Name) → length prefix ≤ 8 → named entity prefix word ≡ Some e → length word ≤ 72
+named_size : (entity : List ℕ → Name) (prefix word : List ℕ) (e : Name) → length prefix ≤ 8 → named entity prefix word ≡ Some e
+    → length word ≤ 72
 named_size entity prefix word e short is =
     let found = mapped entity (key_of (drop (length prefix) word)) e is in
     let key : length (drop (length prefix) word) ≤ 64 = key_size (drop (length prefix) word) found.0 found.1 in
     omega (arith, key, length-drop (length prefix) word)
 
 -- one of three kinds, where there is one
-of_three : {A : Type 0} (a b c : Bool) (x y z : Option A) (v : A) → cond a x (cond b y (cond c z None)) ≡ Some v → (x ≡ Some v) ⊎ (y ≡ Some v) ⊎ (z ≡ Some v)
+of_three : {A : Type 0} (a b c : Bool) (x y z : Option A) (v : A) → cond a x (cond b y (cond c z None)) ≡ Some v → (x ≡ Some v)
+    ⊎ (y ≡ Some v) ⊎ (z ≡ Some v)
 of_three true b c x y z v e = inl e
 of_three false true c x y z v e = inr (inl e)
 of_three false false true x y z v e = inr (inr e)
@@ -138,7 +147,8 @@ of_three false false false x y z v e = absurd cc
 
 entity_size : (word : List ℕ) (e : Name) → entity_of word ≡ Some e → length word ≤ 72
 entity_size word e is =
-    elim (of_three (starts_with nat_eq word (prefix_of Order)) (starts_with nat_eq word (prefix_of Stock)) (starts_with nat_eq word (prefix_of Account))
+    elim (of_three (starts_with nat_eq word (prefix_of Order)) (starts_with nat_eq word (prefix_of Stock))
+    (starts_with nat_eq word (prefix_of Account))
     (named order_of (prefix_of Order) word) (named stock_of (prefix_of Stock) word) (named account_of (prefix_of Account) word) e is) [
       | inl order ↦ named_size order_of (prefix_of Order) word e (omega arith) order
       | inr other ↦ elim other [
@@ -160,8 +170,16 @@ placing_size (stock ∷ n ∷ account ∷ amount ∷ []) command e =
     let first = bound (key_of stock) _ command e in
     let second = bound (numeral_value n) _ command first.2 in
     let third = bound (key_of account) _ command second.2 in
-    let fourth = bound (numeral_value amount) _ command third.2 in
-    (omega (arith, key_size stock first.0 first.1, number_size n second.0 second.1, key_size account third.0 third.1, number_size amount fourth.0 fourth.1), omega arith)
+    let fourth = bound (numeral_value amount) _ command third.2 in (
+      omega (
+        arith,
+        key_size stock first.0 first.1,
+        number_size n second.0 second.1,
+        key_size account third.0 third.1,
+        number_size amount fourth.0 fourth.1,
+      ),
+      omega arith,
+    )
 placing_size (a ∷ b ∷ c ∷ d ∷ more ∷ rest) command e = absurd cc
 
 place_size : (words : List (List ℕ)) (event : Event) → place_of words ≡ Some event → AreWithin words 510 6
@@ -185,7 +203,8 @@ cancel_size (seat ∷ key ∷ more ∷ rest) event e = absurd cc
 
 show_size : (words : List (List ℕ)) (event : Event) → show_of words ≡ Some event → AreWithin words 510 6
 show_size [] event e = absurd cc
-show_size (entity ∷ []) event e = let found = mapped _ (entity_of entity) event e in (omega (arith, entity_size entity found.0 found.1), omega arith)
+show_size (entity ∷ []) event e = let found = mapped _ (entity_of entity) event e in
+    (omega (arith, entity_size entity found.0 found.1), omega arith)
 show_size (entity ∷ more ∷ rest) event e = absurd cc
 
 service_size : (words : List (List ℕ)) (service : Service) → the_service words ≡ Some service → AreWithin words 510 6
@@ -196,13 +215,15 @@ service_size (word ∷ []) service e =
 service_size (word ∷ more ∷ rest) service e = absurd cc
 
 -- what the first word and its arguments come to
-with_name : (name text : List ℕ) (arguments : List (List ℕ)) → bytes_eq name text ≡ true → length text ≤ 7 → AreWithin arguments 510 6 → AreWithin (name ∷ arguments) 525 7
+with_name : (name text : List ℕ) (arguments : List (List ℕ)) → bytes_eq name text ≡ true → length text ≤ 7 → AreWithin arguments 510 6
+    → AreWithin (name ∷ arguments) 525 7
 with_name name text arguments named short rest =
     let same : name ≡ text = same_text name text (sym named) in
     (rw same (omega (arith, rest.0)), omega (arith, rest.1))
 
 -- a service is told of what the last arguments show
-of_service : (name text : List ℕ) (make : Service → Event) (arguments : List (List ℕ)) (event : Event) → length text ≤ 7 → bytes_eq name text ≡ true
+of_service : (name text : List ℕ) (make : Service → Event) (arguments : List (List ℕ)) (event : Event) → length text ≤ 7
+    → bytes_eq name text ≡ true
     → option_map make (the_service arguments) ≡ Some event → AreWithin (name ∷ arguments) 525 7
 of_service name text make arguments event short named is =
     let found = mapped make (the_service arguments) event is in
@@ -210,14 +231,23 @@ of_service name text make arguments event short named is =
 
 -- the arguments are those of one of the five names
 by_name : (a b c d e : Bool) (name : List ℕ) (arguments : List (List ℕ)) (it : Event)
-    → bytes_eq name (codes "place") ≡ a → bytes_eq name (codes "cancel") ≡ b → bytes_eq name (codes "show") ≡ c → bytes_eq name (codes "frames") ≡ d → bytes_eq name (codes "journal") ≡ e
-    → cond a (place_of arguments) (cond b (cancel_of arguments) (cond c (show_of arguments) (cond d (option_map event.Frames (the_service arguments)) (cond e (option_map event.Journal (the_service arguments)) None)))) ≡ Some it
+    → bytes_eq name (codes "place") ≡ a → bytes_eq name (codes "cancel") ≡ b → bytes_eq name (codes "show") ≡ c
+    → bytes_eq name (codes "frames") ≡ d → bytes_eq name (codes "journal") ≡ e
+    → cond a (place_of arguments) (cond b (cancel_of arguments)
+    (cond c (show_of arguments)
+    (cond d (option_map event.Frames (the_service arguments)) (cond e (option_map event.Journal (the_service arguments)) None))))
+    ≡ Some it
     → AreWithin (name ∷ arguments) 525 7
-by_name true b c d e name arguments it place cancel show frames journal is = with_name name (codes "place") arguments place (omega arith) (place_size arguments it is)
-by_name false true c d e name arguments it place cancel show frames journal is = with_name name (codes "cancel") arguments cancel (omega arith) (cancel_size arguments it is)
-by_name false false true d e name arguments it place cancel show frames journal is = with_name name (codes "show") arguments show (omega arith) (show_size arguments it is)
-by_name false false false true e name arguments it place cancel show frames journal is = of_service name (codes "frames") event.Frames arguments it (omega arith) frames is
-by_name false false false false true name arguments it place cancel show frames journal is = of_service name (codes "journal") event.Journal arguments it (omega arith) journal is
+by_name true b c d e name arguments it place cancel show frames journal is =
+    with_name name (codes "place") arguments place (omega arith) (place_size arguments it is)
+by_name false true c d e name arguments it place cancel show frames journal is =
+    with_name name (codes "cancel") arguments cancel (omega arith) (cancel_size arguments it is)
+by_name false false true d e name arguments it place cancel show frames journal is =
+    with_name name (codes "show") arguments show (omega arith) (show_size arguments it is)
+by_name false false false true e name arguments it place cancel show frames journal is =
+    of_service name (codes "frames") event.Frames arguments it (omega arith) frames is
+by_name false false false false true name arguments it place cancel show frames journal is =
+    of_service name (codes "journal") event.Journal arguments it (omega arith) journal is
 by_name false false false false false name arguments it place cancel show frames journal is = absurd cc
 
 event_size : (words : List (List ℕ)) (it : Event) → event_of words ≡ Some it → AreWithin words 525 7
@@ -225,7 +255,8 @@ event_size [] it is = absurd cc
 event_size (name ∷ arguments) it is = by_name _ _ _ _ _ name arguments it refl refl refl refl refl is
 
 -- the line of an event has at most so many octets, and so many words
-line_size : (line : List ℕ) (event : Event) → (words_of line >>= event_of) ≡ Some event → (length line ≤ 524) × (length (slice_split (λ o. eqb o 32) line) ≤ 7)
+line_size : (line : List ℕ) (event : Event) → (words_of line >>= event_of) ≡ Some event
+    → (length line ≤ 524) × (length (slice_split (λ o. eqb o 32) line) ≤ 7)
 line_size line event e =
     let words = bound (words_of line) event_of event e in
     let event_is : AreWithin words.0 525 7 = event_size words.0 event words.2 in
@@ -243,9 +274,11 @@ above a b p e = elim (cases_Bool (ltb a b)) [
 ]
 
 -- a line that isn't quiet, with more octets, or with as many spaces as an event may have words, has no event
-pub no_event : (line : List ℕ) → is_quiet line ≡ false → (ltb 524 (length line) || leb 7 (count_by (λ o. eqb o 32) line)) ≡ true → event_in line ≡ None
+pub no_event : (line : List ℕ) → is_quiet line ≡ false → (ltb 524 (length line) || leb 7 (count_by (λ o. eqb o 32) line)) ≡ true
+    → event_in line ≡ None
 no_event line loud long =
-    ap (λ b. cond b (Some None) (option_map Some (words_of line >>= event_of))) loud ∙ ap (option_map Some) (none_of (words_of line >>= event_of) (λ it is.
+    ap (λ b. cond b (Some None) (option_map Some (words_of line >>= event_of))) loud
+    ∙ ap (option_map Some) (none_of (words_of line >>= event_of) (λ it is.
     let fits = line_size line it is in
     elim (above 524 (length line) (leb 7 (count_by (λ o. eqb o 32) line)) long) [
       | inl octets ↦ omega (arith, fits.0, octets)
@@ -253,11 +286,13 @@ no_event line loud long =
     ]))
 
 -- what an event on a line is read from
-event_words : (text quiet : Bool) (found : Option Event) (it : Event) → cond text (cond quiet (Some None) (option_map Some found)) None ≡ Some (Some it) → found ≡ Some it
+event_words : (text quiet : Bool) (found : Option Event) (it : Event)
+    → cond text (cond quiet (Some None) (option_map Some found)) None ≡ Some (Some it) → found ≡ Some it
 event_words true true found it e = absurd cc
 event_words true false None it e = absurd cc
 event_words true false (Some x) it e = cc
 event_words false quiet found it e = absurd cc
 
-pub event_line_size : (line : List ℕ) (it : Event) → event_on line ≡ Some (Some it) → (length line ≤ 524) × (length (slice_split (λ o. eqb o 32) line) ≤ 7)
+pub event_line_size : (line : List ℕ) (it : Event) → event_on line ≡ Some (Some it)
+    → (length line ≤ 524) × (length (slice_split (λ o. eqb o 32) line) ≤ 7)
 event_line_size line it is = line_size line it (event_words (is_utf8 line) (is_quiet line) (words_of line >>= event_of) it is)

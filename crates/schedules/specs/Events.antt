@@ -1,5 +1,6 @@
 -- The events of a schedule, and the first line that is none.
-use Rattle.std.specs.Prelude.{ℕ, ◌+◌, nat_eq, ◌==◌, Bool, List, [], ◌∷◌, codes, drop, length, slice_index, ◌||◌, Option, Some, None, is_none, Result, Ok, Err, if◌then◌else◌}
+use Rattle.std.specs.Prelude.{ℕ, ◌+◌, nat_eq, ◌==◌, Bool, List, [], ◌∷◌, codes, drop, length, slice_index, ◌||◌, Option, Some, None}
+use Rattle.std.specs.Prelude.{is_none, Result, Ok, Err, if◌then◌else◌}
 use Rattle.std.specs.List.{starts_with, list_any, before_first, filter_map}
 use Rattle.std.specs.Option.{option_map, option_flatten}
 use Rattle.std.specs.Str.{is_utf8, bytes_eq}

@@ -24,8 +24,10 @@ pub fn a_printed_word_is_read_again()
 /// its LF. Each text is written so.
 pub fn written_lines_are_read_again()
     ensures ended { (lines : List (List ℕ)) → All (Lacks 10) lines → lines_of (ended lines) ≡ lines }
-    ensures unended { (lines : List (List ℕ)) (last : List ℕ) → All (Lacks 10) lines → Lacks 10 last → 0 < length last → lines_of (ended lines ++ last) ≡ lines ++ last ∷ [] }
-    ensures each { (text : List ℕ) → (lines : List (List ℕ)) × (last : List ℕ) × All (Lacks 10) lines × Lacks 10 last × (text ≡ ended lines ++ last) }
+    ensures unended { (lines : List (List ℕ)) (last : List ℕ) → All (Lacks 10) lines → Lacks 10 last → 0 < length last
+        → lines_of (ended lines ++ last) ≡ lines ++ last ∷ [] }
+    ensures each { (text : List ℕ) → (lines : List (List ℕ)) × (last : List ℕ) × All (Lacks 10) lines × Lacks 10 last
+        × (text ≡ ended lines ++ last) }
 {}
 
 /// The line of an event has at most 524 octets and 7 words.

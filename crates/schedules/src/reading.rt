@@ -1,7 +1,8 @@
 //! Schedules, read from text.
 
 ghost use Rattle.std.specs.Prelude.{◌≡◌, ◌<◌, ◌∷◌, ◌++◌, ◌==◌, ◌||◌, nat_lt, nat_le, length, count_by, position, option_to_list, OnOk};
-ghost use Rattle.schedules.specs.Events.{seat_of, key_of, entity_of, service_of, placing_of, place_of, cancel_of, show_of, the_service, event_of, is_quiet, event_in, event_on};
+ghost use Rattle.schedules.specs.Events.{seat_of, key_of, entity_of, service_of, placing_of, place_of};
+ghost use Rattle.schedules.specs.Events.{cancel_of, show_of, the_service, event_of, is_quiet, event_in, event_on};
 ghost use Rattle.schedules.specs.Numbers.{numeral_value};
 ghost use Rattle.schedules.specs.Lines.{lines_of};
 ghost use Rattle.schedules.specs.Reading.{Reads};
@@ -235,8 +236,8 @@ fn add(events: &mut Vec<Event>, found: Option<Event>) -> Result<(), AllocError>
 
 /// The events of a schedule, in order.
 ///
-/// A schedule is lines of UTF-8, each ended by LF, which the last may lack. Empty lines and lines that begin with `#` have no event, but are
-/// counted.
+/// A schedule is lines of UTF-8, each ended by LF, which the last may lack. Empty lines and lines that begin with `#` have no event,
+/// but are counted.
 ///
 /// # Errors
 /// `BadEvent` with the number of the first line that is no event, counted from 1; else `Memory` where a growth was refused.

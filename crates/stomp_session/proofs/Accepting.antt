@@ -1,20 +1,24 @@
 -- What a session accepts, and what it refuses.
-use Rattle.std.proofs.Common.{◌≡◌, ◌≢◌, ℕ, Bool, true, false, cond, ◌||◌, ◌&&◌, List, [], ◌∷◌, length, codes, Option, Some, None, Ok, Err, refl, sym, ap, arith}
+use Rattle.std.proofs.Common.{◌≡◌, ◌≢◌, ℕ, Bool, true, false, cond, ◌||◌, ◌&&◌, List, [], ◌∷◌, length, codes, Option, Some, None, Ok, Err}
+use Rattle.std.proofs.Common.{refl, sym, ap, arith}
 use Rattle.std.specs.Prelude.{◌==◌, not, nat_lt, unwrap_or}
 use Rattle.std.specs.List.{AllByRecursion, list_any}
 use Rattle.std.specs.Str.{bytes_eq}
 use Rattle.std.proofs.lemmas.Bool.{ltb-false}
 use Rattle.base.specs.declared.limits.TheConstants.{MAX_BODY, MAX_ECHOED, MAX_OWN_HEADERS}
 use Rattle.stomp_frame.specs.declared.command.Command.{Command}
-use Rattle.stomp_frame.specs.declared.command.Command.TheVariants.{Connect, Stomp, Send, Subscribe, Unsubscribe, Ack, Nack, Begin, Commit, Abort, Disconnect, Connected, Message, Receipt, Error}
+use Rattle.stomp_frame.specs.declared.command.Command.TheVariants.{Connect, Stomp, Send, Subscribe, Unsubscribe, Ack, Nack, Begin, Commit}
+use Rattle.stomp_frame.specs.declared.command.Command.TheVariants.{Abort, Disconnect, Connected, Message, Receipt, Error}
 use Rattle.stomp_frame.specs.Frames.{Header, Content, header, has, value_of, IsFrame, IsOwn}
 use Rattle.stomp_frame.proofs.Escapes.{owned_alike}
 use Rattle.stomp_frame.proofs.Scans.{or_left, or_right}
 use Rattle.stomp_session.specs.declared.fault.SessionFault.{SessionFault}
-use Rattle.stomp_session.specs.declared.fault.SessionFault.TheVariants.{NotConnected, AlreadyConnected, Version, MissingHeader, WrongCommand, Memory, TooLarge}
+use Rattle.stomp_session.specs.declared.fault.SessionFault.TheVariants.{NotConnected, AlreadyConnected, Version, MissingHeader}
+use Rattle.stomp_session.specs.declared.fault.SessionFault.TheVariants.{WrongCommand, Memory, TooLarge}
 use Rattle.stomp_session.specs.declared.request.Request.{Request}
 use Rattle.stomp_session.specs.Headers.{echoed, has_long, is_long, text_of, own_headers, is_own, offers_version}
-use Rattle.stomp_session.specs.Requests.{opens, is_server, is_send, lacks, is_large, refusal_of, receipt_in, asked_by, asked, request_unless, request_of, receipt_of}
+use Rattle.stomp_session.specs.Requests.{opens, is_server, is_send, lacks, is_large, refusal_of, receipt_in, asked_by, asked}
+use Rattle.stomp_session.specs.Requests.{request_unless, request_of, receipt_of}
 use Rattle.stomp_session.specs.Replies.{IsEchoed, IsEchoedIfAny, IsCarried, unless_long, receipt_told}
 use Rattle.stomp_session.specs.Fitting.{Fits}
 use Rattle.stomp_session.proofs.Owning.{owned, utf8, all_filter}
@@ -47,7 +51,8 @@ accepted connected f none =
     record { client = client.here; complete = complete.here; small = small.here }
 
 -- a test that finds a fault, which isn't want of memory
-finds : (test : Bool) (fault : SessionFault) (rest : Option SessionFault) → fault ≢ Memory → rest ≢ Some Memory → cond test (Some fault) rest ≢ Some Memory
+finds : (test : Bool) (fault : SessionFault) (rest : Option SessionFault) → fault ≢ Memory → rest ≢ Some Memory
+    → cond test (Some fault) rest ≢ Some Memory
 finds true fault rest other behind = λ e. other (let same : fault ≡ Memory = cc in same)
 finds false fault rest other behind = behind
 
@@ -78,19 +83,23 @@ owned_here c name h hs value true is own behind e =
     rw (sym (same_text h.name name is), sym same) own
 owned_here c name h hs value false is own behind e = behind e
 
-owned_value : (c : Command) (name : List ℕ) (hs : List Header) (value : List ℕ) → AllByRecursion (IsOwn c) hs → value_of name hs ≡ Some value → IsOwn c (header name value)
+owned_value : (c : Command) (name : List ℕ) (hs : List Header) (value : List ℕ) → AllByRecursion (IsOwn c) hs
+    → value_of name hs ≡ Some value → IsOwn c (header name value)
 owned_value c name [] value all e = absurd (let k : None ≡ Some value = e in cc)
-owned_value c name (h ∷ hs) value all e = owned_here c name h hs value (bytes_eq h.name name) refl all.0 (owned_value c name hs value all.1) e
+owned_value c name (h ∷ hs) value all e =
+    owned_here c name h hs value (bytes_eq h.name name) refl all.0 (owned_value c name hs value all.1) e
 
 -- a value that isn't too long is one that can be told
 told_value : (c : Command) (name value : List ℕ) → IsOwn c (header name value) → nat_lt MAX_ECHOED (length value) ≡ false → IsEchoed value
 told_value c name value own short = record {
-  plain = or_right (length name == 0 || has 0 name) (has 0 value) (or_left (length name == 0 || has 0 name || has 0 value) _ own.header.good);
+  plain = or_right (length name == 0 || has 0 name) (has 0 value)
+      (or_left (length name == 0 || has 0 name || has 0 value) _ own.header.good);
   utf8 = own.header.value;
   short = ltb-false _ _ short;
 }
 
-told_if_any : (c : Command) (name : List ℕ) (hs : List Header) (found : Option (List ℕ)) → AllByRecursion (IsOwn c) hs → value_of name hs ≡ found → is_long found ≡ false → IsEchoedIfAny found
+told_if_any : (c : Command) (name : List ℕ) (hs : List Header) (found : Option (List ℕ)) → AllByRecursion (IsOwn c) hs
+    → value_of name hs ≡ found → is_long found ≡ false → IsEchoedIfAny found
 told_if_any c name hs None all e short = tt
 told_if_any c name hs (Some value) all e short = told_value c name value (owned_value c name hs value all e) short
 
@@ -109,10 +118,13 @@ any_told f name is short = told_if_any f.command name f.headers (value_of name f
 text_told : (f : Content) (name : List ℕ) → IsFrame MAX_BODY f → has_long f name ≡ false → IsEchoed (text_of f name)
 text_told f name is short = told_text (value_of name f.headers) (any_told f name is short)
 
-destination_carried : (hs : List Header) (found : Option (List ℕ)) → AllByRecursion (IsOwn Send) hs → value_of (codes "destination") hs ≡ found
+destination_carried : (hs : List Header) (found : Option (List ℕ)) → AllByRecursion (IsOwn Send) hs
+    → value_of (codes "destination") hs ≡ found
     → IsOwn Message (header (codes "destination") (unwrap_or found []))
-destination_carried hs None all e = owned Message (codes "destination") [] (record { good = refl; ascii = refl; own = refl; utf8 = utf8 [] refl; short = omega arith })
-destination_carried hs (Some value) all e = owned_alike Send Message (header (codes "destination") value) refl (owned_value Send (codes "destination") hs value all e)
+destination_carried hs None all e =
+    owned Message (codes "destination") [] (record { good = refl; ascii = refl; own = refl; utf8 = utf8 [] refl; short = omega arith })
+destination_carried hs (Some value) all e =
+    owned_alike Send Message (header (codes "destination") value) refl (owned_value Send (codes "destination") hs value all e)
 
 all_carried : (hs : List Header) → AllByRecursion (IsOwn Send) hs → AllByRecursion (IsOwn Message) hs
 all_carried [] all = tt
@@ -140,7 +152,11 @@ three_short : (a b c more : Bool) → ((a || (b || (c || false))) || more) ≡ f
 three_short a b c more none =
     let all = or_left (a || (b || (c || false))) more none in
     let others = or_right a (b || (c || false)) all in
-    record { first = or_left a (b || (c || false)) all; second = or_left b (c || false) others; third = or_left c false (or_right b (c || false) others) }
+    record {
+      first = or_left a (b || (c || false)) all;
+      second = or_left b (c || false) others;
+      third = or_left c false (or_right b (c || false) others);
+    }
 
 two_short : (a b more : Bool) → ((a || (b || false)) || more) ≡ false → AreShort a b false
 two_short a b more none =
@@ -154,8 +170,11 @@ one_short a more none = or_left a false (or_left (a || false) more none)
 fits_by : (c : Command) (f : Content) → IsFrame MAX_BODY f → f.command ≡ c
     → (list_any (has_long f) (echoed c) || (is_send c && nat_lt MAX_OWN_HEADERS (length (own_headers f)))) ≡ false → Fits (asked_by c f)
 fits_by Send f is e small =
-    let short = two_short (has_long f (codes "receipt")) (has_long f (codes "transaction")) _ small in
-    (carried f is e (or_right (list_any (has_long f) (echoed Send)) _ small), any_told f (codes "transaction") is short.second, any_told f (codes "receipt") is short.first)
+    let short = two_short (has_long f (codes "receipt")) (has_long f (codes "transaction")) _ small in (
+      carried f is e (or_right (list_any (has_long f) (echoed Send)) _ small),
+      any_told f (codes "transaction") is short.second,
+      any_told f (codes "receipt") is short.first,
+    )
 fits_by Subscribe f is e small =
     let short = two_short (has_long f (codes "receipt")) (has_long f (codes "id")) _ small in
     (text_told f (codes "id") is short.second, any_told f (codes "receipt") is short.first)
@@ -185,7 +204,8 @@ record IsAsked (connected : Bool) (f : Content) (request : Request) : Type 0 whe
   accepted : IsAccepted f
   asked : asked f ≡ request
 
-asked_unless : (refusal : Option SessionFault) (f : Content) (request : Request) → request_unless refusal f ≡ Ok request → (refusal ≡ None) × (asked f ≡ request)
+asked_unless : (refusal : Option SessionFault) (f : Content) (request : Request) → request_unless refusal f ≡ Ok request
+    → (refusal ≡ None) × (asked f ≡ request)
 asked_unless None f request e = (refl, cc)
 asked_unless (Some fault) f request e = absurd (let k : Err fault ≡ Ok request = e in cc)
 
@@ -194,14 +214,16 @@ is_asked connected f request e =
     let parts = asked_unless (refusal_of connected f) f request e in
     record { accepted = accepted connected f parts.0; asked = parts.1 }
 
-pub accepted_fits : (connected : Bool) (f : Content) (request : Request) → IsFrame MAX_BODY f → request_of connected f ≡ Ok request → Fits request
+pub accepted_fits : (connected : Bool) (f : Content) (request : Request) → IsFrame MAX_BODY f → request_of connected f ≡ Ok request
+    → Fits request
 accepted_fits connected f request is e =
     let from = is_asked connected f request e in
     rw (sym from.asked) (fits_by f.command f is refl from.accepted.small)
 
 -- ---- receipts
 
-short_told : (c : Command) (hs : List Header) (found : Option (List ℕ)) → AllByRecursion (IsOwn c) hs → value_of (codes "receipt") hs ≡ found → IsEchoedIfAny (unless_long found)
+short_told : (c : Command) (hs : List Header) (found : Option (List ℕ)) → AllByRecursion (IsOwn c) hs
+    → value_of (codes "receipt") hs ≡ found → IsEchoedIfAny (unless_long found)
 short_told c hs None all e = tt
 short_told c hs (Some value) all e = by_length (is_long (Some value)) refl
   where
@@ -224,21 +246,31 @@ receipt_by : (c : Command) (f : Content) → is_server c ≡ false
     → receipt_of (asked_by c f) ≡ cond (opens c) None (unless_long (receipt_in f))
 receipt_by Connect f client small = refl
 receipt_by Stomp f client small = refl
-receipt_by Send f client small = kept (receipt_in f) (two_short (has_long f (codes "receipt")) (has_long f (codes "transaction")) _ small).first
+receipt_by Send f client small =
+    kept (receipt_in f) (two_short (has_long f (codes "receipt")) (has_long f (codes "transaction")) _ small).first
 receipt_by Subscribe f client small = kept (receipt_in f) (two_short (has_long f (codes "receipt")) (has_long f (codes "id")) _ small).first
-receipt_by Unsubscribe f client small = kept (receipt_in f) (two_short (has_long f (codes "receipt")) (has_long f (codes "id")) _ small).first
-receipt_by Ack f client small = kept (receipt_in f) (three_short (has_long f (codes "receipt")) (has_long f (codes "id")) (has_long f (codes "transaction")) _ small).first
-receipt_by Nack f client small = kept (receipt_in f) (three_short (has_long f (codes "receipt")) (has_long f (codes "id")) (has_long f (codes "transaction")) _ small).first
-receipt_by Begin f client small = kept (receipt_in f) (two_short (has_long f (codes "receipt")) (has_long f (codes "transaction")) _ small).first
-receipt_by Commit f client small = kept (receipt_in f) (two_short (has_long f (codes "receipt")) (has_long f (codes "transaction")) _ small).first
-receipt_by Abort f client small = kept (receipt_in f) (two_short (has_long f (codes "receipt")) (has_long f (codes "transaction")) _ small).first
+receipt_by Unsubscribe f client small =
+    kept (receipt_in f) (two_short (has_long f (codes "receipt")) (has_long f (codes "id")) _ small).first
+receipt_by Ack f client small =
+    kept (receipt_in f) (three_short (has_long f (codes "receipt")) (has_long f (codes "id"))
+    (has_long f (codes "transaction")) _ small).first
+receipt_by Nack f client small =
+    kept (receipt_in f) (three_short (has_long f (codes "receipt")) (has_long f (codes "id"))
+    (has_long f (codes "transaction")) _ small).first
+receipt_by Begin f client small =
+    kept (receipt_in f) (two_short (has_long f (codes "receipt")) (has_long f (codes "transaction")) _ small).first
+receipt_by Commit f client small =
+    kept (receipt_in f) (two_short (has_long f (codes "receipt")) (has_long f (codes "transaction")) _ small).first
+receipt_by Abort f client small =
+    kept (receipt_in f) (two_short (has_long f (codes "receipt")) (has_long f (codes "transaction")) _ small).first
 receipt_by Disconnect f client small = kept (receipt_in f) (one_short (has_long f (codes "receipt")) _ small)
 receipt_by Connected f client small = absurd (let k : true ≡ false = client in cc)
 receipt_by Message f client small = absurd (let k : true ≡ false = client in cc)
 receipt_by Receipt f client small = absurd (let k : true ≡ false = client in cc)
 receipt_by Error f client small = absurd (let k : true ≡ false = client in cc)
 
-pub accepted_receipt : (connected : Bool) (f : Content) (request : Request) → request_of connected f ≡ Ok request → receipt_of request ≡ receipt_told f
+pub accepted_receipt : (connected : Bool) (f : Content) (request : Request) → request_of connected f ≡ Ok request
+    → receipt_of request ≡ receipt_told f
 accepted_receipt connected f request e =
     let from = is_asked connected f request e in
     rw (sym from.asked) (receipt_by f.command f from.accepted.client from.accepted.small)

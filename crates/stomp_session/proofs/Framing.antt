@@ -64,7 +64,8 @@ receipts_few : (receipt : Option (List ℕ)) → length (receipt_headers receipt
 receipts_few None = omega arith
 receipts_few (Some receipt) = omega arith
 
-message_owned : (number : ℕ) (name : List ℕ) → IsGiven number → IsEchoed name → IsOwn Error (header (codes "message") (error_message number name))
+message_owned : (number : ℕ) (name : List ℕ) → IsGiven number → IsEchoed name
+    → IsOwn Error (header (codes "message") (error_message number name))
 message_owned number name small named =
     let message = told_message number name small named in
     owned Error (codes "message") (error_message number name) (record {
@@ -90,7 +91,8 @@ error_is_a_frame number name receipt small named echoed =
 
 acks_owned : (ack : Option ℕ) → IsGivenIfAny ack → AllByRecursion (IsOwn Message) (ack_headers ack)
 acks_owned None given = tt
-acks_owned (Some number) given = (echo_owned Message (codes "ack") (decimal number) refl refl refl refl (omega arith) (told_number number given), tt)
+acks_owned (Some number) given =
+    (echo_owned Message (codes "ack") (decimal number) refl refl refl refl (omega arith) (told_number number given), tt)
 
 acks_few : (ack : Option ℕ) → length (ack_headers ack) ≤ 1
 acks_few None = omega arith
@@ -98,7 +100,8 @@ acks_few (Some number) = omega arith
 
 leading_owned : (d : Delivered) → IsTold d → AllByRecursion (IsOwn Message) (leading_headers d)
 leading_owned d told =
-    let number = echo_owned Message (codes "message-id") (decimal d.number) refl refl refl refl (omega arith) (told_number d.number told.number) in
+    let number = echo_owned Message (codes "message-id") (decimal d.number) refl refl refl refl (omega arith)
+    (told_number d.number told.number) in
     let subscription = echo_owned Message (codes "subscription") d.subscription refl refl refl refl (omega arith) told.subscription in
     (told.carried.destination, (number, (subscription, acks_owned d.ack told.ack)))
 

@@ -17,7 +17,8 @@ confirmations_are_written = (refl, refl)
 errors_are_written :
     (canonical (error_frame 23 (codes "Version") None) ≡ codes "ERROR\ncontent-length:0\nversion:1.2\nmessage:23 Version\n\n" ++ 0 ∷ [])
     × (canonical (error_frame 31 (codes "NoSuchAck") None) ≡ codes "ERROR\ncontent-length:0\nmessage:31 NoSuchAck\n\n" ++ 0 ∷ [])
-    × (canonical (error_frame 31 (codes "NoSuchAck") (Some (codes "q"))) ≡ codes "ERROR\ncontent-length:0\nmessage:31 NoSuchAck\nreceipt-id:q\n\n" ++ 0 ∷ [])
+    × (canonical (error_frame 31 (codes "NoSuchAck") (Some (codes "q")))
+    ≡ codes "ERROR\ncontent-length:0\nmessage:31 NoSuchAck\nreceipt-id:q\n\n" ++ 0 ∷ [])
 unfolding canonical line_of escape digits
 errors_are_written = (refl, refl, refl)
 
@@ -29,12 +30,21 @@ receipts_are_told :
 receipts_are_told = (refl, refl, refl)
 
 abbrev greeting : Delivered
-greeting = record { destination = codes "/queue/a"; number = 1; subscription = codes "0"; ack = Some 1; headers = header (codes "k") (codes "v") ∷ []; body = codes "hi" }
+greeting = record {
+  destination = codes "/queue/a";
+  number = 1;
+  subscription = codes "0";
+  ack = Some 1;
+  headers = header (codes "k") (codes "v") ∷ [];
+  body = codes "hi";
+}
 
 -- a MESSAGE: the server's headers, those of the SEND, the body; for the mode `auto` without `ack`
 messages_are_written :
-    (canonical (message_frame greeting) ≡ codes "MESSAGE\ncontent-length:2\ndestination:/queue/a\nmessage-id:1\nsubscription:0\nack:1\nk:v\n\nhi" ++ 0 ∷ [])
-    × (canonical (message_frame (record greeting { ack = None })) ≡ codes "MESSAGE\ncontent-length:2\ndestination:/queue/a\nmessage-id:1\nsubscription:0\nk:v\n\nhi" ++ 0 ∷ [])
+    (canonical (message_frame greeting)
+    ≡ codes "MESSAGE\ncontent-length:2\ndestination:/queue/a\nmessage-id:1\nsubscription:0\nack:1\nk:v\n\nhi" ++ 0 ∷ [])
+    × (canonical (message_frame (record greeting { ack = None }))
+    ≡ codes "MESSAGE\ncontent-length:2\ndestination:/queue/a\nmessage-id:1\nsubscription:0\nk:v\n\nhi" ++ 0 ∷ [])
 unfolding canonical line_of escape digits
 messages_are_written = (refl, refl)
 

@@ -1,10 +1,14 @@
 -- Examples: what frames ask, and the first fault of those that are refused.
 use Rattle.std.proofs.Common.{◌≡◌, ℕ, true, false, List, [], ◌∷◌, ◌++◌, refl}
 use Rattle.std.specs.Prelude.{codes, replicate, Some, None, Ok, Err}
-use Rattle.stomp_frame.specs.declared.command.Command.TheVariants.{Connect, Stomp, Send, Subscribe, Unsubscribe, Ack, Begin, Disconnect, Connected, Message}
+use Rattle.stomp_frame.specs.declared.command.Command.TheVariants.{Connect, Stomp, Send, Subscribe, Unsubscribe, Ack, Begin, Disconnect}
+use Rattle.stomp_frame.specs.declared.command.Command.TheVariants.{Connected, Message}
 use Rattle.stomp_frame.specs.Frames.{Header, Content, header, frame}
-use Rattle.stomp_session.specs.declared.fault.SessionFault.TheVariants.{NotConnected, AlreadyConnected, Version, MissingHeader, WrongCommand, TooLarge}
-use Rattle.stomp_session.specs.declared.request.Request.TheVariants.{Connect as Connecting, Send as Sending, Subscribe as Subscribing, Unsubscribe as Unsubscribing, Ack as Acking, Begin as Beginning, Disconnect as Disconnecting}
+use Rattle.stomp_session.specs.declared.fault.SessionFault.TheVariants.{NotConnected, AlreadyConnected, Version, MissingHeader}
+use Rattle.stomp_session.specs.declared.fault.SessionFault.TheVariants.{WrongCommand, TooLarge}
+use Rattle.stomp_session.specs.declared.request.Request.TheVariants.{Connect as Connecting, Send as Sending, Subscribe as Subscribing}
+use Rattle.stomp_session.specs.declared.request.Request.TheVariants.{Unsubscribe as Unsubscribing, Ack as Acking, Begin as Beginning}
+use Rattle.stomp_session.specs.declared.request.Request.TheVariants.{Disconnect as Disconnecting}
 use Rattle.stomp_session.specs.Headers.{is_own, offers_version}
 use Rattle.stomp_session.specs.Requests.{request_of, Accepts, ack_mode}
 
@@ -31,7 +35,13 @@ a_connect_opens = (refl, refl)
 
 -- a SEND: its destination, its receipt, the header of its own, its body
 a_send_asks : request_of true (frame Send (header (codes "k") (codes "v") ∷ to_a ∷ receipt 1 ∷ []) (codes "hi"))
-    ≡ Ok (Sending (record { destination = codes "/queue/a"; headers = own 1; body = codes "hi"; transaction = None; receipt = Some (codes "x") }))
+    ≡ Ok (Sending (record {
+      destination = codes "/queue/a";
+      headers = own 1;
+      body = codes "hi";
+      transaction = None;
+      receipt = Some (codes "x");
+    }))
 a_send_asks = refl
 
 -- the first of two values counts, in a header that is used; both stand among those of its own
@@ -57,13 +67,16 @@ an_empty_value_is_there = refl
 others_ask :
     (request_of true (frame Ack (header (codes "transaction") (codes "t") ∷ header (codes "id") (codes "01") ∷ []) [])
     ≡ Ok (Acking (record { id = codes "01"; transaction = Some (codes "t"); receipt = None })))
-    × (request_of true (frame Begin (header (codes "transaction") (codes "t") ∷ []) []) ≡ Ok (Beginning (record { transaction = codes "t"; receipt = None })))
+    × (request_of true (frame Begin (header (codes "transaction") (codes "t") ∷ []) [])
+    ≡ Ok (Beginning (record { transaction = codes "t"; receipt = None })))
     × (request_of true (frame Disconnect (receipt 1 ∷ []) []) ≡ Ok (Disconnecting (record { receipt = Some (codes "x") })))
 others_ask = (refl, refl, refl)
 
 -- six names are the server's to use or to set, and no other
-six_names_are_used : (is_own to_a ≡ false) × (is_own (header (codes "message-id") []) ≡ false) × (is_own (header (codes "subscription") []) ≡ false)
-    × (is_own (header (codes "ack") []) ≡ false) × (is_own (header (codes "id") []) ≡ true) × (is_own (header (codes "Destination") []) ≡ true)
+six_names_are_used : (is_own to_a ≡ false) × (is_own (header (codes "message-id") []) ≡ false)
+    × (is_own (header (codes "subscription") []) ≡ false)
+    × (is_own (header (codes "ack") []) ≡ false) × (is_own (header (codes "id") []) ≡ true)
+    × (is_own (header (codes "Destination") []) ≡ true)
 six_names_are_used = (refl, refl, refl, refl, refl, refl)
 
 -- ---- refusals
@@ -77,7 +90,8 @@ a_connect_comes_twice : request_of true opening ≡ Err AlreadyConnected
 a_connect_comes_twice = refl
 
 -- a receipt of 128 octets is taken, one of 129 isn't
-receipts_are_short : (request_of true (frame Disconnect (receipt 128 ∷ []) []) ≡ Ok (Disconnecting (record { receipt = Some (replicate 128 120) })))
+receipts_are_short : (request_of true (frame Disconnect (receipt 128 ∷ []) [])
+    ≡ Ok (Disconnecting (record { receipt = Some (replicate 128 120) })))
     × (request_of true (frame Disconnect (receipt 129 ∷ []) []) ≡ Err TooLarge)
 receipts_are_short = (refl, refl)
 
@@ -90,15 +104,18 @@ own_headers_are_few = (refl, refl)
 
 -- of two faults the one that is tested first is told
 faults_have_an_order :
-    (request_of false (frame Message [] []) ≡ Err WrongCommand) × (request_of true (frame Connected (receipt 129 ∷ []) []) ≡ Err WrongCommand)
+    (request_of false (frame Message [] []) ≡ Err WrongCommand)
+    × (request_of true (frame Connected (receipt 129 ∷ []) []) ≡ Err WrongCommand)
     × (request_of false (frame Send [] []) ≡ Err NotConnected) × (request_of true (frame Connect [] []) ≡ Err AlreadyConnected)
     × (request_of true (frame Send (receipt 129 ∷ []) []) ≡ Err MissingHeader)
     × (request_of false (frame Connect (header (codes "accept-version") (codes "1.0") ∷ []) []) ≡ Err MissingHeader)
-    × (request_of false (frame Stomp (header (codes "accept-version") (codes "1.0") ∷ header (codes "host") [] ∷ receipt 129 ∷ []) []) ≡ Err Version)
+    × (request_of false (frame Stomp (header (codes "accept-version") (codes "1.0") ∷ header (codes "host") [] ∷ receipt 129 ∷ []) [])
+    ≡ Err Version)
 faults_have_an_order = (refl, refl, refl, refl, refl, refl, refl)
 
 -- 1.2 is offered by an item between commas, and by no part of one
-versions_are_items : (offers_version (codes "1.2") ≡ true) × (offers_version (codes "1.0,1.2,") ≡ true) × (offers_version (codes "1.0,1.1") ≡ false)
+versions_are_items : (offers_version (codes "1.2") ≡ true) × (offers_version (codes "1.0,1.2,") ≡ true)
+    × (offers_version (codes "1.0,1.1") ≡ false)
     × (offers_version (codes "1.20") ≡ false) × (offers_version (codes "1.0, 1.2") ≡ false) × (offers_version [] ≡ false)
 versions_are_items = (refl, refl, refl, refl, refl, refl)
 

@@ -1,5 +1,6 @@
 -- What is taken out of a list of headers, and what is left in it.
-use Rattle.std.proofs.Common.{◌≡◌, ℕ, zero, suc, ◌+◌, ◌<◌, ◌≤◌, Bool, true, false, cond, List, [], ◌∷◌, length, get_or, Option, Some, None, refl, ap, ◌∙◌, arith}
+use Rattle.std.proofs.Common.{◌≡◌, ℕ, zero, suc, ◌+◌, ◌<◌, ◌≤◌, Bool, true, false, cond, List, [], ◌∷◌, length, get_or, Option, Some, None}
+use Rattle.std.proofs.Common.{refl, ap, ◌∙◌, arith}
 use Rattle.std.specs.Prelude.{◌||◌, filter, not, nat_lt, is_some, is_none}
 use Rattle.std.specs.List.{position, position_or_len, remove}
 use Rattle.std.specs.Str.{bytes_eq}
@@ -37,7 +38,8 @@ value_at name (h ∷ hs) (suc at) d first = rw (first.before 0 (omega arith)) (v
 rest_at : (name : List ℕ) (hs : List Header) (at : ℕ) (d : Header) → IsFirst name hs at d → without_first name hs ≡ remove hs at
 rest_at name [] at d first = absurd (omega (arith, first.within))
 rest_at name (h ∷ hs) zero d first = rw first.named refl
-rest_at name (h ∷ hs) (suc at) d first = rw (first.before 0 (omega arith)) (ap (λ (rest : List Header). h ∷ rest) (rest_at name hs at d (behind name h hs at d first)))
+rest_at name (h ∷ hs) (suc at) d first =
+    rw (first.before 0 (omega arith)) (ap (λ (rest : List Header). h ∷ rest) (rest_at name hs at d (behind name h hs at d first)))
 
 first_at : (name : List ℕ) (hs : List Header) (at : ℕ) (d : Header) → position (is_named name) hs ≡ Some at → IsFirst name hs at d
 first_at name hs at d found =
@@ -45,10 +47,12 @@ first_at name hs at d found =
     record { within = parts.0; named = parts.1; before = parts.2 }
 
 -- the first header of a name has its first value, and the others are left
-pub taken_value : (name : List ℕ) (hs : List Header) (at : ℕ) (d : Header) → position (is_named name) hs ≡ Some at → value_of name hs ≡ Some (get_or hs at d).value
+pub taken_value : (name : List ℕ) (hs : List Header) (at : ℕ) (d : Header) → position (is_named name) hs ≡ Some at
+    → value_of name hs ≡ Some (get_or hs at d).value
 taken_value name hs at d found = value_at name hs at d (first_at name hs at d found)
 
-pub taken_rest : (name : List ℕ) (hs : List Header) (at : ℕ) (d : Header) → position (is_named name) hs ≡ Some at → without_first name hs ≡ remove hs at
+pub taken_rest : (name : List ℕ) (hs : List Header) (at : ℕ) (d : Header) → position (is_named name) hs ≡ Some at
+    → without_first name hs ≡ remove hs at
 taken_rest name hs at d found = rest_at name hs at d (first_at name hs at d found)
 
 -- ---- a name that no header has
@@ -62,10 +66,11 @@ missing_behind name h hs other missing = record { value = rw other missing.value
 
 missing_in : (name : List ℕ) (hs : List Header) → length hs ≤ position_or_len (is_named name) hs → IsMissing name hs
 missing_in name [] far = record { value = refl; rest = refl }
-missing_in name (h ∷ hs) far = elim (is_named name h) as (λ b. is_named name h ≡ b → length (h ∷ hs) ≤ cond (not b) (1 + position_or_len (is_named name) hs) 0 → IsMissing name (h ∷ hs)) [
-  | true ↦ λ is le. absurd (omega (arith, le))
-  | false ↦ λ is le. missing_behind name h hs is (missing_in name hs (omega (arith, le)))
-] refl far
+missing_in name (h ∷ hs) far = elim (is_named name h) as
+    (λ b. is_named name h ≡ b → length (h ∷ hs) ≤ cond (not b) (1 + position_or_len (is_named name) hs) 0 → IsMissing name (h ∷ hs)) [
+      | true ↦ λ is le. absurd (omega (arith, le))
+      | false ↦ λ is le. missing_behind name h hs is (missing_in name hs (omega (arith, le)))
+    ] refl far
 
 none_before : (b : Bool) (at : ℕ) → cond b (Some at) None ≡ None → b ≡ false
 none_before true at e = absurd (let k : Some at ≡ None = e in cc)
@@ -90,7 +95,8 @@ still_first name other h hs true is apart rest = rw (same_text h.name name is, a
 still_first name other h hs false is apart rest = ap (λ (value : Option (List ℕ)). cond (bytes_eq h.name other) (Some h.value) value) rest
 
 -- the first value of another name
-pub behind_one : (name other : List ℕ) (hs : List Header) → bytes_eq name other ≡ false → value_of other (without_first name hs) ≡ value_of other hs
+pub behind_one : (name other : List ℕ) (hs : List Header) → bytes_eq name other ≡ false
+    → value_of other (without_first name hs) ≡ value_of other hs
 behind_one name other [] apart = refl
 behind_one name other (h ∷ hs) apart = still_first name other h hs (is_named name h) refl apart (behind_one name other hs apart)
 
@@ -98,9 +104,11 @@ pub behind_two : (a b other : List ℕ) (hs : List Header) → bytes_eq a other 
     → value_of other (without_first b (without_first a hs)) ≡ value_of other hs
 behind_two a b other hs first second = behind_one b other (without_first a hs) second ∙ behind_one a other hs first
 
-pub behind_three : (a b c other : List ℕ) (hs : List Header) → bytes_eq a other ≡ false → bytes_eq b other ≡ false → bytes_eq c other ≡ false
+pub behind_three : (a b c other : List ℕ) (hs : List Header) → bytes_eq a other ≡ false → bytes_eq b other ≡ false
+    → bytes_eq c other ≡ false
     → value_of other (without_first c (without_first b (without_first a hs))) ≡ value_of other hs
-behind_three a b c other hs first second third = behind_one c other (without_first b (without_first a hs)) third ∙ behind_two a b other hs first second
+behind_three a b c other hs first second third = behind_one c other (without_first b (without_first a hs)) third
+    ∙ behind_two a b other hs first second
 
 still_own : (name : List ℕ) (h : Header) (hs : List Header) (b : Bool) → is_named name h ≡ b → is_own (header name []) ≡ false
     → filter is_own (without_first name hs) ≡ filter is_own hs
@@ -109,7 +117,8 @@ still_own name h hs true is used rest = let other : is_own h ≡ false = rw (sam
 still_own name h hs false is used rest = ap (λ (own : List Header). cond (is_own h) (h ∷ own) own) rest
 
 -- the headers that MESSAGEs take over, where the name isn't one of theirs
-pub own_behind : (name : List ℕ) (hs : List Header) → is_own (header name []) ≡ false → filter is_own (without_first name hs) ≡ filter is_own hs
+pub own_behind : (name : List ℕ) (hs : List Header) → is_own (header name []) ≡ false
+    → filter is_own (without_first name hs) ≡ filter is_own hs
 own_behind name [] used = refl
 own_behind name (h ∷ hs) used = still_own name h hs (is_named name h) refl used (own_behind name hs used)
 

@@ -1,7 +1,8 @@
 -- The numbers and names of the faults.
 use Rattle.std.specs.Prelude.{ℕ, List, codes}
 use Rattle.stomp_session.specs.declared.fault.SessionFault.{SessionFault}
-use Rattle.stomp_session.specs.declared.fault.SessionFault.TheVariants.{NotConnected, AlreadyConnected, Version, MissingHeader, WrongCommand, Memory, TooLarge}
+use Rattle.stomp_session.specs.declared.fault.SessionFault.TheVariants.{NotConnected, AlreadyConnected, Version, MissingHeader}
+use Rattle.stomp_session.specs.declared.fault.SessionFault.TheVariants.{WrongCommand, Memory, TooLarge}
 
 -- a fault's number
 abbrev pub session_fault_number : SessionFault → ℕ

@@ -1,14 +1,20 @@
 -- What a client frame asks of a server, and why one is refused before anything is done.
-use Rattle.std.specs.Prelude.{◌≡◌, ℕ, Bool, true, false, not, ◌&&◌, ◌||◌, if◌then◌else◌, nat_lt, List, length, codes, Option, Some, None, Result, Ok, Err, unwrap_or}
+use Rattle.std.specs.Prelude.{◌≡◌, ℕ, Bool, true, false, not, ◌&&◌, ◌||◌, if◌then◌else◌, nat_lt, List, length, codes, Option, Some, None}
+use Rattle.std.specs.Prelude.{Result, Ok, Err, unwrap_or}
 use Rattle.std.specs.List.{list_any}
 use Rattle.base.specs.declared.limits.TheConstants.{MAX_OWN_HEADERS}
 use Rattle.stomp_frame.specs.declared.command.Command.{Command}
-use Rattle.stomp_frame.specs.declared.command.Command.TheVariants.{Connect, Stomp, Send, Subscribe, Unsubscribe, Ack, Nack, Begin, Commit, Abort, Disconnect, Connected, Message, Receipt, Error}
+use Rattle.stomp_frame.specs.declared.command.Command.TheVariants.{Connect, Stomp, Send, Subscribe, Unsubscribe, Ack, Nack, Begin, Commit}
+use Rattle.stomp_frame.specs.declared.command.Command.TheVariants.{Abort, Disconnect, Connected, Message, Receipt, Error}
 use Rattle.stomp_frame.specs.Frames.{Content, value_of}
 use Rattle.stomp_session.specs.declared.fault.SessionFault.{SessionFault}
-use Rattle.stomp_session.specs.declared.fault.SessionFault.TheVariants.{NotConnected, AlreadyConnected, Version, MissingHeader, WrongCommand, TooLarge}
+use Rattle.stomp_session.specs.declared.fault.SessionFault.TheVariants.{NotConnected, AlreadyConnected, Version, MissingHeader}
+use Rattle.stomp_session.specs.declared.fault.SessionFault.TheVariants.{WrongCommand, TooLarge}
 use Rattle.stomp_session.specs.declared.request.Request.{Request}
-use Rattle.stomp_session.specs.declared.request.Request.TheVariants.{Connect as Connecting, Send as Sending, Subscribe as Subscribing, Unsubscribe as Unsubscribing, Ack as Acking, Nack as Nacking, Begin as Beginning, Commit as Committing, Abort as Aborting, Disconnect as Disconnecting}
+use Rattle.stomp_session.specs.declared.request.Request.TheVariants.{Connect as Connecting, Send as Sending, Subscribe as Subscribing}
+use Rattle.stomp_session.specs.declared.request.Request.TheVariants.{Unsubscribe as Unsubscribing, Ack as Acking, Nack as Nacking}
+use Rattle.stomp_session.specs.declared.request.Request.TheVariants.{Begin as Beginning, Commit as Committing, Abort as Aborting}
+use Rattle.stomp_session.specs.declared.request.Request.TheVariants.{Disconnect as Disconnecting}
 use Rattle.stomp_session.specs.declared.request.Acknowledge.{Acknowledge}
 use Rattle.stomp_session.specs.declared.request.Demarcate.{Demarcate}
 use Rattle.stomp_session.specs.declared.session.Refused.{Refused}

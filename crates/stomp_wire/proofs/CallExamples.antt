@@ -38,8 +38,10 @@ a_put_is_never_cut : Put (link [] [] 0) (codes "abc") (Err Cut) (link [] [] 1) �
 a_put_is_never_cut cut = let same : Cut ≡ Device = cut.0 in cc
 
 -- a take of at most two leaves the rest; at the end of the input it's cut, and that is counted; where memory is refused nothing changes
-a_take_reads_the_front : (Take (link (codes "abc") [] 4) 2 (Ok (codes "ab")) (link (codes "c") [] 4)) × (Take (link [] [] 4) 2 (Err Cut) (link [] [] 5))
-    × (Take (link (codes "abc") [] 4) 2 (Err Device) (link (codes "abc") [] 5)) × (Take (link (codes "abc") [] 4) 2 (Err Memory) (link (codes "abc") [] 4))
+a_take_reads_the_front : (Take (link (codes "abc") [] 4) 2 (Ok (codes "ab")) (link (codes "c") [] 4))
+    × (Take (link [] [] 4) 2 (Err Cut) (link [] [] 5))
+    × (Take (link (codes "abc") [] 4) 2 (Err Device) (link (codes "abc") [] 5))
+    × (Take (link (codes "abc") [] 4) 2 (Err Memory) (link (codes "abc") [] 4))
 a_take_reads_the_front = ((omega arith, refl, refl, refl), (refl, refl, refl, refl), (refl, refl, refl), refl)
 
 -- nothing is cut while there are octets to read
@@ -47,7 +49,8 @@ no_cut_before_the_end : Take (link (codes "abc") [] 4) 2 (Err Cut) (link (codes 
 no_cut_before_the_end cut = let gone : codes "abc" ≡ [] = cut.1 in cc
 
 -- what a take says is the octets that the list grew by
-answers_have_the_octets : (answer_of (codes "x") (codes "xab") (Ok 2) ≡ Ok (codes "ab")) × (answer_of (codes "x") (codes "x") (Err Cut) ≡ Err Cut)
+answers_have_the_octets : (answer_of (codes "x") (codes "xab") (Ok 2) ≡ Ok (codes "ab"))
+    × (answer_of (codes "x") (codes "x") (Err Cut) ≡ Err Cut)
 answers_have_the_octets = (refl, refl)
 
 -- ---- a pump
@@ -58,11 +61,13 @@ Pumps gone after = IsPumped Put (codes "abc") (link [] [] 0) 0 after gone
 
 -- a put of all three took two of them
 two_are_out : Puts Put (codes "abc") (link [] [] 0) 0 (link [] (codes "ab") 0) 2
-two_are_out = one_more {before = link [] [] 0} {after = link [] (codes "ab") 0} {count = 0} {n = 2} no_put ((omega arith, refl), refl, refl) (omega arith)
+two_are_out = one_more {before = link [] [] 0} {after = link [] (codes "ab") 0} {count = 0} {n = 2} no_put ((omega arith, refl), refl, refl)
+    (omega arith)
 
 -- and a put of the third took that
 three_are_out : Puts Put (codes "abc") (link [] [] 0) 0 (link [] (codes "abc") 0) 3
-three_are_out = one_more {before = link [] (codes "ab") 0} {after = link [] (codes "abc") 0} {count = 2} {n = 1} two_are_out ((omega arith, refl), refl, refl) (omega arith)
+three_are_out = one_more {before = link [] (codes "ab") 0} {after = link [] (codes "abc") 0} {count = 2} {n = 1} two_are_out
+    ((omega arith, refl), refl, refl) (omega arith)
 
 -- then all are out, and it ends without another put
 a_pump_ends_when_all_are_out : Pumps (record { count = 3; fault = None }) (link [] (codes "abc") 0)
@@ -70,7 +75,11 @@ a_pump_ends_when_all_are_out = record { last = link [] (codes "abc") 0; puts = t
 
 -- or it ends with two out, where the put of the third takes none
 a_pump_ends_at_a_put_of_none : Pumps (record { count = 2; fault = None }) (link [] (codes "ab") 0)
-a_pump_ends_at_a_put_of_none = record { last = link [] (codes "ab") 0; puts = two_are_out; ends = inr (omega arith, ((omega arith, refl), refl, refl)) }
+a_pump_ends_at_a_put_of_none = record {
+  last = link [] (codes "ab") 0;
+  puts = two_are_out;
+  ends = inr (omega arith, ((omega arith, refl), refl, refl));
+}
 
 -- or where that put fails, which is counted
 a_pump_ends_at_a_fault : Pumps (record { count = 2; fault = Some Device }) (link [] (codes "ab") 1)
@@ -88,7 +97,8 @@ pumps_are_counted : (IsPumpCounted 4 4 None) × (IsPumpCounted 4 4 (Some Memory)
 pumps_are_counted = (refl, refl, (omega arith, omega arith))
 
 -- the faults' names
-faults_are_named : (link_fault_name Cut ≡ codes "Cut") × (link_fault_name Device ≡ codes "Device") × (link_fault_name Memory ≡ codes "Memory")
+faults_are_named : (link_fault_name Cut ≡ codes "Cut") × (link_fault_name Device ≡ codes "Device")
+    × (link_fault_name Memory ≡ codes "Memory")
 faults_are_named = (refl, refl, refl)
 
 -- ---- a wire
@@ -104,7 +114,11 @@ ways_have_ends = (refl, refl, refl, refl)
 
 -- so on the way down `ok` was put and nothing was taken, and on the way up nothing was put
 ways_are_apart : (TravelsOn Down (codes "ok") [] answering) × (TravelsOn Up [] [] answering)
-ways_are_apart = (puts {put = []} {taken = []} {waiting = Some []} {later = Some (codes "ok")} {carried = Some []} (codes "ok") (Ok 2) begins (omega arith, refl), begins)
+ways_are_apart = (
+  puts {put = []} {taken = []} {waiting = Some []} {later = Some (codes "ok")} {carried = Some []} (codes "ok")
+      (Ok 2) begins (omega arith, refl),
+  begins,
+)
 
 -- of what was put, the first was taken, the next was carried and the last waits; none may be lost on the way
 nothing_is_lost : (IsKept (codes "abc") (codes "a") (Some (codes "c")) (Some (codes "b")))

@@ -27,7 +27,8 @@ no_memory_moves_nothing : IsCarried 3 (queues (codes "ab") []) (queues [] []) (q
 no_memory_moves_nothing = (refl, refl, refl)
 
 -- a cut is counted, want of memory isn't, and the count stays at 2^64 - 1
-failures_are_counted : (IsCounted {T = ℕ} 4 5 (Err Cut)) × (IsCounted {T = ℕ} 4 4 (Err Memory)) × (next_count 4 ≡ 5) × (next_count (2 ^ 64 - 1) ≡ 2 ^ 64 - 1)
+failures_are_counted : (IsCounted {T = ℕ} 4 5 (Err Cut)) × (IsCounted {T = ℕ} 4 4 (Err Memory)) × (next_count 4 ≡ 5)
+    × (next_count (2 ^ 64 - 1) ≡ 2 ^ 64 - 1)
 failures_are_counted = ((omega arith, omega arith), refl, refl, refl)
 
 -- nothing read is the end of the input, but nothing written is none
@@ -44,12 +45,15 @@ counts_follow_answers = (refl, refl, refl)
 
 -- of three octets that were put, two were carried and one of them was taken
 three_are_put : Travels (codes "abc") [] (Some (codes "abc")) (Some [])
-three_are_put = puts {put = []} {taken = []} {waiting = Some []} {later = Some (codes "abc")} {carried = Some []} (codes "abc") (Ok 3) begins (omega arith, refl)
+three_are_put = puts {put = []} {taken = []} {waiting = Some []} {later = Some (codes "abc")} {carried = Some []} (codes "abc")
+    (Ok 3) begins (omega arith, refl)
 
 two_are_carried : Travels (codes "abc") [] (Some (codes "c")) (Some (codes "ab"))
-two_are_carried = carries {put = codes "abc"} {taken = []} {waiting = Some (codes "abc")} {later = Some (codes "c")} {carried = Some []} {arrived = Some (codes "ab")}
+two_are_carried = carries {put = codes "abc"} {taken = []} {waiting = Some (codes "abc")} {later = Some (codes "c")} {carried = Some []}
+    {arrived = Some (codes "ab")}
     (codes "ab") three_are_put refl refl
 
 one_is_taken : Travels (codes "abc") (codes "a") (Some (codes "c")) (Some (codes "b"))
-one_is_taken = takes {put = codes "abc"} {taken = []} {waiting = Some (codes "c")} {carried = Some (codes "ab")} {later = Some (codes "b")} 1 [] (codes "a") (Ok 1) two_are_carried
+one_is_taken = takes {put = codes "abc"} {taken = []} {waiting = Some (codes "c")} {carried = Some (codes "ab")} {later = Some (codes "b")}
+    1 [] (codes "a") (Ok 1) two_are_carried
     (refl, refl, omega arith, refl)

@@ -1,5 +1,6 @@
 -- What is known of a link's octets, over several calls.
-use Rattle.std.proofs.Common.{◌≡◌, ℕ, zero, suc, ◌+◌, ◌-◌, ◌≤◌, List, [], ◌∷◌, ◌++◌, length, take, drop, Option, Some, None, refl, sym, ap, ◌∙◌, append_assoc, arith, rules}
+use Rattle.std.proofs.Common.{◌≡◌, ℕ, zero, suc, ◌+◌, ◌-◌, ◌≤◌, List, [], ◌∷◌, ◌++◌, length, take, drop, Option, Some, None, refl, sym, ap}
+use Rattle.std.proofs.Common.{◌∙◌, append_assoc, arith, rules}
 use Rattle.std.proofs.lemmas.Grind.{common_steps}
 use Rattle.std.specs.Io.KnownBytes.{Appends, Keeps}
 
@@ -18,14 +19,16 @@ pub Appends-none : (known : Option (List ℕ)) → Appends known known []
 Appends-none None = tt
 Appends-none (Some xs) = search rules
 
-pub Appends-kept : (first second third : Option (List ℕ)) (more : List ℕ) → Appends first second more → Keeps second third → Appends first third more
+pub Appends-kept : (first second third : Option (List ℕ)) (more : List ℕ) → Appends first second more → Keeps second third
+    → Appends first third more
 Appends-kept None second third more put kept = tt
 Appends-kept (Some xs) None third more put kept = absurd put
 Appends-kept (Some xs) (Some ys) None more put kept = kept
 Appends-kept (Some xs) (Some ys) (Some zs) more put kept = kept ∙ put
 
 -- octets that were added one list after the other were added as one list
-pub Appends-twice : (first second third : Option (List ℕ)) (more rest whole : List ℕ) → whole ≡ more ++ rest → Appends first second more → Appends second third rest → Appends first third whole
+pub Appends-twice : (first second third : Option (List ℕ)) (more rest whole : List ℕ) → whole ≡ more ++ rest → Appends first second more
+    → Appends second third rest → Appends first third whole
 Appends-twice None second third more rest whole is put again = tt
 Appends-twice (Some xs) None third more rest whole is put again = absurd put
 Appends-twice (Some xs) (Some ys) None more rest whole is put again = again
@@ -33,7 +36,8 @@ Appends-twice (Some xs) (Some ys) (Some zs) more rest whole is put again =
     again ∙ ap (λ (t : List ℕ). t ++ rest) put ∙ append_assoc xs more rest ∙ ap (λ (t : List ℕ). xs ++ t) (sym is)
 
 -- no octets were added after those
-pub Appends-then_none : (n : ℕ) (none : n ≡ 0) (octets more : List ℕ) (first second third : Option (List ℕ)) → Appends first second more → Appends second third (take n octets) → Appends first third more
+pub Appends-then_none : (n : ℕ) (none : n ≡ 0) (octets more : List ℕ) (first second third : Option (List ℕ)) → Appends first second more
+    → Appends second third (take n octets) → Appends first third more
 Appends-then_none n none octets more first second third put again =
     let same : more ≡ more ++ take n octets = rw none (grind (arith, common_steps)) in
     Appends-twice first second third more (take n octets) more same put again
@@ -46,7 +50,8 @@ take-rest n xs = grind (arith, common_steps)
 pub take-more : {X : Type 0} (n m : ℕ) (xs : List X) → take (n + m) xs ≡ take n xs ++ take m (drop n xs)
 take-more n m [] = grind (arith, common_steps)
 take-more zero m (x ∷ xs) = grind (arith, common_steps)
-take-more (suc n) m (x ∷ xs) = let one_less : suc n + m ≡ suc (n + m) = omega arith in rw one_less (ap (λ rest. x ∷ rest) (take-more n m xs))
+take-more (suc n) m (x ∷ xs) = let one_less : suc n + m ≡ suc (n + m) = omega arith in
+    rw one_less (ap (λ rest. x ∷ rest) (take-more n m xs))
 
 -- what is left after some, and then some more, is what is left after all of them
 pub drop-more : {X : Type 0} (n m : ℕ) (xs : List X) → drop m (drop n xs) ≡ drop (n + m) xs
@@ -61,9 +66,11 @@ module _ (gone count : ℕ) (least : gone ≤ count) (octets : List ℕ) where
   Appends-more some first second third put again =
       let sum : count + some - gone ≡ (count - gone) + some = omega (arith, least) in
       let whole : gone + (count - gone) ≡ count = omega (arith, least) in
-      let left : drop (count - gone) (drop gone octets) ≡ drop count octets = drop-more gone (count - gone) octets ∙ ap (λ n. drop n octets) whole in
+      let left : drop (count - gone) (drop gone octets) ≡ drop count octets = drop-more gone (count - gone) octets
+      ∙ ap (λ n. drop n octets) whole in
       let parts : take (count + some - gone) (drop gone octets) ≡ take (count - gone) (drop gone octets) ++ take some (drop count octets) =
-      ap (λ n. take n (drop gone octets)) sum ∙ take-more (count - gone) some (drop gone octets) ∙ ap (λ rest. take (count - gone) (drop gone octets) ++ take some rest) left in
+      ap (λ n. take n (drop gone octets)) sum ∙ take-more (count - gone) some (drop gone octets)
+      ∙ ap (λ rest. take (count - gone) (drop gone octets) ++ take some rest) left in
       Appends-twice first second third _ _ _ parts put again
 
   -- from the first octet to `gone`, and from there to `count`

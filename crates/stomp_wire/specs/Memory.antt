@@ -21,5 +21,6 @@ QueueTakes old most (Err fault) new = (fault ≡ Memory) × (new ≡ old)
 -- a carry moves the lesser of `most` and what waits, from the front of what waits to the end of what was carried to the other end
 abbrev pub IsCarried : ℕ → (from to : Queues) → (from' to' : Queues) → Result ℕ LinkFault → Type 0
 IsCarried most from to from' to' (Ok n) =
-    (n ≡ min most (length from.waiting)) × (from' ≡ record from { waiting = drop n from.waiting }) × (to' ≡ record to { carried = to.carried ++ take n from.waiting })
+    (n ≡ min most (length from.waiting)) × (from' ≡ record from { waiting = drop n from.waiting })
+    × (to' ≡ record to { carried = to.carried ++ take n from.waiting })
 IsCarried most from to from' to' (Err fault) = (fault ≡ Memory) × (from' ≡ from) × (to' ≡ to)

@@ -20,7 +20,8 @@ pub data Travels : (put taken : List ℕ) → (waiting carried : Option (List �
   carries : {put taken : List ℕ} {waiting later carried arrived : Option (List ℕ)} (moved : List ℕ)
       → Travels put taken waiting carried → Consumes waiting later moved → Appends carried arrived moved → Travels put taken later arrived
   takes : {put taken : List ℕ} {waiting carried later : Option (List ℕ)} (most : ℕ) (before after : List ℕ) (answer : Result ℕ LinkFault)
-      → Travels put taken waiting carried → IsTake most before after carried later answer → Travels put (taken ++ came before after) waiting later
+      → Travels put taken waiting carried → IsTake most before after carried later answer
+      → Travels put (taken ++ came before after) waiting later
 
 -- all that was put is what was taken, then what was carried, then what waits
 abbrev pub IsKept : (put taken : List ℕ) → (waiting carried : Option (List ℕ)) → Type 0

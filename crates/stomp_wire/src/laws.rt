@@ -10,6 +10,8 @@ ghost use Rattle.stomp_wire.specs.Travel.{Travels, IsKept};
 /// It speaks of the octets that any two links know, and uses only what [`Link`](crate::Link) promises of each put and
 /// each take, and that a carry takes octets from the front and adds them at the end.
 pub fn what_is_taken_begins_what_was_put()
-    ensures kept { (put taken : List ℕ) (waiting carried : Option (List ℕ)) → Travels put taken waiting carried → IsKept put taken waiting carried }
-    ensures beginning { (put taken : List ℕ) (waiting carried : Option (List ℕ)) → Travels put taken waiting carried → StartsWith put taken }
+    ensures kept { (put taken : List ℕ) (waiting carried : Option (List ℕ)) → Travels put taken waiting carried
+        → IsKept put taken waiting carried }
+    ensures beginning { (put taken : List ℕ) (waiting carried : Option (List ℕ)) → Travels put taken waiting carried
+        → StartsWith put taken }
 {}

@@ -44,7 +44,8 @@ impl MemoryWire {
     ///
     /// By `travels` it is a step of [`what_is_taken_begins_what_was_put`](crate::what_is_taken_begins_what_was_put).
     pub fn carry(&mut self, way: Way, most: usize) -> Result<usize, LinkFault>
-        ensures carried { IsCarried most (start_of way self.old) (end_of way self.old) (start_of way self.new) (end_of way self.new) result }
+        ensures carried { IsCarried most (start_of way self.old) (end_of way self.old) (start_of way self.new)
+            (end_of way self.new) result }
         ensures travels { (put taken : List ℕ) → TravelsOn way put taken self.old → TravelsOn way put taken self.new }
     {
         match way {

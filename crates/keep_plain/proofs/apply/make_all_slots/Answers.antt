@@ -18,9 +18,9 @@ loop-change-preserved g c =
       journal = c.make_slots.ensures.journal ∙ c.loop-change.invariant.journal;
       ready = subst (AllByRecursion (IsReady c.make_slots.new.maps))
           (sym (take_more changes c.loop-change.change-index change c.loop-change-test.true
-              ∙ ap (λ x. take c.loop-change.change-index changes ++ x ∷ []) (sym c.change-item.is)))
+          ∙ ap (λ x. take c.loop-change.change-index changes ++ x ∷ []) (sym c.change-item.is)))
           (all_more c.make_slots.new.maps (take c.loop-change.change-index changes) change
           (all_kept c.loop-change.maps c.make_slots.new.maps c.make_slots.ensures.keeps
-              (take c.loop-change.change-index changes) c.loop-change.invariant.ready)
+          (take c.loop-change.change-index changes) c.loop-change.invariant.ready)
           c.in_ok-make_slots.ensures.ready);
     }

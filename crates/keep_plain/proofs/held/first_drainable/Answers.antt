@@ -14,7 +14,7 @@ returns-then-is_next c =
     let next = and_from _ _ (sym c.is_some.ensures ∙ c.if-is_some.true) (sym c.is_next.ensures ∙ c.if-is_next.true) in
     let found : first_next handled c.args.held.now.entries ≡ Some c.in_ok-copy.field-0 =
     sym (ap (first_next handled) gives.0) ∙ sym c.loop-place.invariant ∙ ap (first_next handled) c.in-Some.ensures.steps
-        ∙ cond-true _ _ _ next ∙ ap Some (sym c.in_ok-copy.ensures) in
+    ∙ cond-true _ _ _ next ∙ ap Some (sym c.in_ok-copy.ensures) in
     subst (IsDrainable (next_held (messages_in c.args.held.now) handled)) found (first_drains c.args.held.now gives.5 handled)
 
 pub returns : goal.returns

@@ -23,9 +23,9 @@ loop-number-preserved c =
       empties = emptied_more c.args.place.now.pair c.in-Some.number c.loop-number.place.number c.args.place.now.number c.args.outbox.now
           c.loop-number.outbox c.empty_slot-in-Some.new.map
           inv.empties last.0 inv.fits (subst
-              (λ p. NoneBetween c.loop-number.outbox p (λ k. c.in-Some.number < k) c.loop-number.place.number) inv.pair last.1)
+          (λ p. NoneBetween c.loop-number.outbox p (λ k. c.in-Some.number < k) c.loop-number.place.number) inv.pair last.1)
           (subst (λ (p : Pair). SetsAt place_cmp (record { pair = p; number = c.in-Some.number }) None c.loop-number.outbox
-              c.empty_slot-in-Some.new.map) inv.pair c.empty_slot-in-Some.ensures.sets);
+          c.empty_slot-in-Some.new.map) inv.pair c.empty_slot-in-Some.ensures.sets);
       keeps = λ q h. c.empty_slot-in-Some.ensures.keeps q (inv.keeps q h);
       pair = inv.pair;
       fits = let under = last.0 in let within = inv.fits in omega (arith, under, within);

@@ -14,7 +14,8 @@ pub returns-clause-takes : goal.returns-clause-takes
 returns-clause-takes g c = λ taken.
     let shape = ap app_of_fields c.after_help-command.ensures ∙ ap app_of_fields c.override_usage.ensures ∙ ap app_of_fields c.about.ensures
     ∙ ap app_of_fields c.version.ensures in
-    c.in-Err.ensures.passes (subst (λ (app : App). takes app (map g.S.AsStr.text c.args.words.now) ≡ true) (sym (shape ∙ ap with_version c.new.ensures.app)) taken)
+    c.in-Err.ensures.passes (subst (λ (app : App). takes app (map g.S.AsStr.text c.args.words.now) ≡ true)
+    (sym (shape ∙ ap with_version c.new.ensures.app)) taken)
 
 pub returns-clause-fails : goal.returns-clause-fails
 returns-clause-fails g c =

@@ -12,6 +12,7 @@ returns-clause-shown c = λ sound.
     let first = c.in_ok-letters.ensures.answer refl (all_match (tables_of c.args.purchasing.now) sound) in (
       ap (λ (t : OrderTables). t.journal) (c.in_ok-letters.ensures.read.clean refl).1,
       c.in_ok-letters.letters.items,
-      subst (λ (marks : Pair → ℕ). AreFirst (unsettled_of order_reactions (tables_of c.args.purchasing.now).journal marks) None (2 ^ 64 - 1) c.in_ok-letters.letters.items) sound.unsettled first,
+      subst (λ (marks : Pair → ℕ). AreFirst (unsettled_of order_reactions (tables_of c.args.purchasing.now).journal marks) None
+          (2 ^ 64 - 1) c.in_ok-letters.letters.items) sound.unsettled first,
       c.in_ok-push_frames.ensures ∙ rw (c.new-lines.ensures.items, c.as_slice.ensures.value) refl,
     )

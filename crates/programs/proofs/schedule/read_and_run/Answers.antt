@@ -5,9 +5,11 @@ use Rattle.programs.proofs.schedule.read_and_run.Goals as goal
 pub returns-in_err-text : goal.returns-in_err-text
 returns-in_err-text g c =
     let p = err_from_is_err_and c.from_residual.result c.from_residual.ensures.1 in
-    rw (p.1, p.2) (from_nothing (g.R.Read.remaining c.args.input.now) (g.W.Write.contents c.args.out.now) c.in_err-text.field-0.0 c.in_err-text.ensures)
+    rw (p.1, p.2) (from_nothing (g.R.Read.remaining c.args.input.now) (g.W.Write.contents c.args.out.now) c.in_err-text.field-0.0
+    c.in_err-text.ensures)
 
 pub returns : goal.returns
 returns g c =
     let told = rw c.as_slice.ensures.value at c.run_text.ensures in
-    from_text (g.R.Read.remaining c.args.input.now) c.in_ok-text.text.items (g.W.Write.contents c.args.out.now) (g.W.Write.contents c.run_text.new.out) c.run_text.result c.in_ok-text.ensures told
+    from_text (g.R.Read.remaining c.args.input.now) c.in_ok-text.text.items (g.W.Write.contents c.args.out.now)
+    (g.W.Write.contents c.run_text.new.out) c.run_text.result c.in_ok-text.ensures told

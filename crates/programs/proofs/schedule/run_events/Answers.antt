@@ -14,11 +14,15 @@ loop-event-preserved g c =
       sound = c.run_event-outcome.ensures.sound c.loop-event.invariant.sound;
       told = (
         told.0 ++ line,
-        appends_then (g.W.Write.contents c.args.out.now) (g.W.Write.contents c.loop-event.out) (g.W.Write.contents c.write_outcome.new.out) told.0 line told.1 c.in_ok-write_outcome.ensures.ok,
+        appends_then (g.W.Write.contents c.args.out.now) (g.W.Write.contents c.loop-event.out)
+            (g.W.Write.contents c.write_outcome.new.out) told.0 line told.1 c.in_ok-write_outcome.ensures.ok,
         λ (rest : List ℕ) (after : Orders) run.
-            subst (λ (t : List ℕ). IsRun c.args.events.now (tables_of c.args.purchasing.now).journal t after) (sym (append_assoc told.0 line rest))
-            (told.2 (line ++ rest) after (run_step c.args.events.now c.loop-event.event-index c.event-item.result c.run_event-outcome.result (tables_of c.loop-event.purchasing).journal
-            (tables_of c.run_event-outcome.new.purchasing).journal rest after c.loop-event-test.true c.event-item.is (c.run_event-outcome.ensures.tells c.loop-event.invariant.sound) run)),
+            subst (λ (t : List ℕ). IsRun c.args.events.now (tables_of c.args.purchasing.now).journal t after)
+            (sym (append_assoc told.0 line rest))
+            (told.2 (line ++ rest) after (run_step c.args.events.now c.loop-event.event-index c.event-item.result c.run_event-outcome.result
+            (tables_of c.loop-event.purchasing).journal
+            (tables_of c.run_event-outcome.new.purchasing).journal rest after c.loop-event-test.true c.event-item.is
+            (c.run_event-outcome.ensures.tells c.loop-event.invariant.sound) run)),
       );
     }
 
@@ -32,10 +36,15 @@ returns-in_err-write_outcome-clause-err g c =
     on_err_always c.from_residual.result (
       told.0 ++ (line ++ behind.0),
       behind.1,
-      told.2 (line ++ behind.0) behind.1 (run_step c.args.events.now c.loop-event.event-index c.event-item.result c.run_event-outcome.result (tables_of c.loop-event.purchasing).journal
-          between behind.0 behind.1 c.loop-event-test.true c.event-item.is (c.run_event-outcome.ensures.tells c.loop-event.invariant.sound) behind.2),
-      part_then (g.W.Write.contents c.args.out.now) (g.W.Write.contents c.loop-event.out) (g.W.Write.contents c.write_outcome.new.out) told.0 (line ++ behind.0) told.1
-          (part_first (g.W.Write.contents c.loop-event.out) (g.W.Write.contents c.write_outcome.new.out) line behind.0 c.in_err-write_outcome.ensures.err),
+      told.2 (line ++ behind.0) behind.1
+          (run_step c.args.events.now c.loop-event.event-index c.event-item.result c.run_event-outcome.result
+          (tables_of c.loop-event.purchasing).journal
+          between behind.0 behind.1 c.loop-event-test.true c.event-item.is (c.run_event-outcome.ensures.tells c.loop-event.invariant.sound)
+          behind.2),
+      part_then (g.W.Write.contents c.args.out.now) (g.W.Write.contents c.loop-event.out)
+          (g.W.Write.contents c.write_outcome.new.out) told.0 (line ++ behind.0) told.1
+          (part_first (g.W.Write.contents c.loop-event.out) (g.W.Write.contents c.write_outcome.new.out) line behind.0
+          c.in_err-write_outcome.ensures.err),
     )
 
 pub returns-clause-ok : goal.returns-clause-ok
@@ -44,7 +53,8 @@ returns-clause-ok g c =
     let journal = (tables_of c.loop-event.purchasing).journal in
     on_ok_always c.flush.result (
       told.0,
-      appends_keeps (g.W.Write.contents c.args.out.now) (g.W.Write.contents c.loop-event.out) (g.W.Write.contents c.flush.new.self) told.0 told.1 c.flush.ensures.bytes,
+      appends_keeps (g.W.Write.contents c.args.out.now) (g.W.Write.contents c.loop-event.out)
+          (g.W.Write.contents c.flush.new.self) told.0 told.1 c.flush.ensures.bytes,
       subst (λ (t : List ℕ). IsRun c.args.events.now (tables_of c.args.purchasing.now).journal t journal) (append-nil told.0)
           (told.2 [] journal (run_end c.args.events.now c.loop-event.event-index journal c.loop-event-test.false)),
     )
@@ -59,5 +69,6 @@ returns-clause-err g c =
       subst (λ (t : List ℕ). IsRun c.args.events.now (tables_of c.args.purchasing.now).journal t journal) (append-nil told.0)
           (told.2 [] journal (run_end c.args.events.now c.loop-event.event-index journal c.loop-event-test.false)),
       part_whole (g.W.Write.contents c.args.out.now) (g.W.Write.contents c.flush.new.self) told.0
-          (appends_keeps (g.W.Write.contents c.args.out.now) (g.W.Write.contents c.loop-event.out) (g.W.Write.contents c.flush.new.self) told.0 told.1 c.flush.ensures.bytes),
+          (appends_keeps (g.W.Write.contents c.args.out.now) (g.W.Write.contents c.loop-event.out)
+          (g.W.Write.contents c.flush.new.self) told.0 told.1 c.flush.ensures.bytes),
     )

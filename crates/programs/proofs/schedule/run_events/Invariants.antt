@@ -9,5 +9,6 @@ abbrev pub invariant-loop-event : goal.invariant-loop-event
 invariant-loop-event g l = record {
   sound : IsSound (tables_of l.purchasing);
   told : (so_far : List ℕ) × Appends (g.W.Write.contents l.fn.out) (g.W.Write.contents l.out) so_far
-      × ((rest : List ℕ) (after : Orders) → IsRun (drop l.event-index l.events) (tables_of l.purchasing).journal rest after → IsRun l.events (tables_of l.fn.purchasing).journal (so_far ++ rest) after);
+      × ((rest : List ℕ) (after : Orders) → IsRun (drop l.event-index l.events) (tables_of l.purchasing).journal rest after
+      → IsRun l.events (tables_of l.fn.purchasing).journal (so_far ++ rest) after);
 }

@@ -15,7 +15,9 @@ loop-preserved g c =
     let joined = ap (λ l. take done xs ++ l) (take-take n (length xs - done) (drop done xs) (omega arith)) ∙ sym (take-add done n xs) in
     record {
       within = omega arith;
-      appended = subst (Appends (at c.args.out.now) (at c.write_some.new.out)) joined (appends_then (at c.args.out.now) (at c.loop.out) (at c.write_some.new.out) (take done xs) (take n (take (length xs - done) (drop done xs))) c.loop.invariant.appended c.in_ok-written.ensures.bytes);
+      appended = subst (Appends (at c.args.out.now) (at c.write_some.new.out)) joined
+          (appends_then (at c.args.out.now) (at c.loop.out) (at c.write_some.new.out) (take done xs)
+          (take n (take (length xs - done) (drop done xs))) c.loop.invariant.appended c.in_ok-written.ensures.bytes);
     }
 
 pub returns-in_err-written-clause-err : goal.returns-in_err-written-clause-err
@@ -27,7 +29,8 @@ returns-in_err-written-clause-err g c =
       part = take done xs;
       rest = drop done xs;
       whole = sym (take-append-drop done xs);
-      appended = appends_keeps (at c.args.out.now) (at c.loop.out) (at c.write_some.new.out) (take done xs) c.loop.invariant.appended c.in_err-written.ensures.bytes;
+      appended = appends_keeps (at c.args.out.now) (at c.loop.out) (at c.write_some.new.out)
+          (take done xs) c.loop.invariant.appended c.in_err-written.ensures.bytes;
     })
 
 pub returns-clause-err : goal.returns-clause-err

@@ -11,7 +11,8 @@ loop-header-preserved c =
     let i = c.loop-header.header-index in
     let h = c.header-item.result in
     let was = c.loop-header.invariant in
-    let none : refused_behind c.args.command i h ≡ None = rw (← was.count, ← c.name.ensures, ← c.value.ensures) (sym c.refused_behind.ensures ∙ c.in_default.is) in
+    let none : refused_behind c.args.command i h ≡ None =
+    rw (← was.count, ← c.name.ensures, ← c.value.ensures) (sym c.refused_behind.ensures ∙ c.in_default.is) in
     let name : is_utf8 h.name ≡ true = rw (← c.name.ensures) (is_utf8-from_IsUtf8 _ c.name.utf8) in
     let value : is_utf8 h.value ≡ true = rw (← c.value.ensures) (is_utf8-from_IsUtf8 _ c.value.utf8) in
     record {
@@ -26,5 +27,6 @@ returns-in-Some-clause-which c =
     let i = c.loop-header.header-index in
     let h = c.header-item.result in
     let was = c.loop-header.invariant in
-    let some : refused_behind c.args.command i h ≡ Some c.in-Some.fault = rw (← was.count, ← c.name.ensures, ← c.value.ensures) (sym c.refused_behind.ensures ∙ c.in-Some.is) in
+    let some : refused_behind c.args.command i h ≡ Some c.in-Some.fault =
+    rw (← was.count, ← c.name.ensures, ← c.value.ensures) (sym c.refused_behind.ensures ∙ c.in-Some.is) in
     sym (refused_here c.args.command hs i h c.in-Some.fault c.loop-header-test.true c.header-item.is was.looked some)

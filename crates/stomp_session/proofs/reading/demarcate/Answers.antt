@@ -3,4 +3,9 @@ use Rattle.stomp_session.proofs.Taking.{behind_one}
 use Rattle.stomp_session.proofs.reading.demarcate.Goals as goal
 
 pub returns : goal.returns
-returns c = rw (c.take.ensures.value, c.take_required.ensures.rest, c.take_required.ensures.value, behind_one (codes "transaction") (codes "receipt") c.args.headers.items refl) refl
+returns c = rw (
+  c.take.ensures.value,
+  c.take_required.ensures.rest,
+  c.take_required.ensures.value,
+  behind_one (codes "transaction") (codes "receipt") c.args.headers.items refl,
+) refl

@@ -17,7 +17,12 @@ returns-in_err-at-clause-rest c =
 pub returns-clause-value : goal.returns-clause-value
 returns-clause-value c =
     let found : position (is_named c.args.name.now) c.args.headers.now.items ≡ Some c.in_ok-at.at = search rules in
-    rw (taken_value c.args.name.now c.args.headers.now.items c.in_ok-at.at c.remove.result found, ← c.remove.ensures.value, c.new.ensures, c.into_value.ensures) (search rules)
+    rw (
+      taken_value c.args.name.now c.args.headers.now.items c.in_ok-at.at c.remove.result found,
+      ← c.remove.ensures.value,
+      c.new.ensures,
+      c.into_value.ensures,
+    ) (search rules)
 
 pub returns-clause-rest : goal.returns-clause-rest
 returns-clause-rest c =

@@ -5,4 +5,5 @@ pub returns-clause-kept : goal.returns-clause-kept
 returns-clause-kept c = travels_keep
 
 pub returns-clause-beginning : goal.returns-clause-beginning
-returns-clause-beginning c = λ put taken waiting carried so_far. kept_begins put taken waiting carried (travels_keep put taken waiting carried so_far)
+returns-clause-beginning c = λ put taken waiting carried so_far. kept_begins put taken waiting carried
+    (travels_keep put taken waiting carried so_far)
