@@ -1,5 +1,6 @@
 //! Why a line wasn't done.
 
+use line_script::{Fault, WordFault};
 use receipts::ReceiptFault;
 use std::alloc::{AllocError, AllocFailed};
 use stomp_client::ClientFault;
@@ -32,9 +33,8 @@ pub enum LineFault {
     Memory,
 }
 
-impl LineFault {
-    /// Whether a growth was refused.
-    pub fn is_memory(&self) -> bool {
+impl Fault for LineFault {
+    fn is_memory(&self) -> bool {
         matches!(
             self,
             LineFault::Memory
@@ -42,6 +42,15 @@ impl LineFault {
                 | LineFault::Receipt(ReceiptFault::Memory)
                 | LineFault::Client(ClientFault::Memory)
         )
+    }
+}
+
+impl From<WordFault> for LineFault {
+    fn from(fault: WordFault) -> LineFault {
+        match fault {
+            WordFault::Unknown => LineFault::Unknown,
+            WordFault::Memory => LineFault::Memory,
+        }
     }
 }
 

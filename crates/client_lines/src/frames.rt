@@ -7,14 +7,14 @@ ghost use Rattle.stomp_client.specs.Delivered.{IsDelivered};
 ghost use Rattle.stomp_client.specs.Written.{AreWhole};
 
 use crate::fault::LineFault;
-use crate::words::octets;
+use line_script::read_octets;
 use std::alloc::Global;
 use stomp_frame::{Command, Decoder, Frame, encode};
 
 /// The frame of a text.
 pub fn frame(alloc: Global, text: &str) -> Result<Frame, LineFault> {
     let mut decoder = Decoder::new(alloc);
-    decoder.feed(&octets(alloc, text)?)?;
+    decoder.feed(&read_octets(alloc, text)?)?;
     match decoder.next()? {
         Some(frame) => Ok(frame),
         None => Err(LineFault::NoFrame),

@@ -24,8 +24,9 @@
 //!
 //! `fault receipts N` and `fault client N` give the text of the fault of this number.
 //!
-//! A TEXT is a frame, to the end of the line: in it `\n`, `\r`, `\0` and `\\` stand for LF, CR, NUL and a backslash. It is printed so
-//! too. A frame that was read is printed as its command, its headers and its body.
+//! A TEXT is a frame, to the end of the line: in it `\n`, `\r`, `\s`, `\0` and `\\` stand for LF, CR, a space, NUL and a backslash, and
+//! `\xHH` for the octet of these two hexadecimal digits. Octets are printed so too, but a space as it is. A frame that was read is printed
+//! as its command, its headers and its body.
 #![tactic(auto)]
 
 mod fault;
@@ -33,65 +34,12 @@ mod fault_texts;
 mod frames;
 mod session;
 mod show;
-mod words;
 
-use fault::LineFault;
-use session::{Answer, Session};
-use show::show_answer;
-use std::alloc::Global;
+use line_script::run;
+use session::Session;
 use std::io;
-use std::io::{BufWriter, ErrorKind, Write};
 use std::process::ExitCode;
 
-/// The status where a growth was refused.
-const NO_MEMORY: u8 = 3;
-
-/// What a line gives. Where a growth is refused it is asked once more.
-fn ask(alloc: Global, session: &mut Session, line: &str) -> Result<Answer, LineFault> {
-    match session.answer(alloc, line) {
-        Err(fault) if fault.is_memory() => session.answer(alloc, line),
-        answer => answer,
-    }
-}
-
-/// Prints the answer to a line.
-fn answer<W: Write>(
-    alloc: Global,
-    out: &mut W,
-    session: &mut Session,
-    line: &str,
-) -> io::Result<()> {
-    if line.is_empty() || line.starts_with('#') {
-        return writeln!(out, "{line}");
-    }
-    match ask(alloc, session, line) {
-        Ok(answer) => show_answer(out, session, answer),
-        Err(fault) if fault.is_memory() => Err(io::Error::from(ErrorKind::OutOfMemory)),
-        Err(fault) => writeln!(out, "{fault}"),
-    }
-}
-
-/// Prints the answer to each line of standard input.
-fn answer_all<W: Write>(rt: &HostRuntime, out: &mut W) -> io::Result<()> {
-    let mut session = Session::new(rt.alloc());
-    for line in rt.lines(rt.alloc()) {
-        answer(rt.alloc(), out, &mut session, line?.as_str())?;
-    }
-    Ok(())
-}
-
-/// The same on standard output: what was answered is written out, whatever ended it.
-fn run(rt: &HostRuntime) -> io::Result<()> {
-    let mut out = BufWriter::new(rt.alloc(), io::writer(rt))?;
-    let answered = answer_all(rt, &mut out);
-    out.flush()?;
-    answered
-}
-
 fn main(rt: HostRuntime) -> io::Result<ExitCode> {
-    match run(&rt) {
-        Ok(()) => Ok(ExitCode::SUCCESS),
-        Err(error) if error.kind() == ErrorKind::OutOfMemory => Ok(ExitCode::from(NO_MEMORY)),
-        Err(error) => Err(error),
-    }
+    run(&rt, &mut Session::new(rt.alloc()))
 }

@@ -3,9 +3,12 @@
 use crate::fault::LineFault;
 use crate::fault_texts::fault_of;
 use crate::frames::{delivered, frame, plain_send, short, whole_text};
-use crate::words::{count, first_word, natural};
+use crate::show::show_answer;
+use line_script::{Fault, Script, first_word, natural, size};
 use receipts::Receipts;
 use std::alloc::Global;
+use std::io;
+use std::io::Write;
 use stomp_client::{ClientSession, Event, Stage};
 use stomp_frame::{Decoder, Frame};
 
@@ -136,7 +139,7 @@ impl Session {
     /// A call of the client that asks for room, or appends what was made before.
     fn append(&mut self, alloc: Global, word: &str, text: &str) -> Result<Answer, LineFault> {
         match word {
-            "room" => self.client.room(count(text)?)?,
+            "room" => self.client.room(size(text)?)?,
             "append" => self.client.append(&whole_text(alloc, text)?)?,
             _ => {
                 if self.client.transactions() == u64::MAX {
@@ -162,7 +165,7 @@ impl Session {
             "stage" => Ok(Answer::Stage(self.client.stage())),
             "receipts" => Ok(Answer::Number(self.client.receipts())),
             "transactions" => Ok(Answer::Number(self.client.transactions())),
-            "taken" => self.take(count(rest)?),
+            "taken" => self.take(size(rest)?),
             "accept" => self.accept(alloc, rest),
             "ack" | "nack" | "ack-in" | "nack-in" => self.reply(word, rest),
             "send" | "send-in" | "send-with-receipt" => self.send(alloc, word, rest),
@@ -175,7 +178,7 @@ impl Session {
     fn ask_server(&mut self, text: &str) -> Result<Answer, LineFault> {
         match first_word(text) {
             ("carry", octets) => {
-                let octets = count(octets)?.min(self.client.out().len());
+                let octets = size(octets)?.min(self.client.out().len());
                 self.decoder.feed(&self.client.out()[..octets])?;
                 self.client.taken(octets);
                 Ok(Answer::Done)
@@ -185,8 +188,8 @@ impl Session {
         }
     }
 
-    /// The answer to a line.
-    pub fn answer(&mut self, alloc: Global, line: &str) -> Result<Answer, LineFault> {
+    /// What a line gives.
+    fn ask(&mut self, alloc: Global, line: &str) -> Result<Answer, LineFault> {
         let (whom, text) = first_word(line);
         match whom {
             "receipts" => self.ask_receipts(alloc, text),
@@ -198,5 +201,23 @@ impl Session {
             }
             _ => Err(LineFault::Unknown),
         }
+    }
+}
+
+impl Script for Session {
+    type Answer = Answer;
+
+    type Fault = LineFault;
+
+    /// Where a growth is refused the line is asked once more.
+    fn answer(&mut self, alloc: Global, line: &str) -> Result<Answer, LineFault> {
+        match self.ask(alloc, line) {
+            Err(fault) if fault.is_memory() => self.ask(alloc, line),
+            answer => answer,
+        }
+    }
+
+    fn show<W: Write>(&self, answer: Answer, out: &mut W) -> io::Result<()> {
+        show_answer(out, self, answer)
     }
 }

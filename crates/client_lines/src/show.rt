@@ -62,7 +62,7 @@ fn show_if_any<W: Write>(out: &mut W, frame: &Option<Frame>) -> io::Result<()> {
     }
 }
 
-/// A line with what a call gave.
+/// What a call gave.
 pub fn show_answer<W: Write>(out: &mut W, session: &Session, answer: Answer) -> io::Result<()> {
     match answer {
         Answer::Done => write!(out, "done")?,
@@ -75,5 +75,5 @@ pub fn show_answer<W: Write>(out: &mut W, session: &Session, answer: Answer) -> 
         Answer::Out => show_octets(out, session.client.out())?,
         Answer::Frame(frame) => show_if_any(out, &frame)?,
     }
-    writeln!(out)
+    Ok(())
 }

@@ -5,7 +5,7 @@ ghost use Rattle.std.specs.Prelude.{◌≤◌, length};
 use crate::decoding::{Reading, Step, steps_text};
 use crate::fault::LineFault;
 use crate::octets::octets;
-use crate::words::size;
+use line_script::size;
 use std::alloc::Global;
 
 /// What is given of a text that is fed octet by octet.

@@ -2,8 +2,9 @@
 
 use crate::fault::LineFault;
 use crate::octets::{shown, text};
-use crate::words::{entity, kind, natural, number, pair};
+use crate::words::{entity, kind, number, pair};
 use base::{Entity, Key, Number, Pair, is_key};
+use line_script::natural;
 use std::alloc::{AllocError, Global};
 
 /// How two values compare: by `cmp`, whether `partial_cmp` says the same, and by `==`.

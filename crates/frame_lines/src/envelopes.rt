@@ -6,8 +6,9 @@ ghost use Rattle.envelope.specs.Reading.{Carries};
 use crate::fault::LineFault;
 use crate::frames::spelled;
 use crate::octets::shown;
-use crate::words::{message, natural, number, pair};
+use crate::words::{message, number, pair};
 use envelope::{Envelope, EnvelopeFault, Letter, Message, to_send};
+use line_script::natural;
 use std::alloc::{AllocError, Global};
 use stomp_frame::Frame;
 

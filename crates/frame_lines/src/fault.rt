@@ -3,6 +3,7 @@
 use activities::HandlerFault;
 use base::EntityFault;
 use envelope::EnvelopeFault;
+use line_script::{Fault, WordFault};
 use std::alloc::{AllocError, AllocFailed};
 use std::io;
 use std::io::ErrorKind;
@@ -39,9 +40,8 @@ pub enum LineFault {
     Memory,
 }
 
-impl LineFault {
-    /// Whether a growth was refused.
-    pub fn is_memory(&self) -> bool {
+impl Fault for LineFault {
+    fn is_memory(&self) -> bool {
         matches!(
             self,
             LineFault::Memory
@@ -51,6 +51,15 @@ impl LineFault {
                 | LineFault::Envelope(EnvelopeFault::Memory)
                 | LineFault::Handler(HandlerFault::Memory)
         )
+    }
+}
+
+impl From<WordFault> for LineFault {
+    fn from(fault: WordFault) -> LineFault {
+        match fault {
+            WordFault::Unknown => LineFault::Unknown,
+            WordFault::Memory => LineFault::Memory,
+        }
     }
 }
 

@@ -1,10 +1,10 @@
 //! The numbers, names and texts of all faults.
 
 use crate::fault::LineFault;
-use crate::words::size;
 use activities::{HandlerFault, Refusal};
 use base::EntityFault;
 use envelope::EnvelopeFault;
+use line_script::size;
 use std::alloc::{AllocError, Global};
 use stomp_frame::FrameFault;
 use stomp_wire::LinkFault;

@@ -2,8 +2,9 @@
 
 use crate::fault::LineFault;
 use crate::switch::Switch;
-use crate::words::{entity, message, number, size};
+use crate::words::{entity, message, number};
 use activities::{Handler, HandlerFault, Input, Out, Outs};
+use line_script::size;
 use std::alloc::{AllocError, Global};
 
 /// A message and its receiver.

@@ -2,7 +2,7 @@
 
 use crate::fault::LineFault;
 use crate::octets::{octets, push_octets};
-use crate::words::size;
+use line_script::size;
 use std::alloc::Global;
 use stomp_wire::{Gone, Link, LinkFault, pump_out, pump_rest};
 

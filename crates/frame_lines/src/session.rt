@@ -14,7 +14,10 @@ use crate::received::answer_received;
 use crate::trickle::Trickle;
 use crate::wires::answer_wire;
 use activities::Outs;
+use line_script::Script;
 use std::alloc::Global;
+use std::io;
+use std::io::Write;
 use stomp_frame::{Command, Decoder, Frame};
 use stomp_wire::{MemoryWire, StreamLink};
 
@@ -79,11 +82,37 @@ impl Session {
             _ => self.answer_own(alloc, first, rest),
         }
     }
+}
 
-    /// The answer to a line.
-    pub fn answer(&mut self, rt: &HostRuntime, line: &str) -> Result<String, LineFault> {
-        let words: Vec<&str> = line.split_whitespace().collect(rt.alloc())?;
-        self.answer_words(rt, words.as_slice())
+/// The same, over the system, where the files are.
+#[derive(Drop)]
+pub struct Lines<'a> {
+    rt: &'a HostRuntime,
+    session: Session,
+}
+
+impl<'a> Lines<'a> {
+    /// A new session.
+    pub fn new(rt: &'a HostRuntime) -> Lines<'a> {
+        Lines {
+            rt,
+            session: Session::new(rt.alloc()),
+        }
+    }
+}
+
+impl Script for Lines<'_> {
+    type Answer = String;
+
+    type Fault = LineFault;
+
+    fn answer(&mut self, alloc: Global, line: &str) -> Result<String, LineFault> {
+        let words: Vec<&str> = line.split_whitespace().collect(alloc)?;
+        self.session.answer_words(self.rt, words.as_slice())
+    }
+
+    fn show<W: Write>(&self, answer: String, out: &mut W) -> io::Result<()> {
+        write!(out, "{answer}")
     }
 }
 

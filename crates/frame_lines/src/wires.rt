@@ -3,7 +3,8 @@
 use crate::fault::LineFault;
 use crate::octets::{octets, push_octets, shown};
 use crate::puts::{ask_link, count_text, put, take};
-use crate::words::{size, way};
+use crate::words::way;
+use line_script::size;
 use std::alloc::Global;
 use stomp_wire::{Link, LinkFault, MemoryLink, MemoryWire, Way};
 

@@ -4,26 +4,11 @@ use crate::fault::LineFault;
 use crate::octets::text;
 use base::{Entity, Kind, Number, Pair};
 use envelope::Message;
+use line_script::natural;
 use std::alloc::Global;
 use std::io::ErrorKind;
 use stomp_frame::Command;
 use stomp_wire::Way;
-
-/// A natural number.
-pub fn natural(word: &str) -> Result<u64, LineFault> {
-    match word.parse::<u64>() {
-        Ok(number) => Ok(number),
-        Err(_) => Err(LineFault::Unknown),
-    }
-}
-
-/// How many.
-pub fn size(word: &str) -> Result<usize, LineFault> {
-    match word.parse::<usize>() {
-        Ok(size) => Ok(size),
-        Err(_) => Err(LineFault::Unknown),
-    }
-}
 
 /// A number from 1 to 2^40.
 pub fn number(word: &str) -> Result<Number, LineFault> {

@@ -11,6 +11,7 @@ use endpoint::{EndFault, Endpoint};
 use envelope::{Envelope, EnvelopeFault, to_send};
 use keep::{Keep, KeepFault};
 use keep_plain::PlainKeep;
+use line_script::{WordFault, push_octets, read_octets};
 use programs::{RunFault, run_text};
 use purchasing::Orders;
 use receipts::{ReceiptFault, Receipts};
@@ -35,6 +36,13 @@ pub fn what_was_put_is_taken(alloc: Global) -> Result<Vec<u8>, LinkFault> {
     let mut taken = Vec::new(alloc);
     wire.far.take(&mut taken, 9)?;
     Ok(taken)
+}
+
+pub fn printed_octets_are_read(alloc: Global) -> Result<bool, WordFault> {
+    let octets = read_octets(alloc, "two\\swords\\x00")?;
+    let mut text = String::new(alloc);
+    push_octets(&mut text, &octets)?;
+    Ok(text.as_str() == "two words\\x00")
 }
 
 pub fn a_frame_is_read_from_pieces(alloc: Global) -> Result<bool, FrameFault> {

@@ -10,7 +10,8 @@ use examples::{
     a_client_asks_to_connect, a_command_is_taken_in, a_frame_before_connect_is_refused,
     a_frame_is_read_from_pieces, a_mark_is_read, a_receipt_is_closed_once, a_schedule_is_read,
     a_schedule_is_run, a_settle_is_sent, an_entity_is_named_again, an_order_is_refused,
-    first_state_of, no_mark_is_taken_back, tables_hold_nothing_at_first, what_was_put_is_taken,
+    first_state_of, no_mark_is_taken_back, printed_octets_are_read, tables_hold_nothing_at_first,
+    what_was_put_is_taken,
 };
 use keep_plain::PlainKeep;
 use purchasing::Orders;
@@ -24,6 +25,7 @@ fn print_messages(rt: &impl Print, alloc: Global) -> Result<()> {
     };
     println!(rt; "base: {}", an_entity_is_named_again(alloc)?)?;
     println!(rt; "stomp_wire: {:?}", what_was_put_is_taken(alloc)?)?;
+    println!(rt; "line_script: {}", printed_octets_are_read(alloc)?)?;
     println!(rt; "stomp_frame: {}", a_frame_is_read_from_pieces(alloc)?)?;
     println!(rt; "envelope: {}", a_settle_is_sent(alloc, pair)?)?;
     Ok(())

@@ -1,5 +1,6 @@
 //! Why a line wasn't done.
 
+use line_script::{Fault, WordFault};
 use std::alloc::{AllocError, AllocFailed};
 use thiserror::Error;
 
@@ -17,10 +18,18 @@ pub enum LineFault {
     Memory,
 }
 
-impl LineFault {
-    /// Whether a growth was refused.
-    pub fn is_memory(&self) -> bool {
+impl Fault for LineFault {
+    fn is_memory(&self) -> bool {
         matches!(self, LineFault::Memory)
+    }
+}
+
+impl From<WordFault> for LineFault {
+    fn from(fault: WordFault) -> LineFault {
+        match fault {
+            WordFault::Unknown => LineFault::Unknown,
+            WordFault::Memory => LineFault::Memory,
+        }
     }
 }
 

@@ -3,7 +3,10 @@
 use crate::devices::Limits;
 use crate::fault::LineFault;
 use crate::runs::{Devices, call, read_text};
+use line_script::{Script, size};
 use std::alloc::{AllocError, Global};
+use std::io;
+use std::io::Write;
 
 /// A schedule, and the devices for its runs.
 #[derive(Drop)]
@@ -40,7 +43,7 @@ impl Session {
         let Some((count, line)) = words.split_once(' ') else {
             return Err(LineFault::Unknown);
         };
-        for _ in 0..natural(count)? {
+        for _ in 0..size(count)? {
             self.add(line)?;
         }
         Ok(())
@@ -50,9 +53,9 @@ impl Session {
     fn prepare(&mut self, alloc: Global, words: &[&str]) -> Result<bool, LineFault> {
         match words {
             ["schedule"] => *self = Session::new(alloc),
-            ["octets", count, octet] => self.add_octets(natural(count)?, octet_of(octet)?)?,
+            ["octets", count, octet] => self.add_octets(size(count)?, octet_of(octet)?)?,
             ["reader", "fails"] => self.devices.reader_fails = true,
-            ["reader", "gives", count] => self.devices.reader_gives = natural(count)?,
+            ["reader", "gives", count] => self.devices.reader_gives = size(count)?,
             ["out", words @ ..] => limit(&mut self.devices.out, words)?,
             ["err", words @ ..] => limit(&mut self.devices.err, words)?,
             _ => return Ok(false),
@@ -73,9 +76,14 @@ impl Session {
             words => call(alloc, self.devices, self.schedule.as_slice(), words)?.text(alloc),
         }
     }
+}
 
-    /// The answer to a line.
-    pub fn answer(&mut self, alloc: Global, line: &str) -> Result<String, LineFault> {
+impl Script for Session {
+    type Answer = String;
+
+    type Fault = LineFault;
+
+    fn answer(&mut self, alloc: Global, line: &str) -> Result<String, LineFault> {
         if let Some(rest) = line.strip_prefix("|-") {
             self.schedule
                 .extend_from_slice(without_space(rest).as_bytes())?;
@@ -92,19 +100,15 @@ impl Session {
         let words: Vec<&str> = line.split_whitespace().collect(alloc)?;
         self.answer_words(alloc, words.as_slice())
     }
+
+    fn show<W: Write>(&self, answer: String, out: &mut W) -> io::Result<()> {
+        write!(out, "{answer}")
+    }
 }
 
 /// What stands behind the space that follows a mark.
 fn without_space(text: &str) -> &str {
     text.strip_prefix(' ').unwrap_or(text)
-}
-
-/// A natural number.
-fn natural(text: &str) -> Result<usize, LineFault> {
-    match text.parse::<usize>() {
-        Ok(number) => Ok(number),
-        Err(_) => Err(LineFault::Unknown),
-    }
 }
 
 /// An octet, in decimal.
@@ -118,8 +122,8 @@ fn octet_of(text: &str) -> Result<u8, LineFault> {
 /// Sets one of a writer's limits.
 fn limit(limits: &mut Limits, words: &[&str]) -> Result<(), LineFault> {
     match words {
-        ["takes", count] => limits.room = natural(count)?,
-        ["takes-at-once", count] => limits.at_once = natural(count)?,
+        ["takes", count] => limits.room = size(count)?,
+        ["takes-at-once", count] => limits.at_once = size(count)?,
         ["is-interrupted"] => limits.is_interrupted = true,
         _ => return Err(LineFault::Unknown),
     }

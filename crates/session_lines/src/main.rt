@@ -18,63 +18,21 @@
 //! `fault N` gives the text of the fault of this number.
 //!
 //! In a TEXT, which goes to the end of the line, and in what is printed, `\n`, `\r` and `\\` stand for LF, CR and a backslash, and `\xHH`
-//! for the octet of these two hexadecimal digits.
+//! for the octet of these two hexadecimal digits. A TEXT may have `\s` and `\0` for a space and NUL, too.
 #![tactic(auto)]
 
 mod fault;
-mod octets;
+mod frames;
 mod replies;
 mod requests;
 mod server;
 mod sessions;
 
+use line_script::run;
 use sessions::Sessions;
-use std::alloc::Global;
 use std::io;
-use std::io::{BufWriter, ErrorKind, Write};
 use std::process::ExitCode;
 
-/// The status where a growth was refused.
-const NO_MEMORY: u8 = 3;
-
-/// Prints the answer to a line.
-fn answer<W: Write>(
-    alloc: Global,
-    out: &mut W,
-    sessions: &mut Sessions,
-    line: &str,
-) -> io::Result<()> {
-    if line.is_empty() || line.starts_with('#') {
-        return writeln!(out, "{line}");
-    }
-    match sessions.answer(alloc, line) {
-        Ok(text) => writeln!(out, "{text}"),
-        Err(fault) if fault.is_memory() => Err(io::Error::from(ErrorKind::OutOfMemory)),
-        Err(fault) => writeln!(out, "{fault}"),
-    }
-}
-
-/// Prints the answer to each line of standard input.
-fn answer_all<W: Write>(rt: &HostRuntime, out: &mut W) -> io::Result<()> {
-    let mut sessions = Sessions::new();
-    for line in rt.lines(rt.alloc()) {
-        answer(rt.alloc(), out, &mut sessions, line?.as_str())?;
-    }
-    Ok(())
-}
-
-/// The same on standard output: what was answered is written out, whatever ended it.
-fn run(rt: &HostRuntime) -> io::Result<()> {
-    let mut out = BufWriter::new(rt.alloc(), io::writer(rt))?;
-    let answered = answer_all(rt, &mut out);
-    out.flush()?;
-    answered
-}
-
 fn main(rt: HostRuntime) -> io::Result<ExitCode> {
-    match run(&rt) {
-        Ok(()) => Ok(ExitCode::SUCCESS),
-        Err(error) if error.kind() == ErrorKind::OutOfMemory => Ok(ExitCode::from(NO_MEMORY)),
-        Err(error) => Err(error),
-    }
+    run(&rt, &mut Sessions::new())
 }

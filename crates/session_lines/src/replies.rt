@@ -1,20 +1,13 @@
 //! The frames that a server writes.
 
 use crate::fault::LineFault;
-use crate::octets::{push_octets, read_frame, read_text};
+use crate::frames::read_frame;
+use line_script::{natural, push_octets, read_text};
 use std::alloc::Global;
 use stomp_session::{
     Delivery, Request, Send, ServerSession, write_connected, write_error, write_message,
     write_receipt,
 };
-
-/// A number.
-fn natural(text: &str) -> Result<u64, LineFault> {
-    match text.parse::<u64>() {
-        Ok(number) => Ok(number),
-        Err(_) => Err(LineFault::Unknown),
-    }
-}
 
 /// Appends the ERROR of a number, a name and what follows them: nothing, or a receipt.
 fn error(alloc: Global, number: &str, rest: &str, out: &mut Vec<u8>) -> Result<(), LineFault> {

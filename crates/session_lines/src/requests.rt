@@ -1,6 +1,6 @@
 //! Requests as text: the name of the case, and then each part that is there, as `receipt "r"`.
 
-use crate::octets::push_octets;
+use line_script::push_octets;
 use std::alloc::{AllocError, Global};
 use stomp_frame::Header;
 use stomp_session::{Acknowledge, Connect, Demarcate, Request, Send, Subscribe, Text};

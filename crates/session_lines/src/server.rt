@@ -1,7 +1,7 @@
 //! The session of a server.
 
 use crate::fault::LineFault;
-use crate::octets::read_frame;
+use crate::frames::read_frame;
 use crate::requests::{push_part, request_text};
 use std::alloc::{AllocError, Global};
 use stomp_frame::Frame;

@@ -3,7 +3,10 @@
 use crate::fault::{LineFault, session_fault};
 use crate::replies::answer_reply;
 use crate::server::Server;
+use line_script::Script;
 use std::alloc::Global;
+use std::io;
+use std::io::Write;
 
 /// The session of a server.
 #[derive(Drop)]
@@ -18,9 +21,14 @@ impl Sessions {
             server: Server::new(),
         }
     }
+}
 
-    /// The answer to a line.
-    pub fn answer(&mut self, alloc: Global, line: &str) -> Result<String, LineFault> {
+impl Script for Sessions {
+    type Answer = String;
+
+    type Fault = LineFault;
+
+    fn answer(&mut self, alloc: Global, line: &str) -> Result<String, LineFault> {
         match line.split_once(' ') {
             Some(("server", line)) => self.server.answer(alloc, line),
             Some(("reply", line)) => answer_reply(alloc, line),
@@ -30,5 +38,9 @@ impl Sessions {
             }
             _ => Err(LineFault::Unknown),
         }
+    }
+
+    fn show<W: Write>(&self, answer: String, out: &mut W) -> io::Result<()> {
+        write!(out, "{answer}")
     }
 }

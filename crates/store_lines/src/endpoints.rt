@@ -3,11 +3,12 @@
 use crate::fault::LineFault;
 use crate::tables::place;
 use crate::texts::{letters_text, rows_text, state_text};
-use crate::words::{command, limit, natural, pair, seat};
+use crate::words::{command, pair, seat};
 use activities::OrderCommand;
 use base::{Entity, Pair};
 use endpoint::{EndFault, Endpoint};
 use keep::Keep;
+use line_script::{natural, size};
 use purchasing::{Order, Orders};
 use std::alloc::Global;
 
@@ -86,7 +87,7 @@ fn outbox<K>(
 where
     K: Keep<State = Option<Order>, Command = OrderCommand> + Drop,
 {
-    let limit = limit(text)?;
+    let limit = size(text)?;
     let after = place(alloc, after)?;
     let letters = endpoint.unsettled(alloc, &after, limit)?;
     Ok(letters_text(alloc, &letters)?)
@@ -103,7 +104,7 @@ where
     K: Keep<State = Option<Order>, Command = OrderCommand> + Drop,
 {
     let from = natural(from)?;
-    let limit = limit(text)?;
+    let limit = size(text)?;
     let rows = endpoint.journal(alloc, from, limit)?;
     Ok(rows_text(alloc, &rows)?)
 }

@@ -3,6 +3,7 @@
 use base::EntityFault;
 use endpoint::EndFault;
 use keep::KeepFault;
+use line_script::{Fault, WordFault};
 use std::alloc::{AllocError, AllocFailed};
 use thiserror::Error;
 
@@ -29,9 +30,8 @@ pub enum LineFault {
     Memory,
 }
 
-impl LineFault {
-    /// Whether a growth was refused.
-    pub fn is_memory(&self) -> bool {
+impl Fault for LineFault {
+    fn is_memory(&self) -> bool {
         matches!(
             self,
             LineFault::Memory
@@ -39,6 +39,15 @@ impl LineFault {
                 | LineFault::Keep(KeepFault::Memory)
                 | LineFault::End(EndFault::Memory)
         )
+    }
+}
+
+impl From<WordFault> for LineFault {
+    fn from(fault: WordFault) -> LineFault {
+        match fault {
+            WordFault::Unknown => LineFault::Unknown,
+            WordFault::Memory => LineFault::Memory,
+        }
     }
 }
 

@@ -51,53 +51,11 @@ mod tables;
 mod texts;
 mod words;
 
+use line_script::run;
 use session::Session;
-use std::alloc::Global;
 use std::io;
-use std::io::{BufWriter, ErrorKind, Write};
 use std::process::ExitCode;
 
-/// The status where a growth was refused.
-const NO_MEMORY: u8 = 3;
-
-/// Prints the answer to a line.
-fn answer<W: Write>(
-    alloc: Global,
-    out: &mut W,
-    session: &mut Session,
-    line: &str,
-) -> io::Result<()> {
-    if line.is_empty() || line.starts_with('#') {
-        return writeln!(out, "{line}");
-    }
-    match session.answer(alloc, line) {
-        Ok(text) => writeln!(out, "{text}"),
-        Err(fault) if fault.is_memory() => Err(io::Error::from(ErrorKind::OutOfMemory)),
-        Err(fault) => writeln!(out, "{fault}"),
-    }
-}
-
-/// Prints the answer to each line of standard input.
-fn answer_all<W: Write>(rt: &HostRuntime, out: &mut W) -> io::Result<()> {
-    let mut session = Session::new(rt.alloc());
-    for line in rt.lines(rt.alloc()) {
-        answer(rt.alloc(), out, &mut session, line?.as_str())?;
-    }
-    Ok(())
-}
-
-/// The same on standard output: what was answered is written out, whatever ended it.
-fn run(rt: &HostRuntime) -> io::Result<()> {
-    let mut out = BufWriter::new(rt.alloc(), io::writer(rt))?;
-    let answered = answer_all(rt, &mut out);
-    out.flush()?;
-    answered
-}
-
 fn main(rt: HostRuntime) -> io::Result<ExitCode> {
-    match run(&rt) {
-        Ok(()) => Ok(ExitCode::SUCCESS),
-        Err(error) if error.kind() == ErrorKind::OutOfMemory => Ok(ExitCode::from(NO_MEMORY)),
-        Err(error) => Err(error),
-    }
+    run(&rt, &mut Session::new(rt.alloc()))
 }

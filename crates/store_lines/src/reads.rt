@@ -5,10 +5,11 @@ ghost use Rattle.std.specs.Prelude.{◌≡◌, true};
 use crate::fault::LineFault;
 use crate::tables::place;
 use crate::texts::{held_text, letters_text, pair_text, rows_text, state_text};
-use crate::words::{limit, natural, number, pair};
+use crate::words::{number, pair};
 use activities::OrderCommand;
 use base::{Entity, Pair};
 use keep::{Keep, KeepFault};
+use line_script::{natural, size};
 use purchasing::Order;
 use std::alloc::Global;
 
@@ -82,7 +83,7 @@ fn outbox<K: Keep>(
 ) -> Result<String, LineFault>
     requires { (K.seen store.old).usable ≡ true }
 {
-    let limit = limit(text)?;
+    let limit = size(text)?;
     let after = place(alloc, after)?;
     let letters = store.unsettled(alloc, &after, limit)?;
     Ok(letters_text(alloc, &letters)?)
@@ -95,7 +96,7 @@ where
     requires { (K.seen store.old).usable ≡ true }
 {
     let from = natural(from)?;
-    let limit = limit(text)?;
+    let limit = size(text)?;
     let rows = store.journal(alloc, from, limit)?;
     Ok(rows_text(alloc, &rows)?)
 }

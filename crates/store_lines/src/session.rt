@@ -6,11 +6,13 @@ use crate::fault_texts::fault_text;
 use crate::handler::answer_order;
 use crate::store::{OrderTables, answer_store, empty_tables};
 use crate::tables::OrderChange;
-use crate::words::{leaves, natural};
+use crate::words::leaves;
 use endpoint::Endpoint;
+use line_script::{Script, natural};
 use purchasing::{Order, Orders};
 use std::alloc::Global;
-use std::mem;
+use std::io::Write;
+use std::{io, mem};
 
 /// An order; a store, and the changes that were noted for its next transaction; and an endpoint.
 #[derive(Drop)]
@@ -66,10 +68,19 @@ impl Session {
             _ => Err(LineFault::Unknown),
         }
     }
+}
 
-    /// The answer to a line.
-    pub fn answer(&mut self, alloc: Global, line: &str) -> Result<String, LineFault> {
+impl Script for Session {
+    type Answer = String;
+
+    type Fault = LineFault;
+
+    fn answer(&mut self, alloc: Global, line: &str) -> Result<String, LineFault> {
         let words: Vec<&str> = line.split_whitespace().collect(alloc)?;
         self.answer_words(alloc, words.as_slice())
+    }
+
+    fn show<W: Write>(&self, answer: String, out: &mut W) -> io::Result<()> {
+        write!(out, "{answer}")
     }
 }

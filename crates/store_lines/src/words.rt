@@ -8,24 +8,9 @@ use base::limits::SEATS;
 use base::{Entity, Key, Number, Pair};
 use envelope::{Letter, Message};
 use keep::Leaves;
+use line_script::natural;
 use purchasing::{Order, Partner};
 use std::alloc::Global;
-
-/// A natural number.
-pub fn natural(text: &str) -> Result<u64, LineFault> {
-    match text.parse::<u64>() {
-        Ok(number) => Ok(number),
-        Err(_) => Err(LineFault::Unknown),
-    }
-}
-
-/// How many at most.
-pub fn limit(text: &str) -> Result<usize, LineFault> {
-    match text.parse::<usize>() {
-        Ok(limit) => Ok(limit),
-        Err(_) => Err(LineFault::Unknown),
-    }
-}
 
 /// A number from 1 to 2^40.
 pub fn number(text: &str) -> Result<Number, LineFault> {
