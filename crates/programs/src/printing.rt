@@ -6,7 +6,8 @@ ghost use Rattle.std.specs.Fmt.{digit_glyph};
 ghost use Rattle.stomp_frame.specs.Frames.{canonical};
 ghost use Rattle.schedules.specs.Words.{spelled, escaped};
 ghost use Rattle.programs.specs.Printed.{shown_entity, status_word, phase_word, shown_partner, shown_order, show_line, shown_command};
-ghost use Rattle.programs.specs.Printed.{shown_message, shown_input, row_line, row_lines, hexadecimal_octet, shown_octet, frame_line, frame_lines};
+ghost use Rattle.programs.specs.Printed.{shown_message, shown_input, row_line, row_lines};
+ghost use Rattle.programs.specs.Printed.{hexadecimal_octet, shown_octet, frame_line, frame_lines};
 
 use activities::{Input, JournalRow, OrderCommand, Phase, Status};
 use base::Entity;
