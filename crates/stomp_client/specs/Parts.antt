@@ -1,4 +1,2 @@
 -- What only private functions speak of.
 pub mod Names
-pub mod Outgoing
-pub mod OutgoingView

@@ -27,7 +27,6 @@ mod fault;
 mod frames;
 mod laws;
 mod numbers;
-mod outgoing;
 mod session;
 
 pub use event::Event;

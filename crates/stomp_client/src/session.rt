@@ -21,12 +21,12 @@ use crate::frames::{
     answer_frame, connect_frame, in_transaction, subscribe_frame, transaction_frame, with_number,
 };
 use crate::numbers::read_number;
-use crate::outgoing::Outgoing;
 use crate::{ClientFault, Event};
 use receipts::Receipts;
 use std::alloc::{AllocError, Global};
 use std::marker::Model;
 use stomp_frame::{Command, Frame, Header};
+use stomp_session::Outgoing;
 
 /// How far a session is.
 #[derive(Clone, Copy, Debug, PartialEq, Eq)]

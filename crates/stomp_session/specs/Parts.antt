@@ -1,1 +1,3 @@
+-- What only private functions speak of.
+pub mod OutgoingView
 pub mod Taking

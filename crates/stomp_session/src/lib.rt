@@ -41,6 +41,7 @@
 
 mod fault;
 mod laws;
+mod outgoing;
 mod parts;
 mod reading;
 mod refusing;
@@ -53,6 +54,7 @@ pub use laws::{
     accepted_requests_fit, accepting_wants_no_memory, confirmations_are_frames, errors_are_frames,
     messages_are_frames, receipts_told_are_short, requests_ask_for_the_receipt_told,
 };
+pub use outgoing::Outgoing;
 pub use parts::{Headers, Octets, Text};
 pub use replies::{
     Delivery, receipt_told, write_connected, write_error, write_message, write_receipt,

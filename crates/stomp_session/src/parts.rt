@@ -1,8 +1,10 @@
 //! What a request keeps of its frame: texts, octets and headers, each taken over without memory and given back so.
 
-ghost use Rattle.std.specs.Prelude.{◌≡◌};
+ghost use Rattle.std.specs.Prelude.{◌≡◌, IfOk};
+ghost use Rattle.std.specs.Str.{bytes_eq};
 ghost use Rattle.std.specs.String.{string_bytes};
 
+use std::alloc::{AllocError, Global};
 use std::marker::Model;
 use stomp_frame::Header;
 
@@ -34,6 +36,25 @@ impl Text {
         ensures { result.now ≡ self.now }
     {
         self.text.as_str()
+    }
+
+    /// Whether both are one text.
+    pub fn same(&self, other: &Text) -> bool
+        ensures { result ≡ bytes_eq self.now other.now }
+    {
+        self.as_str() == other.as_str()
+    }
+
+    /// The same text in memory of its own.
+    ///
+    /// # Errors
+    /// Where memory is refused.
+    pub fn copy(&self, alloc: Global) -> Result<Text, AllocError>
+        ensures { IfOk result (λ text. text ≡ self.now) }
+    {
+        Ok(Text {
+            text: String::from_str(alloc, self.as_str())?,
+        })
     }
 
     /// Its string. It takes no memory.

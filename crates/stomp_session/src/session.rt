@@ -1,6 +1,6 @@
 //! A session as its server knows it.
 
-ghost use Rattle.std.specs.Prelude.{◌≡◌, false};
+ghost use Rattle.std.specs.Prelude.{◌≡◌, false, true};
 ghost use Rattle.stomp_session.specs.Requests.{Accepts};
 
 use crate::reading::read_request;
@@ -40,6 +40,13 @@ impl ServerSession {
         ensures { result ≡ false }
     {
         ServerSession { connected: false }
+    }
+
+    /// A session that is connected, as each is that has accepted a frame.
+    pub fn connected() -> ServerSession
+        ensures { result ≡ true }
+    {
+        ServerSession { connected: true }
     }
 
     /// Whether it is connected: a CONNECT or STOMP was accepted.

@@ -1,8 +1,8 @@
 -- Octets on their way out, without those that were taken.
 use Rattle.std.specs.Prelude.{◌≤◌, ◌-◌, drop, vec_len}
 use Rattle.std.specs.Vec.{vec_capacity}
-use Rattle.stomp_client.specs.declared.outgoing.Outgoing.TheInside.{Inside}
-use Rattle.stomp_client.specs.Parts.Outgoing.{Pending}
+use Rattle.stomp_session.specs.declared.outgoing.Outgoing.TheInside.{Inside}
+use Rattle.stomp_session.specs.Outgoing.{Pending}
 
 -- the octets from the start on, and what is free of the memory
 abbrev pub pending_of : Inside → Pending

@@ -2,7 +2,11 @@
 
 ghost use Rattle.std.specs.Prelude.{◌≡◌, ◌+◌, ◌++◌, ◌≤◌, [], length, take, drop, OnOk, OnErr, IsOk};
 ghost use Rattle.stomp_frame.specs.Frames.{canonical};
+ghost use Rattle.std.specs.Option.{option_copied};
+ghost use Rattle.stomp_session.specs.Replies.{Writes, connected_frame, error_frame, message_frame, receipt_frame};
 
+use crate::SessionFault;
+use crate::replies::{self, Delivery};
 use std::alloc::{AllocError, Global};
 use std::marker::Model;
 use stomp_frame::{Frame, encode};
@@ -19,11 +23,11 @@ pub struct Outgoing {
 }
 
 impl Model for Outgoing {
-    ghost use Rattle.stomp_client.specs.Parts.Outgoing.{Pending};
+    ghost use Rattle.stomp_session.specs.Outgoing.{Pending};
 
     ghost Value = { Pending };
 
-    ghost use Rattle.stomp_client.specs.Parts.OutgoingView.{pending_of, IsInside};
+    ghost use Rattle.stomp_session.specs.Parts.OutgoingView.{pending_of, IsInside};
 
     ghost view = { pending_of };
 
@@ -39,6 +43,13 @@ impl Outgoing {
             octets: Vec::new(alloc),
             start: 0,
         }
+    }
+
+    /// How many octets weren't taken yet.
+    pub fn len(&self) -> usize
+        ensures { result ≡ length self.now.octets }
+    {
+        self.octets.len() - self.start
     }
 
     /// The octets that weren't taken yet.
@@ -63,6 +74,9 @@ impl Outgoing {
     }
 
     /// Makes room for so many more.
+    ///
+    /// # Errors
+    /// Where the growth was refused.
     pub fn reserve(&mut self, additional: usize) -> Result<(), AllocError>
         ensures octets { self.new.octets ≡ self.old.octets }
         ensures room { OnOk result (additional ≤ self.new.room) }
@@ -73,6 +87,9 @@ impl Outgoing {
     }
 
     /// Appends octets, all or none.
+    ///
+    /// # Errors
+    /// Where a growth was refused; none is where room is left.
     pub fn append(&mut self, more: &[u8]) -> Result<(), AllocError>
         ensures ok { OnOk result (self.new.octets ≡ self.old.octets ++ more.now) }
         ensures err { OnErr result (self.new.octets ≡ self.old.octets) }
@@ -83,6 +100,9 @@ impl Outgoing {
     }
 
     /// Appends the canonical text of a frame, or nothing.
+    ///
+    /// # Errors
+    /// Where a growth was refused.
     pub fn write(&mut self, frame: &Frame) -> Result<(), AllocError>
         ensures ok { OnOk result (self.new.octets ≡ self.old.octets ++ canonical frame.now) }
         ensures err { OnErr result (self.new.octets ≡ self.old.octets) }
@@ -93,11 +113,57 @@ impl Outgoing {
         }
     }
 
+    /// Appends CONNECTED, as [`write_connected`](crate::write_connected) does.
+    ///
+    /// # Errors
+    /// `Memory` where a growth was refused, and then nothing was appended.
+    pub fn write_connected(&mut self) -> Result<(), SessionFault>
+        ensures { Writes connected_frame self.old.octets self.new.octets result }
+    {
+        replies::write_connected(&mut self.octets)
+    }
+
+    /// Appends a RECEIPT, as [`write_receipt`](crate::write_receipt) does.
+    ///
+    /// # Errors
+    /// `Memory` where a growth was refused, and then nothing was appended.
+    pub fn write_receipt(&mut self, receipt: &str) -> Result<(), SessionFault>
+        ensures { Writes (receipt_frame receipt.now) self.old.octets self.new.octets result }
+    {
+        replies::write_receipt(receipt, &mut self.octets)
+    }
+
+    /// Appends an ERROR, as [`write_error`](crate::write_error) does.
+    ///
+    /// # Errors
+    /// `Memory` where a growth was refused, and then nothing was appended.
+    pub fn write_error(
+        &mut self,
+        alloc: Global,
+        number: u8,
+        name: &str,
+        receipt: Option<&str>,
+    ) -> Result<(), SessionFault>
+        ensures { Writes (error_frame number name.now (option_copied receipt.entry)) self.old.octets self.new.octets result }
+    {
+        replies::write_error(alloc, number, name, receipt, &mut self.octets)
+    }
+
+    /// Appends a MESSAGE, as [`write_message`](crate::write_message) does.
+    ///
+    /// # Errors
+    /// `Memory` where a growth was refused, and then nothing was appended.
+    pub fn write_message(&mut self, delivery: &Delivery) -> Result<(), SessionFault>
+        ensures { Writes (message_frame delivery.now) self.old.octets self.new.octets result }
+    {
+        replies::write_message(delivery, &mut self.octets)
+    }
+
     /// Takes all away but the first so many.
     pub fn truncate(&mut self, len: usize)
         ensures { self.new.octets ≡ take len self.old.octets }
     {
-        let kept = len.min(self.octets.len() - self.start);
+        let kept = len.min(self.len());
         self.octets.truncate(self.start + kept);
     }
 }
