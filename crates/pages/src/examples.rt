@@ -7,6 +7,8 @@ ghost use Rattle.base.specs.declared.pair.Pair.{Pair};
 use activities::{Handler, HandlerFault, Input, OrderCommand, Outs};
 use agreement::stays_authentic;
 use base::{Entity, EntityFault, Key, Kind, Pair};
+use broker_book::{Mode, QueueFault, Sent, Shared};
+use broker_queues::Queues;
 use endpoint::{EndFault, Endpoint};
 use envelope::{Envelope, EnvelopeFault, to_send};
 use keep::{Keep, KeepFault};
@@ -19,7 +21,7 @@ use schedules::{ScheduleFault, read_schedule};
 use std::alloc::Global;
 use stomp_client::{ClientFault, ClientSession};
 use stomp_frame::{Command, Decoder, Frame, FrameFault};
-use stomp_session::ServerSession;
+use stomp_session::{Headers, Octets, ServerSession, Text};
 use stomp_wire::{Link, LinkFault, MemoryWire, Way, pump_out};
 
 pub fn an_entity_is_named_again(alloc: Global) -> Result<bool, EntityFault> {
@@ -58,6 +60,21 @@ pub fn a_frame_before_connect_is_refused(alloc: Global) -> Option<u8> {
     let frame = Frame::new(alloc, Command::Disconnect);
     let refused = session.accept(frame).err()?;
     Some(refused.fault.number())
+}
+
+pub fn answers_reach_back_in_mode_client() -> bool {
+    Mode::Client.reaches(2, 1) && !Mode::Individual.reaches(2, 1)
+}
+
+pub fn a_message_is_accepted(alloc: Global) -> Result<usize, QueueFault> {
+    let mut queues: Queues<4096> = Queues::new(alloc);
+    let sent = Sent {
+        destination: Text::new(String::from_str(alloc, "/queue/a")?),
+        headers: Headers::new(Vec::new(alloc)),
+        body: Octets::new(Vec::new(alloc)),
+    };
+    queues.put(&Shared::new(alloc, sent)?)?;
+    Ok(queues.take_accepted().len())
 }
 
 pub fn a_receipt_is_closed_once(alloc: Global) -> Result<bool, ReceiptFault> {

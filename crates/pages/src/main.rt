@@ -8,10 +8,10 @@ use anyhow::Result;
 use base::{Entity, Key, Pair};
 use examples::{
     a_client_asks_to_connect, a_command_is_taken_in, a_frame_before_connect_is_refused,
-    a_frame_is_read_from_pieces, a_mark_is_read, a_receipt_is_closed_once, a_schedule_is_read,
-    a_schedule_is_run, a_settle_is_sent, an_entity_is_named_again, an_order_is_refused,
-    first_state_of, no_mark_is_taken_back, printed_octets_are_read, tables_hold_nothing_at_first,
-    what_was_put_is_taken,
+    a_frame_is_read_from_pieces, a_mark_is_read, a_message_is_accepted, a_receipt_is_closed_once,
+    a_schedule_is_read, a_schedule_is_run, a_settle_is_sent, an_entity_is_named_again,
+    an_order_is_refused, answers_reach_back_in_mode_client, first_state_of, no_mark_is_taken_back,
+    printed_octets_are_read, tables_hold_nothing_at_first, what_was_put_is_taken,
 };
 use keep_plain::PlainKeep;
 use purchasing::Orders;
@@ -37,6 +37,8 @@ fn print_sessions(rt: &impl Print, alloc: Global) -> Result<()> {
         "stomp_session: {:?}",
         a_frame_before_connect_is_refused(alloc)
     )?;
+    println!(rt; "broker_book: {}", answers_reach_back_in_mode_client())?;
+    println!(rt; "broker_queues: {}", a_message_is_accepted(alloc)?)?;
     println!(rt; "receipts: {}", a_receipt_is_closed_once(alloc)?)?;
     println!(rt; "stomp_client: {}", a_client_asks_to_connect(alloc)?)?;
     Ok(())

@@ -1,0 +1,3 @@
+-- What only private functions speak of.
+pub mod Dealing
+pub mod Stored

@@ -1,0 +1,41 @@
+//! A broker's queues: messages that are ready or out to subscriptions, and what goes out next.
+//!
+//! [`Queues`] keeps a book of `broker_book`. Each call is one of its steps, or it is refused and has changed nothing. What goes out is
+//! handed to a [`Sink`] of the caller's: always the first message that can go out, to the oldest subscription that may take it. A
+//! subscription has at most 16 unanswered deliveries, and a message that comes back stands in its old place.
+//!
+//! What a SEND brought and the names of subscriptions are shared, so that no body is copied. Answers and the end of subscriptions take no
+//! memory. Where memory is refused, a call has changed nothing, but that a dispatch may have handed out some messages before.
+//!
+//! ```rust
+//! pub fn a_message_is_accepted(alloc: Global) -> Result<usize, QueueFault> {
+//!     let mut queues: Queues<4096> = Queues::new(alloc);
+//!     let sent = Sent {
+//!         destination: Text::new(String::from_str(alloc, "/queue/a")?),
+//!         headers: Headers::new(Vec::new(alloc)),
+//!         body: Octets::new(Vec::new(alloc)),
+//!     };
+//!     queues.put(&Shared::new(alloc, sent)?)?;
+//!     Ok(queues.take_accepted().len())
+//! }
+//! ```
+//!
+//! With a subscription in mode `client`:
+//!
+//! ```text
+//! put, put      1 and 2 are ready
+//! dispatch      1 goes out as delivery 1, and 2 as delivery 2
+//! nack 1        1 is ready again, before what is put later
+//! dispatch      1 goes out as delivery 3
+//! ack 3         both are gone
+//! ack 2         31: no delivery of this number is unanswered
+//! ```
+#![tactic(auto)]
+
+mod queues;
+mod shelf;
+mod sink;
+mod stored;
+
+pub use queues::Queues;
+pub use sink::Sink;

@@ -1,0 +1,156 @@
+//! The queues, as callers see them.
+
+ghost use Rattle.std.specs.Prelude.{◌≡◌, ◌==◌, [], OnOk, IfErr, count_by, is_some};
+ghost use Rattle.std.specs.List.{list_any};
+ghost use Rattle.broker_book.specs.declared.fault.QueueFault.TheVariants.{Memory};
+ghost use Rattle.broker_book.specs.Books.{empty_book, is_named};
+ghost use Rattle.broker_book.specs.Steps.{Dispatches, Exactly, UnlessMemory, ack_of, apply_of, ended, holder, nack_of};
+ghost use Rattle.broker_book.specs.Steps.{put_of, released, subscribed};
+
+use crate::Sink;
+use crate::shelf::Shelf;
+use broker_book::{Accepted, Action, QueueFault, Sent, Shared, Subscription};
+use std::alloc::{AllocError, Global};
+use std::marker::Model;
+use stomp_session::Text;
+
+/// A broker's queues: contracts see their book. A destination holds at most `FULL` messages, ready or out.
+#[derive(Drop)]
+pub struct Queues<const FULL: usize> {
+    shelf: Shelf,
+}
+
+impl<const FULL: usize> Model for Queues<FULL> {
+    ghost use Rattle.broker_book.specs.Books.{Book};
+
+    ghost Value = { Book };
+
+    ghost view = { λ q. q.shelf };
+}
+
+impl<const FULL: usize> Queues<FULL> {
+    /// Nothing has happened yet. It takes no memory.
+    pub fn new(alloc: Global) -> Self
+        ensures { result ≡ empty_book }
+    {
+        Queues {
+            shelf: Shelf::new(alloc),
+        }
+    }
+
+    /// The last number that a message was given, 0 before the first.
+    pub fn last(&self) -> u64
+        ensures { result ≡ self.now.last }
+    {
+        self.shelf.last()
+    }
+
+    /// Accepts a SEND: its message is ready, and has the next number, which [`last`](Queues::last) tells then. What it brings is shared
+    /// and not copied.
+    ///
+    /// # Errors
+    /// `QueueFull` where its destination holds `FULL` messages, `TooMany` where no number is left, `Memory` where a growth was refused.
+    /// Then nothing has changed.
+    pub fn put(&mut self, sent: &Shared<Sent>) -> Result<(), QueueFault>
+        ensures { UnlessMemory (put_of FULL self.old sent.now) self.old self.new result }
+    {
+        self.shelf.put(FULL, sent)
+    }
+
+    /// The SENDs accepted since they were last taken, the oldest first. It takes no memory.
+    pub fn take_accepted(&mut self) -> Vec<Accepted>
+        ensures accepted { result.items ≡ self.old.accepted }
+        ensures rest { self.new ≡ record self.old { accepted = [] } }
+    {
+        self.shelf.take_accepted()
+    }
+
+    /// Adds a subscription, the youngest. Its texts are shared and not copied.
+    ///
+    /// # Errors
+    /// `Memory` where a growth was refused, and then nothing has changed.
+    pub fn subscribe(&mut self, subscription: &Subscription) -> Result<(), QueueFault>
+        ensures ok { OnOk result (self.new ≡ subscribed self.old subscription.now) }
+        ensures err { IfErr result (λ fault. (fault ≡ Memory) × (self.new ≡ self.old)) }
+    {
+        self.shelf.subscribe(subscription)
+    }
+
+    /// Whether a session has a subscription of this name.
+    pub fn has_named(&self, session: u64, id: &Text) -> bool
+        ensures { result ≡ list_any (is_named session id.now) self.now.subscriptions }
+    {
+        self.shelf.has_named(session, id)
+    }
+
+    /// How many subscriptions a session has.
+    pub fn count_of(&self, session: u64) -> usize
+        ensures { result ≡ count_by (λ s. s.session == session) self.now.subscriptions }
+    {
+        self.shelf.count_of(session)
+    }
+
+    /// Ends a session's subscription of this name: what is out to it is ready again, in its old place. It takes no memory.
+    pub fn release(&mut self, session: u64, id: &Text)
+        ensures { self.new ≡ released self.old session id.now }
+    {
+        self.shelf.release(session, id)
+    }
+
+    /// Ends all subscriptions of a session: what is out to them is ready again, in its old place. It takes no memory.
+    pub fn end(&mut self, session: u64)
+        ensures { self.new ≡ ended self.old session }
+    {
+        self.shelf.end(session)
+    }
+
+    /// Whether a delivery of this number is out to a session.
+    pub fn holds(&self, session: u64, number: u64) -> bool
+        ensures { result ≡ is_some (holder self.now session number) }
+    {
+        self.shelf.holds(session, number)
+    }
+
+    /// An ACK of a session (STOMP 1.2, section "ACK"): the message that is out as this delivery is gone, and in mode `client` those of the
+    /// subscription's earlier deliveries. It takes no memory.
+    ///
+    /// # Errors
+    /// `NoSuchAck` where no such delivery is out to the session, and then nothing has changed.
+    pub fn ack(&mut self, session: u64, number: u64) -> Result<(), QueueFault>
+        ensures { Exactly (ack_of self.old session number) self.old self.new result }
+    {
+        self.shelf.ack(session, number)
+    }
+
+    /// A NACK of a session (STOMP 1.2, section "NACK"): the message that is out as this delivery is ready again, in its old place, and in
+    /// mode `client` those of the subscription's earlier deliveries. It takes no memory.
+    ///
+    /// # Errors
+    /// `NoSuchAck` where no such delivery is out to the session, and then nothing has changed.
+    pub fn nack(&mut self, session: u64, number: u64) -> Result<(), QueueFault>
+        ensures { Exactly (nack_of self.old session number) self.old self.new result }
+    {
+        self.shelf.nack(session, number)
+    }
+
+    /// The actions of a session's transaction: all in order, or none.
+    ///
+    /// # Errors
+    /// The first fault of an action, as `put`, `ack` and `nack` have them behind those before, or `Memory` where a growth was refused.
+    /// Then nothing has changed.
+    pub fn apply(&mut self, session: u64, actions: &[Action]) -> Result<(), QueueFault>
+        ensures { UnlessMemory (apply_of FULL session self.old actions.now) self.old self.new result }
+    {
+        self.shelf.apply(FULL, session, actions)
+    }
+
+    /// Hands out what is ready until no message can go out: always the first that can, to the oldest subscription that may take it.
+    ///
+    /// # Errors
+    /// Where memory is refused, here or by the sink. Then some messages may have been handed out, each of them wholly.
+    pub fn dispatch<S: Sink>(&mut self, sink: &mut S) -> Result<(), AllocError>
+        ensures { Dispatches S.takes self.old sink.old self.new sink.new result }
+    {
+        self.shelf.dispatch(sink)
+    }
+}
