@@ -1,1 +1,8 @@
+pub mod Acted
+pub mod AsPut
+pub mod Counts
+pub mod Kept
 pub mod Known
+pub mod Numbers
+pub mod Orderly
+mod RunExamples

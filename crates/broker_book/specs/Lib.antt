@@ -1,4 +1,6 @@
 pub mod Books
 pub mod Faults
 pub mod Known
+pub mod Laws
+pub mod Runs
 pub mod Steps

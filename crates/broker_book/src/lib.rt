@@ -19,6 +19,9 @@ mod parts;
 mod shared;
 
 pub use fault::QueueFault;
-pub use laws::deliveries_are_known;
+pub use laws::{
+    books_are_orderly, deliveries_are_known, each_is_accepted_once, each_is_as_put,
+    nothing_is_lost, steps_are_runs,
+};
 pub use parts::{Accepted, Action, Mode, Sent, Subscription};
 pub use shared::Shared;
