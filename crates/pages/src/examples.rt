@@ -7,8 +7,10 @@ ghost use Rattle.base.specs.declared.pair.Pair.{Pair};
 use activities::{Handler, HandlerFault, Input, OrderCommand, Outs};
 use agreement::stays_authentic;
 use base::{Entity, EntityFault, Key, Kind, Pair};
-use broker_book::{Mode, QueueFault, Sent, Shared};
+use broker_book::{Action, Mode, QueueFault, Sent, Shared};
+use broker_core::{Broker, BrokerFault};
 use broker_queues::Queues;
+use broker_tx::{TransactionFault, Transactions};
 use endpoint::{EndFault, Endpoint};
 use envelope::{Envelope, EnvelopeFault, to_send};
 use keep::{Keep, KeepFault};
@@ -75,6 +77,24 @@ pub fn a_message_is_accepted(alloc: Global) -> Result<usize, QueueFault> {
     };
     queues.put(&Shared::new(alloc, sent)?)?;
     Ok(queues.take_accepted().len())
+}
+
+pub fn a_transaction_keeps_its_actions(alloc: Global) -> Result<usize, TransactionFault> {
+    let mut transactions = Transactions::new(alloc);
+    let name = Text::new(String::from_str(alloc, "t")?);
+    transactions.begin(alloc, &name)?;
+    transactions.add(&name, Action::Ack(1))?;
+    let kept = transactions.actions(&name);
+    Ok(kept.map_or(0, |actions| actions.len()))
+}
+
+pub fn a_broker_answers_connect(alloc: Global) -> Result<bool, BrokerFault> {
+    let mut broker: Broker<4096> = Broker::new(alloc);
+    let session = broker.open()?;
+    broker.feed(session, b"CONNECT\naccept-version:1.2\nho")?;
+    let frames = broker.feed(session, b"st:h\n\n\0")?;
+    let connected = b"CONNECTED\nversion:1.2\nheart-beat:0,0\n\n\0".as_slice();
+    Ok(frames == 1 && broker.out(session) == connected)
 }
 
 pub fn a_receipt_is_closed_once(alloc: Global) -> Result<bool, ReceiptFault> {

@@ -7,9 +7,10 @@ use activities::{OrderCommand, Outs};
 use anyhow::Result;
 use base::{Entity, Key, Pair};
 use examples::{
-    a_client_asks_to_connect, a_command_is_taken_in, a_frame_before_connect_is_refused,
-    a_frame_is_read_from_pieces, a_mark_is_read, a_message_is_accepted, a_receipt_is_closed_once,
-    a_schedule_is_read, a_schedule_is_run, a_settle_is_sent, an_entity_is_named_again,
+    a_broker_answers_connect, a_client_asks_to_connect, a_command_is_taken_in,
+    a_frame_before_connect_is_refused, a_frame_is_read_from_pieces, a_mark_is_read,
+    a_message_is_accepted, a_receipt_is_closed_once, a_schedule_is_read, a_schedule_is_run,
+    a_settle_is_sent, a_transaction_keeps_its_actions, an_entity_is_named_again,
     an_order_is_refused, answers_reach_back_in_mode_client, first_state_of, no_mark_is_taken_back,
     printed_octets_are_read, tables_hold_nothing_at_first, what_was_put_is_taken,
 };
@@ -39,6 +40,8 @@ fn print_sessions(rt: &impl Print, alloc: Global) -> Result<()> {
     )?;
     println!(rt; "broker_book: {}", answers_reach_back_in_mode_client())?;
     println!(rt; "broker_queues: {}", a_message_is_accepted(alloc)?)?;
+    println!(rt; "broker_tx: {}", a_transaction_keeps_its_actions(alloc)?)?;
+    println!(rt; "broker_core: {}", a_broker_answers_connect(alloc)?)?;
     println!(rt; "receipts: {}", a_receipt_is_closed_once(alloc)?)?;
     println!(rt; "stomp_client: {}", a_client_asks_to_connect(alloc)?)?;
     Ok(())

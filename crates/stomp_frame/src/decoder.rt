@@ -1,6 +1,6 @@
 //! The decoder: frames from the pieces of a text.
 
-ghost use Rattle.std.specs.Prelude.{◌≡◌, [], false};
+ghost use Rattle.std.specs.Prelude.{◌≡◌, ◌<◌, ◌^◌, [], length, false};
 ghost use Rattle.stomp_frame.specs.Decoding.{Nexts, Feeds};
 
 use crate::reading::{Found, Progress, after_gap, read_frame};
@@ -119,6 +119,14 @@ impl Decoder {
                 Err(fault)
             }
         }
+    }
+
+    /// How many octets it holds: those that were fed and belong to no frame that was given.
+    pub fn held_len(&self) -> usize
+        ensures value { result ≡ length self.now.octets }
+        ensures small { result < 2 ^ 63 }
+    {
+        self.octets.len() - self.start
     }
 
     /// Moves what it holds to the front of its memory.

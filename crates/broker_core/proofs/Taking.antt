@@ -1,0 +1,32 @@
+-- What the decoder answers, as what a session takes.
+use Rattle.std.proofs.Common.{◌≡◌, Bool, false, refl, sym, ap, ◌∙◌}
+use Rattle.std.specs.Prelude.{Option, Some, None, Ok, Err}
+use Rattle.base.specs.declared.limits.TheConstants.{MAX_BODY}
+use Rattle.stomp_frame.specs.Decoding.{Held, Nexts}
+use Rattle.stomp_frame.specs.Frames.{Content}
+use Rattle.stomp_frame.specs.declared.fault.FrameFault.{FrameFault}
+use Rattle.stomp_frame.specs.declared.fault.FrameFault.TheVariants.{Memory, Failed}
+use Rattle.broker_core.specs.Feeding.{TakesFrame, MeetsFault, answer_of, read, now, before}
+use Rattle.broker_core.specs.Parts.Taking.{is_memory}
+use Rattle.broker_core.specs.Serving.{Decided}
+use Rattle.broker_core.specs.declared.incoming.Incoming.{Incoming}
+
+pub reads : (connected : Bool) (old new : Incoming) (f : Content) (decided : Decided) → old.waiting ≡ None → new.waiting ≡ None
+    → Nexts MAX_BODY old.decoder new.decoder (Ok (Some f)) → decided ≡ answer_of connected f → TakesFrame connected old decided new
+reads connected old new f decided w v n e = read f n.2 w n.0 n.3 n.4 n.1 v e
+
+same : (old new : Incoming) → old.waiting ≡ None → new.waiting ≡ None → new.decoder ≡ old.decoder → new ≡ old
+same old new w v e =
+    let at_decoder = λ (d : Held). record old { decoder = d; waiting = new.waiting } in
+    let at_waiting = λ (x : Option Decided). record old { waiting = x } in
+    ap at_decoder e ∙ ap at_waiting (v ∙ sym w)
+
+pub none_of : (o : Option Decided) → ((x : Decided) → o ≡ Some x → ⊥) → o ≡ None
+none_of None h = refl
+none_of (Some x) h = absurd (h x refl)
+
+pub meets : (old new : Incoming) (fault : FrameFault) → is_memory fault ≡ false → old.waiting ≡ None → new.waiting ≡ None
+    → Nexts MAX_BODY old.decoder new.decoder (Err fault) → MeetsFault old new
+meets old new Memory e w v n = cc
+meets old new Failed e w v n = before w n.0 (same old new w v n.1)
+meets old new fault e w v n = now fault w n.0 n.2 v n.1

@@ -1,0 +1,10 @@
+use Rattle.std.proofs.Common.{◌+◌, ◌<◌}
+use Rattle.broker_core.specs.Parts.Taking.{Handled, left_in}
+use Rattle.broker_core.specs.Serving.{session_of}
+use Rattle.broker_core.proofs.broker.Broker.feed_number.Given as goal
+
+abbrev pub invariant-loop-count : goal.invariant-loop-count
+invariant-loop-count g l = record {
+  handled : Handled g.row.FULL l.number l.initial.self l.count l.self;
+  less : left_in (session_of l.number l.self) + l.count < l.bound;
+}

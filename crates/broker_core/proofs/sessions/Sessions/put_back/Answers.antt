@@ -1,0 +1,10 @@
+use Rattle.std.proofs.Common.{refl}
+use Rattle.broker_core.specs.Parts.Taking.{waiting_again}
+use Rattle.broker_core.proofs.Rising.{kept_at}
+use Rattle.broker_core.proofs.sessions.Sessions.put_back.Goals as goal
+
+pub invariant_of-self : goal.invariant_of-self
+invariant_of-self c =
+    let w = c.put_back_at.ensures in
+    kept_at c.self.inside.opened c.self.inside.items.items c.put_back_at.new.items.items c.in-Some.at w.0
+    (waiting_again c.args.decided w.0) c.self.invariant w.1.0 w.1.1 refl

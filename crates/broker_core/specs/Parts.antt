@@ -1,0 +1,4 @@
+-- What only private functions speak of.
+pub mod Asked
+pub mod Rising
+pub mod Taking

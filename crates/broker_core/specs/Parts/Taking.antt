@@ -1,0 +1,152 @@
+-- What the parts of `feed` and of the other calls answer.
+use Rattle.std.specs.Prelude.{◌≡◌, ◌≢◌, ◌⊎◌, ℕ, ◌+◌, ◌<◌, Bool, true, false, List, [], length, Option, Some, None, is_some, Result, Ok, Err}
+use Rattle.stomp_frame.specs.declared.fault.FrameFault.{FrameFault}
+use Rattle.stomp_frame.specs.declared.fault.FrameFault.TheVariants.{Memory}
+use Rattle.broker_tx.specs.First.{IsFirstAt, PassesNone}
+use Rattle.broker_core.specs.Feeding.{TakesFrame, HasNone, MeetsFault, with_incoming, with_waiting, taking, Handles, HandlesAll, Ends}
+use Rattle.broker_core.specs.Feeding.{Stops}
+use Rattle.broker_core.specs.Feeding.{fed, Settles, Dealing, IsOpen, FeedsNone}
+use Rattle.broker_core.specs.Performing.{Reach, queue_refusal, transaction_refusal}
+use Rattle.broker_core.specs.Serving.{Decided, Server, is_session, session_of, step, changing}
+use Rattle.broker_core.specs.declared.fault.BrokerFault.{BrokerFault}
+use Rattle.broker_core.specs.declared.fault.BrokerFault.TheVariants.{Memory as OutOfMemory}
+use Rattle.broker_core.specs.declared.fault.HandlerFault.{HandlerFault}
+use Rattle.broker_core.specs.declared.fault.HandlerFault.TheVariants.{Refused as IsRefused, Memory as HasNoMemory}
+use Rattle.broker_core.specs.declared.fault.Refusal.{Refusal}
+use Rattle.broker_core.specs.declared.incoming.Incoming.{Incoming}
+use Rattle.broker_core.specs.declared.incoming.Next.{Next}
+use Rattle.broker_core.specs.declared.incoming.Next.TheVariants.{Frame, Nothing, Fault}
+use Rattle.broker_core.specs.declared.session.Session.{Session}
+use Rattle.broker_book.specs.declared.fault.QueueFault.{QueueFault}
+use Rattle.broker_book.specs.declared.fault.QueueFault.TheVariants.{Memory as NoRoom}
+use Rattle.broker_tx.specs.declared.fault.TransactionFault.{TransactionFault}
+use Rattle.broker_tx.specs.declared.fault.TransactionFault.TheVariants.{Memory as NoSpace}
+
+-- ---- handlers
+
+-- a request was done; it was refused, or memory was, and nothing has changed
+abbrev pub Performs : Result Reach Refusal → Reach → Reach → Result (Unit {0}) HandlerFault → Type 0
+Performs step old new (Ok _) = step ≡ Ok new
+Performs step old new (Err (IsRefused refusal)) = (step ≡ Err refusal) × (new ≡ old)
+Performs step old new (Err HasNoMemory) = new ≡ old
+
+-- an answer of the queues, as a handler gives it
+abbrev pub lifted : Result (Unit {0}) QueueFault → Result (Unit {0}) HandlerFault
+lifted (Ok x) = Ok x
+lifted (Err NoRoom) = Err HasNoMemory
+lifted (Err fault) = Err (IsRefused (queue_refusal fault))
+
+-- an answer of the transactions, as a handler gives it
+abbrev pub lifted_transaction : Result (Unit {0}) TransactionFault → Result (Unit {0}) HandlerFault
+lifted_transaction (Ok x) = Ok x
+lifted_transaction (Err NoSpace) = Err HasNoMemory
+lifted_transaction (Err fault) = Err (IsRefused (transaction_refusal fault))
+
+-- ---- what a session was fed
+
+-- a piece was taken; or it has an octet, no fault was met, and memory was refused
+abbrev pub PieceAnswer : {E : Type 0} → List ℕ → Incoming → Incoming → Result (Unit {0}) E → Type 0
+PieceAnswer piece old new (Ok _) = new ≡ fed piece old
+PieceAnswer piece old new (Err _) = (old.decoder.failed ≡ false) × (piece ≢ []) × (new ≡ old)
+
+-- the same of a session
+abbrev pub SessionPieceAnswer : {E : Type 0} → List ℕ → Session → Session → Result (Unit {0}) E → Type 0
+SessionPieceAnswer piece old new (Ok _) = new ≡ taking piece old
+SessionPieceAnswer piece old new (Err _) = (old.closed ≡ false) × (old.incoming.decoder.failed ≡ false) × (piece ≢ []) × (new ≡ old)
+
+-- the next frame was taken and decided, or there is none, or a fault; where memory was refused nothing has changed
+abbrev pub NextAnswer : {E : Type 0} → Bool → Incoming → Incoming → Result Next E → Type 0
+NextAnswer connected old new (Ok (Frame decided)) = TakesFrame connected old decided new
+NextAnswer connected old new (Ok Nothing) = HasNone old new
+NextAnswer connected old new (Ok Fault) = MeetsFault old new
+NextAnswer connected old new (Err _) = new ≡ old
+
+-- whether a fault of the decoder is want of memory
+abbrev pub is_memory : FrameFault → Bool
+is_memory Memory = true
+is_memory _ = false
+
+-- how many frames wait
+abbrev pub waiting_count : Option Decided → ℕ
+waiting_count None = 0
+waiting_count (Some decided) = 1
+
+-- how much is left: the octets, and what waits
+abbrev pub left_of : Incoming → ℕ
+left_of i = length i.decoder.octets + waiting_count i.waiting
+
+-- what a session was fed, where there is one
+abbrev pub incoming_in : Option Session → Option Incoming
+incoming_in None = None
+incoming_in (Some s) = Some s.incoming
+
+-- how much is left of it
+abbrev pub left_at : Option Incoming → ℕ
+left_at None = 0
+left_at (Some i) = left_of i
+
+-- how much is left to a session
+abbrev pub left_in : Option Session → ℕ
+left_in s = left_at (incoming_in s)
+
+-- what was taken out waits again
+abbrev pub waiting_again : Decided → Session → Session
+waiting_again decided s = with_incoming (with_waiting decided s.incoming) s
+
+-- ---- calls of the sessions
+
+-- where the session of a number stands, if there is one
+abbrev pub PlaceAnswer : ℕ → List Session → Option ℕ → Type 0
+PlaceAnswer n sessions None = PassesNone (is_session n) sessions
+PlaceAnswer n sessions (Some at) = IsFirstAt (is_session n) sessions at
+
+-- what an open session's next is, and what is left
+pub record TakesNext (n : ℕ) (old new : Server) (next : Next) : Type 0 where
+  pub session : Session
+  pub left : Incoming
+  pub is_open : IsOpen old n session
+  pub answer : NextAnswer {E = ℕ} session.server session.incoming left (Ok next)
+  pub changed : new ≡ changing n (with_incoming left) old
+
+-- the next of a session was taken; where memory was refused nothing has changed
+abbrev pub NextTaken : {E : Type 0} → ℕ → Server → Server → Result Next E → Type 0
+NextTaken n old new (Ok next) = TakesNext n old new next
+NextTaken n old new (Err _) = new ≡ old
+
+-- a piece was fed, if there is such a session; or memory was refused
+abbrev pub FedAnswer : {E : Type 0} → ℕ → List ℕ → Server → Server → Result (Unit {0}) E → Type 0
+FedAnswer n piece old new (Ok _) = new ≡ changing n (taking piece) old
+FedAnswer n piece old new (Err _) = FeedsNone old n piece new
+
+-- ---- one turn of `feed`
+
+-- a frame was handled, and less is left
+pub record Turned (full n : ℕ) (old new : Server) : Type 0 where
+  pub frame : Decided
+  pub handles : Handles full n old frame new
+  pub less : left_in (session_of n new) < left_in (session_of n old)
+  pub there : is_some (session_of n new) ≡ true
+
+-- a frame was handled, or none is left, or memory was refused
+abbrev pub TurnAnswer : {E : Type 0} → ℕ → ℕ → Server → Server → Result Bool E → Type 0
+TurnAnswer full n old new (Ok true) = Turned full n old new
+TurnAnswer full n old new (Ok false) = Ends old n new
+TurnAnswer full n old new (Err _) = Stops full n old new
+
+-- a frame's step and the deals behind it; or the frame waits, or some deals were made, and memory was refused
+abbrev pub HandleAnswer : {E : Type 0} → ℕ → ℕ → Decided → Server → Server → Result (Unit {0}) E → Type 0
+HandleAnswer full n decided old new (Ok _) = Settles (step full n decided old) new
+HandleAnswer full n decided old new (Err _) = (new ≡ changing n (waiting_again decided) old) ⊎ Dealing (step full n decided old) new
+
+-- so many frames were handled
+pub record Handled (full n : ℕ) (old : Server) (count : ℕ) (new : Server) : Type 0 where
+  pub frames : List Decided
+  pub handles : HandlesAll full n old frames new
+  pub counted : count ≡ length frames
+  pub there : is_some (session_of n new) ≡ true
+
+-- the deals at the end
+abbrev pub EndAnswer : Server → Server → ℕ → Result ℕ BrokerFault → Type 0
+EndAnswer old new count (Ok c) = Settles old new × (c ≡ count)
+EndAnswer old new count (Err (OutOfMemory true)) = Dealing old new
+EndAnswer old new count (Err _) = ⊥

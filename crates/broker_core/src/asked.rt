@@ -1,0 +1,152 @@
+//! What a frame asks, as a session keeps it until it is done.
+
+ghost use Rattle.std.specs.Prelude.{◌≡◌, true, IfOk, IfErr};
+ghost use Rattle.std.specs.Option.{option_copied};
+ghost use Rattle.stomp_session.specs.Requests.{receipt_of};
+ghost use Rattle.broker_core.specs.Parts.Asked.{is_ready, request_in, send_in};
+ghost use Rattle.broker_core.specs.Serving.{is_connect, is_last};
+
+use broker_book::{Sent, Shared};
+use std::alloc::Global;
+use std::marker::Model;
+use stomp_session::{Request, Send, Text};
+
+/// A SEND of which queues and transactions take a share.
+#[derive(Debug, Drop)]
+pub struct SharedSend {
+    pub sent: Shared<Sent>,
+    pub transaction: Option<Text>,
+    pub receipt: Option<Text>,
+}
+
+impl SharedSend {
+    /// The same SEND, or it is given back where memory is refused.
+    pub fn new(alloc: Global, send: Send) -> Result<SharedSend, Send>
+        ensures ok { IfOk result (λ s. send_in s ≡ Request.Send send) }
+        ensures err { IfErr result (λ s. s ≡ send) }
+    {
+        let Send {
+            destination,
+            headers,
+            body,
+            transaction,
+            receipt,
+        } = send;
+        let sent = Sent {
+            destination,
+            headers,
+            body,
+        };
+        match Shared::new(alloc, sent) {
+            Ok(sent) => Ok(SharedSend {
+                sent,
+                transaction,
+                receipt,
+            }),
+            Err(failed) => {
+                let Sent {
+                    destination,
+                    headers,
+                    body,
+                } = failed.value;
+                Err(Send {
+                    destination,
+                    headers,
+                    body,
+                    transaction,
+                    receipt,
+                })
+            }
+        }
+    }
+}
+
+/// A request as it came, or a shared SEND.
+#[derive(Debug, Drop)]
+pub enum Form {
+    Whole(Request),
+    Shared(SharedSend),
+}
+
+impl Form {
+    /// The same request, of which nothing more has to be moved: a SEND is shared.
+    pub fn share(self, alloc: Global) -> Result<Form, Form>
+        ensures ok { IfOk result (λ f. (request_in f ≡ request_in self) × (is_ready f ≡ true)) }
+        ensures err { IfErr result (λ f. request_in f ≡ request_in self) }
+    {
+        match self {
+            Form::Whole(request) => share(alloc, request),
+            Form::Shared(send) => Ok(Form::Shared(send)),
+        }
+    }
+
+    /// The receipt that is asked for.
+    pub fn receipt(&self) -> Option<&str>
+        ensures { option_copied result ≡ receipt_of (request_in self.now) }
+    {
+        match self {
+            Form::Whole(request) => request.receipt(),
+            Form::Shared(send) => send.receipt.as_ref().map(|text| text.as_str()),
+        }
+    }
+
+    /// Whether it opens the session.
+    pub fn is_connect(&self) -> bool
+        ensures { result ≡ is_connect (request_in self.now) }
+    {
+        matches!(self, Form::Whole(Request::Connect(_)))
+    }
+
+    /// Whether it is the last of its session.
+    pub fn is_last(&self) -> bool
+        ensures { result ≡ is_last (request_in self.now) }
+    {
+        matches!(self, Form::Whole(Request::Disconnect(_)))
+    }
+}
+
+fn share(alloc: Global, request: Request) -> Result<Form, Form>
+    ensures ok { IfOk result (λ f. (request_in f ≡ request) × (is_ready f ≡ true)) }
+    ensures err { IfErr result (λ f. request_in f ≡ request) }
+{
+    match request {
+        Request::Send(send) => match SharedSend::new(alloc, send) {
+            Ok(send) => Ok(Form::Shared(send)),
+            Err(send) => Err(Form::Whole(Request::Send(send))),
+        },
+        request => Ok(Form::Whole(request)),
+    }
+}
+
+/// A request: contracts see the request, whatever its form.
+#[derive(Debug, Drop)]
+pub struct Asked {
+    form: Form,
+}
+
+impl Model for Asked {
+    ghost use Rattle.stomp_session.specs.declared.request.Request.{Request};
+
+    ghost Value = { Request };
+
+    ghost use Rattle.broker_core.specs.Parts.Asked.{request_in};
+
+    ghost view = { λ a. request_in a.form };
+}
+
+impl Asked {
+    /// The request of this form.
+    pub fn new(form: Form) -> Asked
+        ensures { result ≡ request_in form }
+    {
+        Asked { form }
+    }
+
+    /// Its form.
+    pub fn into_form(self) -> Form
+        ensures { request_in result ≡ self }
+    {
+        let Asked { form } = self;
+        form
+    }
+}

@@ -1,0 +1,102 @@
+//! What a session was fed.
+
+ghost use Rattle.std.specs.Prelude.{◌≡◌, ◌<◌};
+ghost use Rattle.broker_core.specs.Feeding.{answer_of};
+ghost use Rattle.broker_core.specs.Parts.Taking.{NextAnswer, PieceAnswer, is_memory, left_of};
+ghost use Rattle.broker_core.specs.Serving.{nothing_incoming};
+
+use crate::asked::{Asked, Form};
+use std::alloc::{AllocError, Global};
+use stomp_frame::{Decoder, Frame, FrameFault};
+use stomp_session::{Refused, ServerSession};
+
+/// What waits since memory was refused to it, as it was decided, and the octets behind it.
+#[derive(Debug, Drop)]
+pub struct Incoming {
+    pub decoder: Decoder,
+    pub waiting: Option<Result<Asked, Refused>>,
+}
+
+/// The next frame, as it is decided, or none, or a fault of the octets.
+#[derive(Debug, Drop)]
+pub enum Next {
+    Frame(Result<Asked, Refused>),
+    Nothing,
+    Fault,
+}
+
+impl Incoming {
+    /// Nothing. It takes no memory.
+    pub fn new(alloc: Global) -> Incoming
+        ensures { result ≡ nothing_incoming }
+    {
+        Incoming {
+            decoder: Decoder::new(alloc),
+            waiting: None,
+        }
+    }
+
+    /// Takes a piece, which is thrown away where a fault was found.
+    pub fn feed(&mut self, piece: &[u8]) -> Result<(), AllocError>
+        ensures { PieceAnswer piece.now self.old self.new result }
+    {
+        match self.decoder.feed(piece) {
+            Ok(()) => Ok(()),
+            Err(fault) => {
+                if is_memory(fault) {
+                    Err(AllocError)
+                } else {
+                    Ok(())
+                }
+            }
+        }
+    }
+
+    /// Takes the next frame out: what waits, or else the frame that begins the octets.
+    pub fn next(&mut self, server: ServerSession) -> Result<Next, AllocError>
+        ensures { NextAnswer server self.old self.new result }
+    {
+        if let Some(decided) = self.waiting.take() {
+            return Ok(Next::Frame(decided));
+        }
+        match self.decoder.next() {
+            Ok(Some(frame)) => Ok(Next::Frame(decide(server, frame))),
+            Ok(None) => Ok(Next::Nothing),
+            Err(fault) => {
+                if is_memory(fault) {
+                    Err(AllocError)
+                } else {
+                    Ok(Next::Fault)
+                }
+            }
+        }
+    }
+
+    /// More than what can still be taken.
+    pub fn bound(&self) -> usize
+        ensures { left_of self.now < result }
+    {
+        let octets = self.decoder.held_len();
+        match &self.waiting {
+            None => octets + 1,
+            Some(_) => octets + 2,
+        }
+    }
+}
+
+/// What a frame is decided to be: its parts are moved.
+fn decide(server: ServerSession, frame: Frame) -> Result<Asked, Refused>
+    ensures { result ≡ answer_of server frame }
+{
+    let mut server = server;
+    match server.accept(frame) {
+        Ok(request) => Ok(Asked::new(Form::Whole(request))),
+        Err(refused) => Err(refused),
+    }
+}
+
+fn is_memory(fault: FrameFault) -> bool
+    ensures { result ≡ is_memory fault }
+{
+    matches!(fault, FrameFault::Memory)
+}

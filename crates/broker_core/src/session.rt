@@ -1,0 +1,223 @@
+//! A session of a broker.
+
+ghost use Rattle.std.specs.Prelude.{◌≡◌, ◌≤◌, true, length, IfErr, OnOk, OnErr};
+ghost use Rattle.std.specs.Option.{option_copied};
+ghost use Rattle.stomp_session.specs.Replies.{Delivered, message_frame};
+ghost use Rattle.broker_core.specs.Calls.{named, new_session, without_first};
+ghost use Rattle.broker_core.specs.Parts.Asked.{is_ready, request_in};
+ghost use Rattle.broker_core.specs.Parts.Taking.{NextAnswer, SessionPieceAnswer};
+ghost use Rattle.broker_core.specs.Feeding.{with_incoming};
+ghost use Rattle.broker_core.specs.Serving.{Part, part, served, refused, closing, closing_if, closed_of, writing};
+
+use crate::asked::{Asked, Form};
+use crate::fault::HandlerFault;
+use crate::incoming::{Incoming, Next};
+use crate::perform::perform;
+use crate::written::Written;
+use crate::{Refusal, SessionId};
+use broker_queues::Queues;
+use broker_tx::Transactions;
+use std::alloc::{AllocError, Global};
+use stomp_session::{Delivery, Refused, ServerSession, receipt_told};
+
+/// A session: `out` are the octets not yet taken, and `fresh` tells whether some were written since the session was last named.
+#[derive(Drop)]
+pub struct Session {
+    pub number: u64,
+    pub server: ServerSession,
+    pub closed: bool,
+    pub fresh: bool,
+    pub incoming: Incoming,
+    pub transactions: Transactions,
+    pub out: Written,
+}
+
+impl Session {
+    /// A session that isn't connected. It takes no memory.
+    pub fn new(alloc: Global, number: u64) -> Session
+        ensures { result ≡ new_session number }
+    {
+        Session {
+            number,
+            server: ServerSession::new(),
+            closed: false,
+            fresh: false,
+            incoming: Incoming::new(alloc),
+            transactions: Transactions::new(alloc),
+            out: Written::new(alloc),
+        }
+    }
+
+    /// Takes a piece; a closed session throws it away.
+    pub fn feed(&mut self, piece: &[u8]) -> Result<(), AllocError>
+        ensures { SessionPieceAnswer piece.now self.old self.new result }
+    {
+        if self.closed {
+            return Ok(());
+        }
+        self.incoming.feed(piece)
+    }
+
+    /// Takes the next frame out of what it was fed.
+    pub fn next(&mut self) -> Result<Next, AllocError>
+        ensures next { NextAnswer self.old.server self.old.incoming self.new.incoming result }
+        ensures rest { self.new ≡ with_incoming self.new.incoming self.old }
+    {
+        self.incoming.next(self.server)
+    }
+
+    /// Takes the first octets that were written away.
+    pub fn taken(&mut self, count: usize)
+        requires { count ≤ length self.old.out }
+        ensures { self.new ≡ without_first count self.old }
+    {
+        self.out.taken(count);
+    }
+
+    /// Has it named: what was written is no longer fresh.
+    pub fn name(&mut self) -> SessionId
+        ensures number { result ≡ self.old.number }
+        ensures named { self.new ≡ named self.old }
+    {
+        self.fresh = false;
+        SessionId::new(self.number)
+    }
+
+    /// Writes the MESSAGE of a delivery, or changes nothing.
+    pub fn write_message(&mut self, delivery: &Delivery) -> Result<(), AllocError>
+        ensures ok { OnOk result (self.new ≡ writing (message_frame delivery.now) self.old) }
+        ensures err { OnErr result (self.new ≡ self.old) }
+    {
+        self.out.write_message(delivery)?;
+        self.fresh = true;
+        Ok(())
+    }
+
+    /// Closes it: its transactions are aborted, and what was fed is thrown away.
+    fn close(&mut self, alloc: Global)
+        ensures { self.new ≡ closed_of self.old }
+    {
+        self.closed = true;
+        self.incoming = Incoming::new(alloc);
+        self.transactions.clear();
+    }
+
+    /// Ends its subscriptions and closes it, where that was its last request.
+    fn close_after<const FULL: usize>(
+        &mut self,
+        alloc: Global,
+        queues: &mut Queues<FULL>,
+        last: bool,
+    )
+        ensures { part queues.new self.new ≡ closing_if last (part queues.old self.old) }
+    {
+        if last {
+            queues.end(self.number);
+            self.close(alloc);
+        }
+    }
+
+    /// Writes an ERROR and ends the session, or changes nothing.
+    pub fn refuse<const FULL: usize>(
+        &mut self,
+        alloc: Global,
+        queues: &mut Queues<FULL>,
+        refusal: Refusal,
+        receipt: Option<&str>,
+    ) -> Result<(), AllocError>
+        ensures ok { OnOk result (part queues.new self.new ≡ refused refusal (option_copied receipt.entry) (part queues.old self.old)) }
+        ensures err { OnErr result ((queues.new ≡ queues.old) × (self.new ≡ self.old)) }
+    {
+        self.out.write_error(alloc, refusal, receipt)?;
+        self.fresh = true;
+        queues.end(self.number);
+        self.close(alloc);
+        Ok(())
+    }
+
+    /// Does what was decided, or gives it back where memory is refused, and then nothing has changed.
+    pub fn serve<const FULL: usize>(
+        &mut self,
+        alloc: Global,
+        queues: &mut Queues<FULL>,
+        decided: Result<Asked, Refused>,
+    ) -> Result<(), Result<Asked, Refused>>
+        ensures ok { OnOk result (part queues.new self.new ≡ served FULL decided (part queues.old self.old)) }
+        ensures err { OnErr result ((queues.new ≡ queues.old) × (self.new ≡ self.old)) }
+        ensures back { IfErr result (λ left. left ≡ decided) }
+    {
+        match decided {
+            Ok(asked) => match self.serve_asked(alloc, queues, asked) {
+                Ok(()) => Ok(()),
+                Err(asked) => Err(Ok(asked)),
+            },
+            Err(refused) => match self.serve_refused(alloc, queues, &refused) {
+                Ok(()) => Ok(()),
+                Err(_) => Err(Err(refused)),
+            },
+        }
+    }
+
+    fn serve_refused<const FULL: usize>(
+        &mut self,
+        alloc: Global,
+        queues: &mut Queues<FULL>,
+        refused: &Refused,
+    ) -> Result<(), AllocError>
+        ensures ok { OnOk result (part queues.new self.new ≡ served FULL (Err refused.now) (part queues.old self.old)) }
+        ensures err { OnErr result ((queues.new ≡ queues.old) × (self.new ≡ self.old)) }
+    {
+        let receipt = receipt_told(&refused.frame);
+        self.refuse(alloc, queues, Refusal::Unaccepted(refused.fault), receipt)
+    }
+
+    fn serve_asked<const FULL: usize>(
+        &mut self,
+        alloc: Global,
+        queues: &mut Queues<FULL>,
+        asked: Asked,
+    ) -> Result<(), Asked>
+        ensures ok { OnOk result (part queues.new self.new ≡ served FULL (Ok asked) (part queues.old self.old)) }
+        ensures err { OnErr result ((queues.new ≡ queues.old) × (self.new ≡ self.old)) }
+        ensures back { IfErr result (λ left. left ≡ asked) }
+    {
+        match asked.into_form().share(alloc) {
+            Ok(form) => match self.carry_out(alloc, queues, &form) {
+                Ok(()) => Ok(()),
+                Err(_) => Err(Asked::new(form)),
+            },
+            Err(form) => Err(Asked::new(form)),
+        }
+    }
+
+    /// Does a request and writes its reply, or refuses it, and ends the session where it is refused or the last; or changes nothing.
+    fn carry_out<const FULL: usize>(
+        &mut self,
+        alloc: Global,
+        queues: &mut Queues<FULL>,
+        form: &Form,
+    ) -> Result<(), AllocError>
+        requires { is_ready form.now ≡ true }
+        ensures ok { OnOk result (part queues.new self.new ≡ served FULL (Ok (request_in form.now)) (part queues.old self.old)) }
+        ensures err { OnErr result ((queues.new ≡ queues.old) × (self.new ≡ self.old)) }
+    {
+        let before = self.out.len();
+        let wrote = self.out.write_reply(form)?;
+        match perform(alloc, queues, &mut self.transactions, self.number, form) {
+            Ok(()) => {
+                self.server = ServerSession::connected();
+                self.fresh = self.fresh || wrote;
+                self.close_after(alloc, queues, form.is_last());
+                Ok(())
+            }
+            Err(HandlerFault::Refused(refusal)) => {
+                self.out.truncate(before);
+                self.refuse(alloc, queues, refusal, form.receipt())
+            }
+            Err(HandlerFault::Memory) => {
+                self.out.truncate(before);
+                Err(AllocError)
+            }
+        }
+    }
+}

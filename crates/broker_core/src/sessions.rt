@@ -1,0 +1,342 @@
+//! The sessions of a broker.
+
+ghost use Rattle.std.specs.Prelude.{◌≡◌, ◌<◌, ◌≤◌, ◌++◌, ◌∷◌, [], length, slice_set, false, Some, None, OnOk, OnErr, IfErr};
+ghost use Rattle.std.specs.Option.{option_copied};
+ghost use Rattle.std.specs.List.{find, position, slice_get};
+ghost use Rattle.stomp_session.specs.Replies.{message_frame};
+ghost use Rattle.broker_book.specs.Books.{Book};
+ghost use Rattle.broker_core.specs.Calls.{FreshAnswer, OpenAnswer, closed_in, dropped, is_fresh, named, new_session, others, out_in};
+ghost use Rattle.broker_core.specs.Calls.{without_first};
+ghost use Rattle.broker_core.specs.Feeding.{taking, with_incoming};
+ghost use Rattle.broker_core.specs.Parts.Taking.{FedAnswer, NextAnswer, NextTaken, PlaceAnswer, SessionPieceAnswer, left_in, waiting_again};
+ghost use Rattle.broker_core.specs.Serving.{broker_of, in_roster, is_session, part, refused, served, step, with_fault, writing};
+ghost use Rattle.broker_core.specs.declared.fault.Refusal.TheVariants.{BadFrame};
+ghost use Rattle.broker_core.specs.declared.session.Session.{Session};
+
+use crate::asked::Asked;
+use crate::incoming::Next;
+use crate::session::Session;
+use crate::{BrokerFault, Refusal, SessionId};
+use broker_book::{Sent, Subscription};
+use broker_queues::{Queues, Sink};
+use std::alloc::{AllocError, Global};
+use std::marker::Model;
+use stomp_session::{Delivery, Refused};
+
+/// The sessions, the oldest first, and the last number that one was given: contracts see both.
+#[derive(Drop)]
+pub struct Sessions {
+    alloc: Global,
+    items: Vec<Session>,
+    opened: u64,
+}
+
+impl Model for Sessions {
+    ghost use Rattle.broker_core.specs.Serving.{Roster};
+
+    ghost Value = { Roster };
+
+    ghost view = { λ s. record { sessions = s.items.items; opened = s.opened } };
+
+    ghost use Rattle.broker_core.specs.Parts.Rising.{InOrder};
+
+    ghost invariant = { InOrder };
+}
+
+impl Sessions {
+    /// No session. It takes no memory.
+    pub fn new(alloc: Global) -> Sessions
+        ensures { result ≡ record { sessions = []; opened = 0 } }
+    {
+        Sessions {
+            alloc,
+            items: Vec::new(alloc),
+            opened: 0,
+        }
+    }
+
+    /// Opens a session.
+    pub fn open(&mut self) -> Result<SessionId, BrokerFault>
+        ensures { (book : Book) → OpenAnswer (broker_of book self.old) (broker_of book self.new) result }
+    {
+        if self.opened == u64::MAX {
+            return Err(BrokerFault::TooMany);
+        }
+        let number = self.opened + 1;
+        if push_new(&mut self.items, self.alloc, number).is_err() {
+            return Err(BrokerFault::Memory { took: false });
+        }
+        self.opened = number;
+        Ok(SessionId::new(number))
+    }
+
+    /// The session of a number.
+    pub fn get(&self, number: u64) -> Option<&Session>
+        ensures { option_copied result ≡ find (is_session number) self.now.sessions }
+    {
+        match self.place(number) {
+            Some(at) => Some(&self.items[at]),
+            None => None,
+        }
+    }
+
+    /// Where the session of a number stands.
+    fn place(&self, number: u64) -> Option<usize>
+        ensures { PlaceAnswer number self.now.sessions result }
+    {
+        self.items
+            .binary_search_by_key(&number, |session| session.number)
+            .ok()
+    }
+
+    /// The octets for a session that were not taken yet.
+    pub fn out(&self, number: u64) -> &[u8]
+        ensures { result.now ≡ out_in (find (is_session number) self.now.sessions) }
+    {
+        match self.get(number) {
+            Some(session) => session.out.as_slice(),
+            None => &[],
+        }
+    }
+
+    /// Whether a session is closed, or there is none.
+    pub fn is_closed(&self, number: u64) -> bool
+        ensures { result ≡ closed_in (find (is_session number) self.now.sessions) }
+    {
+        match self.get(number) {
+            Some(session) => session.closed,
+            None => true,
+        }
+    }
+
+    /// More than the frames that can still be taken of a session.
+    pub fn bound(&self, number: u64) -> usize
+        ensures { left_in (find (is_session number) self.now.sessions) < result }
+    {
+        match self.get(number) {
+            Some(session) => session.incoming.bound(),
+            None => 1,
+        }
+    }
+
+    /// Takes the first octets for a session away.
+    pub fn taken(&mut self, number: u64, count: usize)
+        requires { count ≤ length (out_in (find (is_session number) self.old.sessions)) }
+        ensures { self.new ≡ in_roster number (without_first count) self.old }
+    {
+        if let Some(at) = self.place(number) {
+            take_at(&mut self.items, at, count);
+        }
+    }
+
+    /// Takes a session away, and ends its subscriptions.
+    pub fn remove<const FULL: usize>(&mut self, number: u64, queues: &mut Queues<FULL>)
+        ensures { let old = broker_of queues.old self.old in
+            broker_of queues.new self.new ≡ dropped number old (find (is_session number) self.old.sessions) }
+    {
+        if self.get(number).is_some() {
+            queues.end(number);
+            remove_from(&mut self.items, number);
+        }
+    }
+
+    /// Names a session with fresh octets.
+    pub fn take_fresh(&mut self) -> Option<SessionId>
+        ensures { (book : Book) → FreshAnswer (broker_of book self.old) (broker_of book self.new) result }
+    {
+        match self.fresh_place() {
+            Some(at) => Some(name_at(&mut self.items, at)),
+            None => None,
+        }
+    }
+
+    /// Where the first session with fresh octets stands.
+    fn fresh_place(&self) -> Option<usize>
+        ensures { result ≡ position is_fresh self.now.sessions }
+    {
+        self.items.iter().position(|session| session.fresh)
+    }
+
+    /// Feeds a piece to a session, if there is one.
+    pub fn feed(&mut self, number: u64, piece: &[u8]) -> Result<(), AllocError>
+        ensures { (book : Book) → FedAnswer number piece.now (broker_of book self.old) (broker_of book self.new) result }
+    {
+        match self.place(number) {
+            Some(at) => feed_at(&mut self.items, at, piece),
+            None => Ok(()),
+        }
+    }
+
+    /// Takes the next frame out of what an open session was fed.
+    pub fn next(&mut self, number: u64) -> Result<Next, AllocError>
+        requires { closed_in (find (is_session number) self.old.sessions) ≡ false }
+        ensures { (book : Book) → NextTaken number (broker_of book self.old) (broker_of book self.new) result }
+    {
+        let Some(at) = self.place(number) else {
+            unreachable!()
+        };
+        next_at(&mut self.items, at)
+    }
+
+    /// Has wait what was taken out.
+    pub fn put_back(&mut self, number: u64, decided: Result<Asked, Refused>)
+        ensures { self.new ≡ in_roster number (waiting_again decided) self.old }
+    {
+        if let Some(at) = self.place(number) {
+            put_back_at(&mut self.items, at, decided);
+        }
+    }
+
+    /// Makes the step of what was decided; or gives it back, and changes nothing.
+    pub fn serve<const FULL: usize>(
+        &mut self,
+        number: u64,
+        queues: &mut Queues<FULL>,
+        decided: Result<Asked, Refused>,
+    ) -> Result<(), Result<Asked, Refused>>
+        ensures ok { OnOk result (broker_of queues.new self.new ≡ step FULL number decided (broker_of queues.old self.old)) }
+        ensures err { OnErr result ((queues.new ≡ queues.old) × (self.new ≡ self.old)) }
+        ensures back { IfErr result (λ left. left ≡ decided) }
+    {
+        match self.place(number) {
+            Some(at) => serve_at(&mut self.items, at, self.alloc, queues, decided),
+            None => Ok(()),
+        }
+    }
+
+    /// Writes the ERROR of a fault of the octets and ends the session, or changes nothing.
+    pub fn tell_fault<const FULL: usize>(
+        &mut self,
+        number: u64,
+        queues: &mut Queues<FULL>,
+    ) -> Result<(), AllocError>
+        ensures ok { OnOk result (broker_of queues.new self.new ≡ with_fault number (broker_of queues.old self.old)) }
+        ensures err { OnErr result ((queues.new ≡ queues.old) × (self.new ≡ self.old)) }
+    {
+        match self.place(number) {
+            Some(at) => refuse_at(&mut self.items, at, self.alloc, queues),
+            None => Ok(()),
+        }
+    }
+}
+
+impl Sink for Sessions {
+    ghost use Rattle.broker_core.specs.Feeding.{Hands};
+
+    ghost takes = { Hands };
+
+    fn deliver(
+        &mut self,
+        number: u64,
+        sent: &Sent,
+        to: &Subscription,
+        ack: Option<u64>,
+    ) -> Result<(), AllocError> {
+        let delivery = Delivery {
+            destination: sent.destination.as_str(),
+            number,
+            subscription: to.id.get().as_str(),
+            ack,
+            headers: sent.headers.as_slice(),
+            body: sent.body.as_slice(),
+        };
+        match self.place(to.session) {
+            Some(at) => write_at(&mut self.items, at, &delivery),
+            None => Ok(()),
+        }
+    }
+}
+
+fn push_new(items: &mut Vec<Session>, alloc: Global, number: u64) -> Result<(), AllocError>
+    ensures ok { OnOk result (items.new.items ≡ items.old.items ++ new_session number ∷ []) }
+    ensures err { OnErr result (items.new.items ≡ items.old.items) }
+{
+    items.push(Session::new(alloc, number))?;
+    Ok(())
+}
+
+fn feed_at(items: &mut Vec<Session>, at: usize, piece: &[u8]) -> Result<(), AllocError>
+    requires { at < length items.old.items }
+    ensures { (s : Session) × (t : Session) × ((slice_get items.old.items at ≡ Some s) × (items.new.items ≡ slice_set items.old.items at t)
+        × SessionPieceAnswer piece.now s t result) }
+{
+    items[at].feed(piece)
+}
+
+fn next_at(items: &mut Vec<Session>, at: usize) -> Result<Next, AllocError>
+    requires { at < length items.old.items }
+    ensures { (s : Session) × (t : Session) × ((slice_get items.old.items at ≡ Some s) × (items.new.items ≡ slice_set items.old.items at t)
+        × (t ≡ with_incoming t.incoming s) × NextAnswer s.server s.incoming t.incoming result) }
+{
+    items[at].next()
+}
+
+fn put_back_at(items: &mut Vec<Session>, at: usize, decided: Result<Asked, Refused>)
+    requires { at < length items.old.items }
+    ensures { (s : Session) × ((slice_get items.old.items at ≡ Some s)
+        × (items.new.items ≡ slice_set items.old.items at (waiting_again decided s))) }
+{
+    items[at].incoming.waiting = Some(decided);
+}
+
+fn serve_at<const FULL: usize>(
+    items: &mut Vec<Session>,
+    at: usize,
+    alloc: Global,
+    queues: &mut Queues<FULL>,
+    decided: Result<Asked, Refused>,
+) -> Result<(), Result<Asked, Refused>>
+    requires { at < length items.old.items }
+    ensures ok { OnOk result ((s : Session) × (t : Session) × ((slice_get items.old.items at ≡ Some s)
+        × (items.new.items ≡ slice_set items.old.items at t) × (part queues.new t ≡ served FULL decided (part queues.old s)))) }
+    ensures err { OnErr result ((queues.new ≡ queues.old) × (items.new.items ≡ items.old.items)) }
+    ensures back { IfErr result (λ left. left ≡ decided) }
+{
+    items[at].serve(alloc, queues, decided)
+}
+
+fn refuse_at<const FULL: usize>(
+    items: &mut Vec<Session>,
+    at: usize,
+    alloc: Global,
+    queues: &mut Queues<FULL>,
+) -> Result<(), AllocError>
+    requires { at < length items.old.items }
+    ensures ok { OnOk result ((s : Session) × (t : Session) × ((slice_get items.old.items at ≡ Some s)
+        × (items.new.items ≡ slice_set items.old.items at t) × (part queues.new t ≡ refused BadFrame None (part queues.old s)))) }
+    ensures err { OnErr result ((queues.new ≡ queues.old) × (items.new.items ≡ items.old.items)) }
+{
+    items[at].refuse(alloc, queues, Refusal::BadFrame, None)
+}
+
+fn write_at(items: &mut Vec<Session>, at: usize, delivery: &Delivery) -> Result<(), AllocError>
+    requires { at < length items.old.items }
+    ensures ok { OnOk result ((s : Session) × ((slice_get items.old.items at ≡ Some s)
+        × (items.new.items ≡ slice_set items.old.items at (writing (message_frame delivery.now) s)))) }
+    ensures err { OnErr result (items.new.items ≡ items.old.items) }
+{
+    items[at].write_message(delivery)
+}
+
+fn take_at(items: &mut Vec<Session>, at: usize, count: usize)
+    requires within { at < length items.old.items }
+    requires enough { (s : Session) → slice_get items.old.items at ≡ Some s → count ≤ length s.out }
+    ensures { (s : Session) × ((slice_get items.old.items at ≡ Some s)
+        × (items.new.items ≡ slice_set items.old.items at (without_first count s))) }
+{
+    items[at].taken(count);
+}
+
+fn name_at(items: &mut Vec<Session>, at: usize) -> SessionId
+    requires { at < length items.old.items }
+    ensures { (s : Session) × ((slice_get items.old.items at ≡ Some s) × (items.new.items ≡ slice_set items.old.items at (named s))
+        × (result ≡ s.number)) }
+{
+    items[at].name()
+}
+
+fn remove_from(items: &mut Vec<Session>, number: u64)
+    ensures { items.new.items ≡ others number items.old.items }
+{
+    items.retain(|session| !(session.number == number));
+}
