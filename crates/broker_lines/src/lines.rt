@@ -1,0 +1,151 @@
+//! The broker that stands between two lines, and what a line asks of it.
+
+use crate::cuts::hold_cut;
+use crate::fault::LineFault;
+use crate::parts::push_all_accepted;
+use base::limits::MAX_QUEUED;
+use broker_core::{Broker, SessionId};
+use line_script::{Script, first_word, natural, push_octets, read_octets, size};
+use std::alloc::Global;
+use std::fmt::Write as _;
+use std::io;
+use std::io::Write;
+
+/// A broker.
+#[derive(Drop)]
+pub struct Lines {
+    broker: Broker<MAX_QUEUED>,
+}
+
+/// The session of a number.
+fn session(number: &str) -> Result<SessionId, LineFault> {
+    Ok(SessionId::new(natural(number)?))
+}
+
+/// A text, or `none` in place of an empty one.
+fn or_none(alloc: Global, text: String) -> Result<String, LineFault> {
+    if text.is_empty() {
+        Ok(String::from_str(alloc, "none")?)
+    } else {
+        Ok(text)
+    }
+}
+
+/// Numbers with a space between them.
+fn numbers_text(alloc: Global, numbers: &[u64]) -> Result<String, LineFault> {
+    let mut text = String::new(alloc);
+    for number in numbers {
+        if !text.is_empty() {
+            text.push(' ')?;
+        }
+        write!(text, "{number}")?;
+    }
+    Ok(text)
+}
+
+impl Lines {
+    /// A broker with no session and no message.
+    pub fn new(alloc: Global) -> Lines {
+        Lines {
+            broker: Broker::new(alloc),
+        }
+    }
+
+    /// A session is fed a piece so many times: the frames that were handled in all.
+    fn feed(&mut self, alloc: Global, times: usize, line: &str) -> Result<String, LineFault> {
+        let (number, text) = first_word(line);
+        let session = session(number)?;
+        let octets = read_octets(alloc, text)?;
+        let mut frames: usize = 0;
+        for _ in 0..times {
+            frames = frames.saturating_add(self.broker.feed(session, &octets)?);
+        }
+        Ok(format!(in alloc; "{frames}")?)
+    }
+
+    /// The octets for a session, which are taken.
+    fn out(&mut self, alloc: Global, session: SessionId) -> Result<String, LineFault> {
+        let octets = self.broker.out(session);
+        let count = octets.len();
+        let mut text = String::new(alloc);
+        push_octets(&mut text, octets)?;
+        self.broker.taken(session, count);
+        or_none(alloc, text)
+    }
+
+    /// The SENDs that were accepted, which are taken.
+    fn accepted(&mut self, alloc: Global) -> Result<String, LineFault> {
+        let mut text = String::new(alloc);
+        push_all_accepted(alloc, &mut text, &self.broker.take_accepted())?;
+        or_none(alloc, text)
+    }
+
+    /// The sessions that have octets to be written, lowest number first.
+    fn fresh(&mut self, alloc: Global) -> Result<String, LineFault> {
+        let mut numbers = Vec::new(alloc);
+        for _ in 0..u64::MAX {
+            match self.broker.take_fresh() {
+                Some(session) => numbers.push(session.number())?,
+                None => break,
+            }
+        }
+        numbers.sort_unstable();
+        or_none(alloc, numbers_text(alloc, &numbers)?)
+    }
+
+    /// The answer to a line of one word.
+    fn answer_word(&mut self, alloc: Global, word: &str) -> Result<String, LineFault> {
+        match word {
+            "new" => self.broker = Broker::new(alloc),
+            "open" => return Ok(format!(in alloc; "{}", self.broker.open()?.number())?),
+            "dispatch" => self.broker.dispatch()?,
+            "accepted" => return self.accepted(alloc),
+            "fresh" => return self.fresh(alloc),
+            _ => return Err(LineFault::Unknown),
+        }
+        Ok(String::from_str(alloc, "done")?)
+    }
+
+    /// The answer to a line of a word and the number of a session.
+    fn answer_session(
+        &mut self,
+        alloc: Global,
+        word: &str,
+        session: SessionId,
+    ) -> Result<String, LineFault> {
+        let text = match word {
+            "out" => return self.out(alloc, session),
+            "drop" => {
+                self.broker.drop_session(session);
+                "done"
+            }
+            "closed" if self.broker.is_closed(session) => "yes",
+            "closed" => "no",
+            _ => return Err(LineFault::Unknown),
+        };
+        Ok(String::from_str(alloc, text)?)
+    }
+}
+
+impl Script for Lines {
+    type Answer = String;
+
+    type Fault = LineFault;
+
+    fn answer(&mut self, alloc: Global, line: &str) -> Result<String, LineFault> {
+        match first_word(line) {
+            ("cuts", text) => hold_cut(alloc, &read_octets(alloc, text)?),
+            ("feed", rest) => self.feed(alloc, 1, rest),
+            ("repeat", rest) => {
+                let (times, rest) = first_word(rest);
+                self.feed(alloc, size(times)?, rest)
+            }
+            (word, "") => self.answer_word(alloc, word),
+            (word, number) => self.answer_session(alloc, word, session(number)?),
+        }
+    }
+
+    fn show<W: Write>(&self, answer: String, out: &mut W) -> io::Result<()> {
+        write!(out, "{answer}")
+    }
+}
