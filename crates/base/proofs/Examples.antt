@@ -4,11 +4,12 @@ use Rattle.std.specs.Prelude.{◌^◌, ◌+◌, codes, Ok, Err, replicate}
 use Rattle.std.specs.Str.{is_utf8, chars}
 use Rattle.std.specs.declared.cmp.Ordering.TheVariants.{Less, Greater}
 use Rattle.base.specs.declared.entity.Kind.TheVariants.{Order, Stock, Account}
-use Rattle.base.specs.declared.fault.EntityFault.TheVariants.{BadKey}
+use Rattle.base.specs.declared.fault.EntityFault.TheVariants.{BadKey, BadKind, Memory}
 use Rattle.base.specs.declared.limits.TheConstants.{MAX_NUMBER, SEATS, HELD_WINDOW}
-use Rattle.base.specs.Entity.{order_of, stock_of, account_of, text_of, queue_of, is_key, IsReading}
+use Rattle.base.specs.Entity.{order_of, stock_of, account_of, text_of, queue_of, is_key, IsReading, word_of, prefix_of}
 use Rattle.base.specs.Number.{IsNumber, is_number}
 use Rattle.base.specs.Order.{same_entity, same_pair, entity_cmp, pair_cmp}
+use Rattle.base.specs.Fault.{entity_fault_number}
 
 -- the text of an entity is the word of its kind, a slash and its key
 an_order_has_a_text : text_of (order_of (codes "o1")) ≡ codes "order/o1"
@@ -109,3 +110,12 @@ limits_are_set = (refl, refl, refl)
 -- numbers are 1 to 2^40
 numbers_are_tested : (is_number 0 ≡ false) × (is_number 1 ≡ true) × (is_number 1099511627776 ≡ true) × (is_number 1099511627777 ≡ false)
 numbers_are_tested = (refl, refl, refl, refl)
+
+-- kinds have words, with which their entities' texts begin
+kinds_have_words : (word_of Order ≡ codes "order") × (word_of Stock ≡ codes "stock") × (word_of Account ≡ codes "account")
+    × (prefix_of Stock ≡ codes "stock/")
+kinds_have_words = (refl, refl, refl, refl)
+
+-- faults are numbered
+faults_are_numbered : (entity_fault_number BadKey ≡ 1) × (entity_fault_number BadKind ≡ 2) × (entity_fault_number Memory ≡ 3)
+faults_are_numbered = (refl, refl, refl)

@@ -6,3 +6,4 @@ pub mod Known
 pub mod Numbers
 pub mod Orderly
 mod RunExamples
+mod Examples

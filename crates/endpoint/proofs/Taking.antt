@@ -1,5 +1,5 @@
 -- The tables after a row was taken in.
-use Rattle.std.proofs.Common.{ℕ, ◌+◌, ◌≤◌, ◌<◌, ◌≡◌, List, [], ◌∷◌, ◌++◌, length, Bool, true, false, Option, Some, None, Result, Ok, refl}
+use Rattle.std.proofs.Common.{ℕ, ◌+◌, ◌≤◌, ◌<◌, ◌≡◌, List, [], ◌∷◌, ◌++◌, length, Bool, true, false, Option, Result, Ok, refl}
 use Rattle.std.proofs.Common.{sym, ap, ◌∙◌, subst}
 use Rattle.std.specs.Prelude.{if◌then◌else◌, IsOk, IsSome}
 use Rattle.std.proofs.lemmas.List.{append-nil}
@@ -9,7 +9,6 @@ use Rattle.base.specs.Order.{same_entity}
 use Rattle.base.specs.declared.pair.Pair.{Pair}
 use Rattle.activities.specs.Service.{Service}
 use Rattle.activities.specs.declared.handler.Refusal.{Refusal}
-use Rattle.activities.specs.declared.input.Input.{Input}
 use Rattle.activities.specs.declared.input.JournalRow.{JournalRow}
 use Rattle.activities.specs.declared.outs.Out.{Out}
 use Rattle.activities.specs.Reaction.{messages_to}

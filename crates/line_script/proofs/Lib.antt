@@ -1,1 +1,2 @@
 pub mod Escapes
+mod Examples

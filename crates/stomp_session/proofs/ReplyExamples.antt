@@ -5,6 +5,9 @@ use Rattle.std.specs.Fmt.{digits}
 use Rattle.base.specs.declared.limits.TheConstants.{MAX_LINE}
 use Rattle.stomp_frame.specs.declared.command.Command.TheVariants.{Connect, Send, Receipt}
 use Rattle.stomp_frame.specs.Frames.{header, frame, canonical, escape, line_of}
+use Rattle.stomp_session.specs.declared.fault.SessionFault.TheVariants.{NotConnected, AlreadyConnected, Version, MissingHeader}
+use Rattle.stomp_session.specs.declared.fault.SessionFault.TheVariants.{WrongCommand, Memory, TooLarge}
+use Rattle.stomp_session.specs.Faults.{session_fault_number, session_fault_name}
 use Rattle.stomp_session.specs.Replies.{Delivered, connected_frame, receipt_frame, receipt_told, error_frame, message_frame}
 
 -- CONNECTED, and a RECEIPT, whose value is escaped
@@ -56,3 +59,13 @@ the_longest_receipt_fits = (refl, omega arith)
 -- 28 headers of a SEND and four of the server are as many as a frame may have
 thirty_two_headers_fit : length ((message_frame (record greeting { headers = replicate 28 (header (codes "k") (codes "v")) })).headers) ≡ 32
 thirty_two_headers_fit = refl
+
+-- faults are numbered and named
+faults_are_numbered : (session_fault_number NotConnected ≡ 21) × (session_fault_number AlreadyConnected ≡ 22) × (session_fault_number Version ≡ 23)
+    × (session_fault_number MissingHeader ≡ 24) × (session_fault_number WrongCommand ≡ 33) × (session_fault_number Memory ≡ 34)
+    × (session_fault_number TooLarge ≡ 35)
+faults_are_numbered = (refl, refl, refl, refl, refl, refl, refl)
+
+faults_are_named : (session_fault_name NotConnected ≡ codes "NotConnected") × (session_fault_name Version ≡ codes "Version")
+    × (session_fault_name TooLarge ≡ codes "TooLarge")
+faults_are_named = (refl, refl, refl)

@@ -3,7 +3,7 @@ use Rattle.std.proofs.Common.{◌≡◌, ℕ, zero, List, [], true, false, refl,
 use Rattle.std.specs.Prelude.{◌^◌, ◌-◌, codes, Some, Ok, Err}
 use Rattle.std.specs.declared.io.ErrorKind.TheVariants.{WouldBlock, Interrupted, UnexpectedEof}
 use Rattle.stomp_wire.specs.declared.fault.LinkFault.TheVariants.{Cut, Device, Memory}
-use Rattle.stomp_wire.specs.Fault.{next_count, IsCounted}
+use Rattle.stomp_wire.specs.Fault.{next_count, IsCounted, link_fault_number}
 use Rattle.stomp_wire.specs.Memory.{Queues, QueuePuts, QueueTakes, IsCarried}
 use Rattle.stomp_wire.specs.Travel.{Travels, begins, puts, carries, takes}
 use Rattle.stomp_wire.specs.Stream.{is_passing, meaning_of_read, meaning_of_write, count_after}
@@ -57,3 +57,7 @@ one_is_taken : Travels (codes "abc") (codes "a") (Some (codes "c")) (Some (codes
 one_is_taken = takes {put = codes "abc"} {taken = []} {waiting = Some (codes "c")} {carried = Some (codes "ab")} {later = Some (codes "b")}
     1 [] (codes "a") (Ok 1) two_are_carried
     (refl, refl, omega arith, refl)
+
+-- faults are numbered
+faults_are_numbered : (link_fault_number Cut ≡ 1) × (link_fault_number Device ≡ 2) × (link_fault_number Memory ≡ 3)
+faults_are_numbered = (refl, refl, refl)
