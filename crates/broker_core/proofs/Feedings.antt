@@ -149,7 +149,7 @@ stepped c frames pieces s mid t d left st o takes m k = elim st.next [
 
 -- ---- what doesn't change it
 
-moved : (c : Bool) (frames : List Decided) (pieces : List ℕ) (s t : Session) → State c frames pieces s → t.closed ≡ s.closed
+pub moved : (c : Bool) (frames : List Decided) (pieces : List ℕ) (s t : Session) → State c frames pieces s → t.closed ≡ s.closed
     → t.server ≡ s.server
     → t.incoming ≡ s.incoming → State c frames pieces t
 moved c frames pieces s t st a b e = record {
@@ -342,7 +342,7 @@ piece_fed c frames pieces piece n b i = record {
 
 -- ---- a call, and calls
 
-took : (full n : ℕ) (c : Bool) (frames : List Decided) (pieces : List ℕ) (old new : Server) (f : Fed) → Is c frames pieces n old
+pub took : (full n : ℕ) (c : Bool) (frames : List Decided) (pieces : List ℕ) (old new : Server) (f : Fed) → Is c frames pieces n old
     → Took full n old f new
     → Is c (frames ++ f.frames) (pieces ++ f.piece) n new
 took full n c frames pieces old new f i (whole count h e) =

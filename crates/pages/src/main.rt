@@ -12,7 +12,8 @@ use examples::{
     a_message_is_accepted, a_receipt_is_closed_once, a_schedule_is_read, a_schedule_is_run,
     a_settle_is_sent, a_transaction_keeps_its_actions, an_entity_is_named_again,
     an_order_is_refused, answers_reach_back_in_mode_client, first_state_of, no_mark_is_taken_back,
-    printed_octets_are_read, tables_hold_nothing_at_first, what_was_put_is_taken,
+    printed_octets_are_read, tables_hold_nothing_at_first, what_a_client_reads_was_sent,
+    what_was_put_is_taken,
 };
 use keep_plain::PlainKeep;
 use purchasing::Orders;
@@ -42,6 +43,7 @@ fn print_sessions(rt: &impl Print, alloc: Global) -> Result<()> {
     println!(rt; "broker_queues: {}", a_message_is_accepted(alloc)?)?;
     println!(rt; "broker_tx: {}", a_transaction_keeps_its_actions(alloc)?)?;
     println!(rt; "broker_core: {}", a_broker_answers_connect(alloc)?)?;
+    what_a_client_reads_was_sent();
     println!(rt; "receipts: {}", a_receipt_is_closed_once(alloc)?)?;
     println!(rt; "stomp_client: {}", a_client_asks_to_connect(alloc)?)?;
     Ok(())

@@ -1,0 +1,5 @@
+pub mod Carried
+pub mod Conversations
+pub mod Lifetime
+pub mod Lives
+pub mod Written
