@@ -15,78 +15,106 @@ use examples::{
     printed_octets_are_read, tables_hold_nothing_at_first, what_a_client_reads_was_sent,
     what_was_put_is_taken,
 };
+use keep::KeepFault;
 use keep_plain::PlainKeep;
 use purchasing::Orders;
 use std::alloc::Global;
+use std::error::Error;
+use std::fmt::Debug;
+
+/// Prints a value behind the name of its library.
+fn show<T: Debug>(rt: &impl Print, library: &str, told: &T) -> Result<()> {
+    println!(rt; "{library}: {told:?}")?;
+    Ok(())
+}
+
+/// Prints what an example answers.
+fn tell<T: Debug + Drop, E: Error>(
+    rt: &impl Print,
+    library: &str,
+    answer: Result<T, E>,
+) -> Result<()> {
+    let told = answer?;
+    show(rt, library, &told)
+}
+
+/// A pair of an order and a stock.
+fn pair(alloc: Global) -> Result<Pair> {
+    let from = Entity::read(alloc, "order/o1")?;
+    let to = Entity::read(alloc, "stock/bolt")?;
+    Ok(Pair { from, to })
+}
 
 /// What is told, and how it's carried.
 fn print_messages(rt: &impl Print, alloc: Global) -> Result<()> {
-    let pair = Pair {
-        from: Entity::read(alloc, "order/o1")?,
-        to: Entity::read(alloc, "stock/bolt")?,
-    };
-    println!(rt; "base: {}", an_entity_is_named_again(alloc)?)?;
-    println!(rt; "stomp_wire: {:?}", what_was_put_is_taken(alloc)?)?;
-    println!(rt; "line_script: {}", printed_octets_are_read(alloc)?)?;
-    println!(rt; "stomp_frame: {}", a_frame_is_read_from_pieces(alloc)?)?;
-    println!(rt; "envelope: {}", a_settle_is_sent(alloc, pair)?)?;
-    Ok(())
+    tell(rt, "base", an_entity_is_named_again(alloc))?;
+    tell(rt, "stomp_wire", what_was_put_is_taken(alloc))?;
+    tell(rt, "line_script", printed_octets_are_read(alloc))?;
+    tell(rt, "stomp_frame", a_frame_is_read_from_pieces(alloc))?;
+    tell(rt, "envelope", a_settle_is_sent(alloc, pair(alloc)?))
 }
 
 /// What both sides of a connection make of frames.
 fn print_sessions(rt: &impl Print, alloc: Global) -> Result<()> {
-    println!(rt;
-        "stomp_session: {:?}",
-        a_frame_before_connect_is_refused(alloc)
+    show(
+        rt,
+        "stomp_session",
+        &a_frame_before_connect_is_refused(alloc),
     )?;
-    println!(rt; "broker_book: {}", answers_reach_back_in_mode_client())?;
-    println!(rt; "broker_queues: {}", a_message_is_accepted(alloc)?)?;
-    println!(rt; "broker_tx: {}", a_transaction_keeps_its_actions(alloc)?)?;
-    println!(rt; "broker_core: {}", a_broker_answers_connect(alloc)?)?;
+    show(rt, "broker_book", &answers_reach_back_in_mode_client())?;
+    tell(rt, "broker_queues", a_message_is_accepted(alloc))?;
+    tell(rt, "broker_tx", a_transaction_keeps_its_actions(alloc))?;
+    tell(rt, "broker_core", a_broker_answers_connect(alloc))?;
     what_a_client_reads_was_sent();
-    println!(rt; "receipts: {}", a_receipt_is_closed_once(alloc)?)?;
-    println!(rt; "stomp_client: {}", a_client_asks_to_connect(alloc)?)?;
-    Ok(())
+    tell(rt, "receipts", a_receipt_is_closed_once(alloc))?;
+    tell(rt, "stomp_client", a_client_asks_to_connect(alloc))
+}
+
+/// Whether an order refuses its first command.
+fn is_refused(alloc: Global) -> bool {
+    let mut outs = Outs::new(alloc);
+    first_state_of::<Orders>(alloc, OrderCommand::CancelOrder, &mut outs).is_err()
 }
 
 /// What services do with it, and what holds of all of them.
 fn print_reactions(rt: &impl Print, alloc: Global) -> Result<()> {
-    let mut outs = Outs::new(alloc);
-    let first = first_state_of::<Orders>(alloc, OrderCommand::CancelOrder, &mut outs);
     no_mark_is_taken_back();
-    println!(rt; "activities: {}", first.is_err())?;
-    println!(rt; "purchasing: {:?}", an_order_is_refused(alloc))?;
-    Ok(())
+    show(rt, "activities", &is_refused(alloc))?;
+    show(rt, "purchasing", &an_order_is_refused(alloc))
+}
+
+/// A mark of empty tables.
+fn first_mark(alloc: Global, pair: &Pair) -> Result<u64, KeepFault> {
+    let mut keep: PlainKeep<Orders> = PlainKeep::new(alloc);
+    a_mark_is_read(&mut keep, alloc, pair)
 }
 
 /// What they keep.
 fn print_tables(rt: &impl Print, alloc: Global) -> Result<()> {
-    let pair = Pair {
-        from: Entity::read(alloc, "order/o1")?,
-        to: Entity::read(alloc, "stock/bolt")?,
+    let pair = pair(alloc)?;
+    tell(rt, "keep", first_mark(alloc, &pair))?;
+    tell(rt, "keep_plain", tables_hold_nothing_at_first(alloc))
+}
+
+/// A command of a service.
+fn take_in(alloc: Global) -> Result<u64> {
+    let stock = Key::read(alloc, "bolt")?;
+    let account = Key::read(alloc, "ann")?;
+    let order = Entity::read(alloc, "order/o1")?;
+    let command = OrderCommand::Place {
+        stock,
+        quantity: 3,
+        account,
+        amount: 500,
     };
-    let mut keep: PlainKeep<Orders> = PlainKeep::new(alloc);
-    println!(rt; "keep: {}", a_mark_is_read(&mut keep, alloc, &pair)?)?;
-    println!(rt; "keep_plain: {}", tables_hold_nothing_at_first(alloc)?)?;
-    Ok(())
+    Ok(a_command_is_taken_in(alloc, &order, command)?)
 }
 
 /// One service, and schedules of what it's given.
 fn print_runs(rt: &impl Print, alloc: Global) -> Result<()> {
-    let order = Entity::read(alloc, "order/o1")?;
-    let command = OrderCommand::Place {
-        stock: Key::read(alloc, "bolt")?,
-        quantity: 3,
-        account: Key::read(alloc, "ann")?,
-        amount: 500,
-    };
-    println!(rt;
-        "endpoint: {}",
-        a_command_is_taken_in(alloc, &order, command)?
-    )?;
-    println!(rt; "schedules: {:?}", a_schedule_is_read(alloc))?;
-    println!(rt; "programs: {}", a_schedule_is_run(alloc)?)?;
-    Ok(())
+    show(rt, "endpoint", &take_in(alloc)?)?;
+    show(rt, "schedules", &a_schedule_is_read(alloc))?;
+    tell(rt, "programs", a_schedule_is_run(alloc))
 }
 
 fn main(rt: HostRuntime) -> Result<()> {

@@ -2,10 +2,12 @@
 
 use crate::devices::{Limits, Sink, Source};
 use crate::fault::LineFault;
+use line_script::first_word;
 use programs::{RunFault, run_input, run_schedule, run_text, tell_bad_words, tell_fault};
 use schedules::{ScheduleFault, read_schedule};
 use std::alloc::Global;
-use std::io;
+use std::fmt::Write;
+use std::{fmt, io};
 
 /// What fails, and how much at once is read and written.
 #[derive(Clone, Copy)]
@@ -37,12 +39,54 @@ impl Devices {
     }
 }
 
-/// What a call wrote, what it answered, and how much of the schedule it left.
+/// What a call came to.
+#[derive(Clone, Copy)]
+enum End {
+    /// The status of a whole run.
+    Status(u8),
+    /// `err` failed.
+    ErrFailed,
+    /// A text was run.
+    Ran,
+    /// A text wasn't run, or not to its end.
+    Fault(RunFault),
+}
+
+impl End {
+    /// That of a whole run.
+    fn of_status(answer: io::Result<u8>) -> End {
+        match answer {
+            Ok(status) => End::Status(status),
+            Err(_) => End::ErrFailed,
+        }
+    }
+
+    /// That of a run of a text.
+    fn of_run(answer: Result<(), RunFault>) -> End {
+        match answer {
+            Ok(()) => End::Ran,
+            Err(fault) => End::Fault(fault),
+        }
+    }
+}
+
+impl fmt::Display for End {
+    fn fmt<W: Write>(&self, out: &mut fmt::Formatter<W>) -> fmt::Result {
+        match self {
+            End::Status(status) => write!(out, "status {status}"),
+            End::ErrFailed => out.write_str("err failed"),
+            End::Ran => out.write_str("ran"),
+            End::Fault(fault) => write!(out, "{fault}"),
+        }
+    }
+}
+
+/// What a call wrote, what it came to, and how much of the schedule it left.
 #[derive(Drop)]
-pub struct Told {
+struct Told {
     out: Sink,
     err: Sink,
-    answer: String,
+    end: End,
     left: usize,
 }
 
@@ -51,50 +95,33 @@ impl Told {
     fn wants_memory(&self) -> bool {
         self.out.wants_memory
             || self.err.wants_memory
+            || matches!(self.end, End::Fault(RunFault::Memory))
             || self.err.taken.as_slice() == b"fault 81 Memory\n".as_slice()
-            || self.has_refusal_of_memory()
+            || has_refusal_of_memory(self.out.taken.as_slice())
     }
 
-    /// Whether a line of the schedule was refused for want of memory.
-    fn has_refusal_of_memory(&self) -> bool {
-        let refusal = b"refused 64".as_slice();
-        self.out
-            .taken
-            .as_slice()
-            .split(|o| *o == b'\n')
-            .any(|line| line == refusal)
-    }
-
-    /// All of it as text.
-    pub fn text(&self, alloc: Global) -> Result<String, LineFault> {
-        if self.wants_memory() {
-            return Err(LineFault::Memory);
-        }
-        let mut text = String::new(alloc);
-        push_lines(&mut text, '>', self.out.taken.as_slice())?;
-        push_lines(&mut text, '!', self.err.taken.as_slice())?;
-        text.push_str(self.answer.as_str())?;
+    /// Appends all of it.
+    fn push_text(&self, text: &mut String) -> Result<(), LineFault> {
+        push_lines(text, '>', self.out.taken.as_slice())?;
+        push_lines(text, '!', self.err.taken.as_slice())?;
+        write!(text, "{}", self.end)?;
         if self.left > 0 {
             write!(text, ", {} octets left", self.left)?;
         }
-        Ok(text)
+        Ok(())
     }
 
-    /// Its sizes as text.
-    pub fn sizes(&self, alloc: Global) -> Result<String, LineFault> {
-        if self.wants_memory() {
-            return Err(LineFault::Memory);
-        }
-        let mut text = String::new(alloc);
-        write!(
-            text,
-            "{} octets on out, {} on err, ",
-            self.out.taken.len(),
-            self.err.taken.len()
-        )?;
-        text.push_str(self.answer.as_str())?;
-        Ok(text)
+    /// Appends its sizes.
+    fn push_sizes(&self, text: &mut String) -> Result<(), LineFault> {
+        let (out, err) = (self.out.taken.len(), self.err.taken.len());
+        write!(text, "{out} octets on out, {err} on err, {}", self.end).map_err(LineFault::from)
     }
+}
+
+/// Whether a line of a schedule was refused for want of memory.
+fn has_refusal_of_memory(out: &[u8]) -> bool {
+    let refusal = b"refused 64".as_slice();
+    out.split(|o| *o == b'\n').any(|line| line == refusal)
 }
 
 /// Adds the lines of what was written, each behind a mark, and `-` behind the mark of one that lacks its LF.
@@ -111,29 +138,12 @@ fn push_lines(text: &mut String, mark: char, octets: &[u8]) -> Result<(), LineFa
     Ok(())
 }
 
-/// What `read_schedule` answers.
-pub fn read_text(alloc: Global, schedule: &[u8]) -> Result<String, LineFault> {
+/// Appends what `read_schedule` answers.
+pub fn push_read(alloc: Global, out: &mut String, schedule: &[u8]) -> Result<(), LineFault> {
     match read_schedule(alloc, schedule) {
-        Ok(events) => Ok(format!(in alloc; "events: {}", events.len())?),
+        Ok(events) => write!(out, "events: {}", events.len()).map_err(LineFault::from),
         Err(ScheduleFault::Memory) => Err(LineFault::Memory),
-        Err(fault) => Ok(format!(in alloc; "{fault}")?),
-    }
-}
-
-/// What a call of a whole run came to: its status, or that `err` failed.
-fn status_text(alloc: Global, answer: io::Result<u8>) -> Result<String, LineFault> {
-    match answer {
-        Ok(status) => Ok(format!(in alloc; "status {status}")?),
-        Err(_) => Ok(String::from_str(alloc, "err failed")?),
-    }
-}
-
-/// What a run of a text came to.
-fn end_text(alloc: Global, answer: Result<(), RunFault>) -> Result<String, LineFault> {
-    match answer {
-        Ok(()) => Ok(String::from_str(alloc, "ran")?),
-        Err(RunFault::Memory) => Err(LineFault::Memory),
-        Err(fault) => Ok(format!(in alloc; "{fault}")?),
+        Err(fault) => write!(out, "{fault}").map_err(LineFault::from),
     }
 }
 
@@ -148,44 +158,77 @@ fn fault(word: &str) -> Result<RunFault, LineFault> {
     }
 }
 
-/// The answer to the call that the words name, over these devices. Of `run` the words are those of the command line.
-fn answer(
+/// What a whole run comes to by the words of its command line.
+fn run(
     alloc: Global,
-    words: &[&str],
+    line: &str,
     input: &mut Source<'_>,
     out: &mut Sink,
     err: &mut Sink,
-) -> Result<String, LineFault> {
-    match words {
-        ["run", ..] => status_text(alloc, Ok(run_schedule(alloc, words, input, out, err))),
-        ["run-text"] => end_text(alloc, run_text(alloc, input.left, out)),
-        ["run-input"] => status_text(alloc, run_input(alloc, input, out, err)),
-        ["tell", "not-utf8"] => status_text(alloc, tell_bad_words(err)),
-        ["tell", word] => status_text(alloc, tell_fault(err, fault(word)?)),
+) -> Result<End, LineFault> {
+    let words: Vec<&str> = line.split_whitespace().collect(alloc)?;
+    Ok(End::Status(run_schedule(alloc, words.as_slice(), input, out, err)))
+}
+
+/// What the call comes to that a line names, over these devices.
+fn end_of(
+    alloc: Global,
+    line: &str,
+    input: &mut Source<'_>,
+    out: &mut Sink,
+    err: &mut Sink,
+) -> Result<End, LineFault> {
+    match first_word(line) {
+        ("run", _) => run(alloc, line, input, out, err),
+        ("run-text", "") => Ok(End::of_run(run_text(alloc, input.left, out))),
+        ("run-input", "") => Ok(End::of_status(run_input(alloc, input, out, err))),
+        ("tell", "not-utf8") => Ok(End::of_status(tell_bad_words(err))),
+        ("tell", word) => Ok(End::of_status(tell_fault(err, fault(word)?))),
         _ => Err(LineFault::Unknown),
     }
 }
 
-/// What a call told over a schedule.
-pub fn call(
-    alloc: Global,
-    devices: Devices,
-    schedule: &[u8],
-    words: &[&str],
-) -> Result<Told, LineFault> {
+/// What a call tells over a schedule.
+fn call(alloc: Global, devices: Devices, schedule: &[u8], line: &str) -> Result<Told, LineFault> {
     let mut input = Source {
         left: schedule,
         at_once: devices.reader_gives,
         fails: devices.reader_fails,
     };
-    let mut out = Sink::new(alloc, devices.out);
-    let mut err = Sink::new(alloc, devices.err);
-    let answer = answer(alloc, words, &mut input, &mut out, &mut err)?;
-    let left = input.left.len();
-    Ok(Told {
-        out,
-        err,
-        answer,
-        left,
-    })
+    let mut told = Told {
+        out: Sink::new(alloc, devices.out),
+        err: Sink::new(alloc, devices.err),
+        end: End::Ran,
+        left: 0,
+    };
+    told.end = end_of(alloc, line, &mut input, &mut told.out, &mut told.err)?;
+    told.left = input.left.len();
+    if told.wants_memory() {
+        return Err(LineFault::Memory);
+    }
+    Ok(told)
+}
+
+/// Appends what a call tells over a schedule.
+pub fn push_call(
+    alloc: Global,
+    out: &mut String,
+    devices: Devices,
+    schedule: &[u8],
+    line: &str,
+) -> Result<(), LineFault> {
+    let told = call(alloc, devices, schedule, line)?;
+    told.push_text(out)
+}
+
+/// Appends how much a call wrote, and what it came to.
+pub fn push_sizes(
+    alloc: Global,
+    out: &mut String,
+    devices: Devices,
+    schedule: &[u8],
+    line: &str,
+) -> Result<(), LineFault> {
+    let told = call(alloc, devices, schedule, line)?;
+    told.push_sizes(out)
 }

@@ -2,8 +2,8 @@
 
 use crate::devices::Limits;
 use crate::fault::LineFault;
-use crate::runs::{Devices, call, read_text};
-use line_script::{Script, size};
+use crate::runs::{Devices, push_call, push_read, push_sizes};
+use line_script::{Script, first_word, size};
 use std::alloc::{AllocError, Global};
 use std::io;
 use std::io::Write;
@@ -24,23 +24,31 @@ impl Session {
         }
     }
 
+    /// An empty schedule over devices that don't fail.
+    fn renew(&mut self, alloc: Global) {
+        self.schedule = Vec::new(alloc);
+        self.devices = Devices::sound();
+    }
+
     /// Adds a line, ended by LF.
     fn add(&mut self, line: &str) -> Result<(), AllocError> {
         self.schedule.extend_from_slice(line.as_bytes())?;
         Ok(self.schedule.push(b'\n')?)
     }
 
-    /// Adds equal octets.
-    fn add_octets(&mut self, count: usize, octet: u8) -> Result<(), AllocError> {
-        for _ in 0..count {
+    /// Adds equal octets: `N OCTET`.
+    fn add_octets(&mut self, text: &str) -> Result<(), LineFault> {
+        let (count, octet) = first_word(text);
+        let octet = octet_of(octet)?;
+        for _ in 0..size(count)? {
             self.schedule.push(octet)?;
         }
         Ok(())
     }
 
-    /// Adds equal lines.
-    fn repeat(&mut self, words: &str) -> Result<(), LineFault> {
-        let Some((count, line)) = words.split_once(' ') else {
+    /// Adds equal lines: `N LINE`.
+    fn repeat(&mut self, text: &str) -> Result<(), LineFault> {
+        let Some((count, line)) = text.split_once(' ') else {
             return Err(LineFault::Unknown);
         };
         for _ in 0..size(count)? {
@@ -49,32 +57,58 @@ impl Session {
         Ok(())
     }
 
-    /// Changes the schedule or the devices, if the words ask for it.
-    fn prepare(&mut self, alloc: Global, words: &[&str]) -> Result<bool, LineFault> {
-        match words {
-            ["schedule"] => *self = Session::new(alloc),
-            ["octets", count, octet] => self.add_octets(size(count)?, octet_of(octet)?)?,
-            ["reader", "fails"] => self.devices.reader_fails = true,
-            ["reader", "gives", count] => self.devices.reader_gives = size(count)?,
-            ["out", words @ ..] => limit(&mut self.devices.out, words)?,
-            ["err", words @ ..] => limit(&mut self.devices.err, words)?,
-            _ => return Ok(false),
+    /// Changes the reader.
+    fn set_reader(&mut self, text: &str) -> Result<(), LineFault> {
+        match first_word(text) {
+            ("fails", "") => self.devices.reader_fails = true,
+            ("gives", count) => self.devices.reader_gives = size(count)?,
+            _ => return Err(LineFault::Unknown),
         }
-        Ok(true)
+        Ok(())
     }
 
-    /// The answer to the words of a line that is none of a schedule.
-    fn answer_words(&mut self, alloc: Global, words: &[&str]) -> Result<String, LineFault> {
-        if self.prepare(alloc, words)? {
-            return Ok(String::from_str(alloc, "done")?);
+    /// Adds what stands behind the mark of a line of a schedule: behind `-` without an LF.
+    fn add_marked(&mut self, text: &str) -> Result<(), AllocError> {
+        match text.strip_prefix('-') {
+            Some(text) => self
+                .schedule
+                .extend_from_slice(without_space(text).as_bytes()),
+            None => self.add(without_space(text)),
         }
-        match words {
-            ["read"] => read_text(alloc, self.schedule.as_slice()),
-            ["measure", words @ ..] => {
-                call(alloc, self.devices, self.schedule.as_slice(), words)?.sizes(alloc)
+    }
+
+    /// Appends the answer to a line, or nothing where it changes the schedule or the devices alone.
+    fn answer_line(
+        &mut self,
+        alloc: Global,
+        out: &mut String,
+        line: &str,
+    ) -> Result<(), LineFault> {
+        let schedule = self.schedule.as_slice();
+        let (word, rest) = first_word(line);
+        match word {
+            "schedule" => {
+                self.renew(alloc);
+                Ok(())
             }
-            words => call(alloc, self.devices, self.schedule.as_slice(), words)?.text(alloc),
+            "repeat" => self.repeat(rest),
+            "octets" => self.add_octets(rest),
+            "reader" => self.set_reader(rest),
+            "out" => limit(&mut self.devices.out, rest),
+            "err" => limit(&mut self.devices.err, rest),
+            "measure" => push_sizes(alloc, out, self.devices, schedule, rest),
+            "read" if rest.is_empty() => push_read(alloc, out, schedule),
+            _ => push_call(alloc, out, self.devices, schedule, line),
         }
+    }
+
+    /// The same of a line of a schedule too, which is appended as it is.
+    fn answer_to(&mut self, alloc: Global, out: &mut String, line: &str) -> Result<(), LineFault> {
+        let Some(text) = line.strip_prefix('|') else {
+            return self.answer_line(alloc, out, line);
+        };
+        self.add_marked(text)?;
+        out.push_str(line).map_err(LineFault::from)
     }
 }
 
@@ -84,25 +118,16 @@ impl Script for Session {
     type Fault = LineFault;
 
     fn answer(&mut self, alloc: Global, line: &str) -> Result<String, LineFault> {
-        if let Some(rest) = line.strip_prefix("|-") {
-            self.schedule
-                .extend_from_slice(without_space(rest).as_bytes())?;
-            return Ok(String::from_str(alloc, line)?);
+        let mut out = String::new(alloc);
+        self.answer_to(alloc, &mut out, line)?;
+        if out.is_empty() {
+            out.push_str("done")?;
         }
-        if let Some(rest) = line.strip_prefix('|') {
-            self.add(without_space(rest))?;
-            return Ok(String::from_str(alloc, line)?);
-        }
-        if let Some(rest) = line.strip_prefix("repeat ") {
-            self.repeat(rest)?;
-            return Ok(String::from_str(alloc, "done")?);
-        }
-        let words: Vec<&str> = line.split_whitespace().collect(alloc)?;
-        self.answer_words(alloc, words.as_slice())
+        Ok(out)
     }
 
     fn show<W: Write>(&self, answer: String, out: &mut W) -> io::Result<()> {
-        write!(out, "{answer}")
+        out.write_all(answer.as_bytes())
     }
 }
 
@@ -120,11 +145,11 @@ fn octet_of(text: &str) -> Result<u8, LineFault> {
 }
 
 /// Sets one of a writer's limits.
-fn limit(limits: &mut Limits, words: &[&str]) -> Result<(), LineFault> {
-    match words {
-        ["takes", count] => limits.room = size(count)?,
-        ["takes-at-once", count] => limits.at_once = size(count)?,
-        ["is-interrupted"] => limits.is_interrupted = true,
+fn limit(limits: &mut Limits, text: &str) -> Result<(), LineFault> {
+    match first_word(text) {
+        ("takes", count) => limits.room = size(count)?,
+        ("takes-at-once", count) => limits.at_once = size(count)?,
+        ("is-interrupted", "") => limits.is_interrupted = true,
         _ => return Err(LineFault::Unknown),
     }
     Ok(())

@@ -3,17 +3,29 @@
 use crate::fault::LineFault;
 use line_script::read_octets;
 use std::alloc::Global;
-use stomp_frame::{Decoder, Frame};
+use stomp_frame::{Decoder, Frame, FrameFault};
+
+/// Whether a decoder has no further frame.
+fn is_at_end(decoder: &mut Decoder) -> Result<bool, FrameFault> {
+    match decoder.next() {
+        Ok(None) => Ok(true),
+        Ok(Some(_)) => Ok(false),
+        Err(fault) => Err(fault),
+    }
+}
+
+/// The one frame of octets.
+fn one_frame(decoder: &mut Decoder, octets: &[u8]) -> Result<Frame, LineFault> {
+    decoder.feed(octets)?;
+    match (decoder.next()?, is_at_end(decoder)?) {
+        (Some(frame), true) => Ok(frame),
+        _ => Err(LineFault::NoFrame),
+    }
+}
 
 /// The one frame that a text spells.
 pub fn read_frame(alloc: Global, text: &str) -> Result<Frame, LineFault> {
+    let octets = read_octets(alloc, text)?;
     let mut decoder = Decoder::new(alloc);
-    decoder.feed(&read_octets(alloc, text)?)?;
-    let Some(frame) = decoder.next()? else {
-        return Err(LineFault::NoFrame);
-    };
-    match decoder.next()? {
-        Some(_) => Err(LineFault::NoFrame),
-        None => Ok(frame),
-    }
+    one_frame(&mut decoder, &octets)
 }

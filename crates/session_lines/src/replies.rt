@@ -5,7 +5,7 @@ use crate::frames::read_frame;
 use line_script::{natural, push_octets, read_text};
 use std::alloc::Global;
 use stomp_session::{
-    Delivery, Request, Send, ServerSession, write_connected, write_error, write_message,
+    Delivery, Refused, Request, Send, ServerSession, write_connected, write_error, write_message,
     write_receipt,
 };
 
@@ -14,29 +14,68 @@ fn error(alloc: Global, number: &str, rest: &str, out: &mut Vec<u8>) -> Result<(
     let Ok(number) = number.parse::<u8>() else {
         return Err(LineFault::Unknown);
     };
-    match rest.split_once(' ') {
-        Some((name, text)) => {
-            let receipt = read_text(alloc, text)?;
-            write_error(alloc, number, name, Some(receipt.as_str()), out)?;
+    let Some((name, text)) = rest.split_once(' ') else {
+        return write_error(alloc, number, rest, None, out).map_err(LineFault::from);
+    };
+    let receipt = read_text(alloc, text)?;
+    write_error(alloc, number, name, Some(receipt.as_str()), out).map_err(LineFault::from)
+}
+
+/// The SEND that a request is.
+fn only_send(request: Request) -> Result<Send, LineFault> {
+    match request {
+        Request::Send(send) => Ok(send),
+        other => {
+            drop(other);
+            Err(LineFault::Unknown)
         }
-        None => write_error(alloc, number, rest, None, out)?,
     }
-    Ok(())
+}
+
+/// The same of a session's answer.
+fn sent(answer: Result<Request, Refused>) -> Result<Send, LineFault> {
+    match answer {
+        Ok(request) => only_send(request),
+        Err(refused) => {
+            let fault = refused.fault;
+            drop(refused);
+            Err(LineFault::from(fault))
+        }
+    }
 }
 
 /// The SEND that a text spells, as a connected session takes it.
 fn send(alloc: Global, text: &str) -> Result<Send, LineFault> {
     let connect = "CONNECT\\naccept-version:1.2\\nhost:h\\n\\n\\x00";
     let mut session = ServerSession::new();
-    let _ = session.accept(read_frame(alloc, connect)?);
-    match session.accept(read_frame(alloc, text)?) {
-        Ok(Request::Send(send)) => Ok(send),
-        Ok(_) => Err(LineFault::Unknown),
-        Err(refused) => Err(LineFault::from(refused.fault)),
-    }
+    drop(session.accept(read_frame(alloc, connect)?));
+    sent(session.accept(read_frame(alloc, text)?))
 }
 
 /// Appends the MESSAGE of a SEND to a subscription.
+fn message_of(
+    send: &Send,
+    number: &str,
+    ack: &str,
+    subscription: &str,
+    out: &mut Vec<u8>,
+) -> Result<(), LineFault> {
+    let ack = match ack {
+        "auto" => None,
+        number => Some(natural(number)?),
+    };
+    let delivery = Delivery {
+        destination: send.destination.as_str(),
+        number: natural(number)?,
+        subscription,
+        ack,
+        headers: send.headers.as_slice(),
+        body: send.body.as_slice(),
+    };
+    write_message(&delivery, out).map_err(LineFault::from)
+}
+
+/// The same of the SEND that a text spells.
 fn message(
     alloc: Global,
     number: &str,
@@ -49,35 +88,17 @@ fn message(
     };
     let subscription = read_text(alloc, id)?;
     let send = send(alloc, text)?;
-    let ack = match ack {
-        "auto" => None,
-        number => Some(natural(number)?),
-    };
-    let delivery = Delivery {
-        destination: send.destination.as_str(),
-        number: natural(number)?,
-        subscription: subscription.as_str(),
-        ack,
-        headers: send.headers.as_slice(),
-        body: send.body.as_slice(),
-    };
-    write_message(&delivery, out)?;
-    Ok(())
+    message_of(&send, number, ack, subscription.as_str(), out)
 }
 
-/// Appends the frame that a line asks for.
-fn reply(alloc: Global, line: &str, out: &mut Vec<u8>) -> Result<(), LineFault> {
-    if line == "connected" {
-        write_connected(out)?;
-        return Ok(());
-    }
-    let Some((kind, rest)) = line.split_once(' ') else {
-        return Err(LineFault::Unknown);
-    };
-    if kind == "receipt" {
-        write_receipt(read_text(alloc, rest)?.as_str(), out)?;
-        return Ok(());
-    }
+/// Appends the RECEIPT of a text.
+fn receipt(alloc: Global, text: &str, out: &mut Vec<u8>) -> Result<(), LineFault> {
+    let id = read_text(alloc, text)?;
+    write_receipt(id.as_str(), out).map_err(LineFault::from)
+}
+
+/// Appends a frame with a number: an ERROR or a MESSAGE.
+fn numbered(alloc: Global, kind: &str, rest: &str, out: &mut Vec<u8>) -> Result<(), LineFault> {
     let Some((number, rest)) = rest.split_once(' ') else {
         return Err(LineFault::Unknown);
     };
@@ -88,11 +109,19 @@ fn reply(alloc: Global, line: &str, out: &mut Vec<u8>) -> Result<(), LineFault> 
     }
 }
 
-/// The answer to a line that begins with `reply`.
-pub fn answer_reply(alloc: Global, line: &str) -> Result<String, LineFault> {
+/// Appends the frame that a line asks for.
+fn reply(alloc: Global, line: &str, out: &mut Vec<u8>) -> Result<(), LineFault> {
+    match line.split_once(' ') {
+        Some(("receipt", text)) => receipt(alloc, text, out),
+        Some((kind, rest)) => numbered(alloc, kind, rest, out),
+        None if line == "connected" => write_connected(out).map_err(LineFault::from),
+        None => Err(LineFault::Unknown),
+    }
+}
+
+/// Appends the answer to a line that begins with `reply`.
+pub fn answer_reply(alloc: Global, line: &str, text: &mut String) -> Result<(), LineFault> {
     let mut out = Vec::new(alloc);
     reply(alloc, line, &mut out)?;
-    let mut text = String::new(alloc);
-    push_octets(&mut text, &out)?;
-    Ok(text)
+    push_octets(text, &out).map_err(LineFault::from)
 }

@@ -1,15 +1,13 @@
 //! Requests as text: the name of the case, and then each part that is there, as `receipt "r"`.
 
 use line_script::push_octets;
-use std::alloc::{AllocError, Global};
+use std::alloc::AllocError;
 use stomp_frame::Header;
-use stomp_session::{Acknowledge, Connect, Demarcate, Request, Send, Subscribe, Text};
+use stomp_session::{Acknowledge, Connect, Request, Send, Subscribe, Text};
 
 /// Appends a part.
 pub fn push_part(text: &mut String, name: &str, value: &[u8]) -> Result<(), AllocError> {
-    text.push_str("; ")?;
-    text.push_str(name)?;
-    text.push_str(" \"")?;
+    write!(text, "; {name} \"")?;
     push_octets(text, value)?;
     text.push('"')
 }
@@ -22,11 +20,19 @@ fn push_text(text: &mut String, name: &str, value: &Option<Text>) -> Result<(), 
     }
 }
 
+/// Appends a header.
+fn push_header(text: &mut String, header: &Header) -> Result<(), AllocError> {
+    text.push_str("; header \"")?;
+    push_octets(text, header.name().as_bytes())?;
+    text.push(':')?;
+    push_octets(text, header.value().as_bytes())?;
+    text.push('"')
+}
+
 /// Appends headers, each as a part of its own.
-fn push_headers(text: &mut String, alloc: Global, headers: &[Header]) -> Result<(), AllocError> {
+fn push_headers(text: &mut String, headers: &[Header]) -> Result<(), AllocError> {
     for header in headers {
-        let line = format!(in alloc; "{}:{}", header.name(), header.value())?;
-        push_part(text, "header", line.as_bytes())?;
+        push_header(text, header)?;
     }
     Ok(())
 }
@@ -40,9 +46,9 @@ fn push_connect(text: &mut String, connect: &Connect) -> Result<(), AllocError> 
     push_part(text, "host", connect.host.as_str().as_bytes())
 }
 
-fn push_send(text: &mut String, alloc: Global, send: &Send) -> Result<(), AllocError> {
+fn push_send(text: &mut String, send: &Send) -> Result<(), AllocError> {
     push_part(text, "destination", send.destination.as_str().as_bytes())?;
-    push_headers(text, alloc, send.headers.as_slice())?;
+    push_headers(text, send.headers.as_slice())?;
     push_part(text, "body", send.body.as_slice())?;
     push_text(text, "transaction", &send.transaction)
 }
@@ -63,10 +69,6 @@ fn push_acknowledge(text: &mut String, answer: &Acknowledge) -> Result<(), Alloc
     push_text(text, "transaction", &answer.transaction)
 }
 
-fn push_demarcate(text: &mut String, edge: &Demarcate) -> Result<(), AllocError> {
-    push_part(text, "transaction", edge.transaction.as_str().as_bytes())
-}
-
 /// The name of a request's case.
 fn name(request: &Request) -> &'static str {
     match request {
@@ -83,24 +85,29 @@ fn name(request: &Request) -> &'static str {
     }
 }
 
-/// A request.
-pub fn request_text(alloc: Global, request: &Request) -> Result<String, AllocError> {
-    let mut text = String::from_str(alloc, name(request))?;
+/// Appends what is a request's own.
+fn push_own(text: &mut String, request: &Request) -> Result<(), AllocError> {
     match request {
-        Request::Connect(connect) => push_connect(&mut text, connect)?,
-        Request::Send(send) => push_send(&mut text, alloc, send)?,
-        Request::Subscribe(subscribe) => push_subscribe(&mut text, subscribe)?,
+        Request::Connect(connect) => push_connect(text, connect),
+        Request::Send(send) => push_send(text, send),
+        Request::Subscribe(subscribe) => push_subscribe(text, subscribe),
         Request::Unsubscribe(unsubscribe) => {
-            push_part(&mut text, "id", unsubscribe.id.as_str().as_bytes())?
+            push_part(text, "id", unsubscribe.id.as_str().as_bytes())
         }
-        Request::Ack(answer) | Request::Nack(answer) => push_acknowledge(&mut text, answer)?,
+        Request::Ack(answer) | Request::Nack(answer) => push_acknowledge(text, answer),
         Request::Begin(edge) | Request::Commit(edge) | Request::Abort(edge) => {
-            push_demarcate(&mut text, edge)?
+            push_part(text, "transaction", edge.transaction.as_str().as_bytes())
         }
-        Request::Disconnect(_) => {}
+        Request::Disconnect(_) => Ok(()),
     }
-    if let Some(receipt) = request.receipt() {
-        push_part(&mut text, "receipt", receipt.as_bytes())?;
+}
+
+/// Appends a request.
+pub fn push_request(text: &mut String, request: &Request) -> Result<(), AllocError> {
+    text.push_str(name(request))?;
+    push_own(text, request)?;
+    match request.receipt() {
+        Some(receipt) => push_part(text, "receipt", receipt.as_bytes()),
+        None => Ok(()),
     }
-    Ok(text)
 }

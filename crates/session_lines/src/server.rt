@@ -2,7 +2,7 @@
 
 use crate::fault::LineFault;
 use crate::frames::read_frame;
-use crate::requests::{push_part, request_text};
+use crate::requests::{push_part, push_request};
 use std::alloc::{AllocError, Global};
 use stomp_frame::Frame;
 use stomp_session::{Refused, ServerSession, receipt_told};
@@ -14,13 +14,13 @@ pub struct Server {
     refused: Option<Frame>,
 }
 
-/// Why a frame was refused, and the receipt that its ERROR tells.
-fn refused_text(alloc: Global, refused: &Refused) -> Result<String, AllocError> {
-    let mut text = format!(in alloc; "{}", refused.fault)?;
-    if let Some(receipt) = receipt_told(&refused.frame) {
-        push_part(&mut text, "receipt", receipt.as_bytes())?;
+/// Appends why a frame was refused, and the receipt that its ERROR tells.
+fn push_refused(out: &mut String, refused: &Refused) -> Result<(), AllocError> {
+    write!(out, "{}", refused.fault)?;
+    match receipt_told(&refused.frame) {
+        Some(receipt) => push_part(out, "receipt", receipt.as_bytes()),
+        None => Ok(()),
     }
-    Ok(text)
 }
 
 impl Server {
@@ -32,39 +32,57 @@ impl Server {
         }
     }
 
+    /// A frame was refused.
+    fn refuse(&mut self, refused: Refused, out: &mut String) -> Result<(), AllocError> {
+        let told = push_refused(out, &refused);
+        self.refused = Some(refused.frame);
+        told
+    }
+
     /// It is given a frame.
-    fn accept(&mut self, alloc: Global, frame: Frame) -> Result<String, LineFault> {
-        let mut text = match self.session.accept(frame) {
-            Ok(request) => request_text(alloc, &request)?,
-            Err(refused) => {
-                let text = refused_text(alloc, &refused)?;
-                self.refused = Some(refused.frame);
-                text
+    fn accept(&mut self, frame: Frame, out: &mut String) -> Result<(), AllocError> {
+        match self.session.accept(frame) {
+            Ok(request) => {
+                let told = push_request(out, &request);
+                drop(request);
+                told?;
             }
-        };
-        let state = if self.session.is_connected() {
+            Err(refused) => self.refuse(refused, out)?,
+        }
+        out.push_str(if self.session.is_connected() {
             "; connected"
         } else {
             "; not connected"
-        };
-        text.push_str(state)?;
-        Ok(text)
+        })
     }
 
-    /// The answer to a line that begins with `server`.
-    pub fn answer(&mut self, alloc: Global, line: &str) -> Result<String, LineFault> {
+    /// It is given the frame that a text spells.
+    fn accept_text(
+        &mut self,
+        alloc: Global,
+        text: &str,
+        out: &mut String,
+    ) -> Result<(), LineFault> {
+        let frame = read_frame(alloc, text)?;
+        self.accept(frame, out).map_err(LineFault::from)
+    }
+
+    /// It is given the frame that it refused last.
+    fn accept_again(&mut self, out: &mut String) -> Result<(), LineFault> {
+        match self.refused.take() {
+            Some(frame) => self.accept(frame, out).map_err(LineFault::from),
+            None => Err(LineFault::NoFrame),
+        }
+    }
+
+    /// Appends the answer to a line that begins with `server`.
+    pub fn answer(&mut self, alloc: Global, line: &str, out: &mut String) -> Result<(), LineFault> {
         match line.split_once(' ') {
-            Some(("accept", text)) => {
-                let frame = read_frame(alloc, text)?;
-                self.accept(alloc, frame)
-            }
-            None if line == "again" => match self.refused.take() {
-                Some(frame) => self.accept(alloc, frame),
-                None => Err(LineFault::NoFrame),
-            },
+            Some(("accept", text)) => self.accept_text(alloc, text, out),
+            None if line == "again" => self.accept_again(out),
             None if line == "new" => {
                 *self = Server::new();
-                Ok(String::from_str(alloc, "done")?)
+                out.push_str("done").map_err(LineFault::from)
             }
             _ => Err(LineFault::Unknown),
         }

@@ -21,6 +21,18 @@ impl Sessions {
             server: Server::new(),
         }
     }
+
+    /// Appends the answer to a line.
+    fn answer_to(&mut self, alloc: Global, line: &str, out: &mut String) -> Result<(), LineFault> {
+        match line.split_once(' ') {
+            Some(("server", line)) => self.server.answer(alloc, line, out),
+            Some(("reply", line)) => answer_reply(alloc, line, out),
+            Some(("fault", number)) => write!(out, "{}", session_fault(number)?).map_err(
+                LineFault::from,
+            ),
+            _ => Err(LineFault::Unknown),
+        }
+    }
 }
 
 impl Script for Sessions {
@@ -29,18 +41,12 @@ impl Script for Sessions {
     type Fault = LineFault;
 
     fn answer(&mut self, alloc: Global, line: &str) -> Result<String, LineFault> {
-        match line.split_once(' ') {
-            Some(("server", line)) => self.server.answer(alloc, line),
-            Some(("reply", line)) => answer_reply(alloc, line),
-            Some(("fault", number)) => {
-                let fault = session_fault(number)?;
-                Ok(format!(in alloc; "{fault}")?)
-            }
-            _ => Err(LineFault::Unknown),
-        }
+        let mut out = String::new(alloc);
+        self.answer_to(alloc, line, &mut out)?;
+        Ok(out)
     }
 
     fn show<W: Write>(&self, answer: String, out: &mut W) -> io::Result<()> {
-        write!(out, "{answer}")
+        out.write_all(answer.as_bytes())
     }
 }
