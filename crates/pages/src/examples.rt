@@ -3,6 +3,7 @@
 ghost use Rattle.std.specs.Prelude.{◌≤◌, ℕ};
 ghost use Rattle.agreement.specs.Steps.{Configuration, Reaches};
 ghost use Rattle.base.specs.declared.pair.Pair.{Pair};
+ghost use Rattle.broker_laws.specs.Runs.{NoLifeLosesAny};
 ghost use Rattle.broker_texts.specs.Carried.{MessagesWereSent};
 
 use activities::{Handler, HandlerFault, Input, OrderCommand, Outs};
@@ -10,6 +11,7 @@ use agreement::stays_authentic;
 use base::{Entity, EntityFault, Key, Kind, Pair};
 use broker_book::{Action, Mode, QueueFault, Sent, Shared};
 use broker_core::{Broker, BrokerFault};
+use broker_laws::no_message_is_lost;
 use broker_queues::Queues;
 use broker_texts::each_message_was_sent;
 use broker_tx::{TransactionFault, Transactions};
@@ -97,6 +99,12 @@ pub fn a_broker_answers_connect(alloc: Global) -> Result<bool, BrokerFault> {
     let frames = broker.feed(session, b"st:h\n\n\0")?;
     let connected = b"CONNECTED\nversion:1.2\nheart-beat:0,0\n\n\0".as_slice();
     Ok(frames == 1 && broker.out(session) == connected)
+}
+
+pub fn what_wants_an_ack_stays_until_it_comes()
+    ensures { NoLifeLosesAny }
+{
+    no_message_is_lost();
 }
 
 pub fn what_a_client_reads_was_sent()

@@ -13,7 +13,7 @@ use examples::{
     a_settle_is_sent, a_transaction_keeps_its_actions, an_entity_is_named_again,
     an_order_is_refused, answers_reach_back_in_mode_client, first_state_of, no_mark_is_taken_back,
     printed_octets_are_read, tables_hold_nothing_at_first, what_a_client_reads_was_sent,
-    what_was_put_is_taken,
+    what_wants_an_ack_stays_until_it_comes, what_was_put_is_taken,
 };
 use keep::KeepFault;
 use keep_plain::PlainKeep;
@@ -65,6 +65,7 @@ fn print_sessions(rt: &impl Print, alloc: Global) -> Result<()> {
     tell(rt, "broker_queues", a_message_is_accepted(alloc))?;
     tell(rt, "broker_tx", a_transaction_keeps_its_actions(alloc))?;
     tell(rt, "broker_core", a_broker_answers_connect(alloc))?;
+    what_wants_an_ack_stays_until_it_comes();
     what_a_client_reads_was_sent();
     tell(rt, "receipts", a_receipt_is_closed_once(alloc))?;
     tell(rt, "stomp_client", a_client_asks_to_connect(alloc))

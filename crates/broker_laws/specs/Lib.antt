@@ -1,0 +1,4 @@
+pub mod Deeds
+pub mod Lives
+pub mod Runs
+pub mod Streams

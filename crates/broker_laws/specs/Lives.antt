@@ -1,0 +1,137 @@
+-- A broker's life: its calls, one after another, and what they fed, told and dealt.
+use Rattle.std.specs.Prelude.{◌≡◌, ◌≤◌, ℕ, Bool, true, false, ◌&&◌, ◌==◌, if◌then◌else◌, List, [], ◌∷◌, ◌++◌, length, Option, Result}
+use Rattle.std.specs.Prelude.{Ok, Err}
+use Rattle.broker_book.specs.Steps.{Handed}
+use Rattle.broker_book.specs.declared.parts.Accepted.{Accepted}
+use Rattle.broker_core.specs.Calls.{FreshAnswer, OpenAnswer, dropped, out_in, without_first}
+use Rattle.broker_core.specs.Feeding.{Dealing, FeedAnswer, HandlesAll, Settles, Stops, at_frame, in_step, in_deals, at_fault, at_end}
+use Rattle.broker_core.specs.Serving.{Decided, Server, changing, session_of}
+use Rattle.broker_core.specs.Streams.{Fed, stopped_frames}
+use Rattle.broker_core.specs.declared.fault.BrokerFault.{BrokerFault}
+use Rattle.broker_core.specs.declared.fault.BrokerFault.TheVariants.{Memory, NoSession, TooMany}
+
+-- ---- calls
+
+-- a call of a broker that changes it, with what it was given and what it answered
+pub data Call : Type 0 where
+  Opened : (answer : Result ℕ BrokerFault) → Call
+  FedTo : (session : ℕ) → (piece : List ℕ) → (answer : Result ℕ BrokerFault) → Call
+  Dispatched : (whole : Bool) → Call
+  TakenFrom : (session count : ℕ) → Call
+  Dropped : (session : ℕ) → Call
+  Named : (answer : Option ℕ) → Call
+  Told : (accepted : List Accepted) → Call
+
+-- a dispatch dealt until nothing could be dealt, or some deals before memory was refused
+abbrev pub Deals : Bool → Server → Server → Type 0
+Deals true old new = Settles old new
+Deals false old new = Dealing old new
+
+-- what a call does
+abbrev pub Does : ℕ → Server → Call → Server → Type 0
+Does full old (Opened answer) new = OpenAnswer old new answer
+Does full old (FedTo n piece answer) new = FeedAnswer full old n piece new answer
+Does full old (Dispatched whole) new = Deals whole old new
+Does full old (TakenFrom n count) new = (count ≤ length (out_in (session_of n old))) × (new ≡ changing n (without_first count) old)
+Does full old (Dropped n) new = new ≡ dropped n old (session_of n old)
+Does full old (Named answer) new = FreshAnswer old new answer
+Does full old (Told accepted) new = (accepted ≡ old.book.accepted) × (new ≡ record old { book = record old.book { accepted = [] } })
+
+-- one call after another leads there
+abbrev pub Lives : ℕ → Server → List Call → Server → Type 0
+Lives full old [] new = new ≡ old
+Lives full old (c ∷ calls) new = (mid : Server) × Does full old c mid × Lives full mid calls new
+
+-- ---- what is told
+
+-- the accepted SENDs that a call tells
+abbrev pub told_by : Call → List Accepted
+told_by (Told accepted) = accepted
+told_by c = []
+
+-- those that these calls tell, in order
+abbrev pub told_in : List Call → List Accepted
+told_in [] = []
+told_in (c ∷ calls) = told_by c ++ told_in calls
+
+-- what was told, and then what will be told next: each accepted SEND
+abbrev pub accepted_in : List Call → Server → List Accepted
+accepted_in calls b = told_in calls ++ b.book.accepted
+
+-- ---- what is dealt
+
+-- what was dealt behind these frames
+abbrev pub dealt_behind : (full n : ℕ) (old new : Server) (frames : List Decided) → HandlesAll full n old frames new → List Handed
+dealt_behind full n old new [] h = []
+dealt_behind full n old new (d ∷ frames) h = h.1.settles.0.handed ++ dealt_behind full n h.0 new frames h.2
+
+-- what was dealt between the last whole frame and the refusal of memory
+abbrev pub dealt_before : {full n : ℕ} {old new : Server} → Stops full n old new → List Handed
+dealt_before (at_frame same) = []
+dealt_before (in_step decided s left is_open takes changed) = []
+dealt_before (in_deals decided taken takes deals) = deals.handed
+dealt_before (at_fault s left is_open meets changed) = []
+dealt_before (at_end ended ends deals) = deals.handed
+
+-- what was dealt while a piece was fed
+abbrev pub dealt_feeding : (full : ℕ) (old : Server) (n : ℕ) (piece : List ℕ) (new : Server) (answer : Result ℕ BrokerFault)
+    → FeedAnswer full old n piece new answer → List Handed
+dealt_feeding full old n piece new (Ok count) h = dealt_behind full n _ h.handled h.frames h.handles ++ h.settles.0.handed
+dealt_feeding full old n piece new (Err (Memory true)) h = dealt_behind full n _ h.handled h.frames h.handles ++ dealt_before h.stops
+dealt_feeding full old n piece new (Err (Memory false)) h = []
+dealt_feeding full old n piece new (Err NoSession) h = []
+dealt_feeding full old n piece new (Err TooMany) h = []
+
+-- what was dealt in a dispatch
+abbrev pub dealt_dispatching : (whole : Bool) (old new : Server) → Deals whole old new → List Handed
+dealt_dispatching true old new h = h.0.handed
+dealt_dispatching false old new h = h.handed
+
+-- what was dealt in a call
+abbrev pub dealt_by : (full : ℕ) (old : Server) (c : Call) (new : Server) → Does full old c new → List Handed
+dealt_by full old (FedTo n piece answer) new h = dealt_feeding full old n piece new answer h
+dealt_by full old (Dispatched whole) new h = dealt_dispatching whole old new h
+dealt_by full old (Opened answer) new h = []
+dealt_by full old (TakenFrom n count) new h = []
+dealt_by full old (Dropped n) new h = []
+dealt_by full old (Named answer) new h = []
+dealt_by full old (Told accepted) new h = []
+
+-- what was dealt in these calls, in order
+abbrev pub dealt_in : (full : ℕ) (old : Server) (calls : List Call) (new : Server) → Lives full old calls new → List Handed
+dealt_in full old [] new h = []
+dealt_in full old (c ∷ calls) new h = dealt_by full old c h.0 h.1 ++ dealt_in full h.0 calls new h.2
+
+-- ---- what is fed
+
+-- whether a piece was taken
+abbrev pub was_taken : Result ℕ BrokerFault → Bool
+was_taken (Ok count) = true
+was_taken (Err (Memory took)) = took
+was_taken (Err NoSession) = false
+was_taken (Err TooMany) = false
+
+-- the frames that had their step while a piece was fed
+abbrev pub frames_feeding : (full : ℕ) (old : Server) (n : ℕ) (piece : List ℕ) (new : Server) (answer : Result ℕ BrokerFault)
+    → FeedAnswer full old n piece new answer → List Decided
+frames_feeding full old n piece new (Ok count) h = h.frames
+frames_feeding full old n piece new (Err (Memory true)) h = h.frames ++ stopped_frames h.stops
+frames_feeding full old n piece new (Err (Memory false)) h = []
+frames_feeding full old n piece new (Err NoSession) h = []
+frames_feeding full old n piece new (Err TooMany) h = []
+
+-- the piece that a session took in a call, with its frames that had their step then
+abbrev pub fed_by : (full n : ℕ) (old : Server) (c : Call) (new : Server) → Does full old c new → List Fed
+fed_by full n old (FedTo m piece answer) new h =
+    if m == n && was_taken answer then record { piece = piece; frames = frames_feeding full old m piece new answer h } ∷ [] else []
+fed_by full n old (Dispatched whole) new h = []
+fed_by full n old (Opened answer) new h = []
+fed_by full n old (TakenFrom m count) new h = []
+fed_by full n old (Dropped m) new h = []
+fed_by full n old (Named answer) new h = []
+fed_by full n old (Told accepted) new h = []
+
+-- those that it took in these calls, in order
+abbrev pub fed_in : (full n : ℕ) (old : Server) (calls : List Call) (new : Server) → Lives full old calls new → List Fed
+fed_in full n old [] new h = []
+fed_in full n old (c ∷ calls) new h = fed_by full n old c h.0 h.1 ++ fed_in full n h.0 calls new h.2
