@@ -1,6 +1,6 @@
 -- The tables after a row was taken in.
 use Rattle.std.proofs.Common.{ℕ, ◌+◌, ◌≤◌, ◌<◌, ◌≡◌, List, [], ◌∷◌, ◌++◌, length, Bool, true, false, Option, Result, Ok, refl}
-use Rattle.std.proofs.Common.{sym, ap, ◌∙◌, subst}
+use Rattle.std.proofs.Common.{sym, ap, ◌∙◌, subst, arith, length-append}
 use Rattle.std.specs.Prelude.{if◌then◌else◌, IsOk, IsSome}
 use Rattle.std.proofs.lemmas.List.{append-nil}
 use Rattle.base.specs.declared.limits.TheConstants.{MAX_NUMBER}
@@ -15,18 +15,21 @@ use Rattle.activities.specs.Reaction.{messages_to}
 use Rattle.activities.specs.Journal.{IsLegal, sent_of, handled_of}
 use Rattle.activities.specs.Rows.{row_for, row_of}
 use Rattle.activities.specs.Follow.{MayFollow}
-use Rattle.activities.proofs.Sameness.{same_entity-comm}
+use Rattle.activities.proofs.Sameness.{either, same_entity-comm, same_entity-tells}
+use Rattle.envelope.specs.declared.message.Message.{Message}
 use Rattle.activities.proofs.Journals.{row_of-more, sent_of-more}
 use Rattle.activities.proofs.Legal.{legal-more}
 use Rattle.keep.specs.declared.change.Change.{Change}
 use Rattle.keep.specs.declared.change.Change.TheVariants.{State, Journal}
 use Rattle.keep.specs.Tables.{Tables, Messages, changed, changed_by}
-use Rattle.endpoint.specs.Matches.{TablesMatchJournal, MayBeHeld, above}
-use Rattle.endpoint.specs.Answers.{pair_between, reaction, sent_counts, NumbersFit}
+use Rattle.endpoint.specs.Matches.{TablesMatchJournal, MayBeHeld}
+use Rattle.outbox.specs.Rows.{above}
+use Rattle.endpoint.specs.Answers.{reaction, sent_counts}
+use Rattle.outbox.specs.Numbering.{pair_between, NumbersFit}
 use Rattle.endpoint.specs.Calls.{Appends}
 use Rattle.endpoint.specs.Parts.Handling.{Prepares}
-use Rattle.endpoint.specs.Parts.Outbox.{numbering}
-use Rattle.endpoint.proofs.Sending.{IsOutbox, outbox-same, own, numbering-outbox, numbering-keeps}
+use Rattle.outbox.specs.Numbering.{numbering}
+use Rattle.outbox.proofs.Sending.{IsOutbox, outbox-same, own, numbering-outbox, numbering-keeps}
 
 pub changed-append : {S C : Type 0} (xs ys : List (Change S C)) (t : Tables S C) → changed (xs ++ ys) t ≡ changed ys (changed xs t)
 changed-append [] ys t = refl
@@ -42,6 +45,22 @@ none_sent : {A : Type 0} (xs : List A) (b : Bool) → xs ≡ xs ++ (if b then []
 none_sent xs true = sym (append-nil xs)
 none_sent xs false = sym (append-nil xs)
 
+-- the numbers of a pair stay within the limit
+within_more : (e : Name) (outs : List Out) (sent : Pair → ℕ) (q : Pair) (xs : List Message) → sent q ≡ length xs → sent q ≤ MAX_NUMBER
+    → NumbersFit sent e outs → length (xs ++ own e outs q) ≤ MAX_NUMBER
+within_more e outs sent q xs is small fits = either (same_entity-tells q.from e)
+    (λ t. rw t.0 (mine t.1 (messages_to q.to outs) refl))
+    (λ t. rw t.0 (let l = length-append xs [] in omega (arith, l, is, small)))
+  where
+    mine : q.from ≡ e → (ms : List Message) → ms ≡ messages_to q.to outs → length (xs ++ ms) ≤ MAX_NUMBER
+    mine from [] same = let l = length-append xs [] in omega (arith, l, is, small)
+    mine from (m ∷ ms) same =
+        let long : length (m ∷ ms) ≡ length (messages_to q.to outs) = ap length same in
+        let fit = fits q.to (omega (arith, long)) in
+        let here : sent (pair_between e q.to) ≡ sent q = ap (λ n. sent (pair_between n q.to)) (sym from) in
+        let l = length-append xs (m ∷ ms) in
+        omega (arith, l, long, fit, here, is)
+
 -- ---- one row more
 
 module _ {S C : Type 0} (service : Service S C) (old : Tables S C) (position : ℕ) (row : JournalRow C) (first : List (Change S C))
@@ -56,6 +75,7 @@ module _ {S C : Type 0} (service : Service S C) (old : Tables S C) (position : �
     legal : IsLegal service.reactions service.kind j
     entities : (e : Name) → t.entity e ≡ row_of service j e
     outbox : IsOutbox t (sent_of service.reactions j)
+    numbers : (p : Pair) → t.sent p ≤ MAX_NUMBER
     handled : (p : Pair) → t.handled p ≡ handled_of j p
     held : (p : Pair) (n : ℕ) → IsSome (t.held p n) → MayBeHeld service.kind (handled_of j p) p n
 
@@ -64,6 +84,7 @@ module _ {S C : Type 0} (service : Service S C) (old : Tables S C) (position : �
     legal = h.legal;
     entities = h.entities;
     sent = h.outbox.count;
+    numbers = h.numbers;
     settled = h.outbox.settled;
     unsettled = h.outbox.rows;
     handled = h.handled;
@@ -133,6 +154,10 @@ module _ {S C : Type 0} (service : Service S C) (old : Tables S C) (position : �
           entities = λ x. ap (λ (c : Name → Option S). set (same_entity e x) (c x)) entity ∙ ap (set (same_entity e x)) (h.entities x)
               ∙ ap (λ b. set b (row_of service j x)) (same_entity-comm e x) ∙ sym (row_of-more service j row done accepted x);
           outbox = record { count = outbox.count; settled = outbox.settled; rows = outbox.rows };
+          numbers = λ p.
+              let grown = within_more e done.1 old.sent p (f p) (h.sent p) (h.numbers p) fits in
+              let c = numbered.count p in
+              omega (arith, grown, c);
           handled = λ p. ap (λ (c : Pair → ℕ). c p) handled ∙ prep.handled p;
           held = λ p n some. let W : Messages → Type 0 = λ c. IsSome (c p n) in prep.held p n (subst W held some);
         } in

@@ -14,7 +14,8 @@ use Rattle.keep.specs.Tables.{Tables, Messages, set_message, set_mark}
 use Rattle.endpoint.specs.declared.answer.Committed.{Committed}
 use Rattle.endpoint.specs.declared.fault.EndFault.{EndFault}
 use Rattle.endpoint.specs.declared.fault.EndFault.TheVariants.{Business, StoreFailed}
-use Rattle.endpoint.specs.Answers.{pair_between, reaction, Takes}
+use Rattle.endpoint.specs.Answers.{reaction, Takes}
+use Rattle.outbox.specs.Numbering.{pair_between}
 use Rattle.endpoint.specs.Matches.{MayBeHeld}
 
 -- the journal, the settled marks and the held letters

@@ -12,14 +12,7 @@ use Rattle.activities.specs.declared.input.JournalRow.{JournalRow}
 use Rattle.activities.specs.Reaction.{Reactions}
 use Rattle.activities.specs.Journal.{IsLegal, sent_of, handled_of}
 use Rattle.keep.specs.Tables.{Tables, Messages}
-
--- the messages by number, without those up to a mark
-abbrev pub above : ℕ → List Message → ℕ → Option Message
-above mark messages n = if nat_lt mark n then nth messages n else None
-
--- what a journal sends and isn't settled by these marks, by pair and number
-abbrev pub unsettled_of : {S C : Type 0} → Reactions S C → List (JournalRow C) → (Pair → ℕ) → Messages
-unsettled_of reactions journal settled pair n = above (settled pair) (sent_of reactions journal pair) n
+use Rattle.outbox.specs.Rows.{unsettled_of}
 
 -- A letter of this pair and number may be held where so many of the pair were handled: it came too early, by at most the window, and it
 -- is for an entity of this kind.
@@ -30,12 +23,13 @@ pub record MayBeHeld (kind : Kind) (handled : ℕ) (p : Pair) (n : ℕ) : Type 0
   pub within : n ≤ MAX_NUMBER
 
 -- The tables are those of their journal, which is legal. An entity has a row exactly where it took something in and its state isn't none,
--- and the row is its state. Of a pair the last number sent is kept; a settled mark that isn't above it, and the messages sent but those up
--- to the mark; how many letters were handled; and letters that may be held.
+-- and the row is its state. Of a pair the last number sent is kept, which is within the limit; a settled mark that isn't above it, and the
+-- messages sent but those up to the mark; how many letters were handled; and letters that may be held.
 pub record TablesMatchJournal {S C : Type 0} (service : Service S C) (t : Tables S C) : Type 0 where
   pub legal : IsLegal service.reactions service.kind t.journal
   pub entities : (e : Name) → t.entity e ≡ row_of service t.journal e
   pub sent : (p : Pair) → t.sent p ≡ length (sent_of service.reactions t.journal p)
+  pub numbers : (p : Pair) → t.sent p ≤ MAX_NUMBER
   pub settled : (p : Pair) → t.settled p ≤ length (sent_of service.reactions t.journal p)
   pub unsettled : (p : Pair) (n : ℕ) → t.unsettled p n ≡ unsettled_of service.reactions t.journal t.settled p n
   pub handled : (p : Pair) → t.handled p ≡ handled_of t.journal p

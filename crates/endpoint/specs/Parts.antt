@@ -1,3 +1,3 @@
 -- What the private parts of a call do. Nobody who reads the promises needs it.
-pub mod Outbox
 pub mod Handling
+pub mod Receiving

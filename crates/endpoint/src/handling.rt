@@ -8,11 +8,11 @@ ghost use Rattle.keep.specs.declared.change.Change.TheVariants.{State, Journal};
 ghost use Rattle.endpoint.specs.Faults.{end_of};
 ghost use Rattle.endpoint.specs.Parts.Handling.{Handles};
 
-use crate::outbox::number_outs;
 use crate::{Committed, EndFault};
 use activities::{Handler, Input, JournalRow, Outs};
 use base::{Entity, Number};
 use keep::{Change, Keep};
+use outbox::number_outs;
 use std::alloc::{AllocError, Global};
 
 /// An entity's state: its row, or the opening state where no row stands. One read of the store.
@@ -33,7 +33,7 @@ where
 
 /// One transaction of the store.
 #[tactic(auto, using(crate::proofs::Parts::write_told))]
-fn apply_all<H, K>(
+pub(crate) fn apply_all<H, K>(
     alloc: Global,
     keep: &mut K,
     changes: Vec<Change<H::State, H::Command>>,

@@ -5,7 +5,7 @@ ghost use Rattle.activities.specs.Journal.{sent_of, handled_of};
 ghost use Rattle.activities.specs.Rows.{row_of};
 ghost use Rattle.keep.specs.Law.{Reads};
 ghost use Rattle.keep.specs.Listing.{AreFirst};
-ghost use Rattle.endpoint.specs.Matches.{unsettled_of};
+ghost use Rattle.outbox.specs.Rows.{unsettled_of};
 ghost use Rattle.endpoint.specs.Faults.{end_of};
 ghost use Rattle.endpoint.specs.Calls.{Views, Answers, TellsOfEach, Stays, Counts};
 

@@ -8,7 +8,7 @@ ghost use Rattle.broker_texts.specs.Carried.{MessagesWereSent};
 
 use activities::{Handler, HandlerFault, Input, OrderCommand, Outs};
 use agreement::stays_authentic;
-use base::{Entity, EntityFault, Key, Kind, Pair};
+use base::{Entity, EntityFault, Key, Kind, Number, Pair};
 use broker_book::{Action, Mode, QueueFault, Sent, Shared};
 use broker_core::{Broker, BrokerFault};
 use broker_laws::no_message_is_lost;
@@ -16,15 +16,18 @@ use broker_queues::Queues;
 use broker_texts::each_message_was_sent;
 use broker_tx::{TransactionFault, Transactions};
 use endpoint::{EndFault, Endpoint};
-use envelope::{Envelope, EnvelopeFault, to_send};
-use keep::{Keep, KeepFault};
+use envelope::{Envelope, EnvelopeFault, Letter, to_send};
+use inbox::{Class, classify};
+use keep::{Change, Keep, KeepFault};
 use keep_plain::PlainKeep;
 use line_script::{WordFault, push_octets, read_octets};
+use outbox::settle;
 use programs::{RunFault, run_text};
 use purchasing::Orders;
 use receipts::{ReceiptFault, Receipts};
+use resequencer::next_held;
 use schedules::{ScheduleFault, read_schedule};
-use std::alloc::Global;
+use std::alloc::{AllocError, Global};
 use stomp_client::{ClientFault, ClientSession};
 use stomp_frame::{Command, Decoder, Frame, FrameFault};
 use stomp_session::{Headers, Octets, ServerSession, Text};
@@ -166,6 +169,22 @@ pub fn tables_hold_nothing_at_first(alloc: Global) -> Result<bool, KeepFault> {
     let mut keep: PlainKeep<Orders> = PlainKeep::new(alloc);
     let letters = keep.unsettled(alloc, &None, usize::MAX)?;
     Ok(letters.is_empty())
+}
+
+pub fn a_mark_is_one_change(alloc: Global, pair: &Pair) -> Result<usize, AllocError> {
+    let changes: Vec<Change<u64, u64>> = settle(alloc, pair, Number::FIRST)?;
+    Ok(changes.len())
+}
+
+pub fn a_letter_comes_again(letter: &Letter) -> bool {
+    let handled = letter.number.get();
+    classify(letter.pair.to.kind(), 64, handled, letter) == Class::Repeated
+}
+
+pub fn nothing_is_held_at_first(alloc: Global, pair: &Pair) -> Result<bool, KeepFault> {
+    let mut keep: PlainKeep<Orders> = PlainKeep::new(alloc);
+    let next = next_held(alloc, &mut keep, pair, 0)?;
+    Ok(next.is_none())
 }
 
 pub fn a_command_is_taken_in(

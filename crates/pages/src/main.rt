@@ -5,14 +5,16 @@ mod examples;
 
 use activities::{OrderCommand, Outs};
 use anyhow::Result;
-use base::{Entity, Key, Pair};
+use base::{Entity, Key, Number, Pair};
+use envelope::{Letter, Message};
 use examples::{
     a_broker_answers_connect, a_client_asks_to_connect, a_command_is_taken_in,
-    a_frame_before_connect_is_refused, a_frame_is_read_from_pieces, a_mark_is_read,
-    a_message_is_accepted, a_receipt_is_closed_once, a_schedule_is_read, a_schedule_is_run,
-    a_settle_is_sent, a_transaction_keeps_its_actions, an_entity_is_named_again,
-    an_order_is_refused, answers_reach_back_in_mode_client, first_state_of, no_mark_is_taken_back,
-    printed_octets_are_read, tables_hold_nothing_at_first, what_a_client_reads_was_sent,
+    a_frame_before_connect_is_refused, a_frame_is_read_from_pieces, a_letter_comes_again,
+    a_mark_is_one_change, a_mark_is_read, a_message_is_accepted, a_receipt_is_closed_once,
+    a_schedule_is_read, a_schedule_is_run, a_settle_is_sent, a_transaction_keeps_its_actions,
+    an_entity_is_named_again, an_order_is_refused, answers_reach_back_in_mode_client,
+    first_state_of, no_mark_is_taken_back, nothing_is_held_at_first, printed_octets_are_read,
+    tables_hold_nothing_at_first, what_a_client_reads_was_sent,
     what_wants_an_ack_stays_until_it_comes, what_was_put_is_taken,
 };
 use keep::KeepFault;
@@ -94,7 +96,15 @@ fn first_mark(alloc: Global, pair: &Pair) -> Result<u64, KeepFault> {
 fn print_tables(rt: &impl Print, alloc: Global) -> Result<()> {
     let pair = pair(alloc)?;
     tell(rt, "keep", first_mark(alloc, &pair))?;
-    tell(rt, "keep_plain", tables_hold_nothing_at_first(alloc))
+    tell(rt, "keep_plain", tables_hold_nothing_at_first(alloc))?;
+    tell(rt, "outbox", a_mark_is_one_change(alloc, &pair))?;
+    tell(rt, "resequencer", nothing_is_held_at_first(alloc, &pair))?;
+    let letter = Letter {
+        pair,
+        number: Number::FIRST,
+        message: Message::Confirm,
+    };
+    show(rt, "inbox", &a_letter_comes_again(&letter))
 }
 
 /// A command of a service.

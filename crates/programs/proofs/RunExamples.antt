@@ -21,7 +21,8 @@ use Rattle.activities.specs.declared.outs.Out.{Out}
 use Rattle.keep.specs.Tables.{Tables, changed, empty}
 use Rattle.keep.specs.declared.change.Change.{Change}
 use Rattle.keep.specs.declared.change.Change.TheVariants.{Journal, Settled}
-use Rattle.endpoint.specs.Answers.{NumbersFit, sent_counts, reaction}
+use Rattle.endpoint.specs.Answers.{sent_counts, reaction}
+use Rattle.outbox.specs.Numbering.{NumbersFit}
 use Rattle.endpoint.specs.declared.fault.EndFault.TheVariants.{NotMine, Business, StoreFailed, Memory, Unusable}
 use Rattle.schedules.specs.declared.event.Event.{Event}
 use Rattle.schedules.specs.declared.event.Event.TheVariants as event
@@ -247,6 +248,7 @@ first_tables_are_sound = (
       legal = record { kinds = tt; seated = tt; accepted = λ e. tt; in_order = λ s r. tt };
       entities = λ e. refl;
       sent = λ p. refl;
+      numbers = λ p. omega arith;
       settled = λ p. omega arith;
       unsettled = λ p n. sym (either_none (nat_lt 0 n) _ (no_message n));
       handled = λ p. refl;

@@ -18,7 +18,8 @@ use Rattle.keep.specs.Tables.{Tables}
 use Rattle.endpoint.specs.declared.fault.EndFault.{EndFault}
 use Rattle.endpoint.specs.declared.fault.EndFault.TheVariants.{NotMine, Business, StoreFailed, Memory, Unusable}
 use Rattle.endpoint.specs.Faults.{end_fault_number}
-use Rattle.endpoint.specs.Matches.{TablesMatchJournal, unsettled_of}
+use Rattle.endpoint.specs.Matches.{TablesMatchJournal}
+use Rattle.outbox.specs.Rows.{unsettled_of}
 use Rattle.endpoint.specs.Answers.{CommitAt}
 use Rattle.schedules.specs.declared.event.Event.{Event}
 use Rattle.schedules.specs.declared.event.Event.TheVariants as event

@@ -1,47 +1,50 @@
 //! The calls of an endpoint of orders.
 
+use crate::arrivals::{drain, drainable, ingest, settle};
 use crate::fault::LineFault;
 use crate::tables::place;
-use crate::texts::{letters_text, rows_text, state_text};
+use crate::texts::{LettersText, RowsText, StateText};
 use crate::words::{command, pair, seat};
 use activities::OrderCommand;
 use base::{Entity, Pair};
 use endpoint::{EndFault, Endpoint};
-use keep::Keep;
-use line_script::{natural, size};
+use keep::{Keep, Place};
+use line_script::{first_word, natural, size};
 use purchasing::{Order, Orders};
 use std::alloc::Global;
 
-/// A command of a seat.
+/// A command of a seat: `SEAT ENTITY COMMAND`.
 fn commit<K>(
     endpoint: &mut Endpoint<Orders, K>,
     alloc: Global,
-    by: &str,
+    out: &mut String,
     text: &str,
-    words: &[&str],
-) -> Result<String, LineFault>
+) -> Result<(), LineFault>
 where
     K: Keep<State = Option<Order>, Command = OrderCommand> + Drop,
 {
+    let (by, rest) = first_word(text);
+    let (order, asked) = first_word(rest);
     let seat = seat(by)?;
-    let entity = Entity::read(alloc, text)?;
-    let command = command(alloc, words)?;
+    let entity = Entity::read(alloc, order)?;
+    let command = command(alloc, asked)?;
     let committed = endpoint.commit(alloc, seat, &entity, command)?;
-    Ok(format!(in alloc; "committed {}", committed.pos)?)
+    write!(out, "committed {}", committed.pos).map_err(LineFault::from)
 }
 
 /// The row of an entity.
 fn view<K>(
     endpoint: &mut Endpoint<Orders, K>,
     alloc: Global,
+    out: &mut String,
     text: &str,
-) -> Result<String, LineFault>
+) -> Result<(), LineFault>
 where
     K: Keep<State = Option<Order>, Command = OrderCommand> + Drop,
 {
     let entity = Entity::read(alloc, text)?;
     let row = endpoint.view(alloc, &entity)?;
-    Ok(state_text(alloc, &row)?)
+    write!(out, "{}", StateText(&row)).map_err(LineFault::from)
 }
 
 /// A mark of a pair.
@@ -61,82 +64,103 @@ where
     }
 }
 
-/// The same by the names of sender and receiver, as text.
-fn mark_text<K>(
+/// The same by the names of sender and receiver: `FROM TO`.
+fn push_mark<K>(
     endpoint: &mut Endpoint<Orders, K>,
     alloc: Global,
+    out: &mut String,
     which: &str,
-    from: &str,
-    to: &str,
-) -> Result<String, LineFault>
+    text: &str,
+) -> Result<(), LineFault>
 where
     K: Keep<State = Option<Order>, Command = OrderCommand> + Drop,
 {
+    let (from, to) = first_word(text);
     let pair = pair(alloc, from, to)?;
     let mark = mark(endpoint, alloc, which, &pair)?;
-    Ok(format!(in alloc; "{mark}")?)
+    write!(out, "{mark}").map_err(LineFault::from)
 }
 
 /// The first letters of the outbox after a place.
+fn outbox_after<K>(
+    endpoint: &mut Endpoint<Orders, K>,
+    alloc: Global,
+    out: &mut String,
+    limit: usize,
+    after: &Option<Place>,
+) -> Result<(), LineFault>
+where
+    K: Keep<State = Option<Order>, Command = OrderCommand> + Drop,
+{
+    let letters = endpoint.unsettled(alloc, after, limit)?;
+    write!(out, "{}", LettersText(&letters)).map_err(LineFault::from)
+}
+
+/// The same by `LIMIT [FROM TO N]`.
 fn outbox<K>(
     endpoint: &mut Endpoint<Orders, K>,
     alloc: Global,
+    out: &mut String,
     text: &str,
-    after: &[&str],
-) -> Result<String, LineFault>
+) -> Result<(), LineFault>
 where
     K: Keep<State = Option<Order>, Command = OrderCommand> + Drop,
 {
-    let limit = size(text)?;
+    let (limit, after) = first_word(text);
+    let limit = size(limit)?;
     let after = place(alloc, after)?;
-    let letters = endpoint.unsettled(alloc, &after, limit)?;
-    Ok(letters_text(alloc, &letters)?)
+    outbox_after(endpoint, alloc, out, limit, &after)
 }
 
-/// The rows of the journal from a position on.
+/// The rows of the journal from a position on: `N LIMIT`.
 fn journal<K>(
     endpoint: &mut Endpoint<Orders, K>,
     alloc: Global,
-    from: &str,
+    out: &mut String,
     text: &str,
-) -> Result<String, LineFault>
+) -> Result<(), LineFault>
 where
     K: Keep<State = Option<Order>, Command = OrderCommand> + Drop,
 {
+    let (from, limit) = first_word(text);
     let from = natural(from)?;
-    let limit = size(text)?;
+    let limit = size(limit)?;
     let rows = endpoint.journal(alloc, from, limit)?;
-    Ok(rows_text(alloc, &rows)?)
+    write!(out, "{}", RowsText(&rows)).map_err(LineFault::from)
 }
 
 /// How many rows the journal has.
-fn length<K>(endpoint: &Endpoint<Orders, K>, alloc: Global) -> Result<String, LineFault>
+fn length<K>(endpoint: &Endpoint<Orders, K>, out: &mut String) -> Result<(), LineFault>
 where
     K: Keep<State = Option<Order>, Command = OrderCommand> + Drop,
 {
     let length = endpoint.length()?;
-    Ok(format!(in alloc; "{length}")?)
+    write!(out, "{length}").map_err(LineFault::from)
 }
 
 /// The answer to a call of an endpoint.
 pub fn call_endpoint<K>(
     endpoint: &mut Endpoint<Orders, K>,
     alloc: Global,
-    words: &[&str],
-) -> Result<String, LineFault>
+    out: &mut String,
+    word: &str,
+    rest: &str,
+) -> Result<(), LineFault>
 where
     K: Keep<State = Option<Order>, Command = OrderCommand> + Drop,
 {
-    match words {
-        ["commit", seat, entity, command @ ..] => commit(endpoint, alloc, seat, entity, command),
-        ["view", entity] => view(endpoint, alloc, entity),
-        ["sent" | "settled" | "handled", from, to] => {
-            mark_text(endpoint, alloc, words[0], from, to)
-        }
-        ["outbox", limit, after @ ..] => outbox(endpoint, alloc, limit, after),
-        ["journal", from, limit] => journal(endpoint, alloc, from, limit),
-        ["length"] => length(endpoint, alloc),
-        ["usable"] => Ok(format!(in alloc; "{}", endpoint.usable())?),
+    match word {
+        "commit" => commit(endpoint, alloc, out, rest),
+        "view" => view(endpoint, alloc, out, rest),
+        "sent" | "settled" | "handled" => push_mark(endpoint, alloc, out, word, rest),
+        "outbox" => outbox(endpoint, alloc, out, rest),
+        "journal" => journal(endpoint, alloc, out, rest),
+        "length" => length(endpoint, out),
+        "ingest" => ingest(endpoint, alloc, out, rest),
+        "drain" => drain(endpoint, alloc, out, rest),
+        "settle" => settle(endpoint, alloc, out, rest),
+        "drainable" => drainable(endpoint, alloc, out),
+        "usable" => write!(out, "{}", endpoint.usable()).map_err(LineFault::from),
         _ => Err(LineFault::Unknown),
     }
 }

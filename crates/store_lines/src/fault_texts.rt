@@ -4,7 +4,7 @@ use crate::fault::LineFault;
 use activities::Refusal;
 use endpoint::EndFault;
 use keep::KeepFault;
-use std::alloc::Global;
+use line_script::{first_word, natural};
 
 const STORE_FAULTS: [KeepFault; 3] = [KeepFault::Failed, KeepFault::Memory, KeepFault::WrongFile];
 
@@ -20,30 +20,32 @@ const ENDPOINT_FAULTS: [EndFault; 8] = [
 ];
 
 /// The text of the store's fault of a number.
-fn store_fault_text(alloc: Global, number: u64) -> Result<String, LineFault> {
+fn store_fault_text(out: &mut String, number: u64) -> Result<(), LineFault> {
     for fault in STORE_FAULTS {
         if u64::from(fault.number()) == number {
-            return Ok(format!(in alloc; "{fault}")?);
+            return write!(out, "{fault}").map_err(LineFault::from);
         }
     }
     Err(LineFault::Unknown)
 }
 
 /// The text of the endpoint's fault of a number.
-fn endpoint_fault_text(alloc: Global, number: u64) -> Result<String, LineFault> {
+fn endpoint_fault_text(out: &mut String, number: u64) -> Result<(), LineFault> {
     for fault in ENDPOINT_FAULTS {
         if u64::from(fault.number()) == number {
-            return Ok(format!(in alloc; "{fault}")?);
+            return write!(out, "{fault}").map_err(LineFault::from);
         }
     }
     Err(LineFault::Unknown)
 }
 
-/// The text of the fault of a number, from where it is told.
-pub fn fault_text(alloc: Global, whose: &str, number: u64) -> Result<String, LineFault> {
+/// Appends the text of the fault of a number, behind where it is told.
+pub fn answer_fault(out: &mut String, text: &str) -> Result<(), LineFault> {
+    let (whose, number) = first_word(text);
+    let number = natural(number)?;
     match whose {
-        "store" => store_fault_text(alloc, number),
-        "endpoint" => endpoint_fault_text(alloc, number),
+        "store" => store_fault_text(out, number),
+        "endpoint" => endpoint_fault_text(out, number),
         _ => Err(LineFault::Unknown),
     }
 }

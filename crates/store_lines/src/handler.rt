@@ -1,53 +1,72 @@
 //! The handler of orders.
 
 use crate::fault::LineFault;
-use crate::texts::{add, add_outs, order_text};
+use crate::texts::{OrderText, OutsText};
 use crate::words::{input, order};
 use activities::{Handler, HandlerFault, Outs};
+use line_script::first_word;
 use purchasing::{Order, Orders};
 use std::alloc::Global;
 
-/// An answer, the order then, and what is sent, as text.
-fn told(
-    alloc: Global,
+/// Appends an answer, the order then, and what is sent.
+fn push_told(
+    out: &mut String,
     answer: Result<(), HandlerFault>,
     order: &Option<Order>,
     outs: &Outs,
-) -> Result<String, LineFault> {
-    let mut text = match answer {
-        Ok(()) => String::new(alloc),
+) -> Result<(), LineFault> {
+    match answer {
+        Ok(()) => {}
         Err(HandlerFault::Memory) => return Err(LineFault::Memory),
-        Err(refused) => format!(in alloc; "{refused}")?,
-    };
-    add(&mut text, &order_text(alloc, order)?)?;
-    add_outs(alloc, &mut text, outs)?;
-    Ok(text)
+        Err(refused) => write!(out, "{refused}; ")?,
+    }
+    write!(out, "{}{}", OrderText(order), OutsText(outs.as_slice())).map_err(LineFault::from)
 }
 
 /// An order takes an input in.
-fn take(alloc: Global, order: &mut Option<Order>, words: &[&str]) -> Result<String, LineFault> {
-    let input = input(alloc, words)?;
+fn take(
+    alloc: Global,
+    out: &mut String,
+    order: &mut Option<Order>,
+    text: &str,
+) -> Result<(), LineFault> {
+    let input = input(alloc, text)?;
     let mut outs = Outs::new(alloc);
     let answer = Orders::apply(alloc, order, &input, &mut outs);
-    told(alloc, answer, order, &outs)
+    push_told(out, answer, order, &outs)
+}
+
+/// A copy of an order takes an input in.
+fn try_take(
+    alloc: Global,
+    out: &mut String,
+    order: &Option<Order>,
+    text: &str,
+) -> Result<(), LineFault> {
+    let mut copy = Orders::copy_state(alloc, order)?;
+    take(alloc, out, &mut copy, text)
+}
+
+/// An order is another one from now on, which is told.
+fn set(out: &mut String, held: &mut Option<Order>, order: Option<Order>) -> Result<(), LineFault> {
+    *held = order;
+    write!(out, "{}", OrderText(held)).map_err(LineFault::from)
 }
 
 /// The answer to a line that begins with `order`.
 pub fn answer_order(
     alloc: Global,
+    out: &mut String,
     held: &mut Option<Order>,
-    words: &[&str],
-) -> Result<String, LineFault> {
-    match words {
-        ["opening"] => *held = Orders::opening(alloc)?,
-        ["is", parts @ ..] => *held = order(alloc, parts)?,
-        ["take", input @ ..] => return take(alloc, held, input),
-        ["try", input @ ..] => {
-            let mut copy = Orders::copy_state(alloc, held)?;
-            return take(alloc, &mut copy, input);
-        }
-        ["is-none"] => return Ok(format!(in alloc; "{}", Orders::is_none(held))?),
-        _ => return Err(LineFault::Unknown),
+    text: &str,
+) -> Result<(), LineFault> {
+    let (word, rest) = first_word(text);
+    match word {
+        "opening" => set(out, held, Orders::opening(alloc)?),
+        "is" => set(out, held, order(alloc, rest)?),
+        "take" => take(alloc, out, held, rest),
+        "try" => try_take(alloc, out, held, rest),
+        "is-none" => write!(out, "{}", Orders::is_none(held)).map_err(LineFault::from),
+        _ => Err(LineFault::Unknown),
     }
-    Ok(order_text(alloc, held)?)
 }

@@ -24,6 +24,8 @@
 //! An endpoint:
 //! - `endpoint new`, `endpoint over-store`: it is over empty tables, or over the store's, which are empty then;
 //! - `endpoint commit SEAT ENTITY COMMAND`, `endpoint view ENTITY`: a seat's command; a row;
+//! - `endpoint ingest PAIR N MESSAGE`, `endpoint drain PAIR`, `endpoint settle PAIR N`, `endpoint drainable`: a letter arrives; the next
+//!   letter is handled where it is held; letters are settled; the first pair that can be drained;
 //! - `arm`, `disarm`, `usable`, `reopen`, `sent`, `settled`, `handled`, `outbox`, `journal` and `length` as of a store.
 //!
 //! `fault store N` and `fault endpoint N` give the text of the fault of this number.
@@ -39,6 +41,7 @@
 //!   `settled PAIR N`, `handled PAIR N`, `held PAIR N MESSAGE` or `not-held PAIR N`.
 #![tactic(auto)]
 
+mod arrivals;
 mod endpoints;
 mod failing;
 mod fault;
@@ -51,11 +54,13 @@ mod tables;
 mod texts;
 mod words;
 
+use keep_plain::PlainKeep;
 use line_script::run;
+use purchasing::Orders;
 use session::Session;
 use std::io;
 use std::process::ExitCode;
 
 fn main(rt: HostRuntime) -> io::Result<ExitCode> {
-    run(&rt, &mut Session::new(rt.alloc()))
+    run(&rt, &mut Session::<PlainKeep<Orders>>::new(rt.alloc()))
 }

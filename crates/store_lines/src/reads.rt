@@ -4,24 +4,24 @@ ghost use Rattle.std.specs.Prelude.{◌≡◌, true};
 
 use crate::fault::LineFault;
 use crate::tables::place;
-use crate::texts::{held_text, letters_text, pair_text, rows_text, state_text};
+use crate::texts::{LettersText, MessageText, PairText, RowsText, StateText};
 use crate::words::{number, pair};
 use activities::OrderCommand;
 use base::{Entity, Pair};
-use keep::{Keep, KeepFault};
-use line_script::{natural, size};
+use keep::{Keep, KeepFault, Place};
+use line_script::{first_word, natural, size};
 use purchasing::Order;
 use std::alloc::Global;
 
 /// The row of an entity.
-fn entity<K>(store: &mut K, alloc: Global, text: &str) -> Result<String, LineFault>
+fn entity<K>(store: &mut K, alloc: Global, out: &mut String, text: &str) -> Result<(), LineFault>
 where
     K: Keep<State = Option<Order>, Command = OrderCommand>,
     requires { (K.seen store.old).usable ≡ true }
 {
     let entity = Entity::read(alloc, text)?;
     let row = store.entity(alloc, &entity)?;
-    Ok(state_text(alloc, &row)?)
+    write!(out, "{}", StateText(&row)).map_err(LineFault::from)
 }
 
 /// A mark of a pair.
@@ -35,86 +35,111 @@ fn mark<K: Keep>(store: &mut K, alloc: Global, which: &str, pair: &Pair) -> Resu
     }
 }
 
-/// The same by the names of sender and receiver, as text.
-fn mark_text<K: Keep>(
+/// The same by the names of sender and receiver: `FROM TO`.
+fn push_mark<K: Keep>(
     store: &mut K,
     alloc: Global,
+    out: &mut String,
     which: &str,
-    from: &str,
-    to: &str,
-) -> Result<String, LineFault>
+    text: &str,
+) -> Result<(), LineFault>
     requires { (K.seen store.old).usable ≡ true }
 {
+    let (from, to) = first_word(text);
     let pair = pair(alloc, from, to)?;
     let mark = mark(store, alloc, which, &pair)?;
-    Ok(format!(in alloc; "{mark}")?)
+    write!(out, "{mark}").map_err(LineFault::from)
 }
 
-/// What is held of a pair and number.
+/// What is held of a pair and number: `FROM TO N`.
 fn held<K: Keep>(
     store: &mut K,
     alloc: Global,
-    from: &str,
-    to: &str,
+    out: &mut String,
     text: &str,
-) -> Result<String, LineFault>
+) -> Result<(), LineFault>
     requires { (K.seen store.old).usable ≡ true }
 {
-    let number = number(text)?;
+    let (from, rest) = first_word(text);
+    let (to, asked) = first_word(rest);
+    let number = number(asked)?;
     let pair = pair(alloc, from, to)?;
-    let message = store.held(alloc, &pair, number)?;
-    Ok(held_text(alloc, message)?)
+    match store.held(alloc, &pair, number)? {
+        Some(message) => write!(out, "{}", MessageText(message)).map_err(LineFault::from),
+        None => out.push_str("none").map_err(LineFault::from),
+    }
 }
 
 /// Who can be drained first.
-fn drainable<K: Keep>(store: &mut K, alloc: Global) -> Result<String, LineFault>
+fn drainable<K: Keep>(store: &mut K, alloc: Global, out: &mut String) -> Result<(), LineFault>
     requires { (K.seen store.old).usable ≡ true }
 {
     let pair = store.drainable(alloc)?;
-    Ok(pair_text(alloc, &pair)?)
+    write!(out, "{}", PairText(&pair)).map_err(LineFault::from)
 }
 
 /// The first letters of the outbox after a place.
+fn outbox_after<K: Keep>(
+    store: &mut K,
+    alloc: Global,
+    out: &mut String,
+    limit: usize,
+    after: &Option<Place>,
+) -> Result<(), LineFault>
+    requires { (K.seen store.old).usable ≡ true }
+{
+    let letters = store.unsettled(alloc, after, limit)?;
+    write!(out, "{}", LettersText(&letters)).map_err(LineFault::from)
+}
+
+/// The same by `LIMIT [FROM TO N]`.
 fn outbox<K: Keep>(
     store: &mut K,
     alloc: Global,
+    out: &mut String,
     text: &str,
-    after: &[&str],
-) -> Result<String, LineFault>
+) -> Result<(), LineFault>
     requires { (K.seen store.old).usable ≡ true }
 {
-    let limit = size(text)?;
+    let (limit, after) = first_word(text);
+    let limit = size(limit)?;
     let after = place(alloc, after)?;
-    let letters = store.unsettled(alloc, &after, limit)?;
-    Ok(letters_text(alloc, &letters)?)
+    outbox_after(store, alloc, out, limit, &after)
 }
 
-/// The rows of the journal from a position on.
-fn journal<K>(store: &mut K, alloc: Global, from: &str, text: &str) -> Result<String, LineFault>
+/// The rows of the journal from a position on: `N LIMIT`.
+fn journal<K>(store: &mut K, alloc: Global, out: &mut String, text: &str) -> Result<(), LineFault>
 where
     K: Keep<State = Option<Order>, Command = OrderCommand>,
     requires { (K.seen store.old).usable ≡ true }
 {
+    let (from, limit) = first_word(text);
     let from = natural(from)?;
-    let limit = size(text)?;
+    let limit = size(limit)?;
     let rows = store.journal(alloc, from, limit)?;
-    Ok(rows_text(alloc, &rows)?)
+    write!(out, "{}", RowsText(&rows)).map_err(LineFault::from)
 }
 
 /// The answer to a read of a store.
-pub fn read_store<K>(store: &mut K, alloc: Global, words: &[&str]) -> Result<String, LineFault>
+pub fn read_store<K>(
+    store: &mut K,
+    alloc: Global,
+    out: &mut String,
+    word: &str,
+    rest: &str,
+) -> Result<(), LineFault>
 where
     K: Keep<State = Option<Order>, Command = OrderCommand>,
     requires { (K.seen store.old).usable ≡ true }
 {
-    match words {
-        ["entity", text] => entity(store, alloc, text),
-        ["sent" | "settled" | "handled", from, to] => mark_text(store, alloc, words[0], from, to),
-        ["held", from, to, number] => held(store, alloc, from, to, number),
-        ["drainable"] => drainable(store, alloc),
-        ["outbox", limit, after @ ..] => outbox(store, alloc, limit, after),
-        ["journal", from, limit] => journal(store, alloc, from, limit),
-        ["length"] => Ok(format!(in alloc; "{}", store.length())?),
+    match word {
+        "entity" => entity(store, alloc, out, rest),
+        "sent" | "settled" | "handled" => push_mark(store, alloc, out, word, rest),
+        "held" => held(store, alloc, out, rest),
+        "drainable" => drainable(store, alloc, out),
+        "outbox" => outbox(store, alloc, out, rest),
+        "journal" => journal(store, alloc, out, rest),
+        "length" => write!(out, "{}", store.length()).map_err(LineFault::from),
         _ => Err(LineFault::Unknown),
     }
 }

@@ -2,30 +2,40 @@
 
 use crate::endpoints::call_endpoint;
 use crate::fault::LineFault;
-use crate::fault_texts::fault_text;
+use crate::fault_texts::answer_fault;
 use crate::handler::answer_order;
-use crate::store::{OrderTables, answer_store, empty_tables};
+use crate::store::{Empty, answer_store, empty_tables, read_disarmed};
 use crate::tables::OrderChange;
 use crate::words::leaves;
+use activities::OrderCommand;
 use endpoint::Endpoint;
-use line_script::{Script, natural};
+use keep::{Faulty, Keep};
+use keep_plain::PlainKeep;
+use line_script::{Script, first_word, natural};
 use purchasing::{Order, Orders};
 use std::alloc::Global;
 use std::io::Write;
 use std::{io, mem};
 
-/// An order; a store, and the changes that were noted for its next transaction; and an endpoint.
+/// An order; a store that fails where it is told to, and the changes that were noted for its next transaction; and an endpoint over another
+/// such store.
 #[derive(Drop)]
-pub struct Session {
+pub struct Session<K>
+where
+    K: Keep<State = Option<Order>, Command = OrderCommand> + Drop,
+{
     order: Option<Order>,
-    store: OrderTables,
+    store: Faulty<K>,
     noted: Vec<OrderChange>,
-    endpoint: Endpoint<Orders, OrderTables>,
+    endpoint: Endpoint<Orders, Faulty<K>>,
 }
 
-impl Session {
+impl<K> Session<K>
+where
+    K: Keep<State = Option<Order>, Command = OrderCommand> + Empty + Drop,
+{
     /// No order, and empty tables.
-    pub fn new(alloc: Global) -> Session {
+    pub fn new(alloc: Global) -> Self {
         Session {
             order: None,
             store: empty_tables(alloc),
@@ -34,53 +44,84 @@ impl Session {
         }
     }
 
-    /// Changes the endpoint or its store, if a line asks for it.
-    fn prepare(&mut self, alloc: Global, words: &[&str]) -> Result<bool, LineFault> {
-        match words {
-            ["new"] => self.endpoint = Endpoint::new(empty_tables(alloc)),
-            ["over-store"] => {
-                let store = mem::replace(&mut self.store, empty_tables(alloc));
-                self.endpoint = Endpoint::new(store);
-            }
-            ["arm", calls, word] => self.endpoint.arm(natural(calls)?, leaves(word)?),
-            ["disarm"] => self.endpoint.disarm(),
-            ["reopen"] => self.endpoint.reopen(alloc)?,
-            _ => return Ok(false),
-        }
-        Ok(true)
+    /// The endpoint is over the store, in whose place there are empty tables then.
+    fn move_store(&mut self, alloc: Global) {
+        let store = mem::replace(&mut self.store, empty_tables(alloc));
+        self.endpoint = Endpoint::new(store);
+    }
+
+    /// Tells the endpoint's store when to fail: `N LEAVES`.
+    fn arm(&mut self, text: &str) -> Result<(), LineFault> {
+        let (calls, word) = first_word(text);
+        self.endpoint.arm(natural(calls)?, leaves(word)?);
+        Ok(())
     }
 
     /// The answer to a line that begins with `endpoint`.
-    fn answer_endpoint(&mut self, alloc: Global, words: &[&str]) -> Result<String, LineFault> {
-        if self.prepare(alloc, words)? {
-            return Ok(String::from_str(alloc, "done")?);
+    fn answer_endpoint(
+        &mut self,
+        alloc: Global,
+        out: &mut String,
+        text: &str,
+    ) -> Result<(), LineFault> {
+        let (word, rest) = first_word(text);
+        match word {
+            "new" => self.endpoint = Endpoint::new(empty_tables(alloc)),
+            "over-store" => self.move_store(alloc),
+            "arm" => return self.arm(rest),
+            "disarm" => self.endpoint.disarm(),
+            "reopen" => return self.endpoint.reopen(alloc).map_err(LineFault::from),
+            _ => return call_endpoint(&mut self.endpoint, alloc, out, word, rest),
         }
-        call_endpoint(&mut self.endpoint, alloc, words)
+        Ok(())
     }
 
-    /// The answer to the words of a line.
-    fn answer_words(&mut self, alloc: Global, words: &[&str]) -> Result<String, LineFault> {
-        match words {
-            ["order", words @ ..] => answer_order(alloc, &mut self.order, words),
-            ["store", words @ ..] => answer_store(&mut self.store, &mut self.noted, alloc, words),
-            ["endpoint", words @ ..] => self.answer_endpoint(alloc, words),
-            ["fault", whose, number] => fault_text(alloc, whose, natural(number)?),
+    /// Appends the answer to a line, or nothing where the call gives nothing.
+    fn answer_line(
+        &mut self,
+        alloc: Global,
+        out: &mut String,
+        line: &str,
+    ) -> Result<(), LineFault> {
+        let (whom, text) = first_word(line);
+        match whom {
+            "order" => answer_order(alloc, out, &mut self.order, text),
+            "store" => answer_store(&mut self.store, &mut self.noted, alloc, out, text),
+            "endpoint" => self.answer_endpoint(alloc, out, text),
+            "fault" => answer_fault(out, text),
             _ => Err(LineFault::Unknown),
         }
     }
 }
 
-impl Script for Session {
+/// The same of a session over tables in memory: one line asks what such tables alone promise.
+fn answer_plain(
+    session: &mut Session<PlainKeep<Orders>>,
+    alloc: Global,
+    out: &mut String,
+    line: &str,
+) -> Result<(), LineFault> {
+    match line.strip_prefix("store sent-disarmed ") {
+        Some(text) => read_disarmed(&mut session.store, alloc, out, text),
+        None => session.answer_line(alloc, out, line),
+    }
+}
+
+impl Script for Session<PlainKeep<Orders>> {
     type Answer = String;
 
     type Fault = LineFault;
 
     fn answer(&mut self, alloc: Global, line: &str) -> Result<String, LineFault> {
-        let words: Vec<&str> = line.split_whitespace().collect(alloc)?;
-        self.answer_words(alloc, words.as_slice())
+        let mut out = String::new(alloc);
+        answer_plain(self, alloc, &mut out, line)?;
+        if out.is_empty() {
+            out.push_str("done")?;
+        }
+        Ok(out)
     }
 
     fn show<W: Write>(&self, answer: String, out: &mut W) -> io::Result<()> {
-        write!(out, "{answer}")
+        out.write_all(answer.as_bytes())
     }
 }

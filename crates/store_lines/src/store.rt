@@ -1,35 +1,50 @@
-//! A store of orders in memory, which fails where it is told to.
+//! A store of orders, which fails where it is told to.
 
 use crate::failing::{apply_armed, sent_disarmed};
 use crate::fault::LineFault;
 use crate::reads::read_store;
-use crate::tables::{OrderChange, change};
+use crate::tables::{OrderChange, add_change};
 use crate::words::{leaves, pair};
 use activities::OrderCommand;
 use keep::{Faulty, Keep};
 use keep_plain::PlainKeep;
-use line_script::natural;
+use line_script::{first_word, natural};
 use purchasing::{Order, Orders};
 use std::alloc::Global;
 use std::mem;
 
-/// Tables of orders in memory, in a store that fails where it is told to.
-pub type OrderTables = Faulty<PlainKeep<Orders>>;
-
-/// Empty tables.
-pub fn empty_tables(alloc: Global) -> OrderTables {
-    Faulty::new(PlainKeep::new(alloc))
+/// A store that can be made with empty tables.
+pub trait Empty {
+    /// One with empty tables.
+    fn empty(alloc: Global) -> Self;
 }
 
-/// The answer to a read.
-fn read<K>(store: &mut K, alloc: Global, words: &[&str]) -> Result<String, LineFault>
+impl Empty for PlainKeep<Orders> {
+    fn empty(alloc: Global) -> PlainKeep<Orders> {
+        PlainKeep::new(alloc)
+    }
+}
+
+/// A store that fails where it is told to, with empty tables and no call armed.
+pub fn empty_tables<K: Keep + Empty + Drop>(alloc: Global) -> Faulty<K> {
+    Faulty::new(K::empty(alloc))
+}
+
+/// Appends the answer to a read.
+fn read<K>(
+    store: &mut K,
+    alloc: Global,
+    out: &mut String,
+    word: &str,
+    rest: &str,
+) -> Result<(), LineFault>
 where
     K: Keep<State = Option<Order>, Command = OrderCommand>,
 {
     if !store.usable() {
         return Err(LineFault::NotUsable);
     }
-    read_store(store, alloc, words)
+    read_store(store, alloc, out, word, rest)
 }
 
 /// Makes changes in one transaction.
@@ -40,15 +55,16 @@ where
     if !store.usable() {
         return Err(LineFault::NotUsable);
     }
-    Ok(store.apply(alloc, changes)?)
+    store.apply(alloc, changes).map_err(LineFault::from)
 }
 
 /// Makes a change alone.
-fn make<K>(store: &mut K, alloc: Global, words: &[&str]) -> Result<(), LineFault>
+fn make<K>(store: &mut K, alloc: Global, text: &str) -> Result<(), LineFault>
 where
     K: Keep<State = Option<Order>, Command = OrderCommand>,
 {
-    let changes = vec![in alloc; change(alloc, words)?]?;
+    let mut changes = Vec::new(alloc);
+    add_change(alloc, &mut changes, text)?;
     apply(store, alloc, changes)
 }
 
@@ -66,64 +82,79 @@ where
     if !store.usable() {
         return Err(LineFault::NotUsable);
     }
-    Ok(apply_armed(store, alloc, changes, leaves)?)
+    apply_armed(store, alloc, changes, leaves).map_err(LineFault::from)
 }
 
-/// The last number sent, by a read that isn't armed.
-fn read_disarmed(
-    store: &mut OrderTables,
+/// Appends the last number sent, by a read that isn't armed: `FROM TO`.
+pub fn read_disarmed(
+    store: &mut Faulty<PlainKeep<Orders>>,
     alloc: Global,
-    from: &str,
-    to: &str,
-) -> Result<String, LineFault> {
+    out: &mut String,
+    text: &str,
+) -> Result<(), LineFault> {
+    let (from, to) = first_word(text);
     let pair = pair(alloc, from, to)?;
     if !store.usable() {
         return Err(LineFault::NotUsable);
     }
     let sent = sent_disarmed(store, alloc, &pair)?;
-    Ok(format!(in alloc; "{sent}")?)
+    write!(out, "{sent}").map_err(LineFault::from)
 }
 
-/// Does what a line asks, if it is one without an answer.
-fn act(
-    store: &mut OrderTables,
+/// Tells a store when to fail: `N LEAVES`.
+fn arm<K: Keep + Drop>(store: &mut Faulty<K>, text: &str) -> Result<(), LineFault> {
+    let (calls, word) = first_word(text);
+    store.arm(natural(calls)?, leaves(word)?);
+    Ok(())
+}
+
+/// The answer to a line of a store that changes no table: one that isn't told is a read.
+fn answer_other<K>(
+    store: &mut Faulty<K>,
+    alloc: Global,
+    out: &mut String,
+    word: &str,
+    rest: &str,
+) -> Result<(), LineFault>
+where
+    K: Keep<State = Option<Order>, Command = OrderCommand> + Drop,
+{
+    match word {
+        "arm" => arm(store, rest),
+        "disarm" => {
+            store.disarm();
+            Ok(())
+        }
+        "reopen" => store.reopen(alloc).map_err(LineFault::from),
+        "usable" => write!(out, "{}", store.usable()).map_err(LineFault::from),
+        _ => read(store, alloc, out, word, rest),
+    }
+}
+
+/// The answer to a line that begins with `store`. Where the call gives nothing, nothing is appended.
+pub fn answer_store<K>(
+    store: &mut Faulty<K>,
     noted: &mut Vec<OrderChange>,
     alloc: Global,
-    words: &[&str],
-) -> Result<bool, LineFault> {
-    match words {
-        ["new"] => {
+    out: &mut String,
+    text: &str,
+) -> Result<(), LineFault>
+where
+    K: Keep<State = Option<Order>, Command = OrderCommand> + Empty + Drop,
+{
+    let (word, rest) = first_word(text);
+    match word {
+        "new" => {
             *store = empty_tables(alloc);
             noted.clear();
+            Ok(())
         }
-        ["note", words @ ..] => noted.push(change(alloc, words)?)?,
-        ["do", words @ ..] => make(store, alloc, words)?,
-        ["apply"] => apply(store, alloc, mem::replace(noted, Vec::new(alloc)))?,
-        ["apply-armed", word] => {
-            let changes = mem::replace(noted, Vec::new(alloc));
-            apply_and_fail(store, alloc, changes, word)?;
+        "note" => add_change(alloc, noted, rest),
+        "do" => make(store, alloc, rest),
+        "apply" => apply(store, alloc, mem::replace(noted, Vec::new(alloc))),
+        "apply-armed" => {
+            apply_and_fail(store, alloc, mem::replace(noted, Vec::new(alloc)), rest)
         }
-        ["arm", calls, word] => store.arm(natural(calls)?, leaves(word)?),
-        ["disarm"] => store.disarm(),
-        ["reopen"] => store.reopen(alloc)?,
-        _ => return Ok(false),
-    }
-    Ok(true)
-}
-
-/// The answer to a line that begins with `store`.
-pub fn answer_store(
-    store: &mut OrderTables,
-    noted: &mut Vec<OrderChange>,
-    alloc: Global,
-    words: &[&str],
-) -> Result<String, LineFault> {
-    if act(store, noted, alloc, words)? {
-        return Ok(String::from_str(alloc, "done")?);
-    }
-    match words {
-        ["usable"] => Ok(format!(in alloc; "{}", store.usable())?),
-        ["sent-disarmed", from, to] => read_disarmed(store, alloc, from, to),
-        _ => read(store, alloc, words),
+        _ => answer_other(store, alloc, out, word, rest),
     }
 }

@@ -5,73 +5,108 @@ use crate::words::{input, letter, number, order, pair};
 use activities::{JournalRow, OrderCommand};
 use base::Entity;
 use keep::{Change, Place};
+use line_script::first_word;
 use purchasing::Order;
 use std::alloc::Global;
 
 /// A change of the tables of orders.
 pub type OrderChange = Change<Option<Order>, OrderCommand>;
 
-/// One more row of the journal.
-fn journal(
-    alloc: Global,
-    text: &str,
-    order: &str,
-    words: &[&str],
-) -> Result<OrderChange, LineFault> {
-    let position = number(text)?;
-    let input = input(alloc, words)?;
+/// Appends a change.
+fn add(changes: &mut Vec<OrderChange>, change: OrderChange) -> Result<(), LineFault> {
+    changes.push(change).map_err(LineFault::from)
+}
+
+/// One more row of the journal: `N ENTITY INPUT`.
+fn add_row(alloc: Global, changes: &mut Vec<OrderChange>, text: &str) -> Result<(), LineFault> {
+    let (position, rest) = first_word(text);
+    let (order, rest) = first_word(rest);
+    let position = number(position)?;
     let entity = Entity::read(alloc, order)?;
-    Ok(Change::Journal(position, JournalRow { entity, input }))
+    let input = input(alloc, rest)?;
+    add(
+        changes,
+        Change::Journal(position, JournalRow { entity, input }),
+    )
 }
 
-/// A row set.
-fn state(alloc: Global, entity: &str, words: &[&str]) -> Result<OrderChange, LineFault> {
+/// A row set: `ENTITY ORDER`.
+fn add_state(alloc: Global, changes: &mut Vec<OrderChange>, text: &str) -> Result<(), LineFault> {
+    let (entity, rest) = first_word(text);
     let entity = Entity::read(alloc, entity)?;
-    Ok(Change::State(entity, Some(order(alloc, words)?)))
+    let order = order(alloc, rest)?;
+    add(changes, Change::State(entity, Some(order)))
 }
 
-/// A settled mark set.
-fn settled(alloc: Global, from: &str, to: &str, text: &str) -> Result<OrderChange, LineFault> {
-    let number = number(text)?;
-    Ok(Change::Settled(pair(alloc, from, to)?, number))
+/// A row taken away.
+fn add_no_state(
+    alloc: Global,
+    changes: &mut Vec<OrderChange>,
+    text: &str,
+) -> Result<(), LineFault> {
+    let entity = Entity::read(alloc, text)?;
+    add(changes, Change::State(entity, None))
 }
 
-/// A handled mark set.
-fn handled(alloc: Global, from: &str, to: &str, text: &str) -> Result<OrderChange, LineFault> {
-    let number = number(text)?;
-    Ok(Change::Handled(pair(alloc, from, to)?, number))
+/// A letter sent.
+fn add_sent(alloc: Global, changes: &mut Vec<OrderChange>, text: &str) -> Result<(), LineFault> {
+    let letter = letter(alloc, text)?;
+    add(changes, Change::Sent(letter))
 }
 
-/// A held letter taken away.
-fn not_held(alloc: Global, from: &str, to: &str, text: &str) -> Result<OrderChange, LineFault> {
-    let number = number(text)?;
-    Ok(Change::NotHeld(pair(alloc, from, to)?, number))
+/// A letter held.
+fn add_held(alloc: Global, changes: &mut Vec<OrderChange>, text: &str) -> Result<(), LineFault> {
+    let letter = letter(alloc, text)?;
+    add(changes, Change::Held(letter))
 }
 
-/// The change that words name.
-pub fn change(alloc: Global, words: &[&str]) -> Result<OrderChange, LineFault> {
-    match words {
-        ["journal", position, order, input @ ..] => journal(alloc, position, order, input),
-        ["state", entity, order @ ..] => state(alloc, entity, order),
-        ["no-state", entity] => Ok(Change::State(Entity::read(alloc, entity)?, None)),
-        ["sent", words @ ..] => Ok(Change::Sent(letter(alloc, words)?)),
-        ["held", words @ ..] => Ok(Change::Held(letter(alloc, words)?)),
-        ["settled", from, to, number] => settled(alloc, from, to, number),
-        ["handled", from, to, number] => handled(alloc, from, to, number),
-        ["not-held", from, to, number] => not_held(alloc, from, to, number),
+/// A settled or handled mark set, or a held letter taken away: `FROM TO N`.
+fn add_mark(
+    alloc: Global,
+    changes: &mut Vec<OrderChange>,
+    word: &str,
+    text: &str,
+) -> Result<(), LineFault> {
+    let (from, rest) = first_word(text);
+    let (to, asked) = first_word(rest);
+    let number = number(asked)?;
+    let pair = pair(alloc, from, to)?;
+    add(
+        changes,
+        match word {
+            "settled" => Change::Settled(pair, number),
+            "handled" => Change::Handled(pair, number),
+            _ => Change::NotHeld(pair, number),
+        },
+    )
+}
+
+/// Appends the change that a text names.
+pub fn add_change(
+    alloc: Global,
+    changes: &mut Vec<OrderChange>,
+    text: &str,
+) -> Result<(), LineFault> {
+    let (word, rest) = first_word(text);
+    match word {
+        "journal" => add_row(alloc, changes, rest),
+        "state" => add_state(alloc, changes, rest),
+        "no-state" => add_no_state(alloc, changes, rest),
+        "sent" => add_sent(alloc, changes, rest),
+        "held" => add_held(alloc, changes, rest),
+        "settled" | "handled" | "not-held" => add_mark(alloc, changes, word, rest),
         _ => Err(LineFault::Unknown),
     }
 }
 
 /// The place of a letter: `FROM TO N`, or none.
-pub fn place(alloc: Global, words: &[&str]) -> Result<Option<Place>, LineFault> {
-    match words {
-        [] => Ok(None),
-        [from, to, text] => {
-            let number = number(text)?;
-            let pair = pair(alloc, from, to)?;
-            Ok(Some(Place { pair, number }))
-        }
-        _ => Err(LineFault::Unknown),
+pub fn place(alloc: Global, text: &str) -> Result<Option<Place>, LineFault> {
+    if text.is_empty() {
+        return Ok(None);
     }
+    let (from, rest) = first_word(text);
+    let (to, asked) = first_word(rest);
+    let number = number(asked)?;
+    let pair = pair(alloc, from, to)?;
+    Ok(Some(Place { pair, number }))
 }

@@ -1,57 +1,50 @@
 //! Answers as text, in the words that a line has for them.
 
-use activities::{Input, JournalRow, OrderCommand, Outs};
+use activities::{Input, JournalRow, OrderCommand, Out};
 use base::Pair;
 use envelope::{Letter, Message};
-use purchasing::{Order, Partner};
-use std::alloc::{AllocError, Global};
-
-/// Adds a part to a list: `; ` stands between two.
-pub fn add(text: &mut String, part: &str) -> Result<(), AllocError> {
-    if !text.is_empty() {
-        text.push_str("; ")?;
-    }
-    text.push_str(part)
-}
-
-/// A list as text: an empty one is `none`.
-fn listed(alloc: Global, text: String) -> Result<String, AllocError> {
-    if text.is_empty() {
-        return String::from_str(alloc, "none");
-    }
-    Ok(text)
-}
+use purchasing::Order;
+use std::fmt;
+use std::fmt::Write;
 
 /// A message.
-fn message_text(alloc: Global, message: Message) -> Result<String, AllocError> {
-    match message {
-        Message::Request(asked) => format!(in alloc; "Request {}", asked.get()),
-        other => format!(in alloc; "{other:?}"),
+#[derive(Clone, Copy)]
+pub struct MessageText(pub Message);
+
+impl fmt::Display for MessageText {
+    fn fmt<W: Write>(&self, out: &mut fmt::Formatter<W>) -> fmt::Result {
+        match self.0 {
+            Message::Request(asked) => write!(out, "Request {}", asked.get()),
+            message => write!(out, "{message:?}"),
+        }
     }
 }
 
-/// A letter.
-fn letter_text(alloc: Global, letter: &Letter) -> Result<String, AllocError> {
-    let message = message_text(alloc, letter.message)?;
-    format!(in alloc;
-        "{} {} {} {message}",
-        letter.pair.from.text(),
-        letter.pair.to.text(),
-        letter.number.get()
-    )
+/// Writes a letter.
+fn write_letter<W: Write>(out: &mut fmt::Formatter<W>, letter: &Letter) -> fmt::Result {
+    let (from, to) = (letter.pair.from.text(), letter.pair.to.text());
+    let message = MessageText(letter.message);
+    write!(out, "{from} {to} {} {message}", letter.number.get())
 }
 
-/// Letters.
-pub fn letters_text(alloc: Global, letters: &[Letter]) -> Result<String, AllocError> {
-    let mut text = String::new(alloc);
-    for letter in letters {
-        add(&mut text, &letter_text(alloc, letter)?)?;
+/// Letters, or `none`.
+#[derive(Clone, Copy)]
+pub struct LettersText<'a>(pub &'a [Letter]);
+
+impl fmt::Display for LettersText<'_> {
+    fn fmt<W: Write>(&self, out: &mut fmt::Formatter<W>) -> fmt::Result {
+        let mut before = "";
+        for letter in self.0 {
+            out.write_str(before)?;
+            write_letter(out, letter)?;
+            before = "; ";
+        }
+        out.write_str(if self.0.is_empty() { "none" } else { "" })
     }
-    listed(alloc, text)
 }
 
-/// What a seat asks.
-fn command_text(alloc: Global, command: &OrderCommand) -> Result<String, AllocError> {
+/// Writes what a seat asks.
+fn write_command<W: Write>(out: &mut fmt::Formatter<W>, command: &OrderCommand) -> fmt::Result {
     match command {
         OrderCommand::Place {
             stock,
@@ -59,101 +52,104 @@ fn command_text(alloc: Global, command: &OrderCommand) -> Result<String, AllocEr
             account,
             amount,
         } => {
-            format!(in alloc;
-                "place {} {quantity} {} {amount}",
-                stock.as_str(),
-                account.as_str()
-            )
+            let (stock, account) = (stock.as_str(), account.as_str());
+            write!(out, "place {stock} {quantity} {account} {amount}")
         }
-        OrderCommand::CancelOrder => format!(in alloc; "cancel"),
+        OrderCommand::CancelOrder => out.write_str("cancel"),
     }
 }
 
-/// A row of the journal.
-fn row_text(alloc: Global, row: &JournalRow<OrderCommand>) -> Result<String, AllocError> {
-    match &row.input {
+/// Writes an input.
+fn write_input<W: Write>(out: &mut fmt::Formatter<W>, input: &Input<OrderCommand>) -> fmt::Result {
+    match input {
         Input::FromSeat(seat, command) => {
-            let command = command_text(alloc, command)?;
-            format!(in alloc; "{} seat {seat} {command}", row.entity.text())
+            write!(out, "seat {seat} ")?;
+            write_command(out, command)
         }
         Input::FromEntity(sender, number, message) => {
-            let message = message_text(alloc, *message)?;
-            format!(in alloc;
-                "{} from {} {} {message}",
-                row.entity.text(),
-                sender.text(),
-                number.get()
-            )
+            let message = MessageText(*message);
+            write!(out, "from {} {} {message}", sender.text(), number.get())
         }
     }
 }
 
-/// Rows of the journal.
-pub fn rows_text(alloc: Global, rows: &[JournalRow<OrderCommand>]) -> Result<String, AllocError> {
-    let mut text = String::new(alloc);
-    for row in rows {
-        add(&mut text, &row_text(alloc, row)?)?;
+/// Rows of the journal, or `none`.
+#[derive(Clone, Copy)]
+pub struct RowsText<'a>(pub &'a [JournalRow<OrderCommand>]);
+
+impl fmt::Display for RowsText<'_> {
+    fn fmt<W: Write>(&self, out: &mut fmt::Formatter<W>) -> fmt::Result {
+        let mut before = "";
+        for row in self.0 {
+            write!(out, "{before}{} ", row.entity.text())?;
+            write_input(out, &row.input)?;
+            before = "; ";
+        }
+        out.write_str(if self.0.is_empty() { "none" } else { "" })
     }
-    listed(alloc, text)
 }
 
-/// A partner of an order.
-fn partner_text(alloc: Global, partner: &Partner) -> Result<String, AllocError> {
-    let (entity, asked) = (partner.entity().text(), partner.number().get());
-    format!(in alloc; " {entity} {asked} {:?}", partner.phase())
-}
-
-/// An order that was placed.
-fn placed_text(alloc: Global, order: &Order) -> Result<String, AllocError> {
-    let mut text = format!(in alloc; "{:?}", order.status())?;
+/// Writes an order that was placed.
+fn write_placed<W: Write>(out: &mut fmt::Formatter<W>, order: &Order) -> fmt::Result {
+    write!(out, "{:?}", order.status())?;
     for index in 0..order.partner_count() {
         if let Some(partner) = order.partner(index) {
-            text.push_str(&partner_text(alloc, partner)?)?;
+            let (entity, asked) = (partner.entity().text(), partner.number().get());
+            write!(out, " {entity} {asked} {:?}", partner.phase())?;
         }
-    }
-    Ok(text)
-}
-
-/// An order, or `none`.
-pub fn order_text(alloc: Global, order: &Option<Order>) -> Result<String, AllocError> {
-    match order {
-        Some(order) => placed_text(alloc, order),
-        None => String::from_str(alloc, "none"),
-    }
-}
-
-/// The row of an order, or `no row`.
-pub fn state_text(alloc: Global, row: &Option<Option<Order>>) -> Result<String, AllocError> {
-    match row {
-        Some(order) => order_text(alloc, order),
-        None => String::from_str(alloc, "no row"),
-    }
-}
-
-/// Messages with their receivers, behind what is there.
-pub fn add_outs(alloc: Global, text: &mut String, outs: &Outs) -> Result<(), AllocError> {
-    for out in outs.as_slice() {
-        let message = message_text(alloc, out.message)?;
-        add(
-            text,
-            &format!(in alloc; "{message} to {}", out.receiver.text())?,
-        )?;
     }
     Ok(())
 }
 
-/// A pair, or `none`.
-pub fn pair_text(alloc: Global, pair: &Option<Pair>) -> Result<String, AllocError> {
-    match pair {
-        Some(pair) => format!(in alloc; "{} {}", pair.from.text(), pair.to.text()),
-        None => String::from_str(alloc, "none"),
+/// An order, or `none`.
+#[derive(Clone, Copy)]
+pub struct OrderText<'a>(pub &'a Option<Order>);
+
+impl fmt::Display for OrderText<'_> {
+    fn fmt<W: Write>(&self, out: &mut fmt::Formatter<W>) -> fmt::Result {
+        match self.0 {
+            Some(order) => write_placed(out, order),
+            None => out.write_str("none"),
+        }
     }
 }
 
-/// A held message, or `none`.
-pub fn held_text(alloc: Global, message: Option<Message>) -> Result<String, AllocError> {
-    match message {
-        Some(message) => message_text(alloc, message),
-        None => String::from_str(alloc, "none"),
+/// The row of an order, or `no row`.
+#[derive(Clone, Copy)]
+pub struct StateText<'a>(pub &'a Option<Option<Order>>);
+
+impl fmt::Display for StateText<'_> {
+    fn fmt<W: Write>(&self, out: &mut fmt::Formatter<W>) -> fmt::Result {
+        match self.0 {
+            Some(order) => write!(out, "{}", OrderText(order)),
+            None => out.write_str("no row"),
+        }
+    }
+}
+
+/// Messages with their receivers, behind what is there.
+#[derive(Clone, Copy)]
+pub struct OutsText<'a>(pub &'a [Out]);
+
+impl fmt::Display for OutsText<'_> {
+    fn fmt<W: Write>(&self, out: &mut fmt::Formatter<W>) -> fmt::Result {
+        for message in self.0 {
+            let receiver = message.receiver.text();
+            write!(out, "; {} to {receiver}", MessageText(message.message))?;
+        }
+        Ok(())
+    }
+}
+
+/// A pair, or `none`.
+#[derive(Clone, Copy)]
+pub struct PairText<'a>(pub &'a Option<Pair>);
+
+impl fmt::Display for PairText<'_> {
+    fn fmt<W: Write>(&self, out: &mut fmt::Formatter<W>) -> fmt::Result {
+        match self.0 {
+            Some(pair) => write!(out, "{} {}", pair.from.text(), pair.to.text()),
+            None => out.write_str("none"),
+        }
     }
 }

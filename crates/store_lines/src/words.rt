@@ -8,7 +8,7 @@ use base::limits::SEATS;
 use base::{Entity, Key, Number, Pair};
 use envelope::{Letter, Message};
 use keep::Leaves;
-use line_script::natural;
+use line_script::{first_word, natural};
 use purchasing::{Order, Partner};
 use std::alloc::Global;
 
@@ -38,23 +38,25 @@ pub fn pair(alloc: Global, from: &str, to: &str) -> Result<Pair, LineFault> {
 }
 
 /// A message: `Request N`, `Tentative`, `Refused`, `Confirm` or `Cancel`.
-pub fn message(words: &[&str]) -> Result<Message, LineFault> {
-    match words {
-        ["Request", asked] => Ok(Message::Request(number(asked)?)),
-        ["Tentative"] => Ok(Message::Tentative),
-        ["Refused"] => Ok(Message::Refused),
-        ["Confirm"] => Ok(Message::Confirm),
-        ["Cancel"] => Ok(Message::Cancel),
-        _ => Err(LineFault::Unknown),
+pub fn message(text: &str) -> Result<Message, LineFault> {
+    match text {
+        "Tentative" => Ok(Message::Tentative),
+        "Refused" => Ok(Message::Refused),
+        "Confirm" => Ok(Message::Confirm),
+        "Cancel" => Ok(Message::Cancel),
+        _ => match text.strip_prefix("Request ") {
+            Some(asked) => Ok(Message::Request(number(asked)?)),
+            None => Err(LineFault::Unknown),
+        },
     }
 }
 
 /// A letter: `FROM TO N MESSAGE`.
-pub fn letter(alloc: Global, words: &[&str]) -> Result<Letter, LineFault> {
-    let [from, to, text, said @ ..] = words else {
-        return Err(LineFault::Unknown);
-    };
-    let number = number(text)?;
+pub fn letter(alloc: Global, text: &str) -> Result<Letter, LineFault> {
+    let (from, rest) = first_word(text);
+    let (to, rest) = first_word(rest);
+    let (asked, said) = first_word(rest);
+    let number = number(asked)?;
     let message = message(said)?;
     let pair = pair(alloc, from, to)?;
     Ok(Letter {
@@ -64,35 +66,55 @@ pub fn letter(alloc: Global, words: &[&str]) -> Result<Letter, LineFault> {
     })
 }
 
+/// A command that places an order: `STOCK N ACCOUNT N`.
+fn placing(alloc: Global, text: &str) -> Result<OrderCommand, LineFault> {
+    let (stock, rest) = first_word(text);
+    let (quantity, rest) = first_word(rest);
+    let (account, amount) = first_word(rest);
+    let quantity = natural(quantity)?;
+    let amount = natural(amount)?;
+    let stock = Key::read(alloc, stock)?;
+    let account = Key::read(alloc, account)?;
+    Ok(OrderCommand::Place {
+        stock,
+        quantity,
+        account,
+        amount,
+    })
+}
+
 /// A command of a seat: `place STOCK N ACCOUNT N`, by their keys, or `cancel`.
-pub fn command(alloc: Global, words: &[&str]) -> Result<OrderCommand, LineFault> {
-    match words {
-        ["place", stock, quantity, account, amount] => {
-            let quantity = natural(quantity)?;
-            let amount = natural(amount)?;
-            let stock = Key::read(alloc, stock)?;
-            let account = Key::read(alloc, account)?;
-            Ok(OrderCommand::Place {
-                stock,
-                quantity,
-                account,
-                amount,
-            })
-        }
-        ["cancel"] => Ok(OrderCommand::CancelOrder),
+pub fn command(alloc: Global, text: &str) -> Result<OrderCommand, LineFault> {
+    let (word, rest) = first_word(text);
+    match word {
+        "place" => placing(alloc, rest),
+        "cancel" => Ok(OrderCommand::CancelOrder),
         _ => Err(LineFault::Unknown),
     }
 }
 
+/// The input of a seat: `N COMMAND`.
+fn from_seat(alloc: Global, text: &str) -> Result<Input<OrderCommand>, LineFault> {
+    let (by, asked) = first_word(text);
+    let seat = seat(by)?;
+    Ok(Input::FromSeat(seat, command(alloc, asked)?))
+}
+
+/// The input of a letter: `ENTITY N MESSAGE`.
+fn from_entity(alloc: Global, text: &str) -> Result<Input<OrderCommand>, LineFault> {
+    let (sender, rest) = first_word(text);
+    let (asked, said) = first_word(rest);
+    let number = number(asked)?;
+    let message = message(said)?;
+    Ok(Input::FromEntity(Entity::read(alloc, sender)?, number, message))
+}
+
 /// An input: `seat N COMMAND`, or `from ENTITY N MESSAGE`.
-pub fn input(alloc: Global, words: &[&str]) -> Result<Input<OrderCommand>, LineFault> {
-    match words {
-        ["seat", text, asked @ ..] => Ok(Input::FromSeat(seat(text)?, command(alloc, asked)?)),
-        ["from", sender, text, said @ ..] => {
-            let number = number(text)?;
-            let message = message(said)?;
-            Ok(Input::FromEntity(Entity::read(alloc, sender)?, number, message))
-        }
+pub fn input(alloc: Global, text: &str) -> Result<Input<OrderCommand>, LineFault> {
+    let (word, rest) = first_word(text);
+    match word {
+        "seat" => from_seat(alloc, rest),
+        "from" => from_entity(alloc, rest),
         _ => Err(LineFault::Unknown),
     }
 }
@@ -119,25 +141,36 @@ fn phase(text: &str) -> Result<Phase, LineFault> {
     }
 }
 
-/// A partner of an order.
-fn partner(alloc: Global, entity: &str, asked: &str, far: &str) -> Result<Partner, LineFault> {
+/// The partner of an order with which a text begins: `ENTITY N PHASE`.
+fn partner(alloc: Global, text: &str) -> Result<Partner, LineFault> {
+    let (entity, rest) = first_word(text);
+    let (asked, rest) = first_word(rest);
+    let (far, _) = first_word(rest);
     let number = number(asked)?;
     let phase = phase(far)?;
     Ok(Partner::new(Entity::read(alloc, entity)?, number, phase))
 }
 
+/// What follows three words.
+fn behind_three(text: &str) -> &str {
+    let (_, rest) = first_word(text);
+    let (_, rest) = first_word(rest);
+    let (_, rest) = first_word(rest);
+    rest
+}
+
 /// An order: `none`, or `STATUS STOCK N PHASE ACCOUNT N PHASE`. Its partners are a stock and an account.
-pub fn order(alloc: Global, words: &[&str]) -> Result<Option<Order>, LineFault> {
-    match words {
-        ["none"] => Ok(None),
-        [far, stock, quantity, of_stock, account, amount, of_account] => {
-            let status = status(far)?;
-            let stock = partner(alloc, stock, quantity, of_stock)?;
-            let account = partner(alloc, account, amount, of_account)?;
-            let order = Order::from_parts(status, stock, account).ok_or(LineFault::Unknown)?;
-            Ok(Some(order))
-        }
-        _ => Err(LineFault::Unknown),
+pub fn order(alloc: Global, text: &str) -> Result<Option<Order>, LineFault> {
+    if text == "none" {
+        return Ok(None);
+    }
+    let (far, partners) = first_word(text);
+    let status = status(far)?;
+    let stock = partner(alloc, partners)?;
+    let account = partner(alloc, behind_three(partners))?;
+    match Order::from_parts(status, stock, account) {
+        None => Err(LineFault::Unknown),
+        order => Ok(order),
     }
 }
 

@@ -2,7 +2,7 @@ use Rattle.std.proofs.Common.{ℕ, ◌-◌, ◌^◌, ap, subst, ◌∙◌, refl,
 use Rattle.base.specs.declared.pair.Pair.{Pair}
 use Rattle.activities.specs.Orders.{order_reactions}
 use Rattle.keep.specs.Listing.{AreFirst}
-use Rattle.endpoint.specs.Matches.{unsettled_of}
+use Rattle.outbox.specs.Rows.{unsettled_of}
 use Rattle.keep_plain.specs.Memory.{tables_of}
 use Rattle.programs.proofs.Taken.{all_match, OrderTables}
 use Rattle.programs.proofs.running.frames.Goals as goal

@@ -4,9 +4,9 @@ use Rattle.keep.specs.declared.fault.KeepFault.{KeepFault}
 use Rattle.keep.specs.declared.fault.KeepFault.TheVariants.{Failed, Memory, WrongFile}
 use Rattle.keep.specs.Law.{MoreFailures, IsServed, IsCallCause, IsReadCause, Tells, Reads, ReadsOr}
 use Rattle.keep.specs.Seen.{Seen, keep_end}
-use Rattle.endpoint.specs.declared.outbox.OutboxFault.{OutboxFault}
-use Rattle.endpoint.specs.declared.outbox.OutboxFault.TheVariants.{Store, NumberLimit}
-use Rattle.endpoint.specs.Parts.Outbox.{IsLimit, outbox_cause, outbox_end}
+use Rattle.outbox.specs.declared.fault.OutboxFault.{OutboxFault}
+use Rattle.outbox.specs.declared.fault.OutboxFault.TheVariants.{Store, NumberLimit}
+use Rattle.outbox.specs.Faults.{IsLimit, outbox_cause, outbox_end}
 
 -- a store's fault is told as it is
 module _ {E T : Type 0} (seen : E → Seen T) (old new : E) where

@@ -3,56 +3,17 @@
 ghost use Rattle.std.specs.Prelude.{◌≡◌, ◌+◌, ◌^◌, ◌≤◌, ◌<◌, ◌++◌, true, length};
 ghost use Rattle.activities.specs.Reaction.{messages_to};
 ghost use Rattle.keep.specs.Law.{ReadsOr};
-ghost use Rattle.endpoint.specs.Answers.{NumbersFit, NumbersPass};
-ghost use Rattle.endpoint.specs.Parts.Outbox.{IsLimit, outbox_end, letter_to, numbering};
+ghost use Rattle.outbox.specs.Numbering.{NumbersFit, NumbersPass};
+ghost use Rattle.outbox.specs.Faults.{IsLimit, outbox_end};
+ghost use Rattle.outbox.specs.Numbering.{letter_to, numbering};
 
+use crate::OutboxFault;
 use activities::{Handler, Out};
 use base::limits::MAX_NUMBER;
 use base::{Entity, Number, Pair};
 use envelope::Letter;
-use keep::{Change, Keep, KeepFault};
-use std::alloc::{AllocError, AllocFailed, Global};
-
-/// Why the outbox didn't take what an entity sends.
-#[derive(Clone, Copy, Debug, PartialEq, Eq)]
-pub(crate) enum OutboxFault {
-    /// The store failed, or memory was refused.
-    Store(KeepFault),
-    /// The number of a letter would be above 2^40.
-    NumberLimit,
-}
-
-impl From<KeepFault> for OutboxFault {
-    ghost use Rattle.endpoint.specs.declared.outbox.OutboxFault.TheVariants.{Store};
-
-    ghost from_gives = { λ kept fault. fault ≡ Store kept };
-
-    fn from(fault: KeepFault) -> OutboxFault {
-        OutboxFault::Store(fault)
-    }
-}
-
-impl From<AllocError> for OutboxFault {
-    ghost use Rattle.keep.specs.declared.fault.KeepFault.TheVariants.{Memory};
-    ghost use Rattle.endpoint.specs.declared.outbox.OutboxFault.TheVariants.{Store};
-
-    ghost from_gives = { λ _ fault. fault ≡ Store Memory };
-
-    fn from(_: AllocError) -> OutboxFault {
-        OutboxFault::Store(KeepFault::Memory)
-    }
-}
-
-impl<T: Drop> From<AllocFailed<T>> for OutboxFault {
-    ghost use Rattle.keep.specs.declared.fault.KeepFault.TheVariants.{Memory};
-    ghost use Rattle.endpoint.specs.declared.outbox.OutboxFault.TheVariants.{Store};
-
-    ghost from_gives = { λ _ fault. fault ≡ Store Memory };
-
-    fn from(_: AllocFailed<T>) -> OutboxFault {
-        OutboxFault::Store(KeepFault::Memory)
-    }
-}
+use keep::{Change, Keep};
+use std::alloc::Global;
 
 /// How many of these go to a receiver.
 fn count_to(outs: &[Out], receiver: &Entity) -> u64
@@ -117,7 +78,7 @@ fn number_out<K: Keep>(
 }
 
 /// Adds a letter for each message that an entity sends. One read of the store for each.
-pub(crate) fn number_outs<H, K>(
+pub fn number_outs<H, K>(
     alloc: Global,
     keep: &mut K,
     entity: &Entity,

@@ -2,11 +2,11 @@ use Rattle.std.proofs.Common.{◌<◌, ◌≡◌, take, arith, ap, ◌∙◌, su
 use Rattle.std.proofs.lemmas.Result.{err_from_is_err_and}
 use Rattle.envelope.specs.declared.message.Letter.{Letter}
 use Rattle.base.specs.declared.limits.TheConstants.{MAX_NUMBER}
-use Rattle.endpoint.specs.Parts.Outbox.{letter_to}
-use Rattle.endpoint.specs.Answers.{NumbersPass}
-use Rattle.endpoint.proofs.Letters.{read_later}
-use Rattle.endpoint.proofs.Numbering.{items_more, fits_more, passes_at}
-use Rattle.endpoint.proofs.outbox.number_outs.Goals as goal
+use Rattle.outbox.specs.Numbering.{letter_to}
+use Rattle.outbox.specs.Numbering.{NumbersPass}
+use Rattle.outbox.proofs.Letters.{read_later}
+use Rattle.outbox.proofs.Numbering.{items_more, fits_more, passes_at}
+use Rattle.outbox.proofs.outbox.number_outs.Goals as goal
 
 pub loop-at-preserved : goal.loop-at-preserved
 loop-at-preserved g c =

@@ -1,8 +1,8 @@
 -- the letters so far are those of what was passed
 use Rattle.std.proofs.Common.{◌≡◌, ◌≤◌, ◌++◌, take, true}
-use Rattle.endpoint.specs.Answers.{NumbersFit}
-use Rattle.endpoint.specs.Parts.Outbox.{numbering}
-use Rattle.endpoint.proofs.outbox.number_outs.Given as goal
+use Rattle.outbox.specs.Numbering.{NumbersFit}
+use Rattle.outbox.specs.Numbering.{numbering}
+use Rattle.outbox.proofs.outbox.number_outs.Given as goal
 
 abbrev pub invariant-loop-at : goal.invariant-loop-at
 invariant-loop-at g l =

@@ -1,0 +1,4 @@
+pub mod Above
+mod Letters
+pub mod Numbering
+pub mod Sending

@@ -1,0 +1,3 @@
+pub mod Faults
+pub mod Numbering
+pub mod Rows
