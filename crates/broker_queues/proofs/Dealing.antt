@@ -1,102 +1,153 @@
--- A message goes out: what the two forms of the code leave is one deal.
-use Rattle.std.proofs.Common.{◌≡◌, ℕ, suc, ◌+◌, Bool, true, false, List, [], ◌∷◌, ◌++◌, take, drop, get_or, Option, Some, None}
-use Rattle.std.proofs.Common.{refl, sym, ap, ◌∙◌, subst}
-use Rattle.std.specs.Prelude.{◌&&◌, remove, slice_set}
-use Rattle.std.specs.List.{slice_get}
-use Rattle.std.proofs.lemmas.List.{set_split}
-use Rattle.std.proofs.lemmas.Option.{slice_get-get_or}
-use Rattle.broker_book.specs.declared.parts.Subscription.{Subscription}
-use Rattle.broker_book.specs.Books.{Book, Message, Fate, Out, is_due, is_ready, may_take, is_auto}
-use Rattle.broker_book.specs.Steps.{Handed, Deal, Deals, Taken, Dealt, left_of, last_given, next_ack}
-use Rattle.broker_queues.specs.Parts.Dealing.{CanDeal, IsHanded}
-use Rattle.broker_queues.proofs.Places.{FirstAt}
+-- The first message that can go out, to the oldest subscriber that may take it, is a deal of the book.
+use Rattle.std.proofs.Common.{◌≡◌, ◌≤◌, ℕ, ◌^◌, ◌-◌, true, false, ◌&&◌, ◌||◌, List, ◌∷◌}
+use Rattle.std.proofs.Common.{◌++◌, map, Option, Some, None, refl, sym, ap, ◌∙◌, arith, inl, inr}
+use Rattle.std.specs.Prelude.{find, nat_lt}
+use Rattle.std.specs.List.{list_any}
+use Rattle.std.specs.Option.{option_map}
+use Rattle.std.specs.Str.{bytes_eq}
+use Rattle.std.proofs.lemmas.Bool.{cases_Bool, and_parts, and_from}
+use Rattle.base.specs.declared.limits.TheConstants.{MAX_UNANSWERED}
+use Rattle.broker_book.specs.declared.parts.Accepted.{Accepted}
+use Rattle.broker_book.specs.Books.{Book, Message, Fate, Ready, Out, is_auto, has_credit, may_take, is_due, IsQuiet}
+use Rattle.broker_book.specs.Steps.{Deal, left_of, last_given, next_ack}
+use Rattle.broker_index.specs.Index.{Kept, Subscriber, with_fate}
+use Rattle.broker_queues.specs.Parts.Shelf.{rise, kept_at, subscriber_at, living_of, message_of, living_as, subscriptions_of, may_have}
+use Rattle.broker_queues.specs.Parts.Fates.{fated, dealt_fate}
+use Rattle.broker_queues.specs.Parts.Whole.{Holding, IsShelf, Picks, book_of}
+use Rattle.broker_queues.proofs.Finding.{any_map, find_mapped}
+use Rattle.broker_queues.proofs.Living.{tests, any_of_living, living_append}
+use Rattle.broker_queues.proofs.Rising.{at_number, IsAmong, any_at, least_first, front_of}
+use Rattle.broker_queues.proofs.Rising.{back_of, split_at, edit_split, rise_front, front_below}
 
--- what stands at one place is one thing
-pub same_some : {X : Type 0} (o : Option X) (x y : X) → o ≡ Some x → o ≡ Some y → y ≡ x
-same_some o x y p q = cc
+-- a kept message that is due, and a subscriber that may take it
+pub record IsDue (h : Holding) (kept : List Kept) : Type 0 where
+  pub message : Kept
+  pub there : kept_at message.number kept ≡ Some message
+  pub ready : message.fate ≡ Some Ready
+  pub subscriber : Subscriber
+  pub sits : subscriber_at subscriber.age h.subscribers ≡ Some subscriber
+  pub same : bytes_eq subscriber.subscription.destination message.sent.destination ≡ true
+  pub may : may_have h.given subscriber ≡ true
 
-left_part : (a b : Bool) → (a && b) ≡ true → a ≡ true
-left_part true b e = refl
-left_part false b e = cc
+-- what a test of a message that is ready says
+record IsReadyOne (b : Book) (k : Kept) : Type 0 where
+  ready : k.fate ≡ Some Ready
+  taken : list_any (may_take b (record { number = k.number; sent = k.sent; fate = Ready })) b.subscriptions ≡ true
 
--- a deal, from what stands at the two places
-deal_at : (b new : Book) (at to : ℕ) (given : Option ℕ) (d : Handed) (can : CanDeal b at to) → IsHanded b at to given d
-    → given ≡ next_ack b d.to
-    → new ≡ record b {
-      living = take at b.living ++ (left_of can.message d.to given ++ drop (suc at) b.living);
-      given = last_given b.given given;
-    } → Deal b d new
-deal_at b new at to given d can is e changed =
-    let m : is.message ≡ can.message = same_some _ _ _ can.stands is.stands in
-    let s : d.to ≡ can.subscription = same_some _ _ _ can.stands_to is.taker in
-    record {
-      message = can.message;
-      front = take at b.living;
-      back = drop (suc at) b.living;
-      found = can.found;
-      first = can.first;
-      ready = left_part (is_ready can.message) _ can.due;
-      oldest = rw s can.oldest;
-      number = is.number ∙ ap (λ (x : Message). x.number) m;
-      sent = is.sent ∙ ap (λ (x : Message). x.sent) m;
-      ack = is.ack ∙ e;
-      changed = rw is.ack changed;
+ready_one : (b : Book) (k : Kept) (f : Option Fate) → k.fate ≡ f → tests (is_due b) (living_as k.number k.sent f) ≡ true → IsReadyOne b k
+ready_one b k None is on = let never : false ≡ true = on in cc
+ready_one b k (Some (Out x i a)) is on = let never : false ≡ true = on in cc
+ready_one b k (Some Ready) is on = record { ready = is; taken = on }
+
+module _ (h : Holding) (accepted : List Accepted) (is : IsShelf h) where
+  -- credit by the count that is kept is credit
+  credit : (a : ℕ) (s : Subscriber) → subscriber_at a h.subscribers ≡ Some s
+      → has_credit (book_of h accepted) s.subscription ≡ may_have h.given s
+  credit a s sits =
+      ap (λ n. is_auto s.subscription.mode || (nat_lt n MAX_UNANSWERED && nat_lt h.given (2 ^ 64 - 1))) (sym (is.credited a s sits))
+
+  due_one : (kept : List Kept) → rise (λ k. k.number) 0 kept ≡ true
+      → list_any (is_due (book_of h accepted)) (living_of kept) ≡ true → IsDue h kept
+  due_one kept rises any =
+      let b : Book = book_of h accepted in
+      let k : IsAmong (λ k. k.number) (λ k. tests (is_due b) (message_of k)) kept =
+      any_at (λ k. k.number) (λ k. tests (is_due b) (message_of k)) 0 kept rises (sym (any_of_living (is_due b) kept) ∙ any) in
+      let one : IsReadyOne b k.value = ready_one b k.value k.value.fate refl k.passes in
+      let m : Message = record { number = k.value.number; sent = k.value.sent; fate = Ready } in
+      let s : IsAmong (λ s. s.age) (λ s. may_take b m s.subscription) h.subscribers =
+      any_at (λ s. s.age) (λ s. may_take b m s.subscription) 0 h.subscribers is.ages
+      (sym (any_map (may_take b m) (λ s. s.subscription) (λ s. may_take b m s.subscription) (λ s. refl) h.subscribers) ∙ one.taken) in
+      let parts = and_parts (bytes_eq s.value.subscription.destination m.sent.destination) (has_credit b s.value.subscription) s.passes in
+      record {
+        message = k.value;
+        there = k.found;
+        ready = one.ready;
+        subscriber = s.value;
+        sits = s.found;
+        same = parts.0;
+        may = sym (credit s.value.age s.value s.found) ∙ parts.1;
+      }
+
+  -- where nothing is due, the book is quiet
+  pub quiet : (IsDue h h.kept → ⊥) → IsQuiet (book_of h accepted)
+  quiet none = elim (cases_Bool (list_any (is_due (book_of h accepted)) (living_of h.kept))) [
+    | inl on ↦ absurd (none (due_one h.kept is.numbers on))
+    | inr off ↦ off
+  ]
+
+  module _ (n : ℕ) (k : Kept) (a : ℕ) (s : Subscriber) (p : Picks h n k a s) where
+    picked : Message
+    picked = record { number = k.number; sent = k.sent; fate = Ready }
+
+    none_before : list_any (is_due (book_of h accepted)) (living_of (front_of (λ k. k.number) n h.kept)) ≡ false
+    none_before = elim (cases_Bool (list_any (is_due (book_of h accepted)) (living_of (front_of (λ k. k.number) n h.kept)))) [
+      | inl on ↦
+          let front : List Kept = front_of (λ k. k.number) n h.kept in
+          let due : IsDue h front = due_one front (rise_front (λ k. k.number) n 0 h.kept is.numbers) on in
+          let lower = front_below (λ k. k.number) n due.message.number 0 h.kept k due.message is.numbers p.there due.there in
+          let later : n ≤ due.message.number =
+          p.first due.message.number due.message due.subscriber.age due.subscriber lower.0 due.ready due.sits due.same due.may in
+          absurd (omega (arith, lower.1, later))
+      | inr off ↦ off
+    ]
+
+    oldest : find (may_take (book_of h accepted) (record { number = k.number; sent = k.sent; fate = Ready }))
+        (subscriptions_of h.subscribers)
+        ≡ Some s.subscription
+    oldest =
+        let b : Book = book_of h accepted in
+        let m : Message = record { number = k.number; sent = k.sent; fate = Ready } in
+        let first : find (λ s. may_take b m s.subscription) h.subscribers ≡ Some s =
+        least_first (λ s. s.age) (λ s. may_take b m s.subscription) 0 h.subscribers s a is.ages p.sits
+        (and_from (bytes_eq s.subscription.destination k.sent.destination) (has_credit b s.subscription) p.same
+        (credit a s p.sits ∙ p.may))
+        (λ c t there passes.
+        let parts = and_parts (bytes_eq t.subscription.destination k.sent.destination) (has_credit b t.subscription) passes in
+        p.oldest c t there parts.0 (sym (credit c t there) ∙ parts.1)) in
+        find_mapped (may_take b m) (λ s. s.subscription) h.subscribers ∙ ap (λ o. option_map (λ s. s.subscription) o) first
+
+    living_split : living_of h.kept
+        ≡ living_of (front_of (λ k. k.number) n h.kept)
+        ++ (record { number = k.number; sent = k.sent; fate = Ready }) ∷ living_of (back_of (λ k. k.number) n h.kept)
+    living_split =
+        let front : List Kept = front_of (λ k. k.number) n h.kept in
+        let back : List Kept = back_of (λ k. k.number) n h.kept in
+        ap living_of (split_at (λ k. k.number) n h.kept k p.there) ∙ living_append front (k ∷ back)
+        ∙ ap (λ f. living_of front ++ living_of (fated f k ∷ back)) p.ready
+
+    living_dealt : (ack : Option ℕ) → living_of (map (with_fate n (dealt_fate s.subscription ack)) h.kept)
+        ≡ living_of (front_of (λ k. k.number) n h.kept)
+        ++ (left_of (record { number = k.number; sent = k.sent; fate = Ready }) s.subscription ack
+        ++ living_of (back_of (λ k. k.number) n h.kept))
+    living_dealt ack =
+        let front : List Kept = front_of (λ k. k.number) n h.kept in
+        let back : List Kept = back_of (λ k. k.number) n h.kept in
+        ap living_of (edit_split (λ k. k.number) n (fated (dealt_fate s.subscription ack)) 0 h.kept k is.numbers p.there)
+        ∙ living_append front (fated (dealt_fate s.subscription ack) k ∷ back) ∙ ap (λ l. living_of front ++ l) (left ack)
+      where
+        left : (ack : Option ℕ) → living_of (fated (dealt_fate s.subscription ack) k ∷ back_of (λ k. k.number) n h.kept)
+            ≡ left_of (record { number = k.number; sent = k.sent; fate = Ready }) s.subscription ack
+            ++ living_of (back_of (λ k. k.number) n h.kept)
+        left None = refl
+        left (Some ack) = refl
+
+    -- it is the deal that the book wants
+    pub dealt : (ack : Option ℕ) → ack ≡ next_ack (book_of h accepted) s.subscription
+        → Deal (book_of h accepted) (record { number = n; sent = k.sent; to = s.subscription; ack = ack })
+        (record (book_of h accepted) {
+          living = living_of (map (with_fate n (dealt_fate s.subscription ack)) h.kept);
+          given = last_given h.given ack;
+        })
+    dealt ack next = record {
+      message = record { number = k.number; sent = k.sent; fate = Ready };
+      front = living_of (front_of (λ k. k.number) n h.kept);
+      back = living_of (back_of (λ k. k.number) n h.kept);
+      found = living_split;
+      first = none_before;
+      ready = refl;
+      oldest = oldest;
+      number = sym (at_number (λ k. k.number) n h.kept k p.there);
+      sent = refl;
+      ack = next;
+      changed = rw (living_dealt ack) refl;
     }
-
--- the mode of the subscription at a place is that of the one that is dealt to
-pub auto_is : (b : Book) (at to : ℕ) (given : Option ℕ) (d : Handed) (s : Subscription) (t : Bool) → IsHanded b at to given d
-    → slice_get b.subscriptions to ≡ Some s → t ≡ is_auto s.mode → is_auto d.to.mode ≡ t
-auto_is b at to given d s t is e k = ap (λ (x : Subscription). is_auto x.mode) (same_some _ _ _ e is.taker) ∙ sym k
-
--- a message goes out in mode `auto`
-pub auto_deal : (b new : Book) (at to : ℕ) (d : Handed) → CanDeal b at to → IsHanded b at to None d → is_auto d.to.mode ≡ true
-    → new ≡ record b { living = remove b.living at } → Deal b d new
-auto_deal b new at to d can is e changed = deal_at b new at to None d can is (rw e refl) changed
-
--- a message goes out to a holder
-pub out_deal : (b new : Book) (at to : ℕ) (d : Handed) (m : Message) (f : Fate) → CanDeal b at to
-    → IsHanded b at to (Some (b.given + 1)) d → is_auto d.to.mode ≡ false → slice_get b.living at ≡ Some m
-    → f ≡ Out d.to.session d.to.id (b.given + 1)
-    → new ≡ record b { living = slice_set b.living at (record m { fate = f }); given = b.given + 1 } → Deal b d new
-out_deal b new at to d m f can is e stands made changed =
-    let same : m ≡ can.message = same_some _ _ _ can.stands stands in
-    deal_at b new at to (Some (b.given + 1)) d can is (rw e refl)
-    (changed ∙ ap (λ (l : List Message). record b { living = l; given = b.given + 1 })
-    (set_split b.living at (record m { fate = f }) can.within ∙ rw (same, made) refl))
-
--- ---- one deal more
-
-deals_more : (old mid new : Book) (ds : List Handed) (d : Handed) → Deals old ds mid → Deal mid d new → Deals old (ds ++ d ∷ []) new
-deals_more old mid new [] d e h = (new, subst (λ b. Deal b d new) e h, refl)
-deals_more old mid new (x ∷ ds) d e h = (e.0, e.1, deals_more e.0 mid new ds d e.2 h)
-
-taken_more : {S : Type 0} (takes : S → Handed → S → Type 0) (old mid new : S) (ds : List Handed) (d : Handed) → Taken takes old ds mid
-    → takes mid d new → Taken takes old (ds ++ d ∷ []) new
-taken_more takes old mid new [] d e h = (new, subst (λ b. takes b d new) e h, refl)
-taken_more takes old mid new (x ∷ ds) d e h = (e.0, e.1, taken_more takes e.0 mid new ds d e.2 h)
-
--- one deal behind some
-pub dealt_more : {S : Type 0} (takes : S → Handed → S → Type 0) (old mid new : Book) (from between to : S) (d : Handed)
-    → Dealt takes old from mid between → Deal mid d new → takes between d to → Dealt takes old from new to
-dealt_more takes old mid new from between to d h one took = record {
-  handed = h.handed ++ d ∷ [];
-  deals = deals_more old mid new h.handed d h.deals one;
-  taken = taken_more takes from between to h.handed d h.taken took;
-}
-
--- the two places that the code finds
-pub can_deal : (b : Book) (at to : ℕ) (m : Message) (s : Subscription) → FirstAt (is_due b) b.living at m
-    → FirstAt (may_take b m) b.subscriptions to s → m ≡ get_or b.living at m → s ≡ get_or b.subscriptions to s → CanDeal b at to
-can_deal b at to m s f t e k = record {
-  message = m;
-  subscription = s;
-  within = f.within;
-  within_to = t.within;
-  stands = slice_get-get_or b.living at m f.within ∙ ap (λ x. Some x) (sym e);
-  stands_to = slice_get-get_or b.subscriptions to s t.within ∙ ap (λ x. Some x) (sym k);
-  found = f.split;
-  first = f.front;
-  due = f.passes;
-  credit = t.passes;
-  oldest = t.found;
-}

@@ -1,3 +1,11 @@
 -- What only private functions speak of.
-pub mod Dealing
-pub mod Stored
+pub mod Begun
+pub mod Choosing
+pub mod Dealings
+pub mod Fates
+pub mod Held
+pub mod Queues
+pub mod Shelf
+pub mod Storing
+pub mod Undoing
+pub mod Whole

@@ -1,6 +1,6 @@
 //! The queues, as callers see them.
 
-ghost use Rattle.std.specs.Prelude.{◌≡◌, ◌==◌, [], OnOk, IfErr, count_by, is_some};
+ghost use Rattle.std.specs.Prelude.{◌≡◌, ◌==◌, [], OnOk, IfErr, count_by, false, is_some};
 ghost use Rattle.std.specs.List.{list_any};
 ghost use Rattle.broker_book.specs.declared.fault.QueueFault.TheVariants.{Memory};
 ghost use Rattle.broker_book.specs.Books.{empty_book, is_named};
@@ -65,11 +65,13 @@ impl<const FULL: usize> Queues<FULL> {
         self.shelf.take_accepted()
     }
 
-    /// Adds a subscription, the youngest. Its texts are shared and not copied.
+    /// Adds a subscription, the youngest, of a name that the session's others don't have, as [`has_named`](Queues::has_named) tells. Its
+    /// texts are shared and not copied.
     ///
     /// # Errors
     /// `Memory` where a growth was refused, and then nothing has changed.
     pub fn subscribe(&mut self, subscription: &Subscription) -> Result<(), QueueFault>
+        requires { list_any (is_named subscription.now.session subscription.now.id) self.old.subscriptions ≡ false }
         ensures ok { OnOk result (self.new ≡ subscribed self.old subscription.now) }
         ensures err { IfErr result (λ fault. (fault ≡ Memory) × (self.new ≡ self.old)) }
     {

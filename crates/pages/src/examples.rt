@@ -11,6 +11,7 @@ use agreement::stays_authentic;
 use base::{Entity, EntityFault, Key, Kind, Number, Pair};
 use broker_book::{Action, Mode, QueueFault, Sent, Shared};
 use broker_core::{Broker, BrokerFault};
+use broker_index::Destinations;
 use broker_laws::no_message_is_lost;
 use broker_queues::Queues;
 use broker_texts::each_message_was_sent;
@@ -73,6 +74,14 @@ pub fn a_frame_before_connect_is_refused(alloc: Global) -> Option<u8> {
 
 pub fn answers_reach_back_in_mode_client() -> bool {
     Mode::Client.reaches(2, 1) && !Mode::Individual.reaches(2, 1)
+}
+
+pub fn an_idle_destination_is_closed(alloc: Global) -> Result<bool, QueueFault> {
+    let name = Text::new(String::from_str(alloc, "/queue/a")?);
+    let mut destinations = Destinations::new(alloc);
+    destinations.open(&name)?;
+    destinations.close(&name);
+    Ok(destinations.get(&name).is_none())
 }
 
 pub fn a_message_is_accepted(alloc: Global) -> Result<usize, QueueFault> {

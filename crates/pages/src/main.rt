@@ -12,10 +12,10 @@ use examples::{
     a_frame_before_connect_is_refused, a_frame_is_read_from_pieces, a_letter_comes_again,
     a_mark_is_one_change, a_mark_is_read, a_message_is_accepted, a_receipt_is_closed_once,
     a_schedule_is_read, a_schedule_is_run, a_settle_is_sent, a_transaction_keeps_its_actions,
-    an_entity_is_named_again, an_order_is_refused, answers_reach_back_in_mode_client,
-    first_state_of, no_mark_is_taken_back, nothing_is_held_at_first, printed_octets_are_read,
-    tables_hold_nothing_at_first, what_a_client_reads_was_sent,
-    what_wants_an_ack_stays_until_it_comes, what_was_put_is_taken,
+    an_entity_is_named_again, an_idle_destination_is_closed, an_order_is_refused,
+    answers_reach_back_in_mode_client, first_state_of, no_mark_is_taken_back,
+    nothing_is_held_at_first, printed_octets_are_read, tables_hold_nothing_at_first,
+    what_a_client_reads_was_sent, what_wants_an_ack_stays_until_it_comes, what_was_put_is_taken,
 };
 use keep::KeepFault;
 use keep_plain::PlainKeep;
@@ -64,6 +64,7 @@ fn print_sessions(rt: &impl Print, alloc: Global) -> Result<()> {
         &a_frame_before_connect_is_refused(alloc),
     )?;
     show(rt, "broker_book", &answers_reach_back_in_mode_client())?;
+    tell(rt, "broker_index", an_idle_destination_is_closed(alloc))?;
     tell(rt, "broker_queues", a_message_is_accepted(alloc))?;
     tell(rt, "broker_tx", a_transaction_keeps_its_actions(alloc))?;
     tell(rt, "broker_core", a_broker_answers_connect(alloc))?;

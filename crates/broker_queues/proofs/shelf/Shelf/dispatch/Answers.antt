@@ -1,7 +1,7 @@
-use Rattle.broker_queues.proofs.Dealing.{dealt_more}
 use Rattle.broker_queues.proofs.shelf.Shelf.dispatch.Goals as goal
 
-pub loop-at-preserved : goal.loop-at-preserved
-loop-at-preserved g c =
-    let h = c.in_ok-deal.ensures in
-    dealt_more _ _ _ _ _ _ _ h.0 c.loop-at.invariant h.1 h.2
+pub invariant_of-self : goal.invariant_of-self
+invariant_of-self g c = (c.dispatch.ensures c.self.inside.accepted.items c.self.invariant).0
+
+pub returns : goal.returns
+returns g c = rw (← c.self.view_is) ((c.dispatch.ensures c.self.inside.accepted.items c.self.invariant).1)

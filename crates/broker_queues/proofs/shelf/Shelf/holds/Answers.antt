@@ -1,9 +1,13 @@
-use Rattle.std.proofs.Common.{◌∙◌, sym}
-use Rattle.broker_book.specs.Steps.{holds_out}
-use Rattle.broker_queues.proofs.Places.{found_alike}
+use Rattle.std.proofs.Common.{◌∙◌, ap}
+use Rattle.std.specs.Prelude.{is_some}
+use Rattle.broker_book.specs.Books.{Book}
+use Rattle.broker_book.specs.Steps.{holder}
+use Rattle.broker_queues.specs.Parts.Held.{holding_of}
+use Rattle.broker_queues.proofs.Asking.{asks_holder}
 use Rattle.broker_queues.proofs.shelf.Shelf.holds.Goals as goal
 
 pub returns : goal.returns
 returns c =
-    c.is_some.ensures ∙ found_alike (holds_out c.args.self.now c.args.session c.args.number) c.args.self.now.subscriptions c.holder.result
-    (sym c.holder.ensures)
+    c.is_some.ensures ∙ ap is_some c.holder.ensures
+    ∙ asks_holder (holding_of c.self.inside.parts) c.self.inside.accepted.items c.args.session c.args.number c.self.invariant
+    ∙ ap (λ (b : Book). is_some (holder b c.args.session c.args.number)) c.self.view_is

@@ -1,0 +1,21 @@
+//! Where things are.
+
+/// Where a message or a subscriber is: its number or age, by which it is found, and the key that it was given, which makes that quick.
+#[derive(Clone, Copy, Debug, PartialEq, Eq)]
+pub struct Place {
+    /// The number of the message, or the age of the subscriber.
+    pub number: u64,
+    /// Its key.
+    pub key: usize,
+}
+
+/// A delivery.
+#[derive(Clone, Copy, Debug, PartialEq, Eq)]
+pub struct Entry {
+    /// The number of the delivery.
+    pub ack: u64,
+    /// The number of the message.
+    pub number: u64,
+    /// The message's key.
+    pub key: usize,
+}

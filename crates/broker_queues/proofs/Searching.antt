@@ -1,0 +1,153 @@
+-- A walk over places, one after another.
+use Rattle.std.proofs.Common.{◌≡◌, ◌≤◌, ◌<◌, ◌+◌, ℕ, Bool, true, false, List, [], ◌∷◌, Option, Some, None, refl, sym, ap, arith}
+use Rattle.std.proofs.Common.{inl, inr}
+use Rattle.std.specs.Prelude.{◌⊎◌, ◌==◌, All, IfSome, find, nat_le}
+use Rattle.std.specs.List.{list_any}
+use Rattle.std.specs.Option.{option_map}
+use Rattle.std.proofs.lemmas.Bool.{cases_Bool, cases_eq, ne_eqb, leb-false, leb-true}
+use Rattle.std.proofs.lemmas.List.Elements.{All-head, All-tail}
+use Rattle.broker_index.specs.Index.{Kept, Subscriber, Queue, Sets, opened, is_from, ready_from, taken_from}
+use Rattle.broker_index.specs.declared.places.Place.{Place}
+use Rattle.broker_queues.specs.Parts.Dealings.{FirstOf, SeeksReady, SeeksTaker, number_or, opens, takes_more}
+use Rattle.broker_queues.specs.Parts.Shelf.{lists, queue_of}
+use Rattle.broker_queues.proofs.Finding.{find_none, find_passes}
+use Rattle.broker_queues.proofs.Setting.{sets_map, at_name}
+
+-- none of those that were passed by passes
+abbrev pub Walked : (ℕ → Bool) → List Place → ℕ → ℕ → Type 0
+Walked test places start from = (m : ℕ) → lists m places ≡ true → start ≤ m → m < from → test m ≡ false
+
+-- what holds of all holds of a listed one
+listed_all : (P : ℕ → Type 0) (m : ℕ) (ps : List Place) → All (λ p. P p.number) ps → lists m ps ≡ true → P m
+listed_all P m [] all listed = let never : false ≡ true = listed in cc
+listed_all P m (p ∷ ps) all listed = elim (cases_eq p.number m) [
+  | inl same ↦ rw (← same) (All-head (λ p. P p.number) p ps all)
+  | inr other ↦
+      let no : (p.number == m) ≡ false = ne_eqb p.number m other in
+      let rest : lists m ps ≡ true = rw no at listed in
+      listed_all P m ps (All-tail (λ p. P p.number) p ps all) rest
+]
+
+-- where none is at a number or behind it, each listed one is below
+below_none : (from m : ℕ) (ps : List Place) → list_any (is_from from) ps ≡ false → lists m ps ≡ true → m < from
+below_none from m [] none listed = let never : false ≡ true = listed in cc
+below_none from m (p ∷ ps) none listed = elim (cases_Bool (nat_le from p.number)) [
+  | inl on ↦ let never : true ≡ false = rw on at none in cc
+  | inr off ↦ elim (cases_eq p.number m) [
+    | inl same ↦ rw (← same) (leb-false from p.number off)
+    | inr other ↦
+        let no : (p.number == m) ≡ false = ne_eqb p.number m other in
+        let rest : lists m ps ≡ true = rw no at listed in
+        let none2 : list_any (is_from from) ps ≡ false = rw off at none in
+        below_none from m ps none2 rest
+  ]
+]
+
+-- the next place isn't before where the walk is
+pub next_from : (from : ℕ) (places : List Place) (p : Place) → Some p ≡ find (is_from from) places → from ≤ p.number
+next_from from places p found = leb-true from p.number (find_passes (is_from from) places p (sym found))
+
+module _ (test : ℕ → Bool) (places : List Place) (start from : ℕ) (w : Walked test places start from) where
+  -- the next one passes
+  pub walked_to : (last : ℕ) (p : Place) → All (λ q. (q.number < from) ⊎ (p.number ≤ q.number)) places → test p.number ≡ true
+      → FirstOf test places start last (Some p)
+  walked_to last p all on = (
+    on,
+    λ m listed later below. elim (listed_all (λ n. (n < from) ⊎ (p.number ≤ n)) m places all listed) [
+      | inl low ↦ w m listed later low
+      | inr high ↦ absurd (omega (arith, high, below))
+    ],
+  )
+
+  -- it doesn't
+  pub walked_on : (p : Place) → All (λ q. (q.number < from) ⊎ (p.number ≤ q.number)) places → test p.number ≡ false
+      → Walked test places start (p.number + 1)
+  walked_on p all off m listed later below = elim (listed_all (λ n. (n < from) ⊎ (p.number ≤ n)) m places all listed) [
+    | inl low ↦ w m listed later low
+    | inr high ↦ let same : m ≡ p.number = omega (arith, high, below) in rw same off
+  ]
+
+  -- it doesn't, and is the last
+  pub walked_past : (last : ℕ) (p : Place) → All (λ q. (q.number < from) ⊎ (p.number ≤ q.number)) places → test p.number ≡ false
+      → last ≤ p.number → FirstOf test places start last None
+  walked_past last p all off past m listed later within = walked_on p all off m listed later (omega (arith, past, within))
+
+  -- there is no next one
+  pub walked_off : (last : ℕ) → None ≡ find (is_from from) places → FirstOf test places start last None
+  walked_off last none m listed later within =
+      w m listed later (below_none from m places (find_none (is_from from) places (sym none)) listed)
+
+-- ---- what a destination looks for, it looks for from there on
+
+-- nothing is there
+pub seeks_no_ready : (kept : List Kept) (last : ℕ) (name : List ℕ) (queues : List ℕ → Option Queue) → queues name ≡ None
+    → SeeksReady kept last name queues queues None
+seeks_no_ready kept last name queues none = record {
+  numbers = λ d. refl;
+  subscribers = λ d. refl;
+  count = λ d. refl;
+  takers = λ d. refl;
+  others = λ d other. refl;
+  first = rw none (λ m listed later within. let never : false ≡ true = listed in cc);
+  from = tt;
+}
+
+pub seeks_ready : (kept : List Kept) (last number : ℕ) (name : List ℕ) (old new : List ℕ → Option Queue) (q : Queue)
+    (found : Option Place) → old name ≡ Some q → number ≡ number_or found last
+    → Sets old new name (option_map (ready_from number) (old name))
+    → FirstOf (opens kept name) q.numbers q.ready_from last found → SeeksReady kept last name old new found
+seeks_ready kept last number name old new q found there is sets first = record {
+  numbers = sets_map (λ d q r. r.numbers ≡ q.numbers) (ready_from number) old new name (λ d q. refl) (λ q is. refl) sets;
+  subscribers = sets_map (λ d q r. r.subscribers ≡ q.subscribers) (ready_from number) old new name (λ d q. refl) (λ q is. refl) sets;
+  count = sets_map (λ d q r. r.count ≡ q.count) (ready_from number) old new name (λ d q. refl) (λ q is. refl) sets;
+  takers = sets_map (λ d q r. r.taker_from ≡ q.taker_from) (ready_from number) old new name (λ d q. refl) (λ q is. refl) sets;
+  others = λ d other. ap (λ q. q.ready_from) (ap opened (sets.others d other));
+  first = rw there first;
+  from = by_found found is;
+}
+  where
+    now : (queue_of new name).ready_from ≡ number
+    now = ap (λ q. q.ready_from) (at_name (ready_from number) old new name q there sets)
+
+    by_found : (o : Option Place) → number ≡ number_or o last → IfSome o (λ p. (queue_of new name).ready_from ≤ p.number)
+    by_found None e = tt
+    by_found (Some p) e = omega (arith, now, e)
+
+-- nothing is there
+pub seeks_no_taker : (subscribers : List Subscriber) (given last : ℕ) (name : List ℕ) (queues : List ℕ → Option Queue)
+    → All (λ s. s.age < last) subscribers → queues name ≡ None
+    → SeeksTaker subscribers given name queues queues None
+seeks_no_taker subscribers given last name queues young none = record {
+  last = last;
+  young = young;
+  numbers = λ d. refl;
+  listeners = λ d. refl;
+  count = λ d. refl;
+  ready = λ d. refl;
+  others = λ d other. refl;
+  first = rw none (λ m listed later within. let never : false ≡ true = listed in cc);
+  from = tt;
+}
+
+pub seeks_taker : (subscribers : List Subscriber) (given last age : ℕ) (name : List ℕ) (old new : List ℕ → Option Queue) (q : Queue)
+    (found : Option Place) → All (λ s. s.age < last) subscribers → old name ≡ Some q → age ≡ number_or found last
+    → Sets old new name (option_map (taken_from age) (old name))
+    → FirstOf (takes_more subscribers given name) q.subscribers q.taker_from last found → SeeksTaker subscribers given name old new found
+seeks_taker subscribers given last age name old new q found young there is sets first = record {
+  last = last;
+  young = young;
+  numbers = sets_map (λ d q r. r.numbers ≡ q.numbers) (taken_from age) old new name (λ d q. refl) (λ q is. refl) sets;
+  listeners = sets_map (λ d q r. r.subscribers ≡ q.subscribers) (taken_from age) old new name (λ d q. refl) (λ q is. refl) sets;
+  count = sets_map (λ d q r. r.count ≡ q.count) (taken_from age) old new name (λ d q. refl) (λ q is. refl) sets;
+  ready = sets_map (λ d q r. r.ready_from ≡ q.ready_from) (taken_from age) old new name (λ d q. refl) (λ q is. refl) sets;
+  others = λ d other. ap (λ q. q.taker_from) (ap opened (sets.others d other));
+  first = rw there first;
+  from = by_found found is;
+}
+  where
+    now : (queue_of new name).taker_from ≡ age
+    now = ap (λ q. q.taker_from) (at_name (taken_from age) old new name q there sets)
+
+    by_found : (o : Option Place) → age ≡ number_or o last → IfSome o (λ p. (queue_of new name).taker_from ≤ p.number)
+    by_found None e = tt
+    by_found (Some p) e = omega (arith, now, e)
