@@ -14,6 +14,7 @@ use broker_core::{Broker, BrokerFault};
 use broker_index::Destinations;
 use broker_laws::no_message_is_lost;
 use broker_queues::Queues;
+use broker_server::Stop;
 use broker_texts::each_message_was_sent;
 use broker_tx::{TransactionFault, Transactions};
 use endpoint::{EndFault, Endpoint};
@@ -111,6 +112,12 @@ pub fn a_broker_answers_connect(alloc: Global) -> Result<bool, BrokerFault> {
     let frames = broker.feed(session, b"st:h\n\n\0")?;
     let connected = b"CONNECTED\nversion:1.2\nheart-beat:0,0\n\n\0".as_slice();
     Ok(frames == 1 && broker.out(session) == connected)
+}
+
+pub fn a_server_is_asked_to_end() -> bool {
+    let stop = Stop::new();
+    stop.ask();
+    stop.is_asked()
 }
 
 pub fn what_wants_an_ack_stays_until_it_comes()

@@ -11,9 +11,9 @@ use examples::{
     a_broker_answers_connect, a_client_asks_to_connect, a_command_is_taken_in,
     a_frame_before_connect_is_refused, a_frame_is_read_from_pieces, a_letter_comes_again,
     a_mark_is_one_change, a_mark_is_read, a_message_is_accepted, a_receipt_is_closed_once,
-    a_schedule_is_read, a_schedule_is_run, a_settle_is_sent, a_transaction_keeps_its_actions,
-    an_entity_is_named_again, an_idle_destination_is_closed, an_order_is_refused,
-    answers_reach_back_in_mode_client, first_state_of, no_mark_is_taken_back,
+    a_schedule_is_read, a_schedule_is_run, a_server_is_asked_to_end, a_settle_is_sent,
+    a_transaction_keeps_its_actions, an_entity_is_named_again, an_idle_destination_is_closed,
+    an_order_is_refused, answers_reach_back_in_mode_client, first_state_of, no_mark_is_taken_back,
     nothing_is_held_at_first, printed_octets_are_read, tables_hold_nothing_at_first,
     what_a_client_reads_was_sent, what_wants_an_ack_stays_until_it_comes, what_was_put_is_taken,
 };
@@ -68,6 +68,7 @@ fn print_sessions(rt: &impl Print, alloc: Global) -> Result<()> {
     tell(rt, "broker_queues", a_message_is_accepted(alloc))?;
     tell(rt, "broker_tx", a_transaction_keeps_its_actions(alloc))?;
     tell(rt, "broker_core", a_broker_answers_connect(alloc))?;
+    show(rt, "broker_server", &a_server_is_asked_to_end())?;
     what_wants_an_ack_stays_until_it_comes();
     what_a_client_reads_was_sent();
     tell(rt, "receipts", a_receipt_is_closed_once(alloc))?;

@@ -1,0 +1,4 @@
+pub mod Faults
+pub mod Lives
+pub mod Parts
+pub mod Turns

@@ -1,0 +1,40 @@
+//! Why serving ended, or a connection.
+
+ghost use Rattle.std.specs.Prelude.{◌≡◌};
+ghost use Rattle.broker_server.specs.Faults.{serve_fault_number};
+
+use thiserror::Error;
+
+/// Why `serve` ended before it was asked to.
+#[derive(Clone, Copy, Debug, PartialEq, Eq, Error)]
+pub enum ServeFault {
+    /// The system refused to wait for sockets.
+    #[error("fault 2 Device")]
+    Device,
+    /// A growth was refused before the first connection was taken.
+    #[error("fault 34 Memory")]
+    Memory,
+}
+
+impl ServeFault {
+    /// The number of the fault.
+    pub fn number(self) -> u8
+        ensures { result ≡ serve_fault_number self }
+    {
+        match self {
+            ServeFault::Device => 2,
+            ServeFault::Memory => 34,
+        }
+    }
+}
+
+/// Why a connection ends at a turn.
+#[derive(Clone, Copy, Debug, PartialEq, Eq, Error)]
+pub enum TurnFault {
+    /// A read or a write failed.
+    #[error("the stream failed")]
+    Stream,
+    /// A growth was refused.
+    #[error("out of memory")]
+    Memory,
+}

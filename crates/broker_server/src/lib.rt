@@ -1,0 +1,47 @@
+//! Serves a broker of STOMP 1.2 on sockets: one thread, no blocking call but the wait for readiness.
+//!
+//! The part that handles the octets of one connection is over any stream that reads and writes. Each octet that is read is fed once and in
+//! order to the session of its connection, and what is written is a beginning of that session's octets, of which no more is taken away:
+//! [`read_in`], [`write_out`] and [`Rest`]. What is around them, the loop over ready sockets, is safe; no contract says what a socket does.
+//!
+//! ```text
+//! let mut broker: Broker<4096> = Broker::new(alloc);
+//! serve(rt, alloc, &mut broker, &mut listener, &stop)?;
+//! ```
+//!
+//! It ends when another thread calls [`Stop::ask`].
+//!
+//! ```rust
+//! pub fn a_server_is_asked_to_end() -> bool {
+//!     let stop = Stop::new();
+//!     stop.ask();
+//!     stop.is_asked()
+//! }
+//! ```
+//!
+//! - Of a connection at most 65,536 octets are read at a turn, so that others come to theirs. All that a turn brought is handled, and then
+//!   the answers are written together.
+//! - A connection with more than 8,388,608 octets left that its client doesn't read is dropped, and so is one whose read or write fails:
+//!   its subscriptions end, and what was out to them goes to others. Nothing ever waits for it.
+//! - After an ERROR or a DISCONNECT (STOMP 1.2, sections "ERROR", "DISCONNECT"), or where the client has shut its side, what is left is
+//!   written and this side is shut; what the client still sends is read and thrown away, up to 67,108,864 octets and 5 seconds. So no reset
+//!   of the connection takes an ERROR away before it is read.
+//! - Where the system has no descriptor left, connections wait until one is free.
+//! - Where memory is refused, the connection that asked for it is dropped, and the others go on.
+#![tactic(auto)]
+
+mod connection;
+mod connections;
+mod fault;
+mod laws;
+mod rest;
+mod serving;
+mod stop;
+mod turn;
+
+pub use fault::{ServeFault, TurnFault};
+pub use laws::what_is_read_is_handled_once_and_in_order;
+pub use rest::Rest;
+pub use serving::serve;
+pub use stop::Stop;
+pub use turn::{Turn, Written, discard, read_in, write_out};

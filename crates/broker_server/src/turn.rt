@@ -1,0 +1,164 @@
+//! What is read from a connection and written to it at a turn, over any stream.
+
+ghost use Rattle.std.specs.Prelude.{◌≡◌, ◌<◌, false, length};
+ghost use Rattle.broker_core.specs.Calls.{closed_in};
+ghost use Rattle.broker_core.specs.Serving.{session_of};
+ghost use Rattle.broker_server.specs.Parts.{PieceAnswer, SomeAnswer};
+ghost use Rattle.broker_server.specs.Turns.{DiscardAnswer, FedAnswer, ReadAnswer, WriteAnswer};
+
+use crate::TurnFault;
+use broker_core::{Broker, BrokerFault, SessionId};
+use std::io::{ErrorKind, Read, Write};
+
+/// What a turn of reading came to.
+#[derive(Clone, Copy, Debug, PartialEq, Eq)]
+pub enum Turn {
+    /// What was there is read: the stream tells when there is more.
+    Blocked,
+    /// There may be more, of which the stream doesn't tell again.
+    More,
+    /// The peer sends no more.
+    Ended,
+}
+
+/// What a turn of writing came to.
+#[derive(Clone, Copy, Debug, PartialEq, Eq)]
+pub enum Written {
+    /// All is written.
+    All,
+    /// The stream takes no more now, and tells when it does.
+    Blocked,
+    /// Some is left, and the stream doesn't tell when it takes more.
+    Again,
+}
+
+/// What a read gave.
+#[derive(Clone, Copy, Debug, PartialEq, Eq)]
+pub(crate) enum Piece {
+    /// So many octets.
+    Octets(usize),
+    /// None are there.
+    Blocked,
+    /// There will be none.
+    Ended,
+    /// It is to be made again.
+    Interrupted,
+}
+
+/// Reads once. Where the stream fails nothing was read.
+fn read_piece<S: Read>(stream: &mut S, buffer: &mut [u8]) -> Result<Piece, TurnFault>
+    requires { 0 < length buffer.old }
+    ensures { PieceAnswer (S.remaining stream.old) (S.remaining stream.new) buffer.new result }
+{
+    match stream.read(buffer) {
+        Ok(0) => Ok(Piece::Ended),
+        Ok(count) => Ok(Piece::Octets(count)),
+        Err(error) => match error.kind() {
+            ErrorKind::WouldBlock => Ok(Piece::Blocked),
+            ErrorKind::Interrupted => Ok(Piece::Interrupted),
+            _ => Err(TurnFault::Stream),
+        },
+    }
+}
+
+/// Feeds a piece to an open session.
+fn feed_piece<const FULL: usize>(
+    broker: &mut Broker<FULL>,
+    session: SessionId,
+    piece: &[u8],
+) -> Result<(), TurnFault>
+    requires { closed_in (session_of session broker.old) ≡ false }
+    ensures { FedAnswer FULL session piece.now broker.old broker.new result }
+{
+    match broker.feed(session, piece) {
+        Ok(_) => Ok(()),
+        Err(BrokerFault::Memory { took: _ }) => Err(TurnFault::Memory),
+        Err(BrokerFault::NoSession) => unreachable!(),
+        Err(BrokerFault::TooMany) => unreachable!(),
+    }
+}
+
+/// Reads once from the stream of an open session, at most as many octets as `buffer` has, and feeds them to the session: each octet that
+/// was read is fed once, behind those before, and handled as far as its frames are whole.
+///
+/// # Errors
+/// - `Stream` where the read failed, and then nothing was read;
+/// - `Memory` where a growth was refused: the octets were fed and are handled in part, or they are lost. The connection is of no more use.
+pub fn read_in<S: Read, const FULL: usize>(
+    stream: &mut S,
+    broker: &mut Broker<FULL>,
+    session: SessionId,
+    buffer: &mut [u8],
+) -> Result<Turn, TurnFault>
+    requires open { closed_in (session_of session broker.old) ≡ false }
+    requires room { 0 < length buffer.old }
+    ensures { ReadAnswer FULL session broker.old broker.new (S.remaining stream.old) (S.remaining stream.new) result }
+{
+    match read_piece(stream, buffer)? {
+        Piece::Octets(count) => {
+            feed_piece(broker, session, &buffer[..count])?;
+            if count < buffer.len() {
+                Ok(Turn::Blocked)
+            } else {
+                Ok(Turn::More)
+            }
+        }
+        Piece::Blocked => Ok(Turn::Blocked),
+        Piece::Ended => Ok(Turn::Ended),
+        Piece::Interrupted => Ok(Turn::More),
+    }
+}
+
+/// Reads once, and throws the octets away: the answer is how many.
+///
+/// # Errors
+/// `Stream` where the read failed, and then nothing was read.
+pub fn discard<S: Read>(stream: &mut S, buffer: &mut [u8]) -> Result<(usize, Turn), TurnFault>
+    requires { 0 < length buffer.old }
+    ensures { DiscardAnswer (S.remaining stream.old) (S.remaining stream.new) result }
+{
+    match read_piece(stream, buffer)? {
+        Piece::Octets(count) => Ok((count, Turn::More)),
+        Piece::Blocked => Ok((0, Turn::Blocked)),
+        Piece::Ended => Ok((0, Turn::Ended)),
+        Piece::Interrupted => Ok((0, Turn::More)),
+    }
+}
+
+/// Writes a beginning of octets: the answer is how many, and what is with the others. Where the stream fails none was written.
+pub(crate) fn write_some<S: Write>(
+    stream: &mut S,
+    octets: &[u8],
+) -> Result<(usize, Written), TurnFault>
+    ensures { SomeAnswer (S.contents stream.old) (S.contents stream.new) octets.now result }
+{
+    if octets.is_empty() {
+        return Ok((0, Written::All));
+    }
+    match stream.write(octets) {
+        Ok(0) => Err(TurnFault::Stream),
+        Ok(count) if count == octets.len() => Ok((count, Written::All)),
+        Ok(count) => Ok((count, Written::Blocked)),
+        Err(error) => match error.kind() {
+            ErrorKind::WouldBlock => Ok((0, Written::Blocked)),
+            ErrorKind::Interrupted => Ok((0, Written::Again)),
+            _ => Err(TurnFault::Stream),
+        },
+    }
+}
+
+/// Writes a beginning of a session's octets to its stream, and takes away what was written and no more.
+///
+/// # Errors
+/// `Stream` where the write failed or took nothing; nothing was written or taken then.
+pub fn write_out<S: Write, const FULL: usize>(
+    stream: &mut S,
+    broker: &mut Broker<FULL>,
+    session: SessionId,
+) -> Result<Written, TurnFault>
+    ensures { WriteAnswer session broker.old broker.new (S.contents stream.old) (S.contents stream.new) result }
+{
+    let (count, written) = write_some(stream, broker.out(session))?;
+    broker.taken(session, count);
+    Ok(written)
+}

@@ -1,0 +1,123 @@
+//! The words of the command line.
+
+ghost use Rattle.std.specs.Prelude.{◌≡◌, true, false, map, IfErr, IfOk};
+ghost use Rattle.clap.specs.Words.{FailsBy, app_of, fault_of, kind_of, takes};
+ghost use Rattle.outbox_broker.specs.Usage.{command_line, is_request, status_of};
+
+use clap::error::ErrorKind;
+use clap::{Arg, ArgAction, Command, Error, value_parser};
+use std::alloc::{AllocError, Global};
+use std::convert::AsStr;
+use std::io;
+use std::io::Write;
+
+/// What `--version` tells behind the program's name.
+const VERSION: &str = "0.1.0";
+
+/// What the broker is and isn't, for `--help`.
+const PROFILE: &str = "\
+It listens on 127.0.0.1 alone, prints `listening PORT` when clients can connect, and serves until it
+is killed. Messages are kept in memory: they don't outlive it.
+
+What it offers of STOMP 1.2:
+  CONNECT and STOMP    version 1.2 must be accepted; no login is asked for, no heart-beats are offered
+  SEND                 to /queue/NAME: 1 to 64 letters, digits, `.`, `_`, `-` or `/`; there are no topics
+  SUBSCRIBE            ack: auto, client or client-individual; a message goes to one subscription
+  ACK, NACK            a NACK, and the end of a session, makes a message ready again
+  BEGIN, COMMIT, ABORT of SEND, ACK and NACK; what isn't committed is aborted with its session
+  receipt              on any frame but CONNECT
+An ERROR tells a number and a name in `message`, and ends the session.
+
+Limits:
+  a frame       32 headers, lines of 1,024 octets, a body of 65,536 octets
+  a queue       4,096 messages; a SEND to a full one is refused with 32 QueueFull
+  a session     64 subscriptions, 16 transactions of 256 actions, values of 128 octets for `receipt`,
+                `id` and `transaction`
+  an ack mode   16 unanswered messages of a subscription in `client` and `client-individual`
+  a connection  8,388,608 octets that its client doesn't read; then it is dropped
+
+Exit status:
+  1  `fault 2 Device`: the port can't be had, or the system refuses to wait for sockets;
+     `fault 34 Memory`: out of memory at the start
+  2  the words of the command line are at fault";
+
+/// What is told where a word of the command line isn't UTF-8.
+const NOT_UTF8: &[u8] = b"\
+error: invalid UTF-8 was detected in one or more arguments
+
+Usage: outbox-broker --port <PORT>
+
+For more information, try '--help'.
+";
+
+/// The command line, as `clap` has it.
+fn make_command<'a>(alloc: Global) -> Result<Command<'a>, AllocError>
+    ensures { IfOk result (λ command. app_of command ≡ command_line) }
+{
+    let port = Arg::new(alloc, "port")
+        .long("port")
+        .required(true)
+        .action(ArgAction::Set)
+        .value_name("PORT")
+        .help("The port to listen on; with 0 the system picks one")
+        .value_parser(value_parser!(u16));
+    let command = Command::new(alloc, "outbox-broker")
+        .version(VERSION)
+        .about("A message broker of STOMP 1.2, over TCP.")
+        .override_usage("outbox-broker --port <PORT>")
+        .after_help(PROFILE)
+        .arg(port)?;
+    Ok(command)
+}
+
+/// Reads the words of the command line, the program's name first: `--port` with a number is all that they may be, but for `--help` and
+/// `--version`.
+pub fn read_port<'a, S: AsStr>(alloc: Global, words: &'a [S]) -> Result<u16, Error>
+    ensures takes { IfErr result (λ e. takes command_line (map S.text words.now) ≡ true → kind_of e ≡ ErrorKind.OutOfMemory) }
+    ensures fails { FailsBy (fault_of command_line (map S.text words.now)) result }
+{
+    let command: Command<'a> = make_command(alloc)?;
+    match command.try_get_matches_from(words) {
+        Ok(matches) => Ok(matches.get_one::<u16>("port").unwrap_or(0)),
+        Err(error) => Err(error),
+    }
+}
+
+/// Whether it was asked for, and is no fault.
+fn is_request(kind: ErrorKind) -> bool
+    ensures { result ≡ is_request kind }
+{
+    matches!(kind, ErrorKind::DisplayHelp | ErrorKind::DisplayVersion)
+}
+
+/// Writes what `clap` says of the words: help and the version to `out`, a fault of usage to `err`. Answers the status.
+///
+/// # Errors
+/// Where the stream failed on which it is told; the other is as it was.
+pub fn tell_words<W: Write, E: Write>(out: &mut W, err: &mut E, error: &Error) -> io::Result<u8>
+    ensures status { IfOk result (λ status. status ≡ status_of (kind_of error.now)) }
+    ensures request { is_request (kind_of error.now) ≡ true → err.new ≡ err.old }
+    ensures fault { is_request (kind_of error.now) ≡ false → out.new ≡ out.old }
+{
+    if is_request(error.kind()) {
+        write!(out, "{error}")?;
+        out.flush()?;
+        Ok(0)
+    } else {
+        write!(err, "{error}")?;
+        err.flush()?;
+        Ok(2)
+    }
+}
+
+/// Tells on `err` that a word of the command line isn't UTF-8. The status is 2 then.
+///
+/// # Errors
+/// Where `err` failed.
+pub fn tell_bad_words<E: Write>(err: &mut E) -> io::Result<u8>
+    ensures { IfOk result (λ status. status ≡ 2) }
+{
+    err.write_all(NOT_UTF8)?;
+    err.flush()?;
+    Ok(2)
+}
