@@ -13,10 +13,10 @@ use Rattle.std.proofs.lemmas.Cmp.{ranked}
 use Rattle.std.proofs.lemmas.List.{set_split, take-append-drop}
 use Rattle.std.proofs.lemmas.Option.{slice_get-get_or, slice_get_cases}
 use Rattle.broker_book.specs.Books.{Book}
-use Rattle.broker_tx.proofs.Places.{changed_between, passes_none, somewhere}
+use Rattle.broker_tx.proofs.Places.{changed_between, nowhere, passes_none, somewhere}
 use Rattle.broker_tx.specs.First.{first_changed, IsFirstAt}
 use Rattle.broker_core.specs.Calls.{NamesFresh, Opens, is_fresh, named, new_session, others}
-use Rattle.broker_core.specs.Parts.Rising.{AreRising}
+use Rattle.broker_core.specs.Parts.Rising.{AreRising, FreshPlace, IsFreshAt}
 use Rattle.broker_core.specs.Parts.Taking.{PlaceAnswer, SessionPieceAnswer}
 use Rattle.broker_core.specs.Serving.{Part, part, broker_of, is_session}
 use Rattle.broker_core.proofs.Places.{roster, found_at, written_at}
@@ -229,19 +229,31 @@ passes p (s ∷ ss) x h = step_passes p s ss x (p s) refl (passes p ss x) h
 same_item : (o : Option Session) (x y : Session) → o ≡ Some x → o ≡ Some y → y ≡ x
 same_item o x y p q = cc
 
-pub names_fresh : (book : Book) (ss news : List Session) (opened at number : ℕ) (s : Session) → AreRising 0 ss opened
-    → position is_fresh ss ≡ Some at
+-- where the first one stands, or that there is none
+pub place_fresh : (ss : List Session) (r : Option ℕ) → r ≡ position is_fresh ss → FreshPlace ss r
+place_fresh ss (Some at) e =
+    let first = somewhere is_fresh ss at (sym e) in
+    (first.item, first.got, passes is_fresh ss first.item first.found)
+place_fresh ss None e = none_fresh ss (nowhere is_fresh ss (sym e)).none
+
+-- what is got stands within the list
+got_within : (ss : List Session) (at : ℕ) (s : Session) → slice_get ss at ≡ Some s → at < length ss
+got_within [] at s e = let z : None ≡ Some s = e in cc
+got_within (x ∷ xs) zero s e = omega arith
+got_within (x ∷ xs) (suc at) s e = let h = got_within xs at s e in omega (arith, h)
+
+pub names_fresh : (book : Book) (ss news : List Session) (opened at number : ℕ) (s : Session) → AreRising 0 ss opened → IsFreshAt ss at
     → slice_get ss at ≡ Some s → news ≡ slice_set ss at (named s) → number ≡ s.number
     → NamesFresh (broker_of book (roster ss opened)) number (broker_of book (roster news opened))
-names_fresh book ss news opened at number s r place get set e =
-    let first = somewhere is_fresh ss at place in
-    let m : s ≡ first.item = same_item (slice_get ss at) first.item s first.got get in
-    let here : s ≡ get_or ss at s = same_item (slice_get ss at) (get_or ss at s) s (slice_get-get_or ss at s first.within) get in
-    let its = placed s.number 0 opened ss r at s first.within here refl in
+names_fresh book ss news opened at number s r fresh get set e =
+    let m : s ≡ fresh.0 = same_item (slice_get ss at) fresh.0 s fresh.1 get in
+    let within : at < length ss = got_within ss at s get in
+    let here : s ≡ get_or ss at s = same_item (slice_get ss at) (get_or ss at s) s (slice_get-get_or ss at s within) get in
+    let its = placed s.number 0 opened ss r at s within here refl in
     record {
       session = s;
       found = rw e (found_at s.number ss at s its get);
-      was_fresh = rw m (passes is_fresh ss first.item first.found);
+      was_fresh = rw m fresh.2;
       changed = rw e (ap (broker_of book) (written_at s.number ss news opened at s named its get set));
     }
 

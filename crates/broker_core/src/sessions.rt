@@ -1,6 +1,6 @@
 //! The sessions of a broker.
 
-ghost use Rattle.std.specs.Prelude.{◌≡◌, ◌<◌, ◌≤◌, ◌++◌, ◌∷◌, [], length, slice_set, false, Some, None, OnOk, OnErr, IfErr};
+ghost use Rattle.std.specs.Prelude.{◌≡◌, ◌<◌, ◌≤◌, ◌++◌, ◌∷◌, [], length, slice_set, false, Some, None, OnOk, OnErr, IfErr, IfSome};
 ghost use Rattle.std.specs.Option.{option_copied};
 ghost use Rattle.std.specs.List.{find, position, slice_get};
 ghost use Rattle.stomp_session.specs.Replies.{message_frame};
@@ -9,6 +9,7 @@ ghost use Rattle.broker_core.specs.Calls.{FreshAnswer, OpenAnswer, closed_in, dr
 ghost use Rattle.broker_core.specs.Calls.{without_first};
 ghost use Rattle.broker_core.specs.Feeding.{taking, with_incoming};
 ghost use Rattle.broker_core.specs.Parts.Taking.{FedAnswer, NextAnswer, NextTaken, PlaceAnswer, SessionPieceAnswer, left_in, waiting_again};
+ghost use Rattle.broker_core.specs.Parts.Rising.{FreshPlace, IsFreshAt};
 ghost use Rattle.broker_core.specs.Serving.{broker_of, in_roster, is_session, part, refused, served, step, with_fault, writing};
 ghost use Rattle.broker_core.specs.declared.fault.Refusal.TheVariants.{BadFrame};
 ghost use Rattle.broker_core.specs.declared.session.Session.{Session};
@@ -23,12 +24,14 @@ use std::alloc::{AllocError, Global};
 use std::marker::Model;
 use stomp_session::{Delivery, Refused};
 
-/// The sessions, the oldest first, and the last number that one was given: contracts see both.
+/// The sessions, the oldest first, and the last number that one was given: contracts see both. `noted` are numbers of sessions that may
+/// have fresh octets, at most one for each session: a hint, which is looked at before it counts.
 #[derive(Drop)]
 pub struct Sessions {
     alloc: Global,
     items: Vec<Session>,
     opened: u64,
+    noted: Vec<u64>,
 }
 
 impl Model for Sessions {
@@ -52,6 +55,7 @@ impl Sessions {
             alloc,
             items: Vec::new(alloc),
             opened: 0,
+            noted: Vec::new(alloc),
         }
     }
 
@@ -144,17 +148,10 @@ impl Sessions {
     pub fn take_fresh(&mut self) -> Option<SessionId>
         ensures { (book : Book) → FreshAnswer (broker_of book self.old) (broker_of book self.new) result }
     {
-        match self.fresh_place() {
+        match fresh_place(self.items.as_slice(), &mut self.noted) {
             Some(at) => Some(name_at(&mut self.items, at)),
             None => None,
         }
-    }
-
-    /// Where the first session with fresh octets stands.
-    fn fresh_place(&self) -> Option<usize>
-        ensures { result ≡ position is_fresh self.now.sessions }
-    {
-        self.items.iter().position(|session| session.fresh)
     }
 
     /// Feeds a piece to a session, if there is one.
@@ -199,7 +196,12 @@ impl Sessions {
         ensures back { IfErr result (λ left. left ≡ decided) }
     {
         match self.place(number) {
-            Some(at) => serve_at(&mut self.items, at, self.alloc, queues, decided),
+            Some(at) => {
+                let was_fresh = is_fresh_at(&self.items, at);
+                let done = serve_at(&mut self.items, at, self.alloc, queues, decided);
+                note(&self.items, at, was_fresh, &mut self.noted);
+                done
+            }
             None => Ok(()),
         }
     }
@@ -214,7 +216,12 @@ impl Sessions {
         ensures err { OnErr result ((queues.new ≡ queues.old) × (self.new ≡ self.old)) }
     {
         match self.place(number) {
-            Some(at) => refuse_at(&mut self.items, at, self.alloc, queues),
+            Some(at) => {
+                let was_fresh = is_fresh_at(&self.items, at);
+                let done = refuse_at(&mut self.items, at, self.alloc, queues);
+                note(&self.items, at, was_fresh, &mut self.noted);
+                done
+            }
             None => Ok(()),
         }
     }
@@ -241,10 +248,70 @@ impl Sink for Sessions {
             body: sent.body.as_slice(),
         };
         match self.place(to.session) {
-            Some(at) => write_at(&mut self.items, at, &delivery),
+            Some(at) => {
+                let was_fresh = is_fresh_at(&self.items, at);
+                let done = write_at(&mut self.items, at, &delivery);
+                note(&self.items, at, was_fresh, &mut self.noted);
+                done
+            }
             None => Ok(()),
         }
     }
+}
+
+/// Whether the session at this place has fresh octets.
+fn is_fresh_at(items: &[Session], at: usize) -> bool {
+    items.get(at).is_some_and(|session| session.fresh)
+}
+
+/// Notes the session at this place where its octets have become fresh. Where as many are noted as there are sessions, or memory is refused,
+/// it isn't noted, and is found by a search.
+fn note(items: &[Session], at: usize, was_fresh: bool, noted: &mut Vec<u64>) {
+    let Some(session) = items.get(at) else { return };
+    if session.fresh && !was_fresh && noted.len() < items.len() {
+        let _ = noted.push(session.number);
+    }
+}
+
+/// Where a session with fresh octets stands: one that was noted, else the first.
+fn fresh_place(items: &[Session], noted: &mut Vec<u64>) -> Option<usize>
+    ensures { FreshPlace items.now result }
+{
+    match noted_place(items, noted) {
+        Some(at) => Some(at),
+        None => first_fresh(items),
+    }
+}
+
+/// Where the first session with fresh octets stands.
+fn first_fresh(items: &[Session]) -> Option<usize>
+    ensures { result ≡ position is_fresh items.now }
+{
+    items.iter().position(|session| session.fresh)
+}
+
+/// Where a session with fresh octets stands that was noted; the notes up to it are gone.
+fn noted_place(items: &[Session], noted: &mut Vec<u64>) -> Option<usize>
+    ensures { IfSome result (IsFreshAt items.now) }
+{
+    for _ in 0..noted.len() {
+        let number = noted.pop()?;
+        if let Some(at) = fresh_at(items, number) {
+            return Some(at);
+        }
+    }
+    None
+}
+
+/// Where the session of this number stands, if it has fresh octets.
+fn fresh_at(items: &[Session], number: u64) -> Option<usize>
+    ensures { IfSome result (IsFreshAt items.now) }
+{
+    let at = items
+        .binary_search_by_key(&number, |session| session.number)
+        .ok()?;
+    let session = items.get(at)?;
+    if session.fresh { Some(at) } else { None }
 }
 
 fn push_new(items: &mut Vec<Session>, alloc: Global, number: u64) -> Result<(), AllocError>
