@@ -187,11 +187,10 @@ def laid_type(kind, source_lines, model):
     start = next(at for at, line in enumerate(code) if line.rstrip().endswith("{"))
     parts = [" ".join(line.strip() for line in code[:start + 1])]
     for said, member in members_of(code[start + 1:-1]):
-        text = " ".join(line.strip() for line in member)
-        text = text.replace(", }", " }")
-        inner = re.sub(r"/// ([^/]*?)\s+(?=pub |[a-z_]+:)", r"", text)
+        # (what the fields of a variant are for is left out)
+        text = " ".join(line.strip() for line in member if not line.strip().startswith("///")).replace(", }", " }")
         words = comment_of(said, "///").removeprefix("// ")
-        parts.append(f"{inner}" + (f" /* {words} */" if words else ""))
+        parts.append(text + (f" /* {words} */" if words else ""))
     lines = packed(parts, "}")
     if model:
         lines = [*lines[:-1], *filled([lines[-1], " ".join(line.strip() for line in model)], 0)]
