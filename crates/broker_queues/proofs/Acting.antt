@@ -157,12 +157,15 @@ tidies_again h i j one two = record {
 }
 
 -- all is undone
+pub undone_kept : (start h : Holding) → IsBegun start [] h → h.last ≡ start.last → h.kept ≡ start.kept
+undone_kept start h b last =
+    sym (up_to h b.shelf) ∙ sym (ap (filter (λ k. nat_le k.number h.last)) (map_nothing h.kept)) ∙ ap (λ n. before n [] h.kept) last
+    ∙ b.kept
+
 pub undone_tidies : (start h : Holding) → IsBegun start [] h → h.last ≡ start.last → Tidies start h
 undone_tidies start h b last = record {
   shelf = b.shelf;
-  living = ap living_of (sym (up_to h b.shelf)
-      ∙ sym (ap (filter (λ k. nat_le k.number h.last)) (map_nothing h.kept))
-      ∙ ap (λ n. before n [] h.kept) last ∙ b.kept);
+  living = ap living_of (undone_kept start h b last);
   subscriptions = b.subscriptions;
   last = last;
   given = b.given;

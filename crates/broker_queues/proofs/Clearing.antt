@@ -13,13 +13,14 @@ use Rattle.broker_index.specs.declared.places.Place.{Place}
 use Rattle.broker_queues.specs.Parts.Fates.{back, counts_in, fate_of_kept, is_held_at, passes, turn_among}
 use Rattle.broker_queues.specs.Parts.Held.{Turns, TurnsAll, entries_of}
 use Rattle.broker_queues.specs.Parts.Shelf.{kept_at, subscriber_at, notes}
-use Rattle.broker_queues.specs.Parts.Storing.{Cleared, Clearing, Clears, Forgets, NoneGone, Tidies, first_stale, is_gone, is_stale}
+use Rattle.broker_queues.specs.Parts.Storing.{Cleared, Clearing, Clears, Forgets, NoneGone, SweepsOne, SweptOne, Tidies}
+use Rattle.broker_queues.specs.Parts.Storing.{first_stale, is_gone, is_stale}
 use Rattle.broker_queues.specs.Parts.Whole.{Holding, IsShelf}
 use Rattle.broker_queues.proofs.Answering.{IsHolder, the_holder}
 use Rattle.broker_queues.proofs.Finding.{IsMapped, any_implies, find_map, find_none, find_passes, is_mapped}
 use Rattle.broker_queues.proofs.Listing.{notes_other}
 use Rattle.broker_queues.proofs.Responding.{found_lists}
-use Rattle.broker_queues.proofs.Rising.{at_number}
+use Rattle.broker_queues.proofs.Rising.{at_edit_other, at_number}
 use Rattle.broker_queues.proofs.Sweeping.{forgot}
 
 -- ---- fewer deliveries
@@ -78,13 +79,26 @@ fewer_noted age kept e old new stale is = by_subscriber (subscriber_at age old) 
 
 -- ---- what is left
 
-pub clearing_none : (h : Holding) (age : ℕ) (s : Subscriber) → subscriber_at age h.subscribers ≡ Some s → Clearing h age s h
+pub clearing_none : (h : Holding) (age : ℕ) (s : Subscriber) → subscriber_at age h.subscribers ≡ Some s → Clearing age s h
 clearing_none h age s sits = record {
   now = s;
   sits = sits;
   subscription = refl;
   kept = λ n k there noted. inr noted;
-  still = λ n k there. there;
+}
+
+pub swept_none : (h : Holding) (age : ℕ) → SweptOne h age h
+swept_none h age = record { kept = λ n k there. there; others = λ b other. refl }
+
+-- a delivery more is forgotten
+pub swept_more : (h i j : Holding) (age n : ℕ) (subs : List Subscriber) → SweptOne h age i
+    → subs ≡ map (without_entries age n) i.subscribers → Forgets (record i { subscribers = subs }) n j → SweptOne h age j
+swept_more h i j age n subs before is_so f = record {
+  kept = λ m k there. before.kept m k (f.kept m k there);
+  others = λ b other. ap (λ l. subscriber_at b l) (f.subscribers ∙ is_so)
+      ∙ at_edit_other (λ (s : Subscriber). s.age) age b (λ s. record s { entries = entries_without n s.entries }) (λ s. refl) other
+      i.subscribers
+      ∙ before.others b other;
 }
 
 -- the stale delivery isn't out to the subscriber
@@ -96,12 +110,12 @@ stale_off kept s e stale = elim (cases_Bool (passes (out_to s.session s.id) (fat
   | inr off ↦ off
 ]
 
-module _ (h i j : Holding) (age : ℕ) (s : Subscriber) (e : Entry) (subs : List Subscriber) (t : Clearing h age s i)
+module _ (i j : Holding) (age : ℕ) (s : Subscriber) (e : Entry) (subs : List Subscriber) (t : Clearing age s i)
     (is_so : subs ≡ map (without_entries age e.number) i.subscribers) (f : Forgets (record i { subscribers = subs }) e.number j) where
   own : t.now.age ≡ age
   own = at_number (λ (s : Subscriber). s.age) age i.subscribers t.now t.sits
 
-  pub clearing_more : Clearing h age s j
+  pub clearing_more : Clearing age s j
   clearing_more = record {
     now = record t.now { entries = entries_without e.number t.now.entries };
     sits = ap (λ l. subscriber_at age l) (f.subscribers ∙ is_so) ∙ forgets_at age e.number i.subscribers
@@ -114,7 +128,6 @@ module _ (h i j : Holding) (age : ℕ) (s : Subscriber) (e : Entry) (subs : List
         | inr other ↦ inr (notes_other e.number n t.now.entries other ∙ here)
       ]
     ];
-    still = λ n k there. t.still n k (f.kept n k there);
   }
 
 -- a message that is out isn't gone
@@ -122,7 +135,7 @@ out_stays : (test : Fate → Bool) (f : Option Fate) → passes test f ≡ true 
 out_stays test None on = let never : false ≡ true = on in cc
 out_stays test (Some f) on = refl
 
-module _ (h i : Holding) (age : ℕ) (s : Subscriber) (t : Clearing h age s i)
+module _ (i : Holding) (age : ℕ) (s : Subscriber) (t : Clearing age s i)
     (none : first_stale i.kept (subscriber_at age i.subscribers) ≡ None) where
   no_stale : list_any (is_stale i.kept t.now.subscription) t.now.entries ≡ false
   no_stale =
@@ -145,7 +158,7 @@ module _ (h i : Holding) (age : ℕ) (s : Subscriber) (t : Clearing h age s i)
         cc
   ]
 
-  pub cleared : Cleared h age s i
+  pub cleared : Cleared age s i
   cleared = record {
     now = t.now;
     sits = t.sits;
@@ -157,7 +170,6 @@ module _ (h i : Holding) (age : ℕ) (s : Subscriber) (t : Clearing h age s i)
           let fate : fate_of_kept (kept_at n i.kept) ≡ k.fate = ap fate_of_kept there in
           out_stays out k.fate (ap (λ f. passes out f) (sym fate) ∙ out_still n here)
     ];
-    still = t.still;
   }
 
 -- the delivery is forgotten
@@ -182,7 +194,7 @@ not_among to test es k off = elim (cases_Bool (passes test k.fate)) [
   | inr other ↦ rw other refl
 ]
 
-among_number : (to : Option Fate) (test : Fate → Bool) (es : List Entry) (k : Kept) → (turn_among to test es k).number ≡ k.number
+pub among_number : (to : Option Fate) (test : Fate → Bool) (es : List Entry) (k : Kept) → (turn_among to test es k).number ≡ k.number
 among_number to test es k = elim (cases_Bool (passes test k.fate && notes k.number es)) [
   | inl on ↦ rw on refl
   | inr off ↦ rw off refl
@@ -190,8 +202,8 @@ among_number to test es k = elim (cases_Bool (passes test k.fate && notes k.numb
 
 pub none_gone : (h i j : Holding) → IsShelf h → (x number : ℕ) (again : Bool) (p : Place)
     → find (is_held_at h.kept h.subscribers number) (h.sessions x) ≡ Some p → TurnsAll h p.number (Some number) again i
-    → Clears i p.number j → NoneGone h.kept → NoneGone j.kept
-none_gone h i j is x number again p found turns clears none n k there =
+    → Clears i p.number j → SweepsOne i p.number j → NoneGone h.kept → NoneGone j.kept
+none_gone h i j is x number again p found turns clears swept none n k there =
     elim (cases_Bool (notes n held.subscriber.entries)) [
       | inl noted ↦ c.kept n k there (ap (λ es. notes n es) t.entries ∙ noted)
       | inr other ↦
@@ -210,7 +222,7 @@ none_gone h i j is x number again p found turns clears none n k there =
     t : Turns h p.number held.subscriber (back again) (counts_in held.subscriber.subscription (Some number)) held.subscriber.entries i
     t = turns held.subscriber is held.sits
 
-    c : Cleared i p.number t.now j
+    c : Cleared p.number t.now j
     c = clears t.now t.shelf t.sits
 
     was : IsMapped (turn_among (back again) (counts_in held.subscriber.subscription (Some number)) held.subscriber.entries)
@@ -222,4 +234,4 @@ none_gone h i j is x number again p found turns clears none n k there =
         held.subscriber.entries)
         (λ l. ap (λ m. m == n) (among_number (back again) (counts_in held.subscriber.subscription (Some number))
         held.subscriber.entries l)) h.kept)
-        ∙ sym (ap (λ l. kept_at n l) t.kept) ∙ c.still n k there)
+        ∙ sym (ap (λ l. kept_at n l) t.kept) ∙ (swept t.shelf).kept n k there)

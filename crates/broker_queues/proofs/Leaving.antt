@@ -1,5 +1,5 @@
 -- A subscriber goes: its subscription is released.
-use Rattle.std.proofs.Common.{◌≡◌, ◌≤◌, ℕ, true, false, not, List, Option, Some, None, refl, sym, ap, ◌∙◌, arith, inl, inr}
+use Rattle.std.proofs.Common.{◌≡◌, ◌≤◌, ℕ, true, false, not, List, map, Option, Some, None, refl, sym, ap, ◌∙◌, arith, inl, inr}
 use Rattle.std.specs.Prelude.{◌==◌, filter}
 use Rattle.std.specs.Option.{option_map, option_and_then}
 use Rattle.std.proofs.lemmas.Bool.{cases_eq}
@@ -8,7 +8,7 @@ use Rattle.broker_book.specs.declared.parts.Subscription.{Subscription}
 use Rattle.broker_book.specs.Books.{out_to}
 use Rattle.broker_index.specs.Index.{Kept, Subscriber, Queue, Sets, opened, unless_idle, without, without_subscriber}
 use Rattle.broker_index.specs.declared.places.Place.{Place}
-use Rattle.broker_queues.specs.Parts.Fates.{passes, back, counts_in}
+use Rattle.broker_queues.specs.Parts.Fates.{passes, back, counts_in, turn_among}
 use Rattle.broker_queues.specs.Parts.Held.{Turns}
 use Rattle.broker_queues.specs.Parts.Shelf.{kept_at, subscriber_at, destination_at, session_at, lists, queue_of}
 use Rattle.broker_queues.specs.Parts.Storing.{Detached, Detaches, Releases}
@@ -20,6 +20,7 @@ use Rattle.broker_queues.proofs.Releasing.{none_out, released_book}
 use Rattle.broker_queues.proofs.Rising.{rise_filter}
 use Rattle.broker_queues.proofs.Setting.{sets_map}
 use Rattle.broker_queues.proofs.Subscribing.{went}
+use Rattle.broker_queues.proofs.Swept.{none_same, none_turned}
 
 module _ (h i : Holding) (is : IsShelf h) (age : ℕ) (s : Subscriber) (q : List ℕ → Option Queue)
     (sits : subscriber_at age h.subscribers ≡ Some s)
@@ -166,4 +167,6 @@ module _ (h i j : Holding) (is : IsShelf h) (age : ℕ) (s : Subscriber) (sits :
     session = ap (λ (u : Subscription). j.sessions u.session) (sym t.subscription) ∙ goes.session
         ∙ ap (λ (u : Subscription). without age (i.sessions u.session)) t.subscription
         ∙ ap (λ (f : ℕ → List Place). without age (f s.subscription.session)) t.sessions;
+    none_gone = λ none. none_same (map (turn_among (back true) (counts_in s.subscription None) s.entries) h.kept) j.kept
+        (goes.moves.kept ∙ goes.leaves.kept ∙ t.kept) (none_turned (counts_in s.subscription None) s.entries h.kept none);
   }

@@ -30,5 +30,6 @@ pub mod Searching
 pub mod Setting
 pub mod Subscribing
 pub mod Sweeping
+pub mod Swept
 pub mod Turning
 pub mod Unputting

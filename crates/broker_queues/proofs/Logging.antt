@@ -47,7 +47,7 @@ undone_append [] later k = refl
 undone_append (e ∷ log) later k = ap (λ l. with_back e.number (fate_of e.standing) l) (undone_append log later k)
 
 -- a message that wasn't noted stays
-unmentioned : (log : List Logged) (k : Kept) → mentions k.number log ≡ false → undone log k ≡ k
+pub unmentioned : (log : List Logged) (k : Kept) → mentions k.number log ≡ false → undone log k ≡ k
 unmentioned [] k none = refl
 unmentioned (e ∷ log) k none = elim (cases_Bool (e.number == k.number)) [
   | inl on ↦ let never : true ≡ false = rw on at none in cc

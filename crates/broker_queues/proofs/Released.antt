@@ -15,7 +15,7 @@ use Rattle.broker_index.specs.Index.{Kept, Subscriber, is_place_of, without}
 use Rattle.broker_index.specs.declared.places.Place.{Place}
 use Rattle.broker_queues.specs.Parts.Fates.{passes, turn_if}
 use Rattle.broker_queues.specs.Parts.Shelf.{kept_at, subscriber_at, subscriptions_of, living_of, lists, holds_number, notes}
-use Rattle.broker_queues.specs.Parts.Storing.{EndsOne, EndsSome, Releases, is_named_at, named_by}
+use Rattle.broker_queues.specs.Parts.Storing.{EndsOne, EndsSome, NoneGone, Releases, is_named_at, named_by}
 use Rattle.broker_queues.specs.Parts.Whole.{Holding, IsShelf, book_of}
 use Rattle.broker_queues.proofs.Finding.{IsMapped, any_implies, find_none, find_passes, is_mapped}
 use Rattle.broker_queues.proofs.Listing.{all_found}
@@ -119,6 +119,7 @@ is_the_named h x j p named = by_subscriber (subscriber_at p.number h.subscribers
 pub released_found : (h i : Holding) → IsShelf h → (x : ℕ) (j : List ℕ) (p : Place)
     → find (is_named_at h.subscribers x j) (h.sessions x) ≡ Some p → EndsOne h p.number i
     → IsShelf i × ((accepted : List Accepted) → book_of i accepted ≡ released (book_of h accepted) x j)
+    × (NoneGone h.kept → NoneGone i.kept)
 released_found h i is x j p found ends =
     let it : IsNamed h x j p.number =
     is_the_named h x j p (find_passes (is_named_at h.subscribers x j) (h.sessions x) p found) in
@@ -127,6 +128,7 @@ released_found h i is x j p found ends =
       λ accepted. r.book accepted
           ∙ ap (λ y. released (book_of h accepted) y it.subscriber.subscription.id) it.session
           ∙ ap (λ k. released (book_of h accepted) x k) it.id,
+      r.none_gone,
     )
 
 -- ---- all of a session
@@ -231,11 +233,12 @@ ends_first h i is x p first ends =
           ∙ ap (λ y. released (book_of h accepted) y was.from.subscription.id) was.to)
           ∙ ended_released x was.from.subscription.id (book_of h accepted);
       left = omega (arith, ap length session, first_goes p (h.sessions x) first);
+      none_gone = r.none_gone;
     }
 
 -- there is none
 pub ends_nothing : (h : Holding) → IsShelf h → (x most : ℕ) → length (h.sessions x) ≤ most → EndsSome h x most h
-ends_nothing h is x most few = record { shelf = is; book = λ accepted. refl; left = few }
+ends_nothing h is x most few = record { shelf = is; book = λ accepted. refl; left = few; none_gone = λ none. none }
 
 pub no_first : (ps : List Place) → slice_get ps 0 ≡ None → length ps ≤ length ps - 1
 no_first [] none = omega arith
@@ -248,9 +251,11 @@ ends_more h i j x most fewer p q one = record {
   shelf = q.shelf;
   book = λ accepted. q.book accepted ∙ p.book accepted;
   left = omega (arith, p.left, q.left);
+  none_gone = λ none. q.none_gone (p.none_gone none);
 }
 
 -- all went
 pub ends_all : (h i : Holding) (x most : ℕ) → EndsSome h x most i → most ≤ 0
-    → IsShelf i × ((accepted : List Accepted) → book_of i accepted ≡ ended (book_of h accepted) x)
-ends_all h i x most p none = (p.shelf, λ accepted. ended_none i p.shelf x (omega (arith, p.left)) accepted ∙ p.book accepted)
+    → IsShelf i × ((accepted : List Accepted) → book_of i accepted ≡ ended (book_of h accepted) x) × (NoneGone h.kept → NoneGone i.kept)
+ends_all h i x most p none =
+    (p.shelf, λ accepted. ended_none i p.shelf x (omega (arith, p.left)) accepted ∙ p.book accepted, p.none_gone)

@@ -3,9 +3,9 @@
 ghost use Rattle.std.specs.Prelude.{◌≡◌, ◌-◌};
 ghost use Rattle.broker_book.specs.Steps.{act_of, apply_of, put_of};
 ghost use Rattle.broker_queues.specs.Parts.Begun.{Acts, AnswersNoted, Applies, PutsAccepted, PutsBackAll};
-ghost use Rattle.broker_queues.specs.Parts.Begun.{TakesLast, Undoes, Unputs, UnputsAll};
+ghost use Rattle.broker_queues.specs.Parts.Begun.{SweepsAll, TakesLast, Undoes, Unputs, UnputsAll};
 ghost use Rattle.broker_queues.specs.Parts.Held.{holding_of};
-ghost use Rattle.broker_queues.specs.Parts.Storing.{Sweeps};
+ghost use Rattle.broker_queues.specs.Parts.Storing.{NoneGone, Sweeps};
 ghost use Rattle.broker_queues.specs.Parts.Whole.{IsShelf};
 
 use crate::parts::Parts;
@@ -181,7 +181,8 @@ impl Parts {
 
     /// Puts away what was answered: deliveries and messages that are no longer needed.
     fn sweep_all(&mut self, log: &[Logged])
-        ensures { Sweeps (holding_of self.old) (holding_of self.new) }
+        ensures sweeps { Sweeps (holding_of self.old) (holding_of self.new) }
+        ensures taken { SweepsAll (holding_of self.old) log.now (holding_of self.new) }
     {
         for logged in log {
             self.sweep(logged.age, logged.age_key);
@@ -202,8 +203,9 @@ impl Parts {
         accepted: &mut Vec<Accepted>,
     ) -> Result<(), QueueFault>
         requires { IsShelf (holding_of self.old) }
-        ensures { Applies full session actions.now (holding_of self.old) accepted.old.items (holding_of self.new) accepted.new.items
-            result }
+        ensures applies { Applies full session actions.now (holding_of self.old) accepted.old.items (holding_of self.new)
+            accepted.new.items result }
+        ensures taken { NoneGone self.old.messages → NoneGone self.new.messages }
     {
         let mut journal = Journal {
             answers: Vec::new(self.active.alloc),

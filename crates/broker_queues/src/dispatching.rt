@@ -2,8 +2,10 @@
 
 ghost use Rattle.std.specs.Prelude.{◌≡◌};
 ghost use Rattle.broker_queues.specs.Parts.Choosing.{Dispatching, Hands, is_auto_of};
+ghost use Rattle.broker_queues.specs.Parts.Dealings.{HandsWhole};
 ghost use Rattle.broker_queues.specs.Parts.Held.{holding_of};
 ghost use Rattle.broker_queues.specs.Parts.Shelf.{subscriber_at};
+ghost use Rattle.broker_queues.specs.Parts.Storing.{NoneGone};
 ghost use Rattle.broker_queues.specs.Parts.Whole.{IsShelf};
 
 use crate::parts::Parts;
@@ -28,7 +30,9 @@ impl Parts {
     /// # Errors
     /// Where memory is refused; then no message has gone out.
     fn hand<S: Sink>(&mut self, pick: Pick, sink: &mut S) -> Result<(), AllocError>
-        ensures { Hands S.takes pick.message.number pick.taker.number (holding_of self.old) sink.old (holding_of self.new) sink.new result }
+        ensures hands { Hands S.takes pick.message.number pick.taker.number (holding_of self.old) sink.old (holding_of self.new) sink.new
+            result }
+        ensures whole { HandsWhole (holding_of self.old) pick.message.number pick.taker.number (holding_of self.new) }
     {
         if self.is_auto_at(pick.taker) {
             self.hand_auto(pick.message, pick.taker, sink)
@@ -48,7 +52,8 @@ impl Parts {
     /// Where memory is refused, here or by the sink. Then some messages may have been handed out, each of them wholly.
     pub fn dispatch<S: Sink>(&mut self, sink: &mut S) -> Result<(), AllocError>
         requires { IsShelf (holding_of self.old) }
-        ensures { Dispatching S.takes (holding_of self.old) sink.old (holding_of self.new) sink.new result }
+        ensures deals { Dispatching S.takes (holding_of self.old) sink.old (holding_of self.new) sink.new result }
+        ensures taken { NoneGone self.old.messages → NoneGone self.new.messages }
     {
         while let Some(pick) = self.next_deal()? {
             self.hand(pick, sink)?;

@@ -1,7 +1,7 @@
 //! A message goes out.
 
 ghost use Rattle.std.specs.Prelude.{true, false};
-ghost use Rattle.broker_queues.specs.Parts.Dealings.{HandsOut};
+ghost use Rattle.broker_queues.specs.Parts.Dealings.{HandsOut, HandsWhole};
 ghost use Rattle.broker_queues.specs.Parts.Held.{holding_of};
 
 use crate::parts::Parts;
@@ -21,7 +21,9 @@ impl Parts {
         to: Place,
         sink: &mut S,
     ) -> Result<(), AllocError>
-        ensures { HandsOut S.takes true message.number to.number (holding_of self.old) sink.old (holding_of self.new) sink.new result }
+        ensures hands { HandsOut S.takes true message.number to.number (holding_of self.old) sink.old (holding_of self.new) sink.new
+            result }
+        ensures whole { HandsWhole (holding_of self.old) message.number to.number (holding_of self.new) }
     {
         let Some(stored) = self.messages.get(message.number, message.key) else {
             return Ok(());
@@ -48,7 +50,9 @@ impl Parts {
         to: Place,
         sink: &mut S,
     ) -> Result<(), AllocError>
-        ensures { HandsOut S.takes false message.number to.number (holding_of self.old) sink.old (holding_of self.new) sink.new result }
+        ensures hands { HandsOut S.takes false message.number to.number (holding_of self.old) sink.old (holding_of self.new) sink.new
+            result }
+        ensures whole { HandsWhole (holding_of self.old) message.number to.number (holding_of self.new) }
     {
         let ack = self.given.saturating_add(1);
         let entry = Entry {

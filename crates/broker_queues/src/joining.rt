@@ -47,7 +47,8 @@ impl Parts {
     pub fn subscribe(&mut self, subscription: &Subscription) -> Result<(), AllocError>
         requires shelf { IsShelf (holding_of self.old) }
         requires free { list_any (is_named subscription.now.session subscription.now.id) (subscriptions_of self.old.subscribers) ≡ false }
-        ensures { SubscribesTo (holding_of self.old) subscription.now (holding_of self.new) result }
+        ensures joins { SubscribesTo (holding_of self.old) subscription.now (holding_of self.new) result }
+        ensures messages { self.new.messages ≡ self.old.messages }
     {
         let place = self.subscribers.push(subscription)?;
         let name = subscription.destination.get();

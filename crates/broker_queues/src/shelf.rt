@@ -17,7 +17,7 @@ use std::marker::Model;
 use std::mem::replace;
 use stomp_session::Text;
 
-/// A book: its parts agree.
+/// A book: its parts agree, and no message is kept that is gone.
 #[derive(Drop)]
 pub struct Shelf {
     parts: Parts,
@@ -30,11 +30,12 @@ impl Model for Shelf {
     ghost Value = { Book };
 
     ghost use Rattle.broker_queues.specs.Parts.Held.{holding_of};
-    ghost use Rattle.broker_queues.specs.Parts.Whole.{IsShelf, book_of};
+    ghost use Rattle.broker_queues.specs.Parts.Storing.{IsTidy};
+    ghost use Rattle.broker_queues.specs.Parts.Whole.{book_of};
 
     ghost view = { λ s. book_of (holding_of s.parts) s.accepted.items };
 
-    ghost invariant = { λ s. IsShelf (holding_of s.parts) };
+    ghost invariant = { λ s. IsTidy (holding_of s.parts) };
 }
 
 impl Shelf {

@@ -5,7 +5,7 @@ ghost use Rattle.broker_index.specs.Index.{queue_at};
 ghost use Rattle.broker_index.specs.Standing.{fate_of};
 ghost use Rattle.broker_queues.specs.Parts.Held.{Responds, holding_of};
 ghost use Rattle.broker_queues.specs.Parts.Shelf.{queue_of, subscriber_at};
-ghost use Rattle.broker_queues.specs.Parts.Storing.{Clears, Forgets, NoneGone, PutsIn, Stores, Sweeps, TakesOut};
+ghost use Rattle.broker_queues.specs.Parts.Storing.{Clears, Forgets, NoneGone, PutsIn, Stores, Sweeps, SweepsOne, TakesOut};
 ghost use Rattle.broker_queues.specs.Parts.Storing.{first_stale, is_gone, is_stale};
 ghost use Rattle.broker_queues.specs.Parts.Whole.{IsShelf};
 
@@ -121,6 +121,7 @@ impl Parts {
     pub fn sweep(&mut self, age: u64, age_key: usize)
         ensures sweeps { Sweeps (holding_of self.old) (holding_of self.new) }
         ensures clears { Clears (holding_of self.old) age (holding_of self.new) }
+        ensures rest { SweepsOne (holding_of self.old) age (holding_of self.new) }
     {
         while let Some(entry) = self.first_stale(age, age_key) {
             self.subscribers.forget(age, age_key, entry.number);

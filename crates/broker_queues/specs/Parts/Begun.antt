@@ -17,8 +17,8 @@ use Rattle.broker_queues.specs.declared.undoing.Logged.{Logged}
 use Rattle.broker_queues.specs.Parts.Fates.{counts_in, fate_of_kept, passes}
 use Rattle.broker_queues.specs.Parts.Held.{step_of}
 use Rattle.broker_queues.specs.Parts.Shelf.{kept_at, subscriber_at, subscriptions_of, lists, notes, queue_of}
-use Rattle.broker_queues.specs.Parts.Undoing.{AreAll, AreTrue, before}
-use Rattle.broker_queues.specs.Parts.Storing.{ListsOnly, PutsNone, Tidies, is_gone}
+use Rattle.broker_queues.specs.Parts.Undoing.{AreAll, AreTrue, before, mentions}
+use Rattle.broker_queues.specs.Parts.Storing.{ListsOnly, NoneGone, PutsNone, Tidies, is_gone}
 use Rattle.broker_queues.specs.Parts.Whole.{Changes, Holding, IsShelf, Lowers, Puts, book_of}
 
 -- whether a message that may be there goes to a destination
@@ -159,9 +159,19 @@ abbrev pub PutsBackAll : Holding → List Logged → Holding → Type 0
 PutsBackAll old log new = (start : Holding) → IsBegun start log old → old.last ≡ start.last
     → IsBegun start [] new × (new.last ≡ start.last)
 
--- nothing of the book is other than when a transaction began
+-- the same messages are kept as when a transaction began, and nothing else of the book is other
 abbrev pub Undoes : Holding → ℕ → List Logged → Holding → Type 0
-Undoes old last log new = (start : Holding) → IsBegun start log old → start.last ≡ last → Tidies start new
+Undoes old last log new = (start : Holding) → IsBegun start log old → start.last ≡ last → (new.kept ≡ start.kept) × Tidies start new
+
+-- ---- putting away
+
+-- each message that is gone was noted
+abbrev pub GoneAreNoted : List Kept → List Logged → Type 0
+GoneAreNoted kept log = (n : ℕ) (k : Kept) → kept_at n kept ≡ Some k → is_gone k.fate ≡ true → mentions n log ≡ true
+
+-- where all that is gone was noted, none of it is kept any more
+abbrev pub SweepsAll : Holding → List Logged → Holding → Type 0
+SweepsAll old log new = IsShelf old → AreHeld old.subscribers log → GoneAreNoted old.kept log → NoneGone new.kept
 
 -- a message that is kept and was ready is gone, or there is none
 abbrev pub LetsGo : Holding → ℕ → Holding → Bool → Type 0

@@ -9,6 +9,7 @@ use Rattle.broker_index.specs.Index.{Kept, Subscriber, Queue}
 use Rattle.broker_index.specs.declared.places.Place.{Place}
 use Rattle.broker_queues.specs.Parts.Shelf.{kept_at, subscriber_at, lists, may_have, queue_of}
 use Rattle.broker_queues.specs.Parts.Fates.{passes}
+use Rattle.broker_queues.specs.Parts.Storing.{NoneGone}
 use Rattle.broker_queues.specs.Parts.Whole.{Holding, IsShelf, Picks, SameCounts, book_of}
 
 -- the number of a place, or this one where there is none
@@ -74,3 +75,7 @@ abbrev pub HandsOut : {S E : Type 0} → (S → Handed → S → Type 0) → Boo
 HandsOut takes auto n a old from new to result = (accepted : List Accepted) (k : Kept) (s : Subscriber) → IsShelf old → Picks old n k a s
     → is_auto s.subscription.mode ≡ auto
     → IsShelf new × DealsOne takes (book_of old accepted) from (book_of new accepted) to result
+
+-- and nothing that is gone is kept, where nothing was
+abbrev pub HandsWhole : Holding → ℕ → ℕ → Holding → Type 0
+HandsWhole old n a new = (k : Kept) (s : Subscriber) → IsShelf old → Picks old n k a s → NoneGone old.kept → NoneGone new.kept

@@ -112,31 +112,43 @@ first_stale kept None = None
 first_stale kept (Some s) = find (is_stale kept s.subscription) s.entries
 
 -- Of the messages that a subscriber noted none is gone and still kept, but for those that it notes yet.
-pub record Clearing (old : Holding) (age : ℕ) (s : Subscriber) (new : Holding) : Type 0 where
+pub record Clearing (age : ℕ) (s : Subscriber) (new : Holding) : Type 0 where
   pub now : Subscriber
   pub sits : subscriber_at age new.subscribers ≡ Some now
   pub subscription : now.subscription ≡ s.subscription
   pub kept : (n : ℕ) (k : Kept) → kept_at n new.kept ≡ Some k → notes n s.entries ≡ true
       → (is_gone k.fate ≡ false) ⊎ (notes n now.entries ≡ true)
-  pub still : (n : ℕ) (k : Kept) → kept_at n new.kept ≡ Some k → kept_at n old.kept ≡ Some k
 
 -- A subscriber notes what is out to it alone, and of the messages that it noted none is gone and still kept.
-pub record Cleared (old : Holding) (age : ℕ) (s : Subscriber) (new : Holding) : Type 0 where
+pub record Cleared (age : ℕ) (s : Subscriber) (new : Holding) : Type 0 where
   pub now : Subscriber
   pub sits : subscriber_at age new.subscribers ≡ Some now
   pub subscription : now.subscription ≡ s.subscription
   pub entries : (n : ℕ) → notes n now.entries ≡ true
       → passes (out_to now.subscription.session now.subscription.id) (fate_of_kept (kept_at n new.kept)) ≡ true
   pub kept : (n : ℕ) (k : Kept) → kept_at n new.kept ≡ Some k → notes n s.entries ≡ true → is_gone k.fate ≡ false
-  pub still : (n : ℕ) (k : Kept) → kept_at n new.kept ≡ Some k → kept_at n old.kept ≡ Some k
 
 -- so it is then for the subscriber of an age
 abbrev pub Clears : Holding → ℕ → Holding → Type 0
-Clears old age new = (s : Subscriber) → IsShelf old → subscriber_at age old.subscribers ≡ Some s → Cleared old age s new
+Clears old age new = (s : Subscriber) → IsShelf old → subscriber_at age old.subscribers ≡ Some s → Cleared age s new
+
+-- Messages were taken out at most, and of the subscribers none but the one of an age has changed.
+pub record SweptOne (old : Holding) (age : ℕ) (new : Holding) : Type 0 where
+  pub kept : (n : ℕ) (k : Kept) → kept_at n new.kept ≡ Some k → kept_at n old.kept ≡ Some k
+  pub others : (b : ℕ) → (b ≡ age → ⊥) → subscriber_at b new.subscribers ≡ subscriber_at b old.subscribers
+
+-- so it is where a subscriber was swept
+abbrev pub SweepsOne : Holding → ℕ → Holding → Type 0
+SweepsOne old age new = IsShelf old → SweptOne old age new
 
 -- none of these messages is gone
 abbrev pub NoneGone : List Kept → Type 0
 NoneGone kept = (n : ℕ) (k : Kept) → kept_at n kept ≡ Some k → is_gone k.fate ≡ false
+
+-- The parts agree, and nothing that is gone is kept.
+pub record IsTidy (h : Holding) : Type 0 where
+  pub shelf : IsShelf h
+  pub none_gone : NoneGone h.kept
 
 -- ---- subscriptions come and go
 
@@ -178,6 +190,7 @@ pub record Releases (old : Holding) (age : ℕ) (s : Subscriber) (new : Holding)
   pub book : (accepted : List Accepted) → book_of new accepted
       ≡ released (book_of old accepted) s.subscription.session s.subscription.id
   pub session : new.sessions s.subscription.session ≡ without age (old.sessions s.subscription.session)
+  pub none_gone : NoneGone old.kept → NoneGone new.kept
 
 -- that of the subscriber of an age ends, if there is one
 abbrev pub EndsOne : Holding → ℕ → Holding → Type 0
@@ -196,12 +209,14 @@ is_named_at subscribers session id p = named_by session id (subscriber_at p.numb
 abbrev pub ReleasesNamed : Holding → ℕ → List ℕ → Holding → Type 0
 ReleasesNamed old session id new = IsShelf old
     → IsShelf new × ((accepted : List Accepted) → book_of new accepted ≡ released (book_of old accepted) session id)
+    × (NoneGone old.kept → NoneGone new.kept)
 
 -- Some subscriptions of a session have ended; at most so many are left.
 pub record EndsSome (old : Holding) (session most : ℕ) (new : Holding) : Type 0 where
   pub shelf : IsShelf new
   pub book : (accepted : List Accepted) → ended (book_of new accepted) session ≡ ended (book_of old accepted) session
   pub left : length (new.sessions session) ≤ most
+  pub none_gone : NoneGone old.kept → NoneGone new.kept
 
 -- one of them has, if there is any
 abbrev pub EndsFirst : Holding → ℕ → Holding → Type 0
@@ -211,3 +226,4 @@ EndsFirst old session new = IsShelf old → EndsSome old session (length (old.se
 abbrev pub EndsAll : Holding → ℕ → Holding → Type 0
 EndsAll old session new = IsShelf old
     → IsShelf new × ((accepted : List Accepted) → book_of new accepted ≡ ended (book_of old accepted) session)
+    × (NoneGone old.kept → NoneGone new.kept)

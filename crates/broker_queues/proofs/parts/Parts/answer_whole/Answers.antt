@@ -17,4 +17,4 @@ returns-in_default-clause-step c accepted is =
 pub returns-clause-taken : goal.returns-clause-taken
 returns-clause-taken c is none =
     none_gone (holding_of c.args.self.now) (holding_of c.answer.new.self) (holding_of c.sweep.new.self) is c.args.session c.args.ack
-    c.args.again c.in-Some.place (sym c.in-Some.ensures) c.answer.ensures c.sweep.ensures.clears none
+    c.args.again c.in-Some.place (sym c.in-Some.ensures) c.answer.ensures c.sweep.ensures.clears c.sweep.ensures.rest none

@@ -9,5 +9,8 @@ returns-in-Some c is =
     (sym c.in-Some.ensures) c.leave.ensures
 
 pub returns-in_default : goal.returns-in_default
-returns-in_default c is =
-    (is, λ accepted. released_none (holding_of c.args.self.now) is c.args.session c.args.id.now (sym c.in_default.ensures) accepted)
+returns-in_default c is = (
+  is,
+  λ accepted. released_none (holding_of c.args.self.now) is c.args.session c.args.id.now (sym c.in_default.ensures) accepted,
+  λ none. none,
+)

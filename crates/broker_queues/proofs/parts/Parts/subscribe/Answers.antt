@@ -11,18 +11,18 @@ attach-requires c =
     (λ a listed. listeners_lower (holding_of c.args.self.now) c.requires.shelf c.in_ok-place.place.number c.in_ok-place.ensures.youngest
     c.get-name.result.now a listed)
 
-pub returns-in_err-place : goal.returns-in_err-place
-returns-in_err-place c =
+pub returns-in_err-place-clause-joins : goal.returns-in_err-place-clause-joins
+returns-in_err-place-clause-joins c =
     not_joined (holding_of c.args.self.now) _ c.args.subscription.now c.from_residual.result c.from_residual.ensures.0
     (tidy_same (holding_of c.args.self.now) c.requires.shelf c.push.new.self c.in_err-place.ensures.err)
 
-pub returns-in-Ok : goal.returns-in-Ok
-returns-in-Ok c =
+pub returns-in-Ok-clause-joins : goal.returns-in-Ok-clause-joins
+returns-in-Ok-clause-joins c =
     joined (holding_of c.args.self.now) (holding_of c.attach.new.self) c.requires.shelf c.args.subscription.now c.in_ok-place.place
     c.push.new.self c.in_ok-place.ensures.ok c.in_ok-place.ensures.youngest c.requires.free (rw c.get-name.ensures at c.in-Ok.ensures)
 
-pub returns-in-Err : goal.returns-in-Err
-returns-in-Err c =
+pub returns-in-Err-clause-joins : goal.returns-in-Err-clause-joins
+returns-in-Err-clause-joins c =
     goes_again (holding_of c.args.self.now) (holding_of c.attach.new.self) c.requires.shelf c.args.subscription.now c.in_ok-place.place
     c.push.new.self c.remove.new.self c.in_ok-place.ensures.ok c.in_ok-place.ensures.youngest c.in-Err.ensures.0 c.in-Err.ensures.1
     c.remove.ensures

@@ -2,7 +2,7 @@ use Rattle.std.proofs.Common.{◌∙◌, sym}
 use Rattle.broker_queues.specs.Parts.Held.{holding_of}
 use Rattle.broker_queues.specs.Parts.Storing.{Tidies}
 use Rattle.broker_queues.specs.Parts.Whole.{IsShelf}
-use Rattle.broker_queues.proofs.Clearing.{cleared, clearing_more, clearing_none, fewer_noted, forgets_stale}
+use Rattle.broker_queues.proofs.Clearing.{cleared, clearing_more, clearing_none, fewer_noted, forgets_stale, swept_more, swept_none}
 use Rattle.broker_queues.proofs.Sweeping.{tidies, tidy}
 use Rattle.broker_queues.proofs.parts.Parts.sweep.Goals as goal
 
@@ -10,6 +10,7 @@ pub loop-entry-init : goal.loop-entry-init
 loop-entry-init c = record {
   tidies = λ is. tidy (holding_of c.args.self.now) is;
   clearing = λ s is sits. clearing_none (holding_of c.args.self.now) c.args.age s sits;
+  swept = λ is. swept_none (holding_of c.args.self.now) c.args.age;
 }
 
 pub loop-entry-smaller : goal.loop-entry-smaller
@@ -31,11 +32,15 @@ loop-entry-preserved c =
           tidies h i j before (tidies i (record i { subscribers = c.forget.new.self }) j mid (c.purge.ensures.sweeps mid.shelf));
       clearing = λ s is sits.
           let mid = forgets (c.loop-entry.invariant.tidies is).shelf in
-          clearing_more h i j c.args.age s c.in-Some.entry c.forget.new.self (c.loop-entry.invariant.clearing s is sits) c.forget.ensures
+          clearing_more i j c.args.age s c.in-Some.entry c.forget.new.self (c.loop-entry.invariant.clearing s is sits) c.forget.ensures
+          (c.purge.ensures.rest mid.shelf);
+      swept = λ is.
+          let mid = forgets (c.loop-entry.invariant.tidies is).shelf in
+          swept_more h i j c.args.age c.in-Some.entry.number c.forget.new.self (c.loop-entry.invariant.swept is) c.forget.ensures
           (c.purge.ensures.rest mid.shelf);
     }
 
 pub returns-clause-clears : goal.returns-clause-clears
 returns-clause-clears c s is sits =
-    cleared (holding_of c.args.self.now) (holding_of c.loop-entry.self) c.args.age s (c.loop-entry.invariant.clearing s is sits)
+    cleared (holding_of c.loop-entry.self) c.args.age s (c.loop-entry.invariant.clearing s is sits)
     (sym c.in_default.ensures)

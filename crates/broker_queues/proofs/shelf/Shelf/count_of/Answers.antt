@@ -4,4 +4,4 @@ use Rattle.broker_queues.proofs.shelf.Shelf.count_of.Goals as goal
 
 pub returns : goal.returns
 returns c =
-    rw (c.get.ensures, ← c.self.view_is) (asks_count (holding_of c.self.inside.parts) c.self.invariant c.args.session)
+    rw (c.get.ensures, ← c.self.view_is) (asks_count (holding_of c.self.inside.parts) c.self.invariant.shelf c.args.session)

@@ -1,7 +1,10 @@
 use Rattle.broker_queues.proofs.shelf.Shelf.dispatch.Goals as goal
 
 pub invariant_of-self : goal.invariant_of-self
-invariant_of-self g c = (c.dispatch.ensures c.self.inside.accepted.items c.self.invariant).0
+invariant_of-self g c = record {
+  shelf = (c.dispatch.ensures.deals c.self.inside.accepted.items c.self.invariant.shelf).0;
+  none_gone = c.dispatch.ensures.taken c.self.invariant.none_gone;
+}
 
 pub returns : goal.returns
-returns g c = rw (← c.self.view_is) ((c.dispatch.ensures c.self.inside.accepted.items c.self.invariant).1)
+returns g c = rw (← c.self.view_is) ((c.dispatch.ensures.deals c.self.inside.accepted.items c.self.invariant.shelf).1)

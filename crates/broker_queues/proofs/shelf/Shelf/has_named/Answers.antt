@@ -9,5 +9,5 @@ use Rattle.broker_queues.proofs.shelf.Shelf.has_named.Goals as goal
 pub returns : goal.returns
 returns c =
     c.is_some.ensures ∙ ap is_some c.named.ensures
-    ∙ asks_name (holding_of c.self.inside.parts) c.self.invariant c.args.session c.args.id.now
+    ∙ asks_name (holding_of c.self.inside.parts) c.self.invariant.shelf c.args.session c.args.id.now
     ∙ ap (λ (b : Book). list_any (is_named c.args.session c.args.id.now) b.subscriptions) c.self.view_is

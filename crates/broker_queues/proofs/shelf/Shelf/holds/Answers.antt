@@ -9,5 +9,5 @@ use Rattle.broker_queues.proofs.shelf.Shelf.holds.Goals as goal
 pub returns : goal.returns
 returns c =
     c.is_some.ensures ∙ ap is_some c.holder.ensures
-    ∙ asks_holder (holding_of c.self.inside.parts) c.self.inside.accepted.items c.args.session c.args.number c.self.invariant
+    ∙ asks_holder (holding_of c.self.inside.parts) c.self.inside.accepted.items c.args.session c.args.number c.self.invariant.shelf
     ∙ ap (λ (b : Book). is_some (holder b c.args.session c.args.number)) c.self.view_is
