@@ -1,7 +1,8 @@
--- Along a run messages stay what they were put as.
-use Rattle.std.proofs.Common.{◌≡◌, ℕ, ◌+◌, Bool, true, false, not, cond, List, [], ◌∷◌, ◌++◌, map, length, ◌∙◌, subst}
+-- Along a run messages stay what they were put as, in whatever holds of a SEND with its number.
+use Rattle.std.proofs.Common.{◌≡◌, ℕ, ◌+◌, Bool, true, false, not, cond, List, [], ◌∷◌, ◌++◌, map, length, subst, sym}
 use Rattle.std.proofs.Common.{Option, Some, None, Ok}
 use Rattle.std.specs.Prelude.{filter, if◌then◌else◌}
+use Rattle.std.specs.List.{AllByRecursion}
 use Rattle.broker_book.specs.declared.parts.Accepted.{Accepted}
 use Rattle.broker_book.specs.declared.parts.Subscription.{Subscription}
 use Rattle.broker_book.specs.Books.{Book, Message, Fate, Ready, empty_book, out_to, out_of}
@@ -11,24 +12,28 @@ use Rattle.broker_book.specs.Runs.{handed_by, handed_in}
 use Rattle.broker_book.specs.Laws.{numbered, AllPass, as_accepted}
 use Rattle.broker_book.proofs.Numbers.{put_is, numbered-append, event_counts}
 
-module _ (p : Accepted → Bool) where
-  pass-append : (xs ys : List Accepted) → AllPass p xs → AllPass p ys → AllPass p (xs ++ ys)
+module _ (P : Accepted → Type 0) where
+  -- each of these has it
+  abbrev Each : List Accepted → Type 0
+  Each accepted = AllByRecursion P accepted
+
+  pass-append : (xs ys : List Accepted) → Each xs → Each ys → Each (xs ++ ys)
   pass-append [] ys h k = k
   pass-append (x ∷ xs) ys h k = (h.0, pass-append xs ys h.1 k)
 
-  pass_split : (xs ys : List Accepted) → AllPass p (xs ++ ys) → AllPass p xs × AllPass p ys
+  pass_split : (xs ys : List Accepted) → Each (xs ++ ys) → Each xs × Each ys
   pass_split [] ys h = (tt, h)
   pass_split (x ∷ xs) ys h = let k = pass_split xs ys h.1 in ((h.0, k.0), k.1)
 
   -- the living messages pass
   abbrev Pass : List Message → Type 0
-  Pass ms = AllPass p (map as_accepted ms)
+  Pass ms = Each (map as_accepted ms)
 
   living-append : (xs ys : List Message) → Pass xs → Pass ys → Pass (xs ++ ys)
   living-append [] ys h k = k
   living-append (x ∷ xs) ys h k = (h.0, living-append xs ys h.1 k)
 
-  filter_pass : (b : Bool) (m : Message) (rest : List Message) → p (as_accepted m) ≡ true → Pass rest → Pass (cond b (m ∷ rest) rest)
+  filter_pass : (b : Bool) (m : Message) (rest : List Message) → P (as_accepted m) → Pass rest → Pass (cond b (m ∷ rest) rest)
   filter_pass true m rest h k = (h, k)
   filter_pass false m rest h k = k
 
@@ -36,7 +41,7 @@ module _ (p : Accepted → Bool) where
   living-filter q [] h = h
   living-filter q (m ∷ ms) h = filter_pass (q m) m (filter q ms) h.0 (living-filter q ms h.1)
 
-  ready_pass : (b : Bool) (m : Message) → p (as_accepted m) ≡ true → p (as_accepted (if b then record m { fate = Ready } else m)) ≡ true
+  ready_pass : (b : Bool) (m : Message) → P (as_accepted m) → P (as_accepted (if b then record m { fate = Ready } else m))
   ready_pass true m h = h
   ready_pass false m h = h
 
@@ -46,7 +51,7 @@ module _ (p : Accepted → Bool) where
 
   -- a message that goes out passes, and so do those that are left
   living_dealt : (front back : List Message) (m : Message) (s : Subscription) (ack : Option ℕ) → Pass (front ++ m ∷ back)
-      → (p (as_accepted m) ≡ true) × Pass (front ++ (left_of m s ack ++ back))
+      → P (as_accepted m) × Pass (front ++ (left_of m s ack ++ back))
   living_dealt [] back m s None h = h
   living_dealt [] back m s (Some n) h = (h.0, h)
   living_dealt (x ∷ front) back m s ack h = let k = living_dealt front back m s ack h.1 in (k.0, (h.0, k.1))
@@ -65,15 +70,15 @@ module _ (p : Accepted → Bool) where
       rw (← e) (living-ready (covered s number) old.living k)
 
   deal_passes : (old new : Book) (d : Handed) → Deal old d new → Pass old.living
-      → Pass new.living × AllPass p (record { number = d.number; sent = d.sent } ∷ [])
+      → Pass new.living × Each (record { number = d.number; sent = d.sent } ∷ [])
   deal_passes old new d h k =
       let dealt = living_dealt h.front h.back h.message d.to d.ack (subst (λ l. Pass l) h.found k) in
-      let same : p (record { number = d.number; sent = d.sent }) ≡ p (as_accepted h.message)
-      = λ i. p (record { number = h.number i; sent = h.sent i }) in
-      (rw h.changed dealt.1, (same ∙ dealt.0, tt))
+      let same : as_accepted h.message ≡ record { number = d.number; sent = d.sent }
+      = sym (λ i. record { number = h.number i; sent = h.sent i }) in
+      (rw h.changed dealt.1, (subst (λ a. P a) same dealt.0, tt))
 
-  event_passes : (old new : Book) (e : Event) → Happens old e new → Pass old.living → AllPass p (numbered old.last (put_by e))
-      → Pass new.living × AllPass p (handed_by e)
+  event_passes : (old new : Book) (e : Event) → Happens old e new → Pass old.living → Each (numbered old.last (put_by e))
+      → Pass new.living × Each (handed_by e)
   event_passes old new (Puts full sent) h k now = rw (put_is full old sent new h) (living-append old.living _ k now, tt)
   event_passes old new (Hands d) h k now = deal_passes old new d h k
   event_passes old new (Acks session number numbers) h k now = (ack_passes old new number (holder old session number) h.0 k, tt)
@@ -83,12 +88,12 @@ module _ (p : Accepted → Bool) where
   event_passes old new (Ends session) h k now = (rw h (living-ready (out_of session) old.living k), tt)
   event_passes old new (Takes accepted) h k now = (rw h.1 k, tt)
 
-  run_passes : (events : List Event) (old new : Book) → Run old events new → Pass old.living
-      → AllPass p (numbered old.last (put_in events)) → Pass new.living × AllPass p (handed_in events)
+  pub run_passes : (events : List Event) (old new : Book) → Run old events new → Pass old.living
+      → Each (numbered old.last (put_in events)) → Pass new.living × Each (handed_in events)
   run_passes [] old new h k now = (rw h k, tt)
   run_passes (e ∷ events) old new h k now =
       let split = pass_split (numbered old.last (put_by e)) (numbered (old.last + length (put_by e)) (put_in events))
-      (subst (λ l. AllPass p l) (numbered-append old.last (put_by e) (put_in events)) now) in
+      (subst (λ l. Each l) (numbered-append old.last (put_by e) (put_in events)) now) in
       let first = event_passes old h.0 e h.1 k split.0 in
       let last = (event_counts old h.0 e h.1).1 in
       let rest = run_passes events h.0 new h.2 first.0 (rw last split.1) in
@@ -96,4 +101,4 @@ module _ (p : Accepted → Bool) where
 
 pub each_as_put : (p : Accepted → Bool) (events : List Event) (b : Book) → Run empty_book events b
     → AllPass p (numbered 0 (put_in events)) → AllPass p (map as_accepted b.living) × AllPass p (handed_in events)
-each_as_put p events b h now = run_passes p events empty_book b h tt now
+each_as_put p events b h now = run_passes (λ a. p a ≡ true) events empty_book b h tt now

@@ -22,7 +22,8 @@ use Rattle.broker_laws.specs.Runs.{Runs, hands_by, hands_in, acknowledged_by, ac
 use Rattle.broker_laws.specs.Runs.{BrokersAreOrderly, AcceptedAreToldOnce, MessagesWereAccepted, NoLifeLosesAny, NoneOvertakes}
 use Rattle.broker_laws.proofs.Overtaking.{none_overtake}
 use Rattle.broker_laws.proofs.Running.{life_carries, life_runs}
-use Rattle.broker_laws.proofs.Standing.{numbered_stand, run_passes}
+use Rattle.broker_book.proofs.AsPut.{run_passes}
+use Rattle.broker_laws.proofs.Standing.{numbered_stand}
 use Rattle.broker_laws.proofs.Weights.{load}
 
 -- ---- what was told

@@ -18,7 +18,8 @@ use Rattle.broker_book.specs.declared.parts.Subscription.{Subscription}
 use Rattle.broker_book.proofs.Numbers.{each_accepted_once, numbered-append, put_is}
 use Rattle.broker_book.proofs.Orderly.{books_orderly}
 use Rattle.broker_laws.specs.Runs.{StandsIn, hands_by, hands_in, was_handed}
-use Rattle.broker_laws.proofs.Standing.{numbered_stand, run_passes}
+use Rattle.broker_book.proofs.AsPut.{run_passes}
+use Rattle.broker_laws.proofs.Standing.{numbered_stand}
 
 -- ---- lists with one that passes
 
