@@ -1,5 +1,6 @@
 // Clients that each send to a queue of their own and take from it, client-individual, over one epoll: what `bench/load` runs.
-// usage: load PORT PID CLIENTS MESSAGES BODY WINDOW
+// usage: load PORT PID CLIENTS MESSAGES BODY WINDOW WAITING [transactions]
+// WAITING messages lie in other queues meanwhile, 4,000 in each. With `transactions` each answer and the SEND behind it are one.
 #define _GNU_SOURCE
 #include <arpa/inet.h>
 #include <errno.h>
@@ -20,6 +21,7 @@ typedef struct {
     long sent, taken;
 } Client;
 
+static int port, in_transactions;
 static long body_length, window, each;
 static uint64_t *waits;
 static long waited;
@@ -49,9 +51,22 @@ static void put(Client *client, const char *octets, size_t length) {
     client->to += length;
 }
 
-static void send_message(Client *client) {
-    char head[128];
-    int length = sprintf(head, "SEND\ndestination:/queue/load.%d\ncontent-length:%ld\n\n", client->number, body_length);
+static void put_frame(Client *client, const char *frame) {
+    put(client, frame, strlen(frame) + 1);
+}
+
+// The header of a transaction, or nothing outside of one.
+static const char *transaction(int is_in, long number) {
+    static char header[64];
+    if (!is_in) return "";
+    sprintf(header, "transaction:%ld\n", number);
+    return header;
+}
+
+static void send_message(Client *client, const char *queue, int is_in) {
+    char head[192];
+    int length = sprintf(head, "SEND\ndestination:/queue/%s.%d\n%scontent-length:%ld\n\n", queue, client->number,
+                         transaction(is_in, client->sent), body_length);
     put(client, head, (size_t)length);
     char *body = place(client, (size_t)body_length + 1);
     memset(body, 'b', (size_t)body_length);
@@ -59,6 +74,24 @@ static void send_message(Client *client) {
     body[20] = 'b';
     body[body_length] = 0;
     client->to += (size_t)body_length + 1;
+}
+
+// Answers a message, and sends the next.
+static void go_on(Client *client, const char *ack, int length) {
+    char text[512];
+    int is_in = in_transactions && client->sent < each;
+    if (is_in) {
+        sprintf(text, "BEGIN\ntransaction:%ld\n\n", client->sent);
+        put_frame(client, text);
+    }
+    sprintf(text, "ACK\nid:%.*s\n%s\n", length, ack, transaction(is_in, client->sent));
+    put_frame(client, text);
+    if (client->sent == each) return;
+    send_message(client, "load", is_in);
+    if (is_in) {
+        sprintf(text, "COMMIT\ntransaction:%ld\n\n", client->sent);
+        put_frame(client, text);
+    }
     client->sent++;
 }
 
@@ -72,8 +105,9 @@ static void flush_out(Client *client) {
     client->from = client->to = 0;
 }
 
-// Handles the frame that begins the octets: its length, or 0 where it isn't whole.
+// Handles the frame that begins the octets, or a line end between frames: its length, or 0 where it isn't whole.
 static size_t handle(Client *client, char *octets, size_t length) {
+    if (length && *octets == '\n') return 1;
     char *end = memmem(octets, length, "\n\n", 2);
     if (!end) return 0;
     char *size = memmem(octets, (size_t)(end - octets), "\ncontent-length:", 16);
@@ -86,11 +120,9 @@ static size_t handle(Client *client, char *octets, size_t length) {
     }
     if (!memcmp(octets, "MESSAGE", 7)) {
         char *ack = memmem(octets, (size_t)(end - octets) + 1, "\nack:", 5) + 5;
-        char text[64];
-        put(client, text, (size_t)sprintf(text, "ACK\nid:%.*s\n\n", (int)((char *)memchr(ack, '\n', 32) - ack), ack) + 1);
         waits[waited++] = now() - strtoul(end + 2, NULL, 10);
         client->taken++;
-        if (client->sent < each) send_message(client);
+        go_on(client, ack, (int)((char *)memchr(ack, '\n', 300) - ack));
     }
     return whole;
 }
@@ -140,40 +172,56 @@ static int by_size(const void *a, const void *b) {
     return x < y ? -1 : x > y;
 }
 
-int main(int argc, char **argv) {
-    if (argc != 7) return fprintf(stderr, "usage: load PORT PID CLIENTS MESSAGES BODY WINDOW\n"), 2;
-    int count = atoi(argv[3]), poll = epoll_create1(0), one = 1;
-    each = atol(argv[4]) / count;
-    body_length = atol(argv[5]) < 24 ? 24 : atol(argv[5]);
-    window = atol(argv[6]);
-    waits = malloc(sizeof *waits * (size_t)(each * count));
-    Client *clients = calloc((size_t)count, sizeof *clients);
-    struct sockaddr_in address = {.sin_family = AF_INET, .sin_port = htons((uint16_t)atoi(argv[1])), .sin_addr.s_addr = htonl(INADDR_LOOPBACK)};
-    for (int k = 0; k < count; k++) {
-        Client *client = &clients[k];
-        client->number = k;
-        client->socket = socket(AF_INET, SOCK_STREAM, 0);
-        if (connect(client->socket, (struct sockaddr *)&address, sizeof address)) fail("connect");
-        setsockopt(client->socket, IPPROTO_TCP, TCP_NODELAY, &one, sizeof one);
-        char text[256], told[4096];
-        size_t length = (size_t)sprintf(text, "CONNECT\naccept-version:1.2\nhost:h\n\n") + 1;
-        length += (size_t)sprintf(text + length,
-            "SUBSCRIBE\nid:0\ndestination:/queue/load.%d\nack:client-individual\nreceipt:s\n\n", k) + 1;
-        if (write(client->socket, text, length) != (ssize_t)length) fail("write");
-        size_t held = 0;
-        while (!memmem(told, held, "receipt-id:s\n\n", 15)) {
-            ssize_t more = read(client->socket, told + held, sizeof told - held);
-            if (more <= 0) fail("read");
-            held += (size_t)more;
-        }
-        fcntl(client->socket, F_SETFL, O_NONBLOCK);
-        struct epoll_event event = {.events = EPOLLIN | EPOLLOUT | EPOLLET, .data.ptr = client};
-        epoll_ctl(poll, EPOLL_CTL_ADD, client->socket, &event);
+// Writes what a client holds, and waits for the RECEIPT that it asks for.
+static void wait_receipt(Client *client) {
+    char told[4096];
+    size_t held = 0;
+    flush_out(client);
+    while (!memmem(told, held, "receipt-id:s\n\n", 15)) {
+        ssize_t more = held < sizeof told ? read(client->socket, told + held, sizeof told - held) : 0;
+        if (more <= 0) fail("read");
+        held += (size_t)more;
     }
-    double before = processor(argv[2]);
-    uint64_t start = now();
+}
+
+// Opens a session. A login is asked for by others, which take `host` for one of theirs, too.
+static void open_client(Client *client, int number) {
+    int one = 1;
+    struct sockaddr_in address = {.sin_family = AF_INET, .sin_port = htons((uint16_t)port), .sin_addr.s_addr = htonl(INADDR_LOOPBACK)};
+    client->number = number;
+    client->socket = socket(AF_INET, SOCK_STREAM, 0);
+    if (connect(client->socket, (struct sockaddr *)&address, sizeof address)) fail("connect");
+    setsockopt(client->socket, IPPROTO_TCP, TCP_NODELAY, &one, sizeof one);
+    put_frame(client, "CONNECT\naccept-version:1.2\nhost:/\nlogin:guest\npasscode:guest\n\n");
+}
+
+static void subscribe(Client *client, int poll) {
+    char text[256];
+    sprintf(text, "SUBSCRIBE\nid:0\ndestination:/queue/load.%d\nack:client-individual\nreceipt:s\n\n", client->number);
+    put_frame(client, text);
+    wait_receipt(client);
+    fcntl(client->socket, F_SETFL, O_NONBLOCK);
+    struct epoll_event event = {.events = EPOLLIN | EPOLLOUT | EPOLLET, .data.ptr = client};
+    epoll_ctl(poll, EPOLL_CTL_ADD, client->socket, &event);
+}
+
+// Leaves messages in queues that nobody takes from.
+static void fill(long count) {
+    static Client client;
+    open_client(&client, 0);
+    for (long k = 0; k < count; k++) {
+        client.number = (int)(k / 4000);
+        send_message(&client, "waiting", 0);
+        if (client.to > 1000000) flush_out(&client);
+    }
+    put_frame(&client, "BEGIN\ntransaction:last\nreceipt:s\n\n");
+    wait_receipt(&client);
+}
+
+// Has all clients send and take until all is taken.
+static void exchange(Client *clients, int count, int poll) {
     for (int k = 0; k < count; k++) {
-        while (clients[k].sent < window && clients[k].sent < each) send_message(&clients[k]);
+        for (; clients[k].sent < window && clients[k].sent < each; clients[k].sent++) send_message(&clients[k], "load", 0);
         flush_out(&clients[k]);
     }
     struct epoll_event events[256];
@@ -186,12 +234,37 @@ int main(int argc, char **argv) {
             flush_out(client);
         }
     }
+}
+
+int main(int argc, char **argv) {
+    if (argc < 8) return fprintf(stderr, "usage: load PORT PID CLIENTS MESSAGES BODY WINDOW WAITING [transactions]\n"), 2;
+    int count = atoi(argv[3]), poll = epoll_create1(0);
+    long waiting = atol(argv[7]);
+    port = atoi(argv[1]);
+    each = atol(argv[4]) / count;
+    body_length = atol(argv[5]) < 24 ? 24 : atol(argv[5]);
+    window = atol(argv[6]);
+    in_transactions = argc > 8;
+    waits = malloc(sizeof *waits * (size_t)(each * count));
+    Client *clients = calloc((size_t)count, sizeof *clients);
+    double rest = resident(argv[2]);
+    if (waiting) fill(waiting);
+    double filled = resident(argv[2]);
+    for (int k = 0; k < count; k++) {
+        open_client(&clients[k], k);
+        subscribe(&clients[k], poll);
+    }
+    double before = processor(argv[2]);
+    uint64_t start = now();
+    exchange(clients, count, poll);
     double seconds = (double)(now() - start) / 1e9;
     usleep(50000);
     double used = processor(argv[2]) - before;
     qsort(waits, (size_t)waited, sizeof *waits, by_size);
-    printf("%4d clients, bodies of %6ld, window %4ld: %8.0f messages a second, %6.2f s of processor for 100,000, round trip %6.0f us, "
-           "99 of 100 in %6.0f us, %5.1f MiB\n", count, body_length, window, (double)waited / seconds, used * 1e5 / (double)waited,
-           (double)waits[waited / 2] / 1e3, (double)waits[waited * 99 / 100] / 1e3, resident(argv[2]));
+    printf("%4d clients, bodies of %6ld, window %4ld, %6ld waiting%s: %8.0f messages a second, %6.2f s of processor for 100,000, "
+           "round trip %6.0f us, 99 of 100 in %6.0f us, the longest %6.0f us, memory %5.1f, %5.1f, %5.1f MiB\n",
+           count, body_length, window, waiting, in_transactions ? ", transactions" : "", (double)waited / seconds,
+           used * 1e5 / (double)waited, (double)waits[waited / 2] / 1e3, (double)waits[waited * 99 / 100] / 1e3,
+           (double)waits[waited - 1] / 1e3, rest, filled, resident(argv[2]));
     return 0;
 }

@@ -269,7 +269,8 @@ def few_descriptors():
         for client in clients:
             client.close()
         return (f"{len(first)} were served, {len(second)} when these had gone, {len(third)} more later; the broker took {spent:.2f} s of processor meanwhile",
-                len(first) in range(18, 21) and len(second) >= 18 and spent < 0.5)
+                # the honest client may not be counted yet, and what the broker inherited may lie above the limit
+                len(first) in range(18, 23) and len(second) >= 18 and spent < 0.5)
     finally:
         resource.prlimit(PID, resource.RLIMIT_NOFILE, limits)
 
