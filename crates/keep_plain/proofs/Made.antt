@@ -21,9 +21,11 @@ use Rattle.keep.specs.Listing.{place_of}
 use Rattle.keep.specs.Places.{place_cmp}
 use Rattle.keep.specs.Tables.{Tables, set_entity, set_mark, set_message, without_upto, changed_by}
 use Rattle.keep_plain.specs.Slots.{at, SetsAt}
-use Rattle.keep_plain.specs.Maps.{tables_in, messages_in, marks_at, with_mark}
+use Rattle.keep_plain.specs.Index.{messages_in, handled_at}
+use Rattle.keep_plain.specs.Maps.{tables_in, marks_at, with_mark}
 use Rattle.keep_plain.specs.Ready.{IsReady, KeepsAll, SameTables}
 use Rattle.keep_plain.specs.Upto.{EmptiesFrom}
+use Rattle.keep_plain.specs.declared.arrivals.Arrivals.{Arrivals}
 use Rattle.keep_plain.specs.declared.maps.Maps.{Maps}
 use Rattle.keep_plain.specs.declared.marks.Marks.{Marks}
 use Rattle.keep_plain.specs.declared.marks.Mark.TheVariants as mark
@@ -44,15 +46,15 @@ without : (p : Pair) (n : ℕ) (old new : BTreeMap Place (Option Message)) → E
 without p n old new h = fun_ext (λ q. fun_ext (λ k. emptied_is p n (messages_in old) (messages_in new) h q k))
 
 abbrev none : Marks
-none = record { sent = 0; settled = 0; handled = 0 }
+none = record { sent = 0; settled = 0 }
 
 -- the marks of a pair are set, and those of others stay
 module _ (p : Pair) (w : Marks) (old new : BTreeMap Pair (Option Marks)) (h : SetsAt pair_cmp p (Some w) old new) where
   marks_set : (q : Pair) → marks_at new q ≡ (if same_pair p q then w else marks_at old q)
-  marks_set q = ap (λ o. unwrap_or o (record { sent = 0; settled = 0; handled = 0 }))
+  marks_set q = ap (λ o. unwrap_or o (record { sent = 0; settled = 0 }))
       (h q ∙ ap (λ b. if b then Some w else at pair_cmp old q) (sym (same_pair-ties p q))) ∙ chosen (same_pair p q)
     where
-      chosen : (b : Bool) → unwrap_or (if b then Some w else at pair_cmp old q) (record { sent = 0; settled = 0; handled = 0 })
+      chosen : (b : Bool) → unwrap_or (if b then Some w else at pair_cmp old q) (record { sent = 0; settled = 0 })
           ≡ (if b then w else marks_at old q)
       chosen true = refl
       chosen false = refl
@@ -78,6 +80,17 @@ mark_stays f p w old new h e = fun_ext (λ q. ap f (marks_set p w old new h q) �
   | inr other ↦ rw other refl
 ])
 
+-- the handled mark of a pair is set
+handled_is : (p : Pair) (n : ℕ) (old new : BTreeMap Pair (Option ℕ)) → SetsAt pair_cmp p (Some n) old new
+    → handled_at new ≡ set_mark p n (handled_at old)
+handled_is p n old new h = fun_ext (λ q.
+    ap (λ o. unwrap_or o 0) (h q ∙ ap (λ b. if b then Some n else at pair_cmp old q) (sym (same_pair-ties p q)))
+    ∙ chosen (same_pair p q) (at pair_cmp old q))
+  where
+    chosen : (b : Bool) (o : Option ℕ) → unwrap_or (if b then Some n else o) 0 ≡ (if b then n else unwrap_or o 0)
+    chosen true o = refl
+    chosen false o = refl
+
 -- ---- the tables
 
 -- tables are the same where their parts are
@@ -98,8 +111,8 @@ same_tables old new h = same_parts (tables_in new) (tables_in old)
     (fun_ext (λ q. fun_ext (λ k. h.outbox (record { pair = q; number = k }))))
     (fun_ext (λ q. ap (λ m. (unwrap_or m none).sent) (h.marks q)))
     (fun_ext (λ q. ap (λ m. (unwrap_or m none).settled) (h.marks q)))
-    (fun_ext (λ q. ap (λ m. (unwrap_or m none).handled) (h.marks q)))
-    (fun_ext (λ q. fun_ext (λ k. h.held (record { pair = q; number = k }))))
+    (fun_ext (λ q. ap (λ n. unwrap_or n 0) (h.arrivals.handled q)))
+    (fun_ext (λ q. fun_ext (λ k. h.arrivals.held (record { pair = q; number = k }))))
 
 module _ {S C : Type 0} (old : Maps S C) where
   pub state_made : (e : Name) (row : Option S) (rows : BTreeMap Name (Option S)) → SetsAt entity_cmp e row old.rows rows
@@ -114,7 +127,7 @@ module _ {S C : Type 0} (old : Maps S C) where
       (sets_message (place_of l) (Some l.message) old.outbox outbox k)
       (mark_is (λ m. m.sent) l.pair l.number _ old.marks marks h refl)
       (mark_stays (λ m. m.settled) l.pair _ old.marks marks h refl)
-      (mark_stays (λ m. m.handled) l.pair _ old.marks marks h refl)
+      refl
       refl
 
   pub settled_made : (p : Pair) (n : ℕ) (marks : BTreeMap Pair (Option Marks)) (outbox : BTreeMap Place (Option Message))
@@ -125,27 +138,35 @@ module _ {S C : Type 0} (old : Maps S C) where
       (without p n old.outbox outbox k)
       (mark_stays (λ m. m.sent) p _ old.marks marks h refl)
       (mark_is (λ m. m.settled) p n _ old.marks marks h refl)
-      (mark_stays (λ m. m.handled) p _ old.marks marks h refl)
+      refl
       refl
 
-  pub handled_made : (p : Pair) (n : ℕ) (marks : BTreeMap Pair (Option Marks))
-      → SetsAt pair_cmp p (Some (with_mark mark.Handled n (marks_at old.marks p))) old.marks marks
-      → tables_in (record old { marks = marks }) ≡ changed_by (Handled p n) (tables_in old)
-  handled_made p n marks h = same_parts _ _ refl refl refl
-      (mark_stays (λ m. m.sent) p _ old.marks marks h refl)
-      (mark_stays (λ m. m.settled) p _ old.marks marks h refl)
-      (mark_is (λ m. m.handled) p n _ old.marks marks h refl)
-      refl
+  pub handled_made : (p : Pair) (n : ℕ) (arrivals : Arrivals) → SetsAt pair_cmp p (Some n) old.arrivals.handled arrivals.handled
+      → arrivals.held ≡ old.arrivals.held
+      → tables_in (record old { arrivals = arrivals }) ≡ changed_by (Handled p n) (tables_in old)
+  handled_made p n arrivals h e = same_parts _ _ refl refl refl refl refl
+      (handled_is p n old.arrivals.handled arrivals.handled h)
+      (ap messages_in e)
 
-  pub held_made : (l : Letter) (held : BTreeMap Place (Option Message)) → SetsAt place_cmp (place_of l) (Some l.message) old.held held
-      → tables_in (record old { held = held }) ≡ changed_by (Held l) (tables_in old)
-  held_made l held h = ap (λ x. record (tables_in old) { held = x }) (sets_message (place_of l) (Some l.message) old.held held h)
+  -- a message is put at a place, or taken away there
+  message_made : (x : Place) (m : Option Message) (arrivals : Arrivals) → SetsAt place_cmp x m old.arrivals.held arrivals.held
+      → arrivals.handled ≡ old.arrivals.handled
+      → tables_in (record old { arrivals = arrivals })
+      ≡ record (tables_in old) { held = set_message x.pair x.number m (tables_in old).held }
+  message_made x m arrivals h e = same_parts _ _ refl refl refl refl refl
+      (ap handled_at e)
+      (sets_message x m old.arrivals.held arrivals.held h)
 
-  pub released_made : (p : Pair) (n : ℕ) (held : BTreeMap Place (Option Message))
-      → SetsAt place_cmp (record { pair = p; number = n }) None old.held held
-      → tables_in (record old { held = held }) ≡ changed_by (NotHeld p n) (tables_in old)
-  released_made p n held h = ap (λ x. record (tables_in old) { held = x })
-      (sets_message (record { pair = p; number = n }) None old.held held h)
+  pub held_made : (l : Letter) (arrivals : Arrivals) → SetsAt place_cmp (place_of l) (Some l.message) old.arrivals.held arrivals.held
+      → arrivals.handled ≡ old.arrivals.handled
+      → tables_in (record old { arrivals = arrivals }) ≡ changed_by (Held l) (tables_in old)
+  held_made l = message_made (place_of l) (Some l.message)
+
+  pub released_made : (p : Pair) (n : ℕ) (arrivals : Arrivals)
+      → SetsAt place_cmp (record { pair = p; number = n }) None old.arrivals.held arrivals.held
+      → arrivals.handled ≡ old.arrivals.handled
+      → tables_in (record old { arrivals = arrivals }) ≡ changed_by (NotHeld p n) (tables_in old)
+  released_made p n = message_made (record { pair = p; number = n }) None
 
 -- ---- slots that are there stay
 
@@ -154,8 +175,8 @@ ready_kept old new k (Journal position row) h = tt
 ready_kept old new k (State e row) h = k.rows e h
 ready_kept old new k (Sent l) h = (k.marks l.pair h.0, k.outbox (place_of l) h.1)
 ready_kept old new k (Settled p n) h = k.marks p h
-ready_kept old new k (Handled p n) h = k.marks p h
-ready_kept old new k (Held l) h = k.held (place_of l) h
+ready_kept old new k (Handled p n) h = (k.arrivals.handled p h.0, k.arrivals.drainable p h.1)
+ready_kept old new k (Held l) h = (k.arrivals.held (place_of l) h.0, k.arrivals.drainable l.pair h.1)
 ready_kept old new k (NotHeld p n) h = tt
 
 pub all_kept : {S C : Type 0} (old new : Maps S C) → KeepsAll old new → (cs : List (Change S C)) → AllByRecursion (IsReady old) cs
@@ -176,7 +197,7 @@ same_after a b c h k = record {
   rows = λ q. k.rows q ∙ h.rows q;
   marks = λ q. k.marks q ∙ h.marks q;
   outbox = λ q. k.outbox q ∙ h.outbox q;
-  held = λ q. k.held q ∙ h.held q;
+  arrivals = record { handled = λ q. k.arrivals.handled q ∙ h.arrivals.handled q; held = λ q. k.arrivals.held q ∙ h.arrivals.held q };
 }
 
 pub with_room : {S C : Type 0} (m : Maps S C) (journal : Vec (JournalRow C)) → journal.items ≡ m.journal.items

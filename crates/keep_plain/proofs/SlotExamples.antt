@@ -1,6 +1,7 @@
--- Examples: slots and what stands in them, the marks of a pair, letters in order, and the first pair whose next letter is held.
-use Rattle.std.proofs.Common.{◌≡◌, ℕ, List, [], ◌∷◌, Bool, true, false, cond, refl, sym, ap, ◌∙◌, arith}
+-- Examples: slots and what stands in them, the marks of a pair, letters in order, and the pairs whose next letter is held.
+use Rattle.std.proofs.Common.{◌≡◌, ℕ, ◌+◌, List, [], ◌∷◌, Bool, true, false, cond, refl, sym, ap, ◌∙◌, arith}
 use Rattle.std.specs.Prelude.{codes, Option, Some, None, is_some}
+use Rattle.std.specs.Option.{unwrap_or}
 use Rattle.std.specs.Ordering.{is_eq}
 use Rattle.std.specs.Map.{lookup}
 use Rattle.std.specs.BTreeMap.{BTreeMap}
@@ -13,9 +14,11 @@ use Rattle.envelope.specs.declared.message.Message.{Message}
 use Rattle.envelope.specs.declared.message.Message.TheVariants.{Request, Confirm}
 use Rattle.keep.specs.declared.change.Place.{Place}
 use Rattle.keep.specs.declared.change.Change.TheVariants.{Journal, Handled}
+use Rattle.keep.specs.Places.{place_cmp}
 use Rattle.keep.specs.Tables.{Messages, set_message}
+use Rattle.keep_plain.specs.Index.{IsIndexed}
 use Rattle.keep_plain.specs.Slots.{filled, SameAt}
-use Rattle.keep_plain.specs.Listed.{start_after, letter_in, letters_at, first_next}
+use Rattle.keep_plain.specs.Listed.{start_after, letter_in, letters_at, first_key}
 use Rattle.keep_plain.specs.Maps.{mark_of, with_mark, tables_in}
 use Rattle.keep_plain.specs.Memory.{in_memory}
 use Rattle.keep_plain.specs.Ready.{IsReady}
@@ -72,11 +75,11 @@ a_row_changes : (old new : BTreeMap Name (Option ℕ)) → old.entries ≡ [] �
 a_row_changes old new e f h = let z : some_row ≡ None = sym (ap (λ es. row_in es o1) f) ∙ h o1 ∙ ap (λ es. row_in es o1) e in cc
 
 -- without slots a row of the journal may be added, and no mark be set
-slots_are_needed : (m : Maps ℕ ℕ) (row : JournalRow ℕ) → m.marks.entries ≡ [] → IsReady m (Journal 1 row)
+slots_are_needed : (m : Maps ℕ ℕ) (row : JournalRow ℕ) → m.arrivals.handled.entries ≡ [] → IsReady m (Journal 1 row)
     × (IsReady m (Handled there 1) → ⊥)
 slots_are_needed m row e = (
   tt,
-  λ h. let z : false ≡ true = sym (ap (λ es. is_some (lookup (λ y. is_eq (pair_cmp there y)) es)) e) ∙ h in
+  λ h. let z : false ≡ true = sym (ap (λ es. is_some (lookup (λ y. is_eq (pair_cmp there y)) es)) e) ∙ h.0 in
       cc,
 )
 
@@ -88,11 +91,11 @@ memory_never_fails m = (refl, refl, refl, refl)
 -- ---- marks
 
 abbrev sent_two : Marks
-sent_two = record { sent = 2; settled = 1; handled = 0 }
+sent_two = record { sent = 2; settled = 1 }
 
-marks_are_set : (mark_of mark.Sent sent_two ≡ 2) × (mark_of mark.Settled sent_two ≡ 1) × (mark_of mark.Handled sent_two ≡ 0)
-    × (with_mark mark.Settled 2 sent_two ≡ record { sent = 2; settled = 2; handled = 0 })
-marks_are_set = (refl, refl, refl, refl)
+marks_are_set : (mark_of mark.Sent sent_two ≡ 2) × (mark_of mark.Settled sent_two ≡ 1)
+    × (with_mark mark.Settled 2 sent_two ≡ record { sent = 2; settled = 2 })
+marks_are_set = (refl, refl, refl)
 
 -- ---- letters
 
@@ -112,9 +115,26 @@ a_letter_is_read = (refl, refl)
 listings_start : (start_after (Some (place there 1)) ≡ Excluded (place there 1)) × (start_after None ≡ Unbounded)
 listings_start = (refl, refl)
 
--- where none was handled the first letter is next; where two were, the third is; the second is held no more
-the_next_is_found : (first_next (λ _. 0) slots ≡ Some there) × (first_next (λ _. 2) slots ≡ Some there) × (first_next (λ _. 1) slots ≡ None)
-the_next_is_found = (refl, refl, refl)
+-- the first filled slot, behind an empty one; there may be none
+abbrev pairs : List (Pair × Option (Unit {0}))
+pairs = (there, None) ∷ (back, Some tt) ∷ []
+
+the_first_is_found : (first_key pairs ≡ Some back) × (first_key slots ≡ Some (place there 1))
+    × (first_key {V = ℕ} ((there, None) ∷ []) ≡ None)
+the_first_is_found = (refl, refl, refl)
+
+abbrev stands : {V : Type 0} → List (Pair × Option V) → Pair → Option V
+stands es p = filled (lookup (λ y. is_eq (pair_cmp p y)) es)
+
+-- where none was handled the first letter is next, so its pair is missed
+indexes_are_whole : (handled : BTreeMap Pair (Option ℕ)) (held : BTreeMap Place (Option Message))
+    (drainable : BTreeMap Pair (Option (Unit {0}))) → handled.entries ≡ [] → held.entries ≡ slots → drainable.entries ≡ []
+    → IsIndexed handled held drainable → ⊥
+indexes_are_whole handled held drainable e f g h =
+    let z : false ≡ true = sym (ap (λ es. is_some (stands es there)) g) ∙ h there
+    ∙ ap (λ es. is_some (filled (lookup (λ y. is_eq (place_cmp (place there (unwrap_or (stands handled.entries there) 0 + 1)) y)) es))) f
+    ∙ ap (λ es. is_some (filled (lookup (λ y. is_eq (place_cmp (place there (unwrap_or (stands {V = ℕ} es there) 0 + 1)) y)) slots))) e in
+    cc
 
 abbrev both : Messages
 both = set_message there 1 (Some (Request 3)) (set_message there 2 (Some Confirm) (λ _ _. None))

@@ -14,7 +14,7 @@ use Rattle.keep.specs.declared.change.Place.{Place}
 use Rattle.keep.specs.Places.{place_cmp, same_place-ties, IsBefore}
 use Rattle.keep.specs.Tables.{Messages, without_upto}
 use Rattle.keep_plain.specs.Slots.{at, SetsAt, filled}
-use Rattle.keep_plain.specs.Maps.{messages_in}
+use Rattle.keep_plain.specs.Index.{messages_in}
 use Rattle.keep_plain.specs.Upto.{NoneBetween, EmptiesFrom}
 
 abbrev place : Pair → ℕ → Place
@@ -36,7 +36,7 @@ less_parts Less r h e = refl
 less_parts Equal r h e = absurd (true≢false e)
 less_parts Greater r h e = let z : Greater ≡ Less = h in cc
 
-number_less : (k n : ℕ) → nat_cmp k n ≡ Less → k < n
+pub number_less : (k n : ℕ) → nat_cmp k n ≡ Less → k < n
 number_less k n h = elim (cases_lt k n) [
   | inl less ↦ less
   | inr more ↦ elim (cases_eq k n) [
@@ -45,7 +45,7 @@ number_less k n h = elim (cases_lt k n) [
   ]
 ]
 
-unless_some : {A : Type 0} (o : Option A) → (IsSome o → ⊥) → o ≡ None
+pub unless_some : {A : Type 0} (o : Option A) → (IsSome o → ⊥) → o ≡ None
 unless_some None h = refl
 unless_some (Some a) h = absurd (h refl)
 

@@ -1,6 +1,6 @@
 -- A slot that is put where a key has none.
-use Rattle.std.proofs.Common.{◌≡◌, Option, Some, None, true, cond, refl, sym, ap, ◌∙◌, Ordering, Less, Equal, Greater}
-use Rattle.std.proofs.Common.{true≢false, inl, inr}
+use Rattle.std.proofs.Common.{◌≡◌, Option, Some, None, cond, refl, ap, ◌∙◌, Ordering}
+use Rattle.std.proofs.Common.{inl, inr}
 use Rattle.std.specs.Cmp.{IsTotalOrder}
 use Rattle.std.specs.Option.{unwrap_or}
 use Rattle.std.specs.Ordering.{is_eq}
@@ -8,11 +8,7 @@ use Rattle.std.specs.BTreeMap.{BTreeMap, get, get_by}
 use Rattle.std.proofs.Math.Path.{fun_ext}
 use Rattle.std.proofs.lemmas.Bool.{cases_Bool}
 use Rattle.keep_plain.specs.Slots.{at, filled}
-
-equal_is : (o : Ordering) → is_eq o ≡ true → o ≡ Equal
-equal_is Less h = absurd (true≢false (sym h))
-equal_is Equal h = refl
-equal_is Greater h = absurd (true≢false (sym h))
+use Rattle.keep_plain.proofs.Filled.{equal_is}
 
 written_back : {V : Type 0} (o : Option (Option V)) → unwrap_or o None ≡ filled o
 written_back None = refl

@@ -5,6 +5,7 @@ use Rattle.keep.specs.declared.change.Change.{Change}
 use Rattle.keep.specs.declared.change.Change.TheVariants.{Journal, State, Sent, Settled, Handled, Held, NotHeld}
 use Rattle.keep.specs.Listing.{place_of}
 use Rattle.keep.specs.Places.{place_cmp}
+use Rattle.keep_plain.specs.Arrivals.{CanHandle, CanHold, KeepsArrivals, SameArrivals}
 use Rattle.keep_plain.specs.Slots.{HasSlot, KeepsSlots, SameAt}
 use Rattle.keep_plain.specs.declared.maps.Maps.{Maps}
 
@@ -14,8 +15,8 @@ IsReady m (Journal position row) = ⊤
 IsReady m (State e row) = HasSlot entity_cmp m.rows e
 IsReady m (Sent l) = HasSlot pair_cmp m.marks l.pair × HasSlot place_cmp m.outbox (place_of l)
 IsReady m (Settled p n) = HasSlot pair_cmp m.marks p
-IsReady m (Handled p n) = HasSlot pair_cmp m.marks p
-IsReady m (Held l) = HasSlot place_cmp m.held (place_of l)
+IsReady m (Handled p n) = CanHandle m.arrivals p
+IsReady m (Held l) = CanHold m.arrivals (place_of l)
 IsReady m (NotHeld p n) = ⊤
 
 -- no slot is taken away
@@ -23,7 +24,7 @@ pub record KeepsAll {S C : Type 0} (old new : Maps S C) : Type 0 where
   pub rows : KeepsSlots entity_cmp old.rows new.rows
   pub marks : KeepsSlots pair_cmp old.marks new.marks
   pub outbox : KeepsSlots place_cmp old.outbox new.outbox
-  pub held : KeepsSlots place_cmp old.held new.held
+  pub arrivals : KeepsArrivals old.arrivals new.arrivals
 
 -- the tables stay, whatever slots are there
 pub record SameTables {S C : Type 0} (old new : Maps S C) : Type 0 where
@@ -31,4 +32,4 @@ pub record SameTables {S C : Type 0} (old new : Maps S C) : Type 0 where
   pub rows : SameAt entity_cmp old.rows new.rows
   pub marks : SameAt pair_cmp old.marks new.marks
   pub outbox : SameAt place_cmp old.outbox new.outbox
-  pub held : SameAt place_cmp old.held new.held
+  pub arrivals : SameArrivals old.arrivals new.arrivals

@@ -1,6 +1,7 @@
 -- Maps of slots.
 use Rattle.std.specs.Prelude.{◌≡◌, Option, Some, None, IsSome, if◌then◌else◌}
 use Rattle.std.specs.declared.cmp.Ordering.{Ordering}
+use Rattle.std.specs.declared.cmp.Ordering.TheVariants.{Less}
 use Rattle.std.specs.Ordering.{is_eq}
 use Rattle.std.specs.BTreeMap.{BTreeMap, get}
 
@@ -29,3 +30,8 @@ module _ {K V : Type 0} (cmp : K → K → Ordering) where
   -- at this key stands that value, or nothing; at others what stood there
   abbrev pub SetsAt : K → Option V → BTreeMap K (Option V) → BTreeMap K (Option V) → Type 0
   SetsAt k value old new = (q : K) → at new q ≡ (if is_eq (cmp k q) then value else at old q)
+
+  -- the first key at which something stands, or there is none
+  abbrev pub IsFirstFilled : (K → Option V) → Option K → Type 0
+  IsFirstFilled stands None = (k : K) → stands k ≡ None
+  IsFirstFilled stands (Some k) = IsSome (stands k) × ((q : K) → cmp q k ≡ Less → stands q ≡ None)

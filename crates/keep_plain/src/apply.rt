@@ -13,7 +13,7 @@ use crate::copies::copy_place;
 use crate::maps::Maps;
 use crate::marks::{Mark, set_mark};
 use crate::outbox::{empty_upto, sweep_upto};
-use crate::slots::{empty_slot, make_slot, set_slot, sweep_slot};
+use crate::slots::{make_slot, set_slot, sweep_slot};
 use base::{Entity, Number, Pair};
 use envelope::Letter;
 use keep::{Change, Place};
@@ -37,10 +37,9 @@ fn make_slots<S: Drop, C>(
             make_slot(&mut maps.marks, letter.pair.copy(alloc)?)?;
             make_slot(&mut maps.outbox, copy_place(alloc, letter)?)
         }
-        Change::Settled(pair, _) | Change::Handled(pair, _) => {
-            make_slot(&mut maps.marks, pair.copy(alloc)?)
-        }
-        Change::Held(letter) => make_slot(&mut maps.held, copy_place(alloc, letter)?),
+        Change::Settled(pair, _) => make_slot(&mut maps.marks, pair.copy(alloc)?),
+        Change::Handled(pair, _) => maps.arrivals.make_handled(alloc, pair),
+        Change::Held(letter) => maps.arrivals.make_held(alloc, letter),
     }
 }
 
@@ -73,18 +72,21 @@ fn settle<S: Drop, C: Drop>(maps: &mut Maps<S, C>, pair: Pair, number: Number) -
     place.pair
 }
 
-/// Sets the handled mark of a pair, in a slot that is there.
-fn handle<S: Drop, C: Drop>(maps: &mut Maps<S, C>, pair: &Pair, number: Number)
-    requires { IsReady maps.old (Handled pair.now number) }
-    ensures made { tables_in maps.new ≡ changed_by (Handled pair.now number) (tables_in maps.old) }
+/// Sets the handled mark of a pair, in slots that are there. The slot of the pair as a drainable one may be left empty.
+fn handle<S: Drop, C: Drop>(maps: &mut Maps<S, C>, pair: Pair, number: Number) -> Pair
+    requires { IsReady maps.old (Handled pair number) }
+    ensures pair { result ≡ pair }
+    ensures made { tables_in maps.new ≡ changed_by (Handled pair number) (tables_in maps.old) }
     ensures keeps { KeepsAll maps.old maps.new }
     ensures journal { maps.new.journal ≡ maps.old.journal }
 {
-    set_mark(&mut maps.marks, pair, Mark::Handled, number);
+    let place = Place { pair, number };
+    maps.arrivals.handle(&place);
+    place.pair
 }
 
-/// Holds a letter, in a slot that is there.
-fn hold<S: Drop, C: Drop>(maps: &mut Maps<S, C>, letter: Letter)
+/// Holds a letter, in slots that are there, and gives its place. The slot of its pair as a drainable one may be left empty.
+fn hold<S: Drop, C: Drop>(maps: &mut Maps<S, C>, letter: Letter) -> Place
     requires { IsReady maps.old (Held letter) }
     ensures made { tables_in maps.new ≡ changed_by (Held letter) (tables_in maps.old) }
     ensures keeps { KeepsAll maps.old maps.new }
@@ -94,10 +96,11 @@ fn hold<S: Drop, C: Drop>(maps: &mut Maps<S, C>, letter: Letter)
         pair: letter.pair,
         number: letter.number,
     };
-    set_slot(&mut maps.held, &place, Some(letter.message));
+    maps.arrivals.hold(&place, letter.message);
+    place
 }
 
-/// Holds a letter no more. Its slot is left empty.
+/// Holds a letter no more. Its slots are left empty.
 fn release<S: Drop, C: Drop>(maps: &mut Maps<S, C>, pair: Pair, number: Number) -> Pair
     ensures pair { result ≡ pair }
     ensures made { tables_in maps.new ≡ changed_by (NotHeld pair number) (tables_in maps.old) }
@@ -105,7 +108,7 @@ fn release<S: Drop, C: Drop>(maps: &mut Maps<S, C>, pair: Pair, number: Number) 
     ensures journal { maps.new.journal ≡ maps.old.journal }
 {
     let place = Place { pair, number };
-    empty_slot(&mut maps.held, &place);
+    maps.arrivals.release(&place);
     place.pair
 }
 
@@ -155,12 +158,12 @@ fn make_change<S: Drop, C: Drop>(
             Some(Change::Settled(pair, number))
         }
         Change::Handled(pair, number) => {
-            handle(maps, &pair, number);
-            None
+            let pair = handle(maps, pair, number);
+            Some(Change::Handled(pair, number))
         }
         Change::Held(letter) => {
-            hold(maps, letter);
-            None
+            let place = hold(maps, letter);
+            Some(Change::NotHeld(place.pair, place.number))
         }
         Change::NotHeld(pair, number) => {
             let pair = release(maps, pair, number);
@@ -188,15 +191,12 @@ fn sweep_change<S: Drop, C: Drop>(maps: &mut Maps<S, C>, change: Change<S, C>)
             sweep_slot(&mut maps.marks, &pair);
             sweep_upto(&mut maps.outbox, Place { pair, number });
         }
-        Change::Handled(pair, _) => sweep_slot(&mut maps.marks, &pair),
-        Change::Held(letter) => {
-            let place = Place {
-                pair: letter.pair,
-                number: letter.number,
-            };
-            sweep_slot(&mut maps.held, &place);
-        }
-        Change::NotHeld(pair, number) => sweep_slot(&mut maps.held, &Place { pair, number }),
+        Change::Handled(pair, _) => maps.arrivals.sweep_handled(&pair),
+        Change::Held(letter) => maps.arrivals.sweep_held(&Place {
+            pair: letter.pair,
+            number: letter.number,
+        }),
+        Change::NotHeld(pair, number) => maps.arrivals.sweep_held(&Place { pair, number }),
     }
 }
 
@@ -253,9 +253,9 @@ fn count_emptying<S, C>(changes: &[Change<S, C>]) -> usize {
     changes
         .iter()
         .filter(|change| {
-            matches!(
+            !matches!(
                 change,
-                Change::State(_, None) | Change::Settled(_, _) | Change::NotHeld(_, _)
+                Change::Journal(_, _) | Change::State(_, Some(_)) | Change::Sent(_)
             )
         })
         .count()

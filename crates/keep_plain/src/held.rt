@@ -1,16 +1,17 @@
-//! The messages that came too early.
+//! The messages that came too early, and the pairs whose next message is one of them.
 
-ghost use Rattle.std.specs.Prelude.{◌≡◌, ◌+◌, ◌==◌, IfOk};
-ghost use Rattle.keep.specs.Listing.{IsDrainable, next_held};
-ghost use Rattle.keep_plain.specs.Maps.{marks_at, messages_in};
+ghost use Rattle.std.specs.Prelude.{◌≡◌, ◌+◌, ◌==◌, ◌&&◌, IfOk, is_some};
+ghost use Rattle.base.specs.Order.{pair_cmp, same_pair};
+ghost use Rattle.keep_plain.specs.Index.{messages_in};
+ghost use Rattle.keep_plain.specs.Slots.{at, IsFirstFilled};
 
-use crate::marks::{Mark, Marks, find_mark};
 use crate::slots::get_slot;
 use base::{Number, Pair};
 use envelope::Message;
 use keep::Place;
 use std::alloc::{AllocError, Global};
 use std::collections::BTreeMap;
+use std::ops::Bound;
 
 /// The message of a pair and number, where one is held.
 pub fn find_message(
@@ -28,24 +29,36 @@ pub fn find_message(
     Ok(get_slot(held, &place).copied())
 }
 
-/// Whether a place is the next of its pair: its number is one more than the handled mark.
-fn is_next(marks: &BTreeMap<Pair, Option<Marks>>, place: &Place) -> bool
-    ensures { result ≡ (((marks_at marks.now place.now.pair).handled + 1) == place.now.number) }
+/// Whether a place is behind another: of its pair, and with the next number.
+fn is_behind(place: &Place, other: &Place) -> bool
+    ensures { result ≡ (same_pair place.now.pair other.now.pair && ((other.now.number + 1) == place.now.number)) }
 {
-    place.number.get() - 1 == find_mark(marks, &place.pair, Mark::Handled)
+    place.pair == other.pair && place.number.get() - 1 == other.number.get()
 }
 
-/// A copy of the first pair whose next message is held.
-pub fn first_drainable(
-    alloc: Global,
-    held: &BTreeMap<Place, Option<Message>>,
-    marks: &BTreeMap<Pair, Option<Marks>>,
-) -> Result<Option<Pair>, AllocError>
-    ensures { IfOk result (IsDrainable (next_held (messages_in held.now) (λ p. (marks_at marks.now p).handled))) }
+/// Whether the message behind a place is held.
+pub fn has_next(held: &BTreeMap<Place, Option<Message>>, place: &Place) -> bool
+    ensures { result ≡ is_some (messages_in held.now place.now.pair (place.now.number + 1)) }
 {
-    for (place, slot) in held {
-        if slot.is_some() && is_next(marks, place) {
-            return Ok(Some(place.pair.copy(alloc)?));
+    let Some((found, slot)) = held
+        .range((Bound::Excluded(place), Bound::Unbounded))
+        .next()
+    else {
+        return false;
+    };
+    is_behind(found, place) && slot.is_some()
+}
+
+/// A copy of the first pair that stands among these.
+pub fn first_filled(
+    alloc: Global,
+    pairs: &BTreeMap<Pair, Option<()>>,
+) -> Result<Option<Pair>, AllocError>
+    ensures { IfOk result (IsFirstFilled pair_cmp (at pair_cmp pairs.now)) }
+{
+    for (pair, slot) in pairs {
+        if slot.is_some() {
+            return Ok(Some(pair.copy(alloc)?));
         }
     }
     Ok(None)

@@ -1,5 +1,6 @@
 //! The maps that the tables are kept in.
 
+use crate::arrivals::Arrivals;
 use crate::marks::Marks;
 use activities::JournalRow;
 use base::{Entity, Pair};
@@ -14,10 +15,10 @@ pub struct Maps<S, C> {
     pub journal: Vec<JournalRow<C>>,
     /// The rows of entities.
     pub rows: BTreeMap<Entity, Option<S>>,
-    /// The marks of pairs.
+    /// The marks of pairs that send.
     pub marks: BTreeMap<Pair, Option<Marks>>,
     /// What was sent and isn't settled.
     pub outbox: BTreeMap<Place, Option<Message>>,
-    /// What came too early.
-    pub held: BTreeMap<Place, Option<Message>>,
+    /// What arrives.
+    pub arrivals: Arrivals,
 }

@@ -3,8 +3,8 @@
 ghost use Rattle.std.specs.Prelude.{◌≡◌, true};
 
 use crate::apply::apply;
+use crate::arrivals::Arrivals;
 use crate::entities::copy_row;
-use crate::held::{find_message, first_drainable};
 use crate::journal::copy_page;
 use crate::maps::Maps;
 use crate::marks::{Mark, find_mark};
@@ -35,7 +35,7 @@ impl<H: Handler> PlainKeep<H> {
                 rows: BTreeMap::new(alloc),
                 marks: BTreeMap::new(alloc),
                 outbox: BTreeMap::new(alloc),
-                held: BTreeMap::new(alloc),
+                arrivals: Arrivals::new(alloc),
             },
         }
     }
@@ -70,7 +70,7 @@ impl<H: Handler> Keep for PlainKeep<H> {
     }
 
     fn handled(&mut self, _alloc: Global, pair: &Pair) -> Result<u64, KeepFault> {
-        Ok(find_mark(&self.maps.marks, pair, Mark::Handled))
+        Ok(self.maps.arrivals.find_handled(pair))
     }
 
     fn held(
@@ -79,11 +79,11 @@ impl<H: Handler> Keep for PlainKeep<H> {
         pair: &Pair,
         number: Number,
     ) -> Result<Option<Message>, KeepFault> {
-        Ok(find_message(alloc, &self.maps.held, pair, number)?)
+        Ok(self.maps.arrivals.find_held(alloc, pair, number)?)
     }
 
     fn drainable(&mut self, alloc: Global) -> Result<Option<Pair>, KeepFault> {
-        Ok(first_drainable(alloc, &self.maps.held, &self.maps.marks)?)
+        Ok(self.maps.arrivals.first_drainable(alloc)?)
     }
 
     fn unsettled(

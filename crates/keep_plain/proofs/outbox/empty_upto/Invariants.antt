@@ -1,6 +1,6 @@
 use Rattle.std.proofs.Common.{◌≡◌, ◌≤◌}
 use Rattle.keep.specs.Places.{place_cmp}
-use Rattle.keep_plain.specs.Maps.{messages_in}
+use Rattle.keep_plain.specs.Index.{messages_in}
 use Rattle.keep_plain.specs.Slots.{KeepsSlots}
 use Rattle.keep_plain.specs.Upto.{EmptiesFrom}
 use Rattle.keep_plain.proofs.outbox.empty_upto.Given as goal
