@@ -1,11 +1,10 @@
 -- What always holds of an order, of a stock and of an account.
 use Rattle.std.proofs.Common.{◌≡◌, ℕ, ◌+◌, ◌≤◌, ◌≢◌, List, [], ◌∷◌, Bool, true, false, refl, ap, arith, sym, Option, Some, None, Result, Ok}
 use Rattle.std.proofs.Common.{Err, subst}
-use Rattle.std.specs.Prelude.{map, if◌then◌else◌, nat_le, nat_lt, ◌==◌, ◌&&◌, ◌||◌, is_none, IfOk}
+use Rattle.std.specs.Prelude.{map, if◌then◌else◌, nat_le, nat_lt, ◌==◌, ◌&&◌, ◌||◌, IfOk}
 use Rattle.std.proofs.lemmas.Bool.Decides.{nat_tests}
 use Rattle.base.specs.Entity.{Name, stock_of, account_of}
 use Rattle.base.specs.Order.{same_entity}
-use Rattle.base.specs.declared.entity.Kind.{Kind}
 use Rattle.base.specs.declared.entity.Kind.TheVariants.{Order, Stock, Account}
 use Rattle.base.specs.Number.{is_number}
 use Rattle.envelope.specs.declared.message.Message.{Message}
@@ -23,14 +22,16 @@ use Rattle.activities.specs.declared.outs.Out.{Out}
 use Rattle.activities.specs.declared.phase.LinePhase.{LinePhase}
 use Rattle.activities.specs.declared.phase.LinePhase.TheVariants.{Held, Done, Released}
 use Rattle.activities.specs.declared.phase.Phase.{Phase}
-use Rattle.activities.specs.Accounts.{AccountState, account_reactions, account_request, account_confirm, account_cancel, on_account_message}
-use Rattle.activities.specs.Lines.{Line, is_order, same_phase, line_of, with_line_phase, share_of, total}
+use Rattle.activities.specs.Accounts.{AccountState, account_reactions, account_holding}
+use Rattle.activities.specs.Holding.{held_for, refused_to, finished_for, freed_for, held_by}
+use Rattle.activities.specs.Lines.{line_of, share_of}
 use Rattle.activities.specs.Orders.{Partner, OrderState, is_open, awaits, with_phase, all_tentative, all_in, partners_of, tentative_from}
 use Rattle.activities.specs.Orders.{refused_by, on_order_message, order_reactions}
 use Rattle.activities.specs.Reaction.{Reactions, react, after_answer, state}
 use Rattle.activities.specs.Sound.{IsInvariant, AreStocksThenAccount, IsOrderSound, IsStockSound, IsAccountSound}
-use Rattle.activities.specs.Stocks.{StockState, stock_reactions, stock_request, stock_confirm, stock_cancel, on_stock_message}
-use Rattle.activities.proofs.Lines.{sum_by-with, sum_by-with_phase, lines_sound-none, lines_sound-with, lines_sound-with_phase}
+use Rattle.activities.specs.Stocks.{StockState, stock_reactions, stock_holding}
+use Rattle.activities.proofs.Holdings.{KeepsHolding, message_kept, left}
+use Rattle.activities.proofs.LineLists.{sum_by-with, lines_sound-none, lines_sound-with, lines_sound-with_phase}
 use Rattle.activities.proofs.Reactions.{holds_along}
 
 -- ---- what the opening state has and each reaction keeps, every state has
@@ -130,120 +131,69 @@ order_kept x (FromEntity s number m) h = order_message x s m h
 pub orders-invariant : IsInvariant order_reactions IsOrderSound
 orders-invariant = record { opening = tt; kept = order_kept }
 
--- ---- lines
-
--- how the sums change with a line that was held
-pub record Left (p : LinePhase) (o : Name) (l : Line) (ls : List Line) : Type 0 where
-  pub held : total Held (with_line_phase o p ls) + l.n ≡ total Held ls
-  pub done : total Done (with_line_phase o p ls) ≡ total Done ls + share_of Done (record l { phase = p })
-
-is_held : (p : LinePhase) → same_phase Held p ≡ true → p ≡ Held
-is_held Held h = refl
-is_held LinePhase.Refused h = absurd (cc)
-is_held Done h = absurd (cc)
-is_held Released h = absurd (cc)
-
-left : (p : LinePhase) (o : Name) (l : Line) (ls : List Line) → line_of o ls ≡ Some l → same_phase Held l.phase ≡ true
-    → share_of Held (record l { phase = p }) ≡ 0 → Left p o l ls
-left p o l ls at held none =
-    let h = sum_by-with_phase (share_of Held) p o l ls at in
-    let d = sum_by-with_phase (share_of Done) p o l ls at in
-    let is : l.phase ≡ Held = is_held l.phase held in
-    let a : share_of Held l ≡ l.n = rw held in
-    let b : share_of Done l ≡ 0 = rw is in
-    record { held = omega arith; done = omega arith }
-
-order_is : (k : Kind) → is_order k ≡ true → k ≡ Order
-order_is Order h = refl
-order_is Stock h = absurd (cc)
-order_is Account h = absurd (cc)
-
-none_is : (l : Option Line) → is_none l ≡ true → l ≡ None
-none_is None h = refl
-none_is (Some l) h = absurd (cc)
-
 -- ---- stocks
 
-stock_line : (x : StockState) (s : Name) (n : ℕ) → s.kind ≡ Order → line_of s x.lines ≡ None → IsStockSound x
-    → IsStockSound (stock_request x s n).0
-stock_line x s n kind none h = by_case (nat_le (x.held + n) x.on_hand) refl
-  where
-    by_case : (t : Bool) → nat_le (x.held + n) x.on_hand ≡ t → IsStockSound (stock_request x s n).0
-    by_case true e =
-        let fits : x.held + n ≤ x.on_hand = grind (arith, nat_tests) in
-        let a = sum_by-with (share_of Held) (record { order = s; n = n; phase = Held }) x.lines in
-        let b = sum_by-with (share_of Done) (record { order = s; n = n; phase = Held }) x.lines in
-        rw e (record {
-          conserved = h.conserved;
-          bounded = h.bounded;
-          covered = fits;
-          held = omega arith;
-          shipped = omega arith;
-          lines = lines_sound-with (record { order = s; n = n; phase = Held }) x.lines kind none h.lines;
-        })
-    by_case false e =
-        let a = sum_by-with (share_of Held) (record { order = s; n = n; phase = LinePhase.Refused }) x.lines in
-        let b = sum_by-with (share_of Done) (record { order = s; n = n; phase = LinePhase.Refused }) x.lines in
-        rw e (record {
-          conserved = h.conserved;
-          bounded = h.bounded;
-          covered = h.covered;
-          held = omega arith;
-          shipped = omega arith;
-          lines = lines_sound-with (record { order = s; n = n; phase = LinePhase.Refused }) x.lines kind none h.lines;
-        })
+stock_holds : (x : StockState) (s : Name) (n : ℕ) → s.kind ≡ Order → line_of s x.lines ≡ None
+    → nat_le (x.held + n) x.on_hand ≡ true → IsStockSound x → IsStockSound (held_for stock_holding x s n)
+stock_holds x s n kind none e h =
+    let fits : x.held + n ≤ x.on_hand = grind (arith, nat_tests) in
+    let a = sum_by-with (share_of Held) (record { order = s; n = n; phase = Held }) x.lines in
+    let b = sum_by-with (share_of Done) (record { order = s; n = n; phase = Held }) x.lines in
+    record {
+      conserved = h.conserved;
+      bounded = h.bounded;
+      covered = fits;
+      held = omega arith;
+      shipped = omega arith;
+      lines = lines_sound-with (record { order = s; n = n; phase = Held }) x.lines kind none h.lines;
+    }
 
-stock_ships : (x : StockState) (s : Name) (l : Option Line) → line_of s x.lines ≡ l → IsStockSound x → IsStockSound (stock_confirm x s l).0
-stock_ships x s None at h = h
-stock_ships x s (Some l) at h = by_case (same_phase Held l.phase) refl
-  where
-    by_case : (t : Bool) → same_phase Held l.phase ≡ t → IsStockSound (stock_confirm x s (Some l)).0
-    by_case true e = let m = left Done s l x.lines at e refl in
-        rw e (record {
-          conserved = omega arith;
-          bounded = h.bounded;
-          covered = omega arith;
-          held = omega arith;
-          shipped = omega arith;
-          lines = lines_sound-with_phase s Done x.lines h.lines;
-        })
-    by_case false e = rw e h
+stock_refuses : (x : StockState) (s : Name) (n : ℕ) → s.kind ≡ Order → line_of s x.lines ≡ None → IsStockSound x
+    → IsStockSound (refused_to stock_holding x s n)
+stock_refuses x s n kind none h =
+    let a = sum_by-with (share_of Held) (record { order = s; n = n; phase = LinePhase.Refused }) x.lines in
+    let b = sum_by-with (share_of Done) (record { order = s; n = n; phase = LinePhase.Refused }) x.lines in
+    record {
+      conserved = h.conserved;
+      bounded = h.bounded;
+      covered = h.covered;
+      held = omega arith;
+      shipped = omega arith;
+      lines = lines_sound-with (record { order = s; n = n; phase = LinePhase.Refused }) x.lines kind none h.lines;
+    }
 
-stock_releases : (x : StockState) (s : Name) (l : Option Line) → line_of s x.lines ≡ l → IsStockSound x
-    → IsStockSound (stock_cancel x s l).0
-stock_releases x s None at h = h
-stock_releases x s (Some l) at h = by_case (same_phase Held l.phase) refl
-  where
-    by_case : (t : Bool) → same_phase Held l.phase ≡ t → IsStockSound (stock_cancel x s (Some l)).0
-    by_case true e = let m = left Released s l x.lines at e refl in
-        rw e (record {
-          conserved = h.conserved;
-          bounded = h.bounded;
-          covered = omega arith;
-          held = omega arith;
-          shipped = omega arith;
-          lines = lines_sound-with_phase s Released x.lines h.lines;
-        })
-    by_case false e = rw e h
+stock_finishes : (x : StockState) (s : Name) (n : ℕ) → held_by (line_of s x.lines) ≡ Some n → IsStockSound x
+    → IsStockSound (finished_for stock_holding x s n)
+stock_finishes x s n at h =
+    let m = left Done s n x.lines at refl in
+    record {
+      conserved = omega arith;
+      bounded = h.bounded;
+      covered = omega arith;
+      held = omega arith;
+      shipped = omega arith;
+      lines = lines_sound-with_phase s Done x.lines h.lines;
+    }
 
-stock_message : (x : StockState) (s : Name) (m : Message) → IsStockSound x → IsStockSound (on_stock_message x s m).0
-stock_message x s (Request n) h = by_case (is_order s.kind && is_none (line_of s x.lines)) refl
-  where
-    by_case : (t : Bool) → (is_order s.kind && is_none (line_of s x.lines)) ≡ t
-        → IsStockSound (if t then stock_request x s n else (x, [])).0
-    by_case true e =
-        let none : is_none (line_of s x.lines) ≡ true = grind arith in
-        let kind : is_order s.kind ≡ true = grind arith in
-        stock_line x s n (order_is s.kind kind) (none_is (line_of s x.lines) none) h
-    by_case false e = h
-stock_message x s Confirm h = stock_ships x s _ refl h
-stock_message x s Cancel h = stock_releases x s _ refl h
-stock_message x s Tentative h = h
-stock_message x s Refused h = h
+stock_frees : (x : StockState) (s : Name) (n : ℕ) → held_by (line_of s x.lines) ≡ Some n → IsStockSound x
+    → IsStockSound (freed_for stock_holding x s n)
+stock_frees x s n at h =
+    let m = left Released s n x.lines at refl in
+    record {
+      conserved = h.conserved;
+      bounded = h.bounded;
+      covered = omega arith;
+      held = omega arith;
+      shipped = omega arith;
+      lines = lines_sound-with_phase s Released x.lines h.lines;
+    }
+
+pub stocks_keep : KeepsHolding stock_holding IsStockSound
+stocks_keep = record { holds = stock_holds; refuses = stock_refuses; finishes = stock_finishes; frees = stock_frees }
 
 stock_kept : (x : StockState) (input : Input StockCommand) → IsStockSound x
     → IfOk (react stock_reactions x input) (λ done. IsStockSound done.0)
-stock_kept x (FromEntity s number m) h = stock_message x s m h
+stock_kept x (FromEntity s number m) h = message_kept stock_holding IsStockSound stocks_keep x s m h
 stock_kept x (FromSeat seat (Receive n)) h = by_case (n == 0 || nat_lt 1099511627776 (x.received + n)) refl
   where
     by_case : (t : Bool) → (n == 0 || nat_lt 1099511627776 (x.received + n)) ≡ t
@@ -277,83 +227,63 @@ stocks-invariant = record {
 
 -- ---- accounts
 
-account_line : (x : AccountState) (s : Name) (n : ℕ) → s.kind ≡ Order → line_of s x.lines ≡ None → IsAccountSound x
-    → IsAccountSound (account_request x s n).0
-account_line x s n kind none h = by_case (nat_le (x.billed + x.held + n) x.limit) refl
-  where
-    by_case : (t : Bool) → nat_le (x.billed + x.held + n) x.limit ≡ t → IsAccountSound (account_request x s n).0
-    by_case true e =
-        let fits : x.billed + x.held + n ≤ x.limit = grind (arith, nat_tests) in
-        let a = sum_by-with (share_of Held) (record { order = s; n = n; phase = Held }) x.lines in
-        let b = sum_by-with (share_of Done) (record { order = s; n = n; phase = Held }) x.lines in
-        rw e (record {
-          bounded = h.bounded;
-          covered = omega arith;
-          held = omega arith;
-          billed = omega arith;
-          lines = lines_sound-with (record { order = s; n = n; phase = Held }) x.lines kind none h.lines;
-        })
-    by_case false e =
-        let a = sum_by-with (share_of Held) (record { order = s; n = n; phase = LinePhase.Refused }) x.lines in
-        let b = sum_by-with (share_of Done) (record { order = s; n = n; phase = LinePhase.Refused }) x.lines in
-        rw e (record {
-          bounded = h.bounded;
-          covered = h.covered;
-          held = omega arith;
-          billed = omega arith;
-          lines = lines_sound-with (record { order = s; n = n; phase = LinePhase.Refused }) x.lines kind none h.lines;
-        })
+account_holds : (x : AccountState) (s : Name) (n : ℕ) → s.kind ≡ Order → line_of s x.lines ≡ None
+    → nat_le (x.billed + x.held + n) x.limit ≡ true → IsAccountSound x → IsAccountSound (held_for account_holding x s n)
+account_holds x s n kind none e h =
+    let fits : x.billed + x.held + n ≤ x.limit = grind (arith, nat_tests) in
+    let a = sum_by-with (share_of Held) (record { order = s; n = n; phase = Held }) x.lines in
+    let b = sum_by-with (share_of Done) (record { order = s; n = n; phase = Held }) x.lines in
+    record {
+      bounded = h.bounded;
+      covered = omega arith;
+      held = omega arith;
+      billed = omega arith;
+      lines = lines_sound-with (record { order = s; n = n; phase = Held }) x.lines kind none h.lines;
+    }
 
-account_bills : (x : AccountState) (s : Name) (l : Option Line) → line_of s x.lines ≡ l → IsAccountSound x
-    → IsAccountSound (account_confirm x s l).0
-account_bills x s None at h = h
-account_bills x s (Some l) at h = by_case (same_phase Held l.phase) refl
-  where
-    by_case : (t : Bool) → same_phase Held l.phase ≡ t → IsAccountSound (account_confirm x s (Some l)).0
-    by_case true e = let m = left Done s l x.lines at e refl in
-        rw e (record {
-          bounded = h.bounded;
-          covered = omega arith;
-          held = omega arith;
-          billed = omega arith;
-          lines = lines_sound-with_phase s Done x.lines h.lines;
-        })
-    by_case false e = rw e h
+account_refuses : (x : AccountState) (s : Name) (n : ℕ) → s.kind ≡ Order → line_of s x.lines ≡ None → IsAccountSound x
+    → IsAccountSound (refused_to account_holding x s n)
+account_refuses x s n kind none h =
+    let a = sum_by-with (share_of Held) (record { order = s; n = n; phase = LinePhase.Refused }) x.lines in
+    let b = sum_by-with (share_of Done) (record { order = s; n = n; phase = LinePhase.Refused }) x.lines in
+    record {
+      bounded = h.bounded;
+      covered = h.covered;
+      held = omega arith;
+      billed = omega arith;
+      lines = lines_sound-with (record { order = s; n = n; phase = LinePhase.Refused }) x.lines kind none h.lines;
+    }
 
-account_releases : (x : AccountState) (s : Name) (l : Option Line) → line_of s x.lines ≡ l → IsAccountSound x
-    → IsAccountSound (account_cancel x s l).0
-account_releases x s None at h = h
-account_releases x s (Some l) at h = by_case (same_phase Held l.phase) refl
-  where
-    by_case : (t : Bool) → same_phase Held l.phase ≡ t → IsAccountSound (account_cancel x s (Some l)).0
-    by_case true e = let m = left Released s l x.lines at e refl in
-        rw e (record {
-          bounded = h.bounded;
-          covered = omega arith;
-          held = omega arith;
-          billed = omega arith;
-          lines = lines_sound-with_phase s Released x.lines h.lines;
-        })
-    by_case false e = rw e h
+account_finishes : (x : AccountState) (s : Name) (n : ℕ) → held_by (line_of s x.lines) ≡ Some n → IsAccountSound x
+    → IsAccountSound (finished_for account_holding x s n)
+account_finishes x s n at h =
+    let m = left Done s n x.lines at refl in
+    record {
+      bounded = h.bounded;
+      covered = omega arith;
+      held = omega arith;
+      billed = omega arith;
+      lines = lines_sound-with_phase s Done x.lines h.lines;
+    }
 
-account_message : (x : AccountState) (s : Name) (m : Message) → IsAccountSound x → IsAccountSound (on_account_message x s m).0
-account_message x s (Request n) h = by_case (is_order s.kind && is_none (line_of s x.lines)) refl
-  where
-    by_case : (t : Bool) → (is_order s.kind && is_none (line_of s x.lines)) ≡ t
-        → IsAccountSound (if t then account_request x s n else (x, [])).0
-    by_case true e =
-        let none : is_none (line_of s x.lines) ≡ true = grind arith in
-        let kind : is_order s.kind ≡ true = grind arith in
-        account_line x s n (order_is s.kind kind) (none_is (line_of s x.lines) none) h
-    by_case false e = h
-account_message x s Confirm h = account_bills x s _ refl h
-account_message x s Cancel h = account_releases x s _ refl h
-account_message x s Tentative h = h
-account_message x s Refused h = h
+account_frees : (x : AccountState) (s : Name) (n : ℕ) → held_by (line_of s x.lines) ≡ Some n → IsAccountSound x
+    → IsAccountSound (freed_for account_holding x s n)
+account_frees x s n at h =
+    let m = left Released s n x.lines at refl in
+    record {
+      bounded = h.bounded;
+      covered = omega arith;
+      held = omega arith;
+      billed = omega arith;
+      lines = lines_sound-with_phase s Released x.lines h.lines;
+    }
+
+pub accounts_keep : KeepsHolding account_holding IsAccountSound
+accounts_keep = record { holds = account_holds; refuses = account_refuses; finishes = account_finishes; frees = account_frees }
 
 account_kept : (x : AccountState) (input : Input AccountCommand) → IsAccountSound x
     → IfOk (react account_reactions x input) (λ done. IsAccountSound done.0)
-account_kept x (FromEntity s number m) h = account_message x s m h
+account_kept x (FromEntity s number m) h = message_kept account_holding IsAccountSound accounts_keep x s m h
 account_kept x (FromSeat seat (SetLimit n)) h = by_case (nat_lt 1099511627776 n) (nat_lt n (x.billed + x.held)) refl refl
   where
     by_case : (t u : Bool) → nat_lt 1099511627776 n ≡ t → nat_lt n (x.billed + x.held) ≡ u

@@ -13,7 +13,7 @@ use Rattle.activities.specs.Accounts.{AccountState}
 use Rattle.activities.specs.Lines.{Line}
 use Rattle.activities.specs.Sound.{IsInvariant, AreStocksThenAccount, IsOrderSound, AreLinesSound, IsStockSound, IsAccountSound}
 use Rattle.activities.specs.Stocks.{StockState, stock_reactions}
-use Rattle.activities.proofs.Lines.{lines_sound-none}
+use Rattle.activities.proofs.LineLists.{lines_sound-none}
 
 abbrev o1 : Name
 o1 = order_of (codes "o1")

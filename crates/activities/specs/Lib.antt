@@ -1,4 +1,5 @@
 pub mod Faults
+pub mod Words
 pub mod Reaction
 pub mod Applied
 pub mod Numbered
@@ -6,8 +7,10 @@ pub mod Journal
 pub mod Follow
 pub mod Orders
 pub mod Lines
+pub mod Holding
 pub mod Stocks
 pub mod Accounts
 pub mod Service
 pub mod Rows
 pub mod Sound
+pub mod Places

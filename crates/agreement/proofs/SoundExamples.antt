@@ -15,7 +15,7 @@ use Rattle.agreement.specs.Growth.{Grows, AddsOrder, AddsStock}
 use Rattle.agreement.specs.Journals.{Journals}
 use Rattle.agreement.specs.Steps.{start}
 use Rattle.activities.specs.declared.phase.Status.TheVariants.{Open}
-use Rattle.activities.proofs.Lines.{lines_sound-none}
+use Rattle.activities.proofs.LineLists.{lines_sound-none}
 use Rattle.agreement.proofs.ConfirmedExamples.{order, stock, account, from_to, after_first}
 use Rattle.agreement.proofs.Growth.{grows}
 

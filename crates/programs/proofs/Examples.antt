@@ -21,7 +21,7 @@ use Rattle.schedules.specs.declared.fault.ScheduleFault.TheVariants as read
 use Rattle.programs.specs.declared.fault.RunFault.TheVariants.{BadEvent, Memory, Device}
 use Rattle.programs.specs.declared.running.Outcome.TheVariants.{Committed, Refused, Shown}
 use Rattle.programs.specs.Ends.{fault_line}
-use Rattle.programs.specs.Printed.{shown_entity, status_word, phase_word, shown_partner, shown_order, show_line, shown_command}
+use Rattle.programs.specs.Printed.{shown_entity, shown_partner, shown_order, show_line, shown_command}
 use Rattle.programs.specs.Printed.{shown_message, shown_input, row_line, row_lines, hexadecimal_octet, shown_octet, frame_line, frame_lines}
 use Rattle.programs.specs.RunFaults.{run_fault_of}
 use Rattle.programs.specs.Runs.{shown_fault, printed}
@@ -49,14 +49,6 @@ placed = record {
 }
 
 -- ---- orders
-
--- how far an order and a partner are has a word each
-steps_have_words : (status_word status.Open ≡ codes "open") × (status_word status.Confirmed ≡ codes "confirmed")
-    × (status_word status.Cancelled ≡ codes "cancelled")
-    × (phase_word phase.Requested ≡ codes "requested") × (phase_word phase.Tentative ≡ codes "tentative")
-    × (phase_word phase.Refused ≡ codes "refused")
-    × (phase_word phase.Confirmed ≡ codes "confirmed") × (phase_word phase.Cancelled ≡ codes "cancelled")
-steps_have_words = (refl, refl, refl, refl, refl, refl, refl, refl)
 
 -- an order that was placed, and one that wasn't; a space in a key is \s
 orders_are_shown : (show_line o1 (Some placed) ≡ codes "order/o1 open stock/bolts 3 requested account/acme 500 requested\n")

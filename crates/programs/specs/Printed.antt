@@ -10,35 +10,18 @@ use Rattle.envelope.specs.declared.message.Letter.{Letter}
 use Rattle.envelope.specs.declared.message.Envelope.TheVariants as envelope
 use Rattle.envelope.specs.Written.{send_of}
 use Rattle.stomp_frame.specs.Frames.{canonical}
-use Rattle.activities.specs.declared.phase.Phase.{Phase}
-use Rattle.activities.specs.declared.phase.Phase.TheVariants as phase
-use Rattle.activities.specs.declared.phase.Status.{Status}
-use Rattle.activities.specs.declared.phase.Status.TheVariants as status
 use Rattle.activities.specs.declared.commands.OrderCommand.{OrderCommand}
 use Rattle.activities.specs.declared.commands.OrderCommand.TheVariants.{Place, CancelOrder}
 use Rattle.activities.specs.declared.input.Input.{Input}
 use Rattle.activities.specs.declared.input.Input.TheVariants.{FromSeat, FromEntity}
 use Rattle.activities.specs.declared.input.JournalRow.{JournalRow}
 use Rattle.activities.specs.Orders.{Partner, OrderState}
+use Rattle.activities.specs.Words.{status_word, phase_word}
 use Rattle.schedules.specs.Words.{escaped}
 
 -- an entity's text, escaped as a word
 abbrev pub shown_entity : Name → List ℕ
 shown_entity e = escaped (text_of e)
-
--- the word of an order's status
-abbrev pub status_word : Status → List ℕ
-status_word status.Open = codes "open"
-status_word status.Confirmed = codes "confirmed"
-status_word status.Cancelled = codes "cancelled"
-
--- the word of a partner's phase
-abbrev pub phase_word : Phase → List ℕ
-phase_word phase.Requested = codes "requested"
-phase_word phase.Tentative = codes "tentative"
-phase_word phase.Refused = codes "refused"
-phase_word phase.Confirmed = codes "confirmed"
-phase_word phase.Cancelled = codes "cancelled"
 
 -- a partner of an order: whom it asked, for how much, and how far they are
 abbrev pub shown_partner : Partner → List ℕ

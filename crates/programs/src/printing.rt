@@ -5,11 +5,11 @@ ghost use Rattle.std.specs.List.{flat_map};
 ghost use Rattle.std.specs.Fmt.{digit_glyph};
 ghost use Rattle.stomp_frame.specs.Frames.{canonical};
 ghost use Rattle.schedules.specs.Words.{spelled, escaped};
-ghost use Rattle.programs.specs.Printed.{shown_entity, status_word, phase_word, shown_partner, shown_order, show_line, shown_command};
+ghost use Rattle.programs.specs.Printed.{shown_entity, shown_partner, shown_order, show_line, shown_command};
 ghost use Rattle.programs.specs.Printed.{shown_message, shown_input, row_line, row_lines};
 ghost use Rattle.programs.specs.Printed.{hexadecimal_octet, shown_octet, frame_line, frame_lines};
 
-use activities::{Input, JournalRow, OrderCommand, Phase, Status};
+use activities::{Input, JournalRow, OrderCommand};
 use base::Entity;
 use envelope::{Envelope, Letter, Message, to_send};
 use itoa::Buffer;
@@ -59,28 +59,6 @@ fn push_entity(line: &mut Vec<u8>, entity: &Entity) -> Result<(), AllocError>
     push_escaped(line, entity.text())
 }
 
-fn word_of_status(status: Status) -> &'static str
-    ensures { result.now ≡ status_word status }
-{
-    match status {
-        Status::Open => "open",
-        Status::Confirmed => "confirmed",
-        Status::Cancelled => "cancelled",
-    }
-}
-
-fn word_of_phase(phase: Phase) -> &'static str
-    ensures { result.now ≡ phase_word phase }
-{
-    match phase {
-        Phase::Requested => "requested",
-        Phase::Tentative => "tentative",
-        Phase::Refused => "refused",
-        Phase::Confirmed => "confirmed",
-        Phase::Cancelled => "cancelled",
-    }
-}
-
 #[tactic(auto, using(std::proofs::Common::append_assoc))]
 fn push_partner(line: &mut Vec<u8>, partner: &Partner) -> Result<(), AllocError>
     ensures { OnOk result (line.new.items ≡ line.old.items ++ shown_partner partner.now) }
@@ -90,7 +68,7 @@ fn push_partner(line: &mut Vec<u8>, partner: &Partner) -> Result<(), AllocError>
     push_text(line, " ")?;
     push_number(line, partner.number().get())?;
     push_text(line, " ")?;
-    push_text(line, word_of_phase(partner.phase()))
+    push_text(line, partner.phase().word())
 }
 
 fn push_partners(line: &mut Vec<u8>, order: &Order) -> Result<(), AllocError>
@@ -112,7 +90,7 @@ fn push_order(line: &mut Vec<u8>, order: &Option<Order>) -> Result<(), AllocErro
     match order {
         Some(order) => {
             push_text(line, " ")?;
-            push_text(line, word_of_status(order.status()))?;
+            push_text(line, order.status().word())?;
             push_partners(line, order)
         }
         None => push_text(line, " none"),

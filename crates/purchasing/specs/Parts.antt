@@ -1,3 +1,2 @@
--- What private functions and the law of the opening state need. Nobody who reads the promises does.
-pub mod Atomic
+-- What the law of the opening state needs. Nobody who reads the promises does.
 pub mod Opening

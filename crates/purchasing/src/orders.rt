@@ -1,16 +1,13 @@
 //! The handler of the service purchasing.
 
-ghost use Rattle.std.specs.Prelude.{◌≡◌, ℕ, false, true, Some, None, Ok, Err, IfOk, MatchOption};
-ghost use Rattle.activities.specs.Applied.{IsApplied};
+ghost use Rattle.std.specs.Prelude.{◌≡◌, false, true, None, Ok, Err, IfOk, MatchOption};
+ghost use Rattle.activities.specs.Applied.{IsApplied, IsAnswered, IsSending};
 ghost use Rattle.base.specs.Number.{is_number};
-ghost use Rattle.activities.specs.Orders.{on_order_message, order_reactions};
+ghost use Rattle.activities.specs.Orders.{order_reactions};
 ghost use Rattle.activities.specs.Reaction.{react};
-ghost use Rattle.activities.specs.declared.input.Input.TheVariants.{FromSeat};
-ghost use Rattle.purchasing.specs.Answer.{IsSending};
-ghost use Rattle.purchasing.specs.Parts.Atomic.{IsAtomic};
 
 use crate::Order;
-use activities::{Handler, HandlerFault, Input, OrderCommand, Outs, Refusal};
+use activities::{Handler, HandlerFault, Input, OrderCommand, Outs, Reacting, Refusal, take_in};
 use base::{Entity, Key, Kind, Number};
 use envelope::Message;
 use std::alloc::{AllocError, Global};
@@ -86,35 +83,53 @@ impl Handler for Orders {
         ensures applied { IsApplied order_reactions state.old input.now outs.old state.new outs.new result }
         ensures memory { result ≡ Err HandlerFault.Memory → IsSending (react order_reactions state.old input.now) }
     {
-        match input {
-            Input::FromSeat(_, command) => take_command(alloc, state, command, outs),
-            Input::FromEntity(sender, _, message) => {
-                Ok(take_message(alloc, state, sender, *message, outs)?)
-            }
-        }
+        take_in::<Orders>(alloc, state, input, outs)
     }
 
     ghost none_is_opening = { none_is_none };
 }
 
-/// A seat's command: it is refused, or done.
-fn take_command(
-    alloc: Global,
-    state: &mut Option<Order>,
-    command: &OrderCommand,
-    outs: &mut Outs,
-) -> Result<(), HandlerFault>
-    ensures applied { (seat : ℕ) → IsApplied order_reactions state.old (FromSeat seat command.now) outs.old state.new outs.new result }
-    ensures memory { result ≡ Err HandlerFault.Memory → IsSending (order_reactions.on_command state.old command.now) }
-{
-    match command {
-        OrderCommand::Place {
-            stock,
-            quantity,
-            account,
-            amount,
-        } => place(alloc, state, stock, *quantity, account, *amount, outs),
-        OrderCommand::CancelOrder => cancel(alloc, state, outs),
+impl Reacting for Orders {
+    ghost use Rattle.activities.specs.Orders.{order_reactions};
+
+    type State = Option<Order>;
+
+    type Command = OrderCommand;
+
+    ghost reactions = { order_reactions };
+
+    fn take_command(
+        alloc: Global,
+        state: &mut Option<Order>,
+        command: &OrderCommand,
+        outs: &mut Outs,
+    ) -> Result<(), HandlerFault> {
+        match command {
+            OrderCommand::Place {
+                stock,
+                quantity,
+                account,
+                amount,
+            } => place(alloc, state, stock, *quantity, account, *amount, outs),
+            OrderCommand::CancelOrder => cancel(alloc, state, outs),
+        }
+    }
+
+    fn take_message(
+        alloc: Global,
+        state: &mut Option<Order>,
+        sender: &Entity,
+        message: Message,
+        outs: &mut Outs,
+    ) -> Result<(), AllocError> {
+        let Some(order) = state else {
+            return Ok(());
+        };
+        match message {
+            Message::Tentative => order.tentative(alloc, sender, outs),
+            Message::Refused => order.refused(alloc, sender, outs),
+            Message::Request(_) | Message::Confirm | Message::Cancel => Ok(()),
+        }
     }
 }
 
@@ -128,11 +143,8 @@ fn place(
     amount: u64,
     outs: &mut Outs,
 ) -> Result<(), HandlerFault>
-    ensures applied { (seat : ℕ) →
-        IsApplied order_reactions state.old (FromSeat seat (OrderCommand.Place stock.now quantity account.now amount)) outs.old state.new
-        outs.new result }
-    ensures memory { result ≡ Err HandlerFault.Memory →
-        IsSending (order_reactions.on_command state.old (OrderCommand.Place stock.now quantity account.now amount)) }
+    ensures { IsAnswered (order_reactions.on_command state.old (OrderCommand.Place stock.now quantity account.now amount))
+        state.old outs.old state.new outs.new result }
 {
     if state.is_some() {
         return Err(HandlerFault::Business(Refusal::AlreadyPlaced));
@@ -158,32 +170,10 @@ fn number_in_range(value: u64) -> Option<Number>
 
 /// Cancels the order and tells its partners, if it is open.
 fn cancel(alloc: Global, state: &mut Option<Order>, outs: &mut Outs) -> Result<(), HandlerFault>
-    ensures applied { (seat : ℕ) →
-        IsApplied order_reactions state.old (FromSeat seat OrderCommand.CancelOrder) outs.old state.new outs.new result }
-    ensures memory { result ≡ Err HandlerFault.Memory → IsSending (order_reactions.on_command state.old OrderCommand.CancelOrder) }
+    ensures { IsAnswered (order_reactions.on_command state.old OrderCommand.CancelOrder) state.old outs.old state.new outs.new result }
 {
     match state {
         Some(order) if order.is_open() => Ok(order.cancel(alloc, outs)?),
         _ => Err(HandlerFault::Business(Refusal::NotOpen)),
-    }
-}
-
-/// A message: what isn't a partner's answer changes nothing.
-fn take_message(
-    alloc: Global,
-    state: &mut Option<Order>,
-    sender: &Entity,
-    message: Message,
-    outs: &mut Outs,
-) -> Result<(), AllocError>
-    ensures { IsAtomic (on_order_message state.old sender.now message) state.old outs.old state.new outs.new result }
-{
-    let Some(order) = state else {
-        return Ok(());
-    };
-    match message {
-        Message::Tentative => order.tentative(alloc, sender, outs),
-        Message::Refused => order.refused(alloc, sender, outs),
-        Message::Request(_) | Message::Confirm | Message::Cancel => Ok(()),
     }
 }
