@@ -6,9 +6,10 @@ ghost use Rattle.base.specs.declared.pair.Pair.{Pair};
 ghost use Rattle.broker_laws.specs.Runs.{NoLifeLosesAny};
 ghost use Rattle.broker_texts.specs.Carried.{MessagesWereSent};
 
-use activities::{Handler, HandlerFault, Input, OrderCommand, Outs};
+use activities::{AccountCommand, Handler, HandlerFault, Input, OrderCommand, Outs, StockCommand};
 use agreement::stays_authentic;
 use base::{Entity, EntityFault, Key, Kind, Number, Pair};
+use billing::Accounts;
 use broker_book::{Action, Mode, QueueFault, Sent, Shared};
 use broker_core::{Broker, BrokerFault};
 use broker_index::Destinations;
@@ -34,6 +35,7 @@ use stomp_client::{ClientFault, ClientSession};
 use stomp_frame::{Command, Decoder, Frame, FrameFault};
 use stomp_session::{Headers, Octets, ServerSession, Text};
 use stomp_wire::{Link, LinkFault, MemoryWire, Way, pump_out};
+use warehouse::Stocks;
 
 pub fn an_entity_is_named_again(alloc: Global) -> Result<bool, EntityFault> {
     let key = Key::read(alloc, "o1")?;
@@ -166,6 +168,22 @@ pub fn an_order_is_refused(alloc: Global) -> Result<(), HandlerFault> {
     let mut outs = Outs::new(alloc);
     let input = Input::FromSeat(0, OrderCommand::CancelOrder);
     Orders::apply(alloc, &mut order, &input, &mut outs)
+}
+
+pub fn so_much_is_on_hand(alloc: Global, quantity: u64) -> Result<u64, HandlerFault> {
+    let mut stock = Stocks::opening(alloc)?;
+    let mut outs = Outs::new(alloc);
+    let input = Input::FromSeat(0, StockCommand::Receive(quantity));
+    Stocks::apply(alloc, &mut stock, &input, &mut outs)?;
+    Ok(stock.on_hand())
+}
+
+pub fn so_much_is_the_limit(alloc: Global, amount: u64) -> Result<u64, HandlerFault> {
+    let mut account = Accounts::opening(alloc)?;
+    let mut outs = Outs::new(alloc);
+    let input = Input::FromSeat(0, AccountCommand::SetLimit(amount));
+    Accounts::apply(alloc, &mut account, &input, &mut outs)?;
+    Ok(account.limit())
 }
 
 pub fn no_mark_is_taken_back()

@@ -14,8 +14,9 @@ use examples::{
     a_schedule_is_read, a_schedule_is_run, a_server_is_asked_to_end, a_settle_is_sent,
     a_transaction_keeps_its_actions, an_entity_is_named_again, an_idle_destination_is_closed,
     an_order_is_refused, answers_reach_back_in_mode_client, first_state_of, no_mark_is_taken_back,
-    nothing_is_held_at_first, printed_octets_are_read, tables_hold_nothing_at_first,
-    what_a_client_reads_was_sent, what_wants_an_ack_stays_until_it_comes, what_was_put_is_taken,
+    nothing_is_held_at_first, printed_octets_are_read, so_much_is_on_hand, so_much_is_the_limit,
+    tables_hold_nothing_at_first, what_a_client_reads_was_sent,
+    what_wants_an_ack_stays_until_it_comes, what_was_put_is_taken,
 };
 use keep::KeepFault;
 use keep_plain::PlainKeep;
@@ -23,6 +24,9 @@ use purchasing::Orders;
 use std::alloc::Global;
 use std::error::Error;
 use std::fmt::Debug;
+
+/// One more than a limit can be.
+const LIMIT_TOO_GREAT: u64 = 1_099_511_627_777;
 
 /// Prints a value behind the name of its library.
 fn show<T: Debug>(rt: &impl Print, library: &str, told: &T) -> Result<()> {
@@ -85,7 +89,9 @@ fn is_refused(alloc: Global) -> bool {
 fn print_reactions(rt: &impl Print, alloc: Global) -> Result<()> {
     no_mark_is_taken_back();
     show(rt, "activities", &is_refused(alloc))?;
-    show(rt, "purchasing", &an_order_is_refused(alloc))
+    show(rt, "purchasing", &an_order_is_refused(alloc))?;
+    tell(rt, "warehouse", so_much_is_on_hand(alloc, 10))?;
+    show(rt, "billing", &so_much_is_the_limit(alloc, LIMIT_TOO_GREAT))
 }
 
 /// A mark of empty tables.

@@ -1,0 +1,106 @@
+//! The handler of the service billing.
+
+ghost use Rattle.std.specs.Prelude.{◌≡◌, Ok, Err, IfOk};
+ghost use Rattle.activities.specs.Applied.{IsApplied, IsSending};
+ghost use Rattle.activities.specs.Reaction.{react};
+ghost use Rattle.activities.specs.Accounts.{account_reactions};
+
+use crate::Account;
+use activities::{
+    AccountCommand, Handler, HandlerFault, Input, Outs, Reacting, take_in, take_line_message,
+};
+use base::{Entity, Kind};
+use envelope::Message;
+use std::alloc::{AllocError, Global};
+
+/// What billing does with what its accounts take in.
+///
+/// An account holds what an order asks for where its limit leaves as much, and keeps a line for the order: held, and then billed or
+/// released; or refused. Only a request that is answered wants memory.
+pub struct Accounts;
+
+impl Handler for Accounts {
+    ghost use Rattle.std.specs.Prelude.{false};
+    ghost use Rattle.std.proofs.lemmas.Bool.{false≢true};
+    ghost use Rattle.base.specs.declared.entity.Kind.TheVariants.{Account as AccountKind};
+    ghost use Rattle.activities.specs.Accounts.{account_reactions};
+
+    type State = Account;
+
+    type Command = AccountCommand;
+
+    ghost service = { record { kind = AccountKind; reactions = account_reactions; is_none = λ _. false } };
+
+    fn kind() -> Kind {
+        Kind::Account
+    }
+
+    fn opening(alloc: Global) -> Result<Account, AllocError>
+        ensures { result ≡ Ok account_reactions.opening }
+    {
+        Ok(Account::new(alloc))
+    }
+
+    fn is_none(_state: &Account) -> bool {
+        false
+    }
+
+    fn copy_state(alloc: Global, state: &Account) -> Result<Account, AllocError> {
+        state.copy(alloc)
+    }
+
+    fn copy_command(_alloc: Global, command: &AccountCommand) -> Result<AccountCommand, AllocError>
+        ensures { result ≡ Ok command.now }
+    {
+        match command {
+            AccountCommand::SetLimit(limit) => Ok(AccountCommand::SetLimit(*limit)),
+        }
+    }
+
+    fn apply(
+        alloc: Global,
+        state: &mut Account,
+        input: &Input<AccountCommand>,
+        outs: &mut Outs,
+    ) -> Result<(), HandlerFault>
+        ensures applied { IsApplied account_reactions state.old input.now outs.old state.new outs.new result }
+        ensures memory { result ≡ Err HandlerFault.Memory → IsSending (react account_reactions state.old input.now) }
+    {
+        take_in::<Accounts>(alloc, state, input, outs)
+    }
+
+    ghost none_is_opening = { λ s is. absurd (false≢true is) };
+}
+
+impl Reacting for Accounts {
+    ghost use Rattle.activities.specs.Accounts.{account_reactions};
+
+    type State = Account;
+
+    type Command = AccountCommand;
+
+    ghost reactions = { account_reactions };
+
+    fn take_command(
+        _alloc: Global,
+        state: &mut Account,
+        command: &AccountCommand,
+        _outs: &mut Outs,
+    ) -> Result<(), HandlerFault> {
+        match command {
+            AccountCommand::SetLimit(limit) => state
+                .set_limit(*limit)
+                .map_err(HandlerFault::Business),
+        }
+    }
+
+    fn take_message(
+        alloc: Global,
+        state: &mut Account,
+        sender: &Entity,
+        message: Message,
+        outs: &mut Outs,
+    ) -> Result<(), AllocError> {
+        take_line_message(alloc, state, sender, message, outs)
+    }
+}
