@@ -1,0 +1,60 @@
+//! States that take inputs in.
+
+use crate::fault::LineFault;
+use crate::shown::Shown;
+use crate::words::{message, number, seat};
+use activities::{HandlerFault, Input, Out, Outs};
+use base::Entity;
+use envelope::Message;
+use line_script::natural;
+use std::alloc::Global;
+
+/// Appends a message.
+pub fn push_message(out: &mut String, message: Message) -> Result<(), LineFault> {
+    match message {
+        Message::Request(asked) => write!(out, "Request {}", asked.get())?,
+        message => write!(out, "{message:?}")?,
+    }
+    Ok(())
+}
+
+/// An input: `seat N NUMBER`, or `from ENTITY N MESSAGE`.
+fn input<S: Shown>(alloc: Global, words: &[&str]) -> Result<Input<S::Command>, LineFault> {
+    match words {
+        ["seat", by, asked] => Ok(Input::FromSeat(seat(by)?, S::command(natural(asked)?))),
+        ["from", sender, numbered, said @ ..] => {
+            let number = number(numbered)?;
+            let message = message(said)?;
+            Ok(Input::FromEntity(Entity::read(alloc, sender)?, number, message))
+        }
+        _ => Err(LineFault::Unknown),
+    }
+}
+
+/// Appends what is sent.
+fn push_outs(out: &mut String, sent: &[Out]) -> Result<(), LineFault> {
+    for letter in sent {
+        out.push_str("; ")?;
+        push_message(out, letter.message)?;
+        write!(out, " to {}", letter.receiver.text())?;
+    }
+    Ok(())
+}
+
+/// A state takes an input in. Appends the refusal, if it is one, the state then, and what is sent.
+pub fn take<S: Shown>(
+    alloc: Global,
+    out: &mut String,
+    state: &mut S::State,
+    words: &[&str],
+) -> Result<(), LineFault> {
+    let input = input::<S>(alloc, words)?;
+    let mut outs = Outs::new(alloc);
+    match S::apply(alloc, state, &input, &mut outs) {
+        Ok(()) => {}
+        Err(HandlerFault::Memory) => return Err(LineFault::Memory),
+        Err(refused) => write!(out, "{refused}; ")?,
+    }
+    S::push_state(out, state)?;
+    push_outs(out, outs.as_slice())
+}
