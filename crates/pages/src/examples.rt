@@ -28,6 +28,7 @@ use outbox::settle;
 use programs::{RunFault, run_text};
 use purchasing::Orders;
 use receipts::{ReceiptFault, Receipts};
+use relay::{Relay, RelayFault};
 use resequencer::next_held;
 use schedules::{ScheduleFault, read_schedule};
 use std::alloc::{AllocError, Global};
@@ -229,6 +230,13 @@ pub fn a_command_is_taken_in(
     let mut purchasing: Endpoint<Orders, PlainKeep<Orders>> = Endpoint::new(PlainKeep::new(alloc));
     let committed = purchasing.commit(alloc, 0, order, command)?;
     Ok(committed.pos)
+}
+
+pub fn nothing_goes_out_before_the_broker_answers(alloc: Global) -> Result<usize, RelayFault> {
+    let mut purchasing: Endpoint<Orders, PlainKeep<Orders>> = Endpoint::new(PlainKeep::new(alloc));
+    let mut client = ClientSession::new(alloc);
+    let mut relay = Relay::new(alloc);
+    relay.fill(&mut client, &mut purchasing, 64)
 }
 
 pub fn a_schedule_is_read(alloc: Global) -> Result<usize, ScheduleFault> {

@@ -14,7 +14,8 @@ use examples::{
     a_schedule_is_read, a_schedule_is_run, a_server_is_asked_to_end, a_settle_is_sent,
     a_transaction_keeps_its_actions, an_entity_is_named_again, an_idle_destination_is_closed,
     an_order_is_refused, answers_reach_back_in_mode_client, first_state_of, no_mark_is_taken_back,
-    nothing_is_held_at_first, printed_octets_are_read, so_much_is_on_hand, so_much_is_the_limit,
+    nothing_goes_out_before_the_broker_answers, nothing_is_held_at_first, printed_octets_are_read,
+    so_much_is_on_hand, so_much_is_the_limit,
     tables_hold_nothing_at_first, what_a_client_reads_was_sent,
     what_wants_an_ack_stays_until_it_comes, what_was_put_is_taken,
 };
@@ -132,6 +133,11 @@ fn take_in(alloc: Global) -> Result<u64> {
 /// One service, and schedules of what it's given.
 fn print_runs(rt: &impl Print, alloc: Global) -> Result<()> {
     show(rt, "endpoint", &take_in(alloc)?)?;
+    tell(
+        rt,
+        "relay",
+        nothing_goes_out_before_the_broker_answers(alloc),
+    )?;
     show(rt, "schedules", &a_schedule_is_read(alloc))?;
     tell(rt, "programs", a_schedule_is_run(alloc))
 }

@@ -1,0 +1,6 @@
+mod Marking
+mod Sending
+mod Letters
+mod Places
+mod Due
+mod Paging

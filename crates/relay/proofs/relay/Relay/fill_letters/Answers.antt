@@ -1,0 +1,46 @@
+use Rattle.std.proofs.Common.{◌≡◌, ℕ, ◌<◌, arith, sym, ap}
+use Rattle.std.proofs.Common.{refl}
+use Rattle.relay.specs.Filling.{connection}
+use Rattle.relay.proofs.Letters.{start, at_limit, at_end, skip, send, stopped, is_so, is_not, letter_at, none_left}
+use Rattle.relay.proofs.relay.Relay.fill_letters.Goals as goal
+
+pub returns-then-count-limit : goal.returns-then-count-limit
+returns-then-count-limit c =
+    at_limit c.args.limit c.args.letters.now (connection c.args.self.now c.args.client.now)
+    (connection c.loop-letter.self c.loop-letter.client) c.loop-letter.count _ c.loop-letter.invariant c.if-count-limit.true
+
+pub returns : goal.returns
+returns c =
+    at_end c.args.limit c.args.letters.now (connection c.args.self.now c.args.client.now)
+    (connection c.loop-letter.self c.loop-letter.client) c.loop-letter.count _ c.loop-letter.invariant
+    (none_left c.args.letters.now c.loop-letter.letter-index c.loop-letter-test.false)
+
+pub loop-letter-preserved-then-find-get : goal.loop-letter-preserved-then-find-get
+loop-letter-preserved-then-find-get c =
+    skip c.args.limit c.args.letters.now (connection c.args.self.now c.args.client.now)
+    (connection c.loop-letter.self c.loop-letter.client) c.loop-letter.count c.letter-item.result _ _
+    (letter_at c.args.letters.now c.loop-letter.letter-index c.letter-item.result c.loop-letter-test.true c.letter-item.is)
+    c.loop-letter.invariant
+    (is_not c.find.result c.get.result _ _ c.find.ensures c.get.ensures.value c.if-find-get.true)
+
+pub loop-letter-preserved : goal.loop-letter-preserved
+loop-letter-preserved c =
+    let f = c.loop-letter.invariant in
+    let within = f.within in
+    send c.args.limit c.args.letters.now (connection c.args.self.now c.args.client.now)
+    (connection c.loop-letter.self c.loop-letter.client) c.loop-letter.count c.letter-item.result _ _
+    (letter_at c.args.letters.now c.loop-letter.letter-index c.letter-item.result c.loop-letter-test.true c.letter-item.is) f
+    (omega (arith, within, c.if-count-limit.false))
+    (is_so c.find.result c.get.result _ _ c.find.ensures c.get.ensures.value c.if-find-get.false)
+    (connection c.send_letter.new.self c.send_letter.new.client) c.in-Ok.ensures.sends
+
+pub returns-in-Err : goal.returns-in-Err
+returns-in-Err c =
+    let f = c.loop-letter.invariant in
+    let within = f.within in
+    stopped c.args.limit c.args.letters.now (connection c.args.self.now c.args.client.now)
+    (connection c.loop-letter.self c.loop-letter.client) c.loop-letter.count c.letter-item.result _ _
+    (letter_at c.args.letters.now c.loop-letter.letter-index c.letter-item.result c.loop-letter-test.true c.letter-item.is) f
+    c.in-Err.fault (omega (arith, within, c.if-count-limit.false))
+    (is_so c.find.result c.get.result _ _ c.find.ensures c.get.ensures.value c.if-find-get.false)
+    (connection c.send_letter.new.self c.send_letter.new.client) c.in-Err.ensures.same c.in-Err.ensures.fault

@@ -1,0 +1,5 @@
+pub mod Fault
+pub mod Marks
+pub mod Filling
+pub mod Calls
+pub mod Parts

@@ -1,0 +1,2 @@
+-- What the private parts of a filling do. Nobody who reads the promises needs it.
+pub mod Pages

@@ -1,0 +1,26 @@
+//! Sending what a service's outbox has, once on each connection.
+//!
+//! A relay remembers of each pair the last number that it sent on its connection. [`Relay::fill`] sends the rows of the outbox that are
+//! above these numbers, in order, and as many as it is told; [`Relay::forget`] makes all rows due again, as a new connection needs it. A
+//! row leaves the outbox when its receiver's settle arrives: a RECEIPT says that the broker has the letter, closes its tag, and settles
+//! nothing.
+//!
+//! ```rust
+//! pub fn nothing_goes_out_before_the_broker_answers(alloc: Global) -> Result<usize, RelayFault> {
+//!     let mut purchasing: Endpoint<Orders, PlainKeep<Orders>> = Endpoint::new(PlainKeep::new(alloc));
+//!     let mut client = ClientSession::new(alloc);
+//!     let mut relay = Relay::new(alloc);
+//!     relay.fill(&mut client, &mut purchasing, 64)
+//! }
+//! ```
+//!
+//! It answers 0: the session isn't connected.
+#![tactic(auto)]
+
+mod fault;
+mod marks;
+mod pages;
+mod relay;
+
+pub use fault::RelayFault;
+pub use relay::Relay;

@@ -1,0 +1,154 @@
+//! What was sent of each pair on a connection.
+
+ghost use Rattle.std.specs.Prelude.{◌≡◌, ◌≢◌, OnOk, OnErr, IfErr, IfSome, Ok, ⊤, []};
+ghost use Rattle.std.specs.Prelude.{◌∷◌};
+ghost use Rattle.base.specs.declared.pair.Pair.{Pair};
+ghost use Rattle.keep.specs.Law.{Reads};
+ghost use Rattle.endpoint.specs.Calls.{Stays};
+ghost use Rattle.stomp_client.specs.declared.session.Stage.TheVariants.{Connected};
+ghost use Rattle.relay.specs.Filling.{marks_of, connection, Sends, Stops};
+ghost use Rattle.relay.specs.Calls.{idle_answer, FillsLetters, Fills, store_end};
+
+use crate::RelayFault;
+use crate::marks::{find, prepare, set};
+use activities::Handler;
+use base::Pair;
+use endpoint::Endpoint;
+use envelope::{Envelope, Letter, to_send};
+use keep::Keep;
+use std::alloc::Global;
+use std::collections::BTreeMap;
+use stomp_client::{ClientFault, ClientSession, Stage};
+
+/// What was sent of each pair on a connection: contracts see the last number of each pair, 0 where nothing was sent.
+#[derive(Drop)]
+pub struct Relay {
+    pub(crate) alloc: Global,
+    pub(crate) marks: BTreeMap<Pair, u64>,
+}
+
+impl Relay {
+    /// Nothing was sent. It takes no memory.
+    pub fn new(alloc: Global) -> Relay
+        ensures { (p : Pair) → marks_of result p ≡ 0 }
+    {
+        Relay {
+            alloc,
+            marks: BTreeMap::new(alloc),
+        }
+    }
+
+    /// Makes all rows of the outbox due again, as on a connection on which nothing was sent. It takes no memory.
+    pub fn forget(&mut self)
+        ensures { (p : Pair) → marks_of self.new p ≡ 0 }
+    {
+        self.marks.clear();
+    }
+
+    /// Sends one letter, or changes nothing.
+    #[tactic(auto, using(crate::proofs::Marking::marks_same))]
+    fn send_letter(
+        &mut self,
+        client: &mut ClientSession<u64>,
+        letter: &Letter,
+    ) -> Result<(), RelayFault>
+        requires { client.old.client.stage ≡ Connected }
+        ensures sends { OnOk result (Sends (letter.now ∷ []) (connection self.old client.old) (connection self.new client.new)) }
+        ensures same { OnErr result (connection self.new client.new ≡ connection self.old client.old) }
+        ensures fault { IfErr result (Stops client.old.client.receipts.last) }
+    {
+        if client.receipts() == u64::MAX {
+            return Err(RelayFault::Client(ClientFault::NumbersUsed));
+        }
+        let envelope = Envelope::Letter(letter.copy(self.alloc)?);
+        let frame = to_send(self.alloc, &envelope)?;
+        prepare(self.alloc, &mut self.marks, &letter.pair)?;
+        client.send_with_receipt(frame, letter.number.get())?;
+        set(&mut self.marks, &letter.pair, letter.number);
+        Ok(())
+    }
+
+    /// Sends of these letters, in their order, those that are above what was sent of their pairs on this connection, at most `limit`, and
+    /// answers how many. Each SEND has the next receipt number, with the letter's number as its tag. Before CONNECTED it sends none.
+    ///
+    /// # Errors
+    /// `Closed` after the end of the session, and nothing is sent. Where a letter is due: `NumbersUsed` where the last receipt number is
+    /// 2^64 - 1; else `Memory` of the client or of the envelope where a growth was refused. The letters before that one were sent.
+    pub fn fill_rows(
+        &mut self,
+        client: &mut ClientSession<u64>,
+        letters: &[Letter],
+        limit: usize,
+    ) -> Result<usize, RelayFault>
+        ensures idle { IfSome (idle_answer client.old.client.stage)
+            (λ answer. (result ≡ answer) × (connection self.new client.new ≡ connection self.old client.old)) }
+        ensures fills { client.old.client.stage ≡ Connected
+            → FillsLetters limit letters.now (connection self.old client.old) (connection self.new client.new) result }
+    {
+        match client.stage() {
+            Stage::Connected => self.fill_letters(client, letters, limit),
+            Stage::Closed => Err(RelayFault::Client(ClientFault::Closed)),
+            _ => Ok(0),
+        }
+    }
+
+    /// The same on a connected session.
+    pub(crate) fn fill_letters(
+        &mut self,
+        client: &mut ClientSession<u64>,
+        letters: &[Letter],
+        limit: usize,
+    ) -> Result<usize, RelayFault>
+        requires { client.old.client.stage ≡ Connected }
+        ensures { FillsLetters limit letters.now (connection self.old client.old) (connection self.new client.new) result }
+    {
+        let mut count = 0;
+        for letter in letters {
+            if count == limit {
+                return Ok(count);
+            }
+            if find(&self.marks, &letter.pair) >= letter.number.get() {
+                continue;
+            }
+            match self.send_letter(client, letter) {
+                Ok(()) => count += 1,
+                Err(fault) => return Err(fault),
+            }
+        }
+        Ok(count)
+    }
+
+    /// Sends of the outbox's rows, by pair and then by number, those that are above what was sent of their pairs on this connection, at
+    /// most `limit`, and answers how many. Each SEND has the next receipt number, with the letter's number as its tag. Before CONNECTED it
+    /// sends none, and the store isn't called.
+    ///
+    /// Calls of the store: one `unsettled` or more, each for a page of rows.
+    ///
+    /// # Errors
+    /// `Closed` after the end of the session: nothing is sent, and the store isn't called. `StoreFailed`, `Memory` and `Unusable` of the
+    /// endpoint, as every read. Where a row is due: `NumbersUsed` where the last receipt number is 2^64 - 1; else `Memory` of the client or
+    /// of the envelope where a growth was refused. The rows that were sent are the first that were due, and stay sent.
+    pub fn fill<H, K>(
+        &mut self,
+        client: &mut ClientSession<u64>,
+        endpoint: &mut Endpoint<H, K>,
+        limit: usize,
+    ) -> Result<usize, RelayFault>
+    where
+        H: Handler,
+        K: Keep<State = H::State, Command = H::Command> + Drop,
+        ensures idle { IfSome (idle_answer client.old.client.stage) (λ answer. (result ≡ answer) × (endpoint.new ≡ endpoint.old)
+            × (connection self.new client.new ≡ connection self.old client.old)) }
+        ensures read { client.old.client.stage ≡ Connected → Reads K.seen endpoint.old endpoint.new (λ _ _. ⊤) (store_end result) }
+        ensures stays { Stays K.seen endpoint.old endpoint.new }
+        ensures fills { client.old.client.stage ≡ Connected
+            → Fills ((K.seen endpoint.new).doubt ≡ 0) (K.seen endpoint.old).tables.unsettled limit
+            (connection self.old client.old) (connection self.new client.new) result }
+    {
+        match client.stage() {
+            Stage::Connected => self.fill_pages(client, endpoint, limit),
+            Stage::Closed => Err(RelayFault::Client(ClientFault::Closed)),
+            _ => Ok(0),
+        }
+    }
+}
