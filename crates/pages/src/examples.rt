@@ -20,6 +20,7 @@ use broker_texts::each_message_was_sent;
 use broker_tx::{TransactionFault, Transactions};
 use endpoint::{EndFault, Endpoint};
 use envelope::{Envelope, EnvelopeFault, Letter, to_send};
+use exchange::{Delivery, Event, Network, Outcome, exchange};
 use inbox::{Class, classify};
 use keep::{Change, Keep, KeepFault};
 use keep_plain::PlainKeep;
@@ -248,4 +249,24 @@ pub fn a_schedule_is_run(alloc: Global) -> Result<bool, RunFault> {
     let mut out = Vec::new(alloc);
     run_text(alloc, b"cancel 0 o1\n", &mut out)?;
     Ok(out.as_slice() == b"refused 61 71\n".as_slice())
+}
+
+pub fn what_comes_early_waits<G, L>(
+    alloc: Global,
+    purchasing: &mut Endpoint<Orders, PlainKeep<Orders>>,
+    partner: &mut Endpoint<G, L>,
+    pair: &Pair,
+) -> Result<Vec<Outcome>, AllocError>
+where
+    G: Handler,
+    L: Keep<State = G::State, Command = G::Command> + Drop,
+{
+    let mut deliveries = Vec::new(alloc);
+    deliveries.push(Delivery::Left(Event::Send(4)))?;
+    deliveries.push(Delivery::Right(Event::Take(3)))?; // the second letter of the pair
+    deliveries.push(Delivery::Right(Event::Take(2)))?; // the first
+    deliveries.push(Delivery::Right(Event::Take(2)))?;
+    deliveries.push(Delivery::Right(Event::Drain(pair.copy(alloc)?)))?;
+    let mut network = Network::new(alloc);
+    exchange(alloc, purchasing, partner, &mut network, &deliveries)
 }

@@ -2,10 +2,12 @@
 #![tactic(auto)]
 
 mod examples;
+mod willing;
 
 use activities::{OrderCommand, Outs};
 use anyhow::Result;
 use base::{Entity, Key, Number, Pair};
+use endpoint::Endpoint;
 use envelope::{Letter, Message};
 use examples::{
     a_broker_answers_connect, a_client_asks_to_connect, a_command_is_taken_in,
@@ -15,16 +17,18 @@ use examples::{
     a_transaction_keeps_its_actions, an_entity_is_named_again, an_idle_destination_is_closed,
     an_order_is_refused, answers_reach_back_in_mode_client, first_state_of, no_mark_is_taken_back,
     nothing_goes_out_before_the_broker_answers, nothing_is_held_at_first, printed_octets_are_read,
-    so_much_is_on_hand, so_much_is_the_limit,
-    tables_hold_nothing_at_first, what_a_client_reads_was_sent,
-    what_wants_an_ack_stays_until_it_comes, what_was_put_is_taken,
+    so_much_is_on_hand, so_much_is_the_limit, tables_hold_nothing_at_first,
+    what_a_client_reads_was_sent, what_comes_early_waits, what_wants_an_ack_stays_until_it_comes,
+    what_was_put_is_taken,
 };
-use keep::KeepFault;
+use exchange::{Delivery, Event, Network, Outcome, exchange};
+use keep::{Faulty, KeepFault, Leaves};
 use keep_plain::PlainKeep;
 use purchasing::Orders;
 use std::alloc::Global;
 use std::error::Error;
 use std::fmt::Debug;
+use willing::Willing;
 
 /// One more than a limit can be.
 const LIMIT_TOO_GREAT: u64 = 1_099_511_627_777;
@@ -130,6 +134,69 @@ fn take_in(alloc: Global) -> Result<u64> {
     Ok(a_command_is_taken_in(alloc, &order, command)?)
 }
 
+/// Purchasing, where an order was placed and cancelled.
+fn cancelled(alloc: Global) -> Result<Endpoint<Orders, PlainKeep<Orders>>> {
+    let mut purchasing: Endpoint<Orders, PlainKeep<Orders>> = Endpoint::new(PlainKeep::new(alloc));
+    let order = Entity::read(alloc, "order/o1")?;
+    let command = OrderCommand::Place {
+        stock: Key::read(alloc, "bolt")?,
+        quantity: 3,
+        account: Key::read(alloc, "ann")?,
+        amount: 500,
+    };
+    purchasing.commit(alloc, 0, &order, command)?;
+    purchasing.commit(alloc, 0, &order, OrderCommand::CancelOrder)?;
+    Ok(purchasing)
+}
+
+/// A stock that holds whatever it is asked for, over a store that may fail.
+fn willing_stock(alloc: Global) -> Endpoint<Willing, Faulty<PlainKeep<Willing>>> {
+    Endpoint::new(Faulty::new(PlainKeep::new(alloc)))
+}
+
+/// The deliveries around a failure of the store, which leaves the letter taken in.
+fn around_a_failure(alloc: Global) -> Result<Vec<Delivery<OrderCommand, bool>>> {
+    let mut deliveries = Vec::new(alloc);
+    deliveries.push(Delivery::Left(Event::Send(4)))?;
+    deliveries.push(Delivery::Right(Event::Take(2)))?;
+    deliveries.push(Delivery::Right(Event::Take(2)))?;
+    deliveries.push(Delivery::Right(Event::Reopen))?;
+    deliveries.push(Delivery::Right(Event::Take(2)))?;
+    deliveries.push(Delivery::Right(Event::Tell(pair(alloc)?)))?;
+    deliveries.push(Delivery::Left(Event::Take(0)))?;
+    deliveries.push(Delivery::Right(Event::Send(1)))?;
+    deliveries.push(Delivery::Left(Event::Take(1)))?;
+    Ok(deliveries)
+}
+
+/// A store fails as a letter is taken in.
+fn a_store_fails(alloc: Global) -> Result<Vec<Outcome>> {
+    let mut purchasing = cancelled(alloc)?;
+    let mut partner = willing_stock(alloc);
+    partner.arm(4, Leaves::New);
+    let deliveries = around_a_failure(alloc)?;
+    let mut network = Network::new(alloc);
+    Ok(exchange(
+        alloc,
+        &mut purchasing,
+        &mut partner,
+        &mut network,
+        &deliveries,
+    )?)
+}
+
+/// Letters between two services, which come early, late and again, and where a store fails as it takes one in.
+fn print_exchanges(rt: &impl Print, alloc: Global) -> Result<()> {
+    let mut purchasing = cancelled(alloc)?;
+    let mut partner = willing_stock(alloc);
+    let pair = pair(alloc)?;
+    let outcomes = what_comes_early_waits(alloc, &mut purchasing, &mut partner, &pair)?;
+    show(rt, "exchange", &outcomes)?;
+    let all = purchasing.sent(alloc, &pair)? == partner.handled(alloc, &pair)?;
+    show(rt, "exchange", &all)?;
+    show(rt, "exchange", &a_store_fails(alloc)?)
+}
+
 /// One service, and schedules of what it's given.
 fn print_runs(rt: &impl Print, alloc: Global) -> Result<()> {
     show(rt, "endpoint", &take_in(alloc)?)?;
@@ -147,5 +214,6 @@ fn main(rt: HostRuntime) -> Result<()> {
     print_sessions(&rt, rt.alloc())?;
     print_reactions(&rt, rt.alloc())?;
     print_tables(&rt, rt.alloc())?;
+    print_exchanges(&rt, rt.alloc())?;
     print_runs(&rt, rt.alloc())
 }

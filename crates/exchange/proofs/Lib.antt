@@ -1,0 +1,8 @@
+mod Doing
+mod Founded
+mod Keeping
+mod Arriving
+mod Facts
+mod Paths
+mod Turning
+mod Delivering
