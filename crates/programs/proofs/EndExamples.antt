@@ -11,9 +11,9 @@ use Rattle.clap.specs.Faults.{walk_fault, defaults_fault}
 use Rattle.clap.specs.Words.{Kinds, fault_of}
 use Rattle.clap.specs.declared.error.kind.ErrorKind.TheVariants.{DisplayHelp, DisplayVersion, UnknownArgument}
 use Rattle.endpoint.specs.declared.fault.EndFault.TheVariants.{Business}
-use Rattle.schedules.specs.declared.event.Event.{Event}
-use Rattle.schedules.specs.declared.event.Event.TheVariants.{Order}
-use Rattle.schedules.specs.Events.{events_of}
+use Rattle.schedules.specs.declared.event.PurchasingEvent.{PurchasingEvent}
+use Rattle.schedules.specs.declared.event.PurchasingEvent.TheVariants.{Order}
+use Rattle.schedules.specs.Alone.{purchasing_events_of}
 use Rattle.programs.specs.declared.fault.RunFault.TheVariants.{BadEvent, Memory, Device}
 use Rattle.programs.specs.declared.running.Outcome.TheVariants.{Refused}
 use Rattle.programs.specs.Ends.{Writers, IsCutRun, IsRunOf, IsUnread, IsRunFrom, IsEndOf, IsUntold, fault_line}
@@ -25,8 +25,8 @@ use Rattle.programs.specs.Written.{AppendsPart}
 abbrev cancels : List ℕ
 cancels = codes "cancel 0 o1\n"
 
-abbrev cancel : Event
-cancel = Order 0 (order_of (codes "o1")) CancelOrder
+abbrev cancel : PurchasingEvent
+cancel = Order (record { seat = 0; entity = order_of (codes "o1"); command = CancelOrder })
 
 -- what is told of it: the order isn't open
 abbrev refused : List ℕ
@@ -36,11 +36,11 @@ refused = codes "refused 61 71\n"
 abbrev faulty : List ℕ
 faulty = codes "cancel 0 o1\ncancel 0\n"
 
-line_is_read : events_of cancels ≡ Ok (cancel ∷ [])
+line_is_read : purchasing_events_of cancels ≡ Ok (cancel ∷ [])
 unfolding is_utf8 chars lib.Utf8.encode
 line_is_read = refl
 
-second_line_is_faulty : events_of faulty ≡ Err 2
+second_line_is_faulty : purchasing_events_of faulty ≡ Err 2
 unfolding is_utf8 chars lib.Utf8.encode
 second_line_is_faulty = refl
 
@@ -106,7 +106,7 @@ what_is_left_is_run = (
 )
   where
     not_faulty : IsRunFrom (Some cancels) (Some []) (Some []) (Err (BadEvent 2)) → ⊥
-    not_faulty (inl (text, is, told)) = let answer = sym line_is_read ∙ ap events_of (sym is) ∙ told.0 in absurd (cc)
+    not_faulty (inl (text, is, told)) = let answer = sym line_is_read ∙ ap purchasing_events_of (sym is) ∙ told.0 in absurd (cc)
     not_faulty (inr h) = h
 
 -- what the writers hold

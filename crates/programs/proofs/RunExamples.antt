@@ -24,9 +24,9 @@ use Rattle.keep.specs.declared.change.Change.TheVariants.{Journal, Settled}
 use Rattle.endpoint.specs.Answers.{sent_counts, reaction}
 use Rattle.outbox.specs.Numbering.{NumbersFit}
 use Rattle.endpoint.specs.declared.fault.EndFault.TheVariants.{NotMine, Business, StoreFailed, Memory, Unusable}
-use Rattle.schedules.specs.declared.event.Event.{Event}
-use Rattle.schedules.specs.declared.event.Event.TheVariants as event
-use Rattle.schedules.specs.declared.event.Service.TheVariants.{Purchasing}
+use Rattle.schedules.specs.declared.event.PurchasingEvent.{PurchasingEvent}
+use Rattle.schedules.specs.declared.event.PurchasingEvent.TheVariants as event
+use Rattle.schedules.specs.declared.event.SeatCommand.{SeatCommand}
 use Rattle.programs.specs.declared.running.Outcome.TheVariants.{Committed, Refused, Shown}
 use Rattle.programs.specs.Printed.{frame_line, frame_lines}
 use Rattle.programs.specs.Runs.{orders_service, IsSound, IsRun, order_row, IsTaken, IsShow, IsFrames, IsJournal, IsTakenAs, IsShown, Tells}
@@ -159,18 +159,21 @@ looks_commit_nothing lines none = ((frames_are_shown lines none).0, refl, λ h. 
 
 -- ---- a run
 
-abbrev place : Event
-place = event.Order 0 o1 (Place (codes "bolts") 3 (codes "acme") 500)
+abbrev asked : SeatCommand OrderCommand
+asked = record { seat = 0; entity = o1; command = Place (codes "bolts") 3 (codes "acme") 500 }
+
+abbrev place : PurchasingEvent
+place = event.Order asked
 
 -- an order's event is its command by its seat, and a look's is its answer
-events_tell : (shown : Vec ℕ) → shown.items ≡ shown_text → (order_row 0 o1 (Place (codes "bolts") 3 (codes "acme") 500) ≡ placing)
+events_tell : (shown : Vec ℕ) → shown.items ≡ shown_text → (order_row asked ≡ placing)
     × Tells place [] (Committed 1) (placing ∷ []) × Tells (event.Show o1) (placing ∷ []) (Shown shown) (placing ∷ [])
     × (Tells place [] (Committed 2) (placing ∷ []) → ⊥) × (Tells (event.Show bolts) [] (Shown shown) [] → ⊥)
 events_tell shown is = (refl, an_order_is_placed.0, (orders_are_shown shown).0 is, no_command_is_mistold.0, (no_order_is_misshown shown).1)
 
 -- `o1` is placed and then refused; it is shown, a stock isn't; the journal has one row. The texts of looks are those of any two vectors.
 a_run_prints : (shown rows : Vec ℕ) → shown.items ≡ shown_text → rows.items ≡ row_text
-    → Prints (place ∷ place ∷ event.Show o1 ∷ event.Show bolts ∷ event.Journal Purchasing ∷ [])
+    → Prints (place ∷ place ∷ event.Show o1 ∷ event.Show bolts ∷ event.Journal ∷ [])
     (codes "committed 1\nrefused 61 70\n" ++ shown_text ++ codes "refused 60\n" ++ row_text)
 unfolding same_entity digits
 a_run_prints shown rows shows lists = (

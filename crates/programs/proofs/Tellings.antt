@@ -6,10 +6,8 @@ use Rattle.std.specs.Global.{Vec}
 use Rattle.std.proofs.lemmas.List.{drop_all}
 use Rattle.endpoint.specs.declared.fault.EndFault.{EndFault}
 use Rattle.endpoint.specs.declared.fault.EndFault.TheVariants.{Memory}
-use Rattle.schedules.specs.declared.event.Event.{Event}
-use Rattle.schedules.specs.declared.event.Event.TheVariants as event
-use Rattle.schedules.specs.declared.event.Service.{Service}
-use Rattle.schedules.specs.declared.event.Service.TheVariants.{Purchasing}
+use Rattle.schedules.specs.declared.event.PurchasingEvent.{PurchasingEvent}
+use Rattle.schedules.specs.declared.event.PurchasingEvent.TheVariants as event
 use Rattle.programs.specs.declared.running.Outcome.{Outcome}
 use Rattle.programs.specs.declared.running.Outcome.TheVariants.{Refused, Shown}
 use Rattle.programs.specs.Runs.{Orders, IsShown, IsFrames, IsJournal, Tells, printed, IsRun}
@@ -20,36 +18,38 @@ pub shown_told : (r : Result (Vec ℕ) EndFault) (outcome : Outcome) (Answers : 
 shown_told (Ok lines) outcome Answers after is answer = subst (λ (o : Outcome). IsShown Answers o after) (sym is) answer
 shown_told (Err fault) outcome Answers after is answer = subst (λ (o : Outcome). IsShown Answers o after) (sym is) answer
 
-pub tells_frames : (journal : Orders) (outcome : Outcome) (after : Orders) (shown : Event) (service : Service)
-    → shown ≡ event.Frames service → IsShown (IsFrames journal) outcome after → Tells shown journal outcome after
-tells_frames journal outcome after shown Purchasing is told = subst (λ (e : Event). Tells e journal outcome after) (sym is) told
+pub tells_frames : (journal : Orders) (outcome : Outcome) (after : Orders) (shown : PurchasingEvent)
+    → shown ≡ event.Frames → IsShown (IsFrames journal) outcome after → Tells shown journal outcome after
+tells_frames journal outcome after shown is told = subst (λ (e : PurchasingEvent). Tells e journal outcome after) (sym is) told
 
-pub tells_journal : (journal : Orders) (outcome : Outcome) (after : Orders) (shown : Event) (service : Service)
-    → shown ≡ event.Journal service → IsShown (IsJournal journal) outcome after → Tells shown journal outcome after
-tells_journal journal outcome after shown Purchasing is told = subst (λ (e : Event). Tells e journal outcome after) (sym is) told
+pub tells_journal : (journal : Orders) (outcome : Outcome) (after : Orders) (shown : PurchasingEvent)
+    → shown ≡ event.Journal → IsShown (IsJournal journal) outcome after → Tells shown journal outcome after
+tells_journal journal outcome after shown is told = subst (λ (e : PurchasingEvent). Tells e journal outcome after) (sym is) told
 
 -- one event, and then the others
-pub run_step : (events : List Event) (i : ℕ) (event : Event) (outcome : Outcome) (journal between : Orders) (rest : List ℕ) (after : Orders)
+pub run_step : (events : List PurchasingEvent) (i : ℕ) (event : PurchasingEvent) (outcome : Outcome) (journal between : Orders)
+    (rest : List ℕ) (after : Orders)
     → i < length events → event ≡ get_or events i event → Tells event journal outcome between
     → IsRun (drop (i + 1) events) between rest after → IsRun (drop i events) journal (printed outcome ++ rest) after
 run_step events i event outcome journal between rest after lt at tells run =
     let first : drop i events ≡ event ∷ drop (i + 1) events =
     rw add-one (drop-cons events i event lt ∙ ap (λ e. e ∷ drop (suc i) events) (sym at)) in
-    subst (λ (es : List Event). IsRun es journal (printed outcome ++ rest) after) (sym first) (outcome, between, rest, tells, refl, run)
+    subst (λ (es : List PurchasingEvent). IsRun es journal (printed outcome ++ rest) after) (sym first)
+    (outcome, between, rest, tells, refl, run)
 
 -- no event is left
-pub run_end : (events : List Event) (i : ℕ) (journal : Orders) → length events ≤ i → IsRun (drop i events) journal [] journal
-run_end events i journal all = subst (λ (es : List Event). IsRun es journal [] journal) (sym (drop_all i events all)) (refl, refl)
+pub run_end : (events : List PurchasingEvent) (i : ℕ) (journal : Orders) → length events ≤ i → IsRun (drop i events) journal [] journal
+run_end events i journal all = subst (λ (es : List PurchasingEvent). IsRun es journal [] journal) (sym (drop_all i events all)) (refl, refl)
 
 -- where memory is refused, each event tells that alone
-refused_for_memory : (event : Event) (journal : Orders) → Tells event journal (Refused Memory) journal
-refused_for_memory (event.Order seat order command) journal = refl
+refused_for_memory : (event : PurchasingEvent) (journal : Orders) → Tells event journal (Refused Memory) journal
+refused_for_memory (event.Order asked) journal = refl
 refused_for_memory (event.Show e) journal = refl
-refused_for_memory (event.Frames Purchasing) journal = refl
-refused_for_memory (event.Journal Purchasing) journal = refl
+refused_for_memory event.Frames journal = refl
+refused_for_memory event.Journal journal = refl
 
 -- events can always be run
-pub any_run : (events : List Event) (journal : Orders) → (text : List ℕ) × (after : Orders) × IsRun events journal text after
+pub any_run : (events : List PurchasingEvent) (journal : Orders) → (text : List ℕ) × (after : Orders) × IsRun events journal text after
 any_run [] journal = ([], journal, (refl, refl))
 any_run (event ∷ events) journal =
     let rest = any_run events journal in

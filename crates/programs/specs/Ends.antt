@@ -1,10 +1,10 @@
 -- How a whole schedule ends.
 use Rattle.std.specs.Prelude.{◌≡◌, ◌⊎◌, ℕ, List, ◌++◌, codes, decimal, Option, Result, Ok, Err, IfSome}
 use Rattle.std.specs.Io.KnownBytes.{Appends}
-use Rattle.schedules.specs.declared.event.Event.{Event}
+use Rattle.schedules.specs.declared.event.PurchasingEvent.{PurchasingEvent}
 use Rattle.programs.specs.declared.fault.RunFault.{RunFault}
 use Rattle.programs.specs.declared.fault.RunFault.TheVariants.{BadEvent, Memory, Device}
-use Rattle.schedules.specs.Events.{events_of}
+use Rattle.schedules.specs.Alone.{purchasing_events_of}
 use Rattle.programs.specs.Runs.{Orders, IsRun, Prints}
 use Rattle.programs.specs.Written.{AppendsPart}
 
@@ -15,19 +15,19 @@ fault_line Memory = codes "fault 81 Memory\n"
 fault_line Device = codes "fault 2 Device\n"
 
 -- the writer took a beginning of what a run of these events tells
-abbrev pub IsCutRun : List Event → Orders → Option (List ℕ) → Option (List ℕ) → Type 0
+abbrev pub IsCutRun : List PurchasingEvent → Orders → Option (List ℕ) → Option (List ℕ) → Type 0
 IsCutRun events journal old new = (told : List ℕ) × (after : Orders) × IsRun events journal told after × AppendsPart old new told
 
 -- What running a text answers, over the known octets of the writer before it and after it: the events of the text are run and what they
 -- print is written, or a beginning of it where the writer failed; or the first faulty line is told, and nothing is written; or memory was
 -- refused before the first line ran.
 abbrev pub IsRunOf : List ℕ → Option (List ℕ) → Option (List ℕ) → Result Unit RunFault → Type 0
-IsRunOf text old new (Ok _) = (events : List Event) × (told : List ℕ) × (events_of text ≡ Ok events) × Prints events told
-    × Appends old new told
-IsRunOf text old new (Err (BadEvent number)) = (events_of text ≡ Err number) × (new ≡ old)
+IsRunOf text old new (Ok _) = (events : List PurchasingEvent) × (told : List ℕ) × (purchasing_events_of text ≡ Ok events)
+    × Prints events told × Appends old new told
+IsRunOf text old new (Err (BadEvent number)) = (purchasing_events_of text ≡ Err number) × (new ≡ old)
 IsRunOf text old new (Err Memory) = new ≡ old
-IsRunOf text old new (Err Device) = (events : List Event) × (told : List ℕ) × (events_of text ≡ Ok events) × Prints events told
-    × AppendsPart old new told
+IsRunOf text old new (Err Device) = (events : List PurchasingEvent) × (told : List ℕ) × (purchasing_events_of text ≡ Ok events)
+    × Prints events told × AppendsPart old new told
 
 -- nothing was read, for want of memory or since the reader failed; nothing is written
 abbrev pub IsUnread : Option (List ℕ) → Option (List ℕ) → Result Unit RunFault → Type 0

@@ -21,9 +21,9 @@ use Rattle.endpoint.specs.Faults.{end_fault_number}
 use Rattle.endpoint.specs.Matches.{TablesMatchJournal}
 use Rattle.outbox.specs.Rows.{unsettled_of}
 use Rattle.endpoint.specs.Answers.{CommitAt}
-use Rattle.schedules.specs.declared.event.Event.{Event}
-use Rattle.schedules.specs.declared.event.Event.TheVariants as event
-use Rattle.schedules.specs.declared.event.Service.TheVariants.{Purchasing}
+use Rattle.schedules.specs.declared.event.PurchasingEvent.{PurchasingEvent}
+use Rattle.schedules.specs.declared.event.PurchasingEvent.TheVariants as event
+use Rattle.schedules.specs.declared.event.SeatCommand.{SeatCommand}
 use Rattle.programs.specs.declared.running.Outcome.{Outcome}
 use Rattle.programs.specs.declared.running.Outcome.TheVariants.{Committed, Refused, Shown}
 use Rattle.programs.specs.Printed.{show_line, row_lines, frame_lines}
@@ -42,9 +42,9 @@ pub record IsSound (t : Tables (Option OrderState) OrderCommand) : Type 0 where
   pub unsettled : t.settled ≡ (λ _. 0)
   pub few : length t.journal ≤ 2 ^ 40
 
--- a seat's command to an order
-abbrev pub order_row : ℕ → Name → OrderCommand → JournalRow OrderCommand
-order_row seat order command = record { entity = order; input = FromSeat seat command }
+-- a seat's command to an order, as a row of the journal
+abbrev pub order_row : SeatCommand OrderCommand → JournalRow OrderCommand
+order_row asked = record { entity = asked.entity; input = FromSeat asked.seat asked.command }
 
 -- A command is taken in or refused, as the reaction of its order answers. Want of memory changes nothing; tables in memory don't fail.
 abbrev pub IsTaken : JournalRow OrderCommand → Orders → Result ℕ EndFault → Orders → Type 0
@@ -88,11 +88,11 @@ IsShown Answers (Refused fault) after = Answers (Err fault) after
 IsShown Answers (Shown lines) after = Answers (Ok lines) after
 
 -- what an event tells over the journal, and the journal after it
-abbrev pub Tells : Event → Orders → Outcome → Orders → Type 0
-Tells (event.Order seat order command) journal outcome after = IsTakenAs (order_row seat order command) journal outcome after
+abbrev pub Tells : PurchasingEvent → Orders → Outcome → Orders → Type 0
+Tells (event.Order asked) journal outcome after = IsTakenAs (order_row asked) journal outcome after
 Tells (event.Show e) journal outcome after = IsShown (IsShow e journal) outcome after
-Tells (event.Frames Purchasing) journal outcome after = IsShown (IsFrames journal) outcome after
-Tells (event.Journal Purchasing) journal outcome after = IsShown (IsJournal journal) outcome after
+Tells event.Frames journal outcome after = IsShown (IsFrames journal) outcome after
+Tells event.Journal journal outcome after = IsShown (IsJournal journal) outcome after
 
 -- the number of a refusal, and of the business refusal in it
 abbrev pub shown_fault : EndFault → List ℕ
@@ -106,11 +106,11 @@ printed (Refused fault) = codes "refused " ++ shown_fault fault ++ 10 ∷ []
 printed (Shown lines) = lines.items
 
 -- a run of events: each tells its lines over the journal that the one before it leaves
-abbrev pub IsRun : List Event → Orders → List ℕ → Orders → Type 0
+abbrev pub IsRun : List PurchasingEvent → Orders → List ℕ → Orders → Type 0
 IsRun [] journal text after = (text ≡ []) × (after ≡ journal)
 IsRun (event ∷ events) journal text after = (outcome : Outcome) × (between : Orders) × (rest : List ℕ)
     × Tells event journal outcome between × (text ≡ printed outcome ++ rest) × IsRun events between rest after
 
 -- a whole run, which begins with an empty journal
-abbrev pub Prints : List Event → List ℕ → Type 0
+abbrev pub Prints : List PurchasingEvent → List ℕ → Type 0
 Prints events text = (after : Orders) × IsRun events [] text after

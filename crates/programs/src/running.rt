@@ -10,7 +10,7 @@ use base::Entity;
 use endpoint::{EndFault, Endpoint, empty_tables_match};
 use keep_plain::PlainKeep;
 use purchasing::Orders;
-use schedules::{Event, SeatNumber, Service};
+use schedules::{PurchasingEvent, SeatCommand};
 use std::alloc::Global;
 
 /// The service purchasing, with its tables in memory.
@@ -41,16 +41,14 @@ pub(crate) fn open_purchasing(alloc: Global) -> Purchasing
 fn commit(
     alloc: Global,
     purchasing: &mut Purchasing,
-    seat: SeatNumber,
-    order: &Entity,
-    command: &OrderCommand,
+    asked: &SeatCommand<OrderCommand>,
 ) -> Result<u64, EndFault>
     ensures sound { IsSound (tables_of purchasing.old) → IsSound (tables_of purchasing.new) }
     ensures taken { IsSound (tables_of purchasing.old)
-        → IsTaken (order_row seat order.now command.now) (tables_of purchasing.old).journal result (tables_of purchasing.new).journal }
+        → IsTaken (order_row asked.now) (tables_of purchasing.old).journal result (tables_of purchasing.new).journal }
 {
-    let command = Orders::copy_command(alloc, command)?;
-    match purchasing.commit(alloc, seat.get(), order, command) {
+    let command = Orders::copy_command(alloc, &asked.command)?;
+    match purchasing.commit(alloc, asked.seat.get(), &asked.entity, command) {
         Ok(committed) => Ok(committed.pos),
         Err(fault) => Err(fault),
     }
@@ -104,22 +102,22 @@ fn shown(answer: Result<Vec<u8>, EndFault>) -> Outcome
 }
 
 /// Runs one event. Where memory is refused, it is refused with 64 and nothing is changed.
-pub(crate) fn run_event(alloc: Global, purchasing: &mut Purchasing, event: &Event) -> Outcome
+pub(crate) fn run_event(
+    alloc: Global,
+    purchasing: &mut Purchasing,
+    event: &PurchasingEvent,
+) -> Outcome
     ensures sound { IsSound (tables_of purchasing.old) → IsSound (tables_of purchasing.new) }
     ensures tells { IsSound (tables_of purchasing.old)
         → Tells event.now (tables_of purchasing.old).journal result (tables_of purchasing.new).journal }
 {
     match event {
-        Event::Order {
-            seat,
-            order,
-            command,
-        } => match commit(alloc, purchasing, *seat, order, command) {
+        PurchasingEvent::Order(asked) => match commit(alloc, purchasing, asked) {
             Ok(pos) => Outcome::Committed(pos),
             Err(fault) => Outcome::Refused(fault),
         },
-        Event::Show(entity) => shown(show(alloc, purchasing, entity)),
-        Event::Frames(Service::Purchasing) => shown(frames(alloc, purchasing)),
-        Event::Journal(Service::Purchasing) => shown(journal(alloc, purchasing)),
+        PurchasingEvent::Show(entity) => shown(show(alloc, purchasing, entity)),
+        PurchasingEvent::Frames => shown(frames(alloc, purchasing)),
+        PurchasingEvent::Journal => shown(journal(alloc, purchasing)),
     }
 }

@@ -12,7 +12,7 @@ use crate::fault::RunFault;
 use crate::running::{Outcome, Purchasing, open_purchasing, run_event};
 use endpoint::EndFault;
 use itoa::Buffer;
-use schedules::{Event, read_schedule};
+use schedules::{PurchasingEvent, read_purchasing_schedule};
 use std::alloc::Global;
 use std::io;
 use std::io::{ErrorKind, Read, Write};
@@ -92,7 +92,7 @@ fn write_outcome<W: Write>(out: &mut W, outcome: &Outcome) -> io::Result<()>
 fn run_events<W: Write>(
     alloc: Global,
     purchasing: &mut Purchasing,
-    events: &[Event],
+    events: &[PurchasingEvent],
     out: &mut W,
 ) -> io::Result<()>
     requires { IsSound (tables_of purchasing.old) }
@@ -115,7 +115,7 @@ fn run_events<W: Write>(
 pub fn run_text<W: Write>(alloc: Global, text: &[u8], out: &mut W) -> Result<(), RunFault>
     ensures { IsRunOf text.now (W.contents out.old) (W.contents out.new) result }
 {
-    let events = read_schedule(alloc, text)?;
+    let events = read_purchasing_schedule(alloc, text)?;
     let mut purchasing = open_purchasing(alloc);
     match run_events(alloc, &mut purchasing, events.as_slice(), out) {
         Ok(()) => Ok(()),

@@ -16,7 +16,7 @@
 //! - `out is-interrupted`, `err is-interrupted`: its first write is.
 //!
 //! Calls:
-//! - `read`: `read_schedule` over it;
+//! - `read`: `read_schedule` over it; `read-alone`: `read_purchasing_schedule`;
 //! - `run WORD..`: `run_schedule` with these words behind the program's name; `measure WORD..`: the same, and only sizes are printed;
 //! - `run-text`, `run-input`: these calls;
 //! - `tell N`, `tell device`, `tell not-utf8`: a faulty line, a failed stream, or words that aren't text are told.

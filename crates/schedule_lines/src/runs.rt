@@ -4,7 +4,7 @@ use crate::devices::{Limits, Sink, Source};
 use crate::fault::LineFault;
 use line_script::first_word;
 use programs::{RunFault, run_input, run_schedule, run_text, tell_bad_words, tell_fault};
-use schedules::{ScheduleFault, read_schedule};
+use schedules::{ScheduleFault, read_purchasing_schedule, read_schedule};
 use std::alloc::Global;
 use std::fmt::Write;
 use std::{fmt, io};
@@ -138,13 +138,26 @@ fn push_lines(text: &mut String, mark: char, octets: &[u8]) -> Result<(), LineFa
     Ok(())
 }
 
-/// Appends what `read_schedule` answers.
-pub fn push_read(alloc: Global, out: &mut String, schedule: &[u8]) -> Result<(), LineFault> {
-    match read_schedule(alloc, schedule) {
+/// Appends how many events were read, or why none were.
+fn push_count<E: Drop>(
+    out: &mut String,
+    answer: Result<Vec<E>, ScheduleFault>,
+) -> Result<(), LineFault> {
+    match answer {
         Ok(events) => write!(out, "events: {}", events.len()).map_err(LineFault::from),
         Err(ScheduleFault::Memory) => Err(LineFault::Memory),
         Err(fault) => write!(out, "{fault}").map_err(LineFault::from),
     }
+}
+
+/// Appends what `read_schedule` answers.
+pub fn push_read(alloc: Global, out: &mut String, schedule: &[u8]) -> Result<(), LineFault> {
+    push_count(out, read_schedule(alloc, schedule))
+}
+
+/// Appends what `read_purchasing_schedule` answers.
+pub fn push_read_alone(alloc: Global, out: &mut String, schedule: &[u8]) -> Result<(), LineFault> {
+    push_count(out, read_purchasing_schedule(alloc, schedule))
 }
 
 /// The fault that is to be told.

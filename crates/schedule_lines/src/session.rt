@@ -2,7 +2,7 @@
 
 use crate::devices::Limits;
 use crate::fault::LineFault;
-use crate::runs::{Devices, push_call, push_read, push_sizes};
+use crate::runs::{Devices, push_call, push_read, push_read_alone, push_sizes};
 use line_script::{Script, first_word, size};
 use std::alloc::{AllocError, Global};
 use std::io;
@@ -98,6 +98,7 @@ impl Session {
             "err" => limit(&mut self.devices.err, rest),
             "measure" => push_sizes(alloc, out, self.devices, schedule, rest),
             "read" if rest.is_empty() => push_read(alloc, out, schedule),
+            "read-alone" if rest.is_empty() => push_read_alone(alloc, out, schedule),
             _ => push_call(alloc, out, self.devices, schedule, line),
         }
     }

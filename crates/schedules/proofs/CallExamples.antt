@@ -13,6 +13,7 @@ use Rattle.schedules.specs.declared.fault.ScheduleFault.TheVariants.{BadEvent, M
 use Rattle.schedules.specs.Cuts.{Lacks, IsCut, IsRest}
 use Rattle.schedules.specs.Escapes.{IsUnescaped}
 use Rattle.schedules.specs.Numbers.{seat_number}
+use Rattle.schedules.specs.Events.{events_of}
 use Rattle.schedules.specs.Faults.{IsRead}
 use Rattle.schedules.specs.Words.{◌>>=◌}
 
@@ -64,20 +65,21 @@ abbrev text : List ℕ
 text = codes "# two events\ncancel 0 o1\njournal purchasing\n"
 
 abbrev events : List Event
-events = Order 0 (order_of (codes "o1")) CancelOrder ∷ Journal Purchasing ∷ []
+events = Order (record { seat = 0; entity = order_of (codes "o1"); command = CancelOrder }) ∷ Journal Purchasing ∷ []
 
 -- reading answers these events, or that memory ran out
-a_schedule_is_answered : ((answer : Vec Event) → answer.items ≡ events → IsRead text (Ok answer)) × (IsRead text (Err Memory))
+a_schedule_is_answered : ((answer : Vec Event) → answer.items ≡ events → IsRead (events_of text) (Ok answer))
+    × (IsRead (events_of text) (Err Memory))
 unfolding is_utf8 chars lib.Utf8.encode
 a_schedule_is_answered = (λ answer is. rw is refl, tt)
 
 -- and nothing else: no line of it is faulty
-no_line_is_refused : (number : ℕ) → IsRead text (Err (BadEvent number)) → ⊥
+no_line_is_refused : (number : ℕ) → IsRead (events_of text) (Err (BadEvent number)) → ⊥
 unfolding is_utf8 chars lib.Utf8.encode
 no_line_is_refused number is = cc
 
 -- the second line is no event: that is answered, and never events
-a_faulty_line_is_told : (IsRead (codes "cancel 0 o1\ncancel 0\n") (Err (BadEvent 2)))
-    × ((answer : Vec Event) → IsRead (codes "cancel 0 o1\ncancel 0\n") (Ok answer) → ⊥)
+a_faulty_line_is_told : (IsRead (events_of (codes "cancel 0 o1\ncancel 0\n")) (Err (BadEvent 2)))
+    × ((answer : Vec Event) → IsRead (events_of (codes "cancel 0 o1\ncancel 0\n")) (Ok answer) → ⊥)
 unfolding is_utf8 chars lib.Utf8.encode
 a_faulty_line_is_told = (refl, λ answer is. cc)

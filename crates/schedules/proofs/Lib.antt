@@ -8,3 +8,6 @@ pub mod Again
 pub mod Sizes
 pub mod Examples
 pub mod CallExamples
+pub mod Part
+pub mod Spelled
+pub mod OutcomeExamples

@@ -8,7 +8,7 @@ use Rattle.std.specs.Cmp.Lexicographic.{same_text}
 use Rattle.base.specs.declared.entity.Kind.{Kind}
 use Rattle.base.specs.declared.entity.Kind.TheVariants.{Order, Stock, Account}
 use Rattle.base.specs.Entity.{Name, prefix_of, text_of, is_key, order_of, stock_of, account_of}
-use Rattle.schedules.specs.Events.{entity_of, named}
+use Rattle.schedules.specs.Arguments.{entity_of, named}
 
 entity_at : (kind : Kind) (key : List ℕ)
     → entity_of (prefix_of kind ++ key) ≡ option_map (λ k. record { kind = kind; key = k }) (cond (is_key key) (Some key) None)

@@ -2,7 +2,8 @@
 use Rattle.std.proofs.Common.{◌≡◌, ◌⊎◌, ◌<◌, ◌≤◌, ◌+◌, ◌*◌, ◌^◌, ℕ, suc, List, [], ◌∷◌, length, drop, Bool, true, false, ◌||◌, cond, eqb}
 use Rattle.std.proofs.Common.{nat_eq, ltb, leb, refl, sym, ap, ◌∙◌, arith, Option, Some, None, inl, inr, count_by}
 use Rattle.std.specs.Prelude.{codes}
-use Rattle.std.specs.List.{slice_split, onto_first, starts_with}
+use Rattle.std.specs.List.{slice_split, onto_first, starts_with, list_all}
+use Rattle.std.specs.Map.{lookup}
 use Rattle.std.specs.Option.{option_map}
 use Rattle.std.specs.Str.{bytes_eq, is_utf8}
 use Rattle.std.specs.Cmp.Lexicographic.{same_text}
@@ -13,24 +14,45 @@ use Rattle.std.proofs.lemmas.List.{length-drop}
 use Rattle.std.proofs.lemmas.List.Splits.{length-slice_split}
 use Rattle.base.specs.Entity.{Name, is_key, prefix_of, order_of, stock_of, account_of}
 use Rattle.base.specs.declared.entity.Kind.TheVariants.{Order, Stock, Account}
+use Rattle.base.specs.declared.pair.Pair.{Pair}
 use Rattle.activities.specs.declared.commands.OrderCommand.{OrderCommand}
+use Rattle.activities.specs.declared.commands.StockCommand.{StockCommand}
+use Rattle.activities.specs.declared.commands.AccountCommand.{AccountCommand}
+use Rattle.schedules.specs.declared.event.SeatCommand.{SeatCommand}
 use Rattle.schedules.specs.declared.event.Event.{Event}
 use Rattle.schedules.specs.declared.event.Event.TheVariants as event
+use Rattle.schedules.specs.declared.event.PurchasingEvent.{PurchasingEvent}
+use Rattle.schedules.specs.declared.event.PurchasingEvent.TheVariants as alone_event
+use Rattle.schedules.specs.declared.event.ConnectionName.{ConnectionName}
+use Rattle.schedules.specs.declared.event.ConnectionNumber.{ConnectionNumber}
+use Rattle.schedules.specs.declared.event.ConnectionNumber.TheVariants.{Zero, One}
+use Rattle.schedules.specs.declared.event.FailureLeaves.{FailureLeaves}
+use Rattle.schedules.specs.declared.event.FailureLeaves.TheVariants.{Old, New}
 use Rattle.schedules.specs.declared.event.Service.{Service}
+use Rattle.schedules.specs.declared.event.Service.TheVariants.{Purchasing, Warehouse, Billing}
+use Rattle.stomp_wire.specs.declared.wire.Way.{Way}
+use Rattle.stomp_wire.specs.declared.wire.Way.TheVariants.{Up, Down}
+use Rattle.schedules.specs.declared.verb.Verb.{Verb}
+use Rattle.schedules.specs.declared.verb.Verb.TheVariants as verb
 use Rattle.schedules.specs.Words.{◌>>=◌, meant_by, octet_then, unescaped, word_of, words_in, words_of}
-use Rattle.schedules.specs.Numbers.{numeral_value, seat_number}
-use Rattle.schedules.specs.Events.{seat_of, key_of, named, entity_of, placing_of, place_of, cancel_of, show_of, the_service, event_of}
-use Rattle.schedules.specs.Events.{is_quiet, event_in, event_on}
+use Rattle.schedules.specs.Numbers.{numeral_value, seat_number, ordinal_number, rounds_number}
+use Rattle.schedules.specs.Arguments.{seat_of, ordinal_of, rounds_of, key_of, named, entity_of, service_of, connection_number}
+use Rattle.schedules.specs.Arguments.{way_of, leaves_of}
+use Rattle.schedules.specs.Commands.{placing_of, place_of, cancel_of, receive_of, limit_of}
+use Rattle.schedules.specs.Verbs.{verbs, verb_of}
+use Rattle.schedules.specs.Events.{alone, connection_of, fill_of, carry_of, fail_of, stopped_of, pair_of, event_by, event_of}
+use Rattle.schedules.specs.Alone.{show_of, of_purchasing, purchasing_event_of}
+use Rattle.schedules.specs.Schedules.{Language, is_quiet, found_on}
 use Rattle.schedules.proofs.Numerals.{both_true}
 use Rattle.schedules.proofs.Again.{number_only}
 
 -- ---- where a value comes from
 
-bound : {A B : Type 0} (o : Option A) (f : A → Option B) (y : B) → (o >>= f) ≡ Some y → (x : A) × (o ≡ Some x) × (f x ≡ Some y)
+pub bound : {A B : Type 0} (o : Option A) (f : A → Option B) (y : B) → (o >>= f) ≡ Some y → (x : A) × (o ≡ Some x) × (f x ≡ Some y)
 bound None f y e = absurd cc
 bound (Some x) f y e = (x, refl, e)
 
-mapped : {A B : Type 0} (f : A → B) (o : Option A) (y : B) → option_map f o ≡ Some y → (x : A) × (o ≡ Some x) × (f x ≡ y)
+pub mapped : {A B : Type 0} (f : A → B) (o : Option A) (y : B) → option_map f o ≡ Some y → (x : A) × (o ≡ Some x) × (f x ≡ y)
 mapped f None y e = absurd cc
 mapped f (Some x) y e = (x, refl, cc)
 
@@ -158,7 +180,7 @@ entity_size word e is =
     ]
 
 -- words that spell no more than so many octets, and are no more than so many
-abbrev AreWithin : List (List ℕ) → ℕ → ℕ → Type 0
+abbrev pub AreWithin : List (List ℕ) → ℕ → ℕ → Type 0
 AreWithin words octets most = (widest words ≤ octets) × (length words ≤ most)
 
 placing_size : (words : List (List ℕ)) (command : OrderCommand) → placing_of words ≡ Some command → AreWithin words 340 4
@@ -182,84 +204,294 @@ placing_size (stock ∷ n ∷ account ∷ amount ∷ []) command e =
     )
 placing_size (a ∷ b ∷ c ∷ d ∷ more ∷ rest) command e = absurd cc
 
-place_size : (words : List (List ℕ)) (event : Event) → place_of words ≡ Some event → AreWithin words 510 6
-place_size [] event e = absurd cc
-place_size (seat ∷ []) event e = absurd cc
-place_size (seat ∷ key ∷ arguments) event e =
-    let first = bound (seat_of seat) _ event e in
-    let second = bound (key_of key) _ event first.2 in
-    let third = bound (placing_of arguments) _ event second.2 in
+place_size : (words : List (List ℕ)) (asked : SeatCommand OrderCommand) → place_of words ≡ Some asked → AreWithin words 510 6
+place_size [] asked e = absurd cc
+place_size (seat ∷ []) asked e = absurd cc
+place_size (seat ∷ key ∷ arguments) asked e =
+    let first = bound (seat_of seat) _ asked e in
+    let second = bound (key_of key) _ asked first.2 in
+    let third = bound (placing_of arguments) _ asked second.2 in
     let rest : AreWithin arguments 340 4 = placing_size arguments third.0 third.1 in
     (omega (arith, seat_size seat first.0 first.1, key_size key second.0 second.1, rest.0), omega (arith, rest.1))
 
-cancel_size : (words : List (List ℕ)) (event : Event) → cancel_of words ≡ Some event → AreWithin words 510 6
-cancel_size [] event e = absurd cc
-cancel_size (seat ∷ []) event e = absurd cc
-cancel_size (seat ∷ key ∷ []) event e =
-    let first = bound (seat_of seat) _ event e in
-    let second = bound (key_of key) _ event first.2 in
+cancel_size : (words : List (List ℕ)) (asked : SeatCommand OrderCommand) → cancel_of words ≡ Some asked → AreWithin words 510 6
+cancel_size [] asked e = absurd cc
+cancel_size (seat ∷ []) asked e = absurd cc
+cancel_size (seat ∷ key ∷ []) asked e =
+    let first = bound (seat_of seat) _ asked e in
+    let second = bound (key_of key) _ asked first.2 in
     (omega (arith, seat_size seat first.0 first.1, key_size key second.0 second.1), omega arith)
-cancel_size (seat ∷ key ∷ more ∷ rest) event e = absurd cc
+cancel_size (seat ∷ key ∷ more ∷ rest) asked e = absurd cc
 
-show_size : (words : List (List ℕ)) (event : Event) → show_of words ≡ Some event → AreWithin words 510 6
-show_size [] event e = absurd cc
-show_size (entity ∷ []) event e = let found = mapped _ (entity_of entity) event e in
-    (omega (arith, entity_size entity found.0 found.1), omega arith)
-show_size (entity ∷ more ∷ rest) event e = absurd cc
+receive_size : (words : List (List ℕ)) (asked : SeatCommand StockCommand) → receive_of words ≡ Some asked → AreWithin words 510 6
+receive_size [] asked e = absurd cc
+receive_size (seat ∷ []) asked e = absurd cc
+receive_size (seat ∷ key ∷ []) asked e = absurd cc
+receive_size (seat ∷ key ∷ n ∷ []) asked e =
+    let first = bound (seat_of seat) _ asked e in
+    let second = bound (key_of key) _ asked first.2 in
+    let third = bound (numeral_value n) _ asked second.2 in
+    (omega (arith, seat_size seat first.0 first.1, key_size key second.0 second.1, number_size n third.0 third.1), omega arith)
+receive_size (seat ∷ key ∷ n ∷ more ∷ rest) asked e = absurd cc
 
-service_size : (words : List (List ℕ)) (service : Service) → the_service words ≡ Some service → AreWithin words 510 6
-service_size [] service e = absurd cc
-service_size (word ∷ []) service e =
-    let same : word ≡ codes "purchasing" = same_text _ _ (sym (cond_some _ _ _ e).0) in
-    (rw same (omega arith), omega arith)
-service_size (word ∷ more ∷ rest) service e = absurd cc
+limit_size : (words : List (List ℕ)) (asked : SeatCommand AccountCommand) → limit_of words ≡ Some asked → AreWithin words 510 6
+limit_size [] asked e = absurd cc
+limit_size (seat ∷ []) asked e = absurd cc
+limit_size (seat ∷ key ∷ []) asked e = absurd cc
+limit_size (seat ∷ key ∷ n ∷ []) asked e =
+    let first = bound (seat_of seat) _ asked e in
+    let second = bound (key_of key) _ asked first.2 in
+    let third = bound (numeral_value n) _ asked second.2 in
+    (omega (arith, seat_size seat first.0 first.1, key_size key second.0 second.1, number_size n third.0 third.1), omega arith)
+limit_size (seat ∷ key ∷ n ∷ more ∷ rest) asked e = absurd cc
+
+-- ---- words that are names
+
+-- a word that is this text
+is_short : (word text : List ℕ) (most : ℕ) → bytes_eq word text ≡ true → length text ≤ most → length word ≤ most
+is_short word text most same short = rw (same_text word text (sym same)) short
+
+-- one of these words, where there is one
+of_two_words : {A : Type 0} (a b : Bool) (x y v : A) → cond a (Some x) (cond b (Some y) None) ≡ Some v → (a ≡ true) ⊎ (b ≡ true)
+of_two_words true b x y v e = inl refl
+of_two_words false true x y v e = inr refl
+of_two_words false false x y v e = absurd cc
+
+of_three_words : {A : Type 0} (a b c : Bool) (x y z v : A) → cond a (Some x) (cond b (Some y) (cond c (Some z) None)) ≡ Some v
+    → (a ≡ true) ⊎ (b ≡ true) ⊎ (c ≡ true)
+of_three_words true b c x y z v e = inl refl
+of_three_words false true c x y z v e = inr (inl refl)
+of_three_words false false true x y z v e = inr (inr refl)
+of_three_words false false false x y z v e = absurd cc
+
+service_size : (word : List ℕ) (service : Service) → service_of word ≡ Some service → length word ≤ 10
+service_size word service e =
+    elim (of_three_words (bytes_eq word (codes "purchasing")) (bytes_eq word (codes "warehouse")) (bytes_eq word (codes "billing"))
+    Purchasing Warehouse Billing service e) [
+      | inl first ↦ is_short word (codes "purchasing") 10 first (omega arith)
+      | inr other ↦ elim other [
+        | inl second ↦ is_short word (codes "warehouse") 10 second (omega arith)
+        | inr third ↦ is_short word (codes "billing") 10 third (omega arith)
+      ]
+    ]
+
+connection_number_size : (word : List ℕ) (number : ConnectionNumber) → connection_number word ≡ Some number → length word ≤ 1
+connection_number_size word number e =
+    elim (of_two_words (bytes_eq word (codes "0")) (bytes_eq word (codes "1")) Zero One number e) [
+      | inl first ↦ is_short word (codes "0") 1 first (omega arith)
+      | inr second ↦ is_short word (codes "1") 1 second (omega arith)
+    ]
+
+way_size : (word : List ℕ) (way : Way) → way_of word ≡ Some way → length word ≤ 4
+way_size word way e = elim (of_two_words (bytes_eq word (codes "up")) (bytes_eq word (codes "down")) Up Down way e) [
+  | inl first ↦ is_short word (codes "up") 4 first (omega arith)
+  | inr second ↦ is_short word (codes "down") 4 second (omega arith)
+]
+
+leaves_size : (word : List ℕ) (leaves : FailureLeaves) → leaves_of word ≡ Some leaves → length word ≤ 3
+leaves_size word leaves e = elim (of_two_words (bytes_eq word (codes "old")) (bytes_eq word (codes "new")) Old New leaves e) [
+  | inl first ↦ is_short word (codes "old") 3 first (omega arith)
+  | inr second ↦ is_short word (codes "new") 3 second (omega arith)
+]
+
+ordinal_size : (word : List ℕ) (place : ℕ) → ordinal_of word ≡ Some place → length word ≤ 72
+ordinal_size word place e =
+    let number = bound (numeral_value word) ordinal_number place e in omega (arith, number_size word number.0 number.1)
+
+rounds_size : (word : List ℕ) (rounds : ℕ) → rounds_of word ≡ Some rounds → length word ≤ 72
+rounds_size word rounds e =
+    let number = bound (numeral_value word) rounds_number rounds e in omega (arith, number_size word number.0 number.1)
+
+any_service_size : (word : List ℕ) (service : Service) → service_of word ≡ Some service → length word ≤ 72
+any_service_size word service e = omega (arith, service_size word service e)
+
+stopped_size : (word : List ℕ) (it : Event) → stopped_of word ≡ Some it → length word ≤ 72
+stopped_size word it e =
+    elim (chosen (bytes_eq word (codes "broker")) (Some event.StopBroker) (option_map event.Stop (service_of word)) it e) [
+      | inl broker ↦ is_short word (codes "broker") 72 broker.0 (omega arith)
+      | inr other ↦ let found = mapped event.Stop (service_of word) it other in any_service_size word found.0 found.1
+    ]
+
+-- ---- arguments
+
+alone_size : {A : Type 0} (meant : List ℕ → Option A) → ((word : List ℕ) (x : A) → meant word ≡ Some x → length word ≤ 72)
+    → (words : List (List ℕ)) (x : A) → alone meant words ≡ Some x → AreWithin words 510 6
+alone_size meant short [] x e = absurd cc
+alone_size meant short (word ∷ []) x e = (omega (arith, short word x e), omega arith)
+alone_size meant short (word ∷ more ∷ rest) x e = absurd cc
+
+connection_size : (words : List (List ℕ)) (connection : ConnectionName) → connection_of words ≡ Some connection → AreWithin words 24 2
+connection_size [] connection e = absurd cc
+connection_size (service ∷ []) connection e = absurd cc
+connection_size (service ∷ number ∷ []) connection e =
+    let first = bound (service_of service) _ connection e in
+    let second = bound (connection_number number) _ connection first.2 in
+    (omega (arith, service_size service first.0 first.1, connection_number_size number second.0 second.1), omega arith)
+connection_size (service ∷ number ∷ more ∷ rest) connection e = absurd cc
+
+any_connection_size : (words : List (List ℕ)) (connection : ConnectionName) → connection_of words ≡ Some connection → AreWithin words 510 6
+any_connection_size words connection e =
+    let few : AreWithin words 24 2 = connection_size words connection e in (omega (arith, few.0), omega (arith, few.1))
+
+fill_size : (words : List (List ℕ)) (event : Event) → fill_of words ≡ Some event → AreWithin words 510 6
+fill_size [] event e = absurd cc
+fill_size (service ∷ []) event e = absurd cc
+fill_size (service ∷ number ∷ []) event e = absurd cc
+fill_size (service ∷ number ∷ limit ∷ []) event e =
+    let first = bound (connection_of (service ∷ number ∷ [])) _ event e in
+    let second = bound (numeral_value limit) _ event first.2 in
+    let few : AreWithin (service ∷ number ∷ []) 24 2 = connection_size (service ∷ number ∷ []) first.0 first.1 in
+    (omega (arith, few.0, number_size limit second.0 second.1), omega arith)
+fill_size (service ∷ number ∷ limit ∷ more ∷ rest) event e = absurd cc
+
+carry_size : (words : List (List ℕ)) (event : Event) → carry_of words ≡ Some event → AreWithin words 510 6
+carry_size [] event e = absurd cc
+carry_size (service ∷ []) event e = absurd cc
+carry_size (service ∷ number ∷ []) event e = absurd cc
+carry_size (service ∷ number ∷ way ∷ []) event e = absurd cc
+carry_size (service ∷ number ∷ way ∷ most ∷ []) event e =
+    let first = bound (connection_of (service ∷ number ∷ [])) _ event e in
+    let second = bound (way_of way) _ event first.2 in
+    let third = bound (numeral_value most) _ event second.2 in
+    let few : AreWithin (service ∷ number ∷ []) 24 2 = connection_size (service ∷ number ∷ []) first.0 first.1 in
+    (omega (arith, few.0, way_size way second.0 second.1, number_size most third.0 third.1), omega arith)
+carry_size (service ∷ number ∷ way ∷ most ∷ more ∷ rest) event e = absurd cc
+
+fail_size : (words : List (List ℕ)) (event : Event) → fail_of words ≡ Some event → AreWithin words 510 6
+fail_size [] event e = absurd cc
+fail_size (service ∷ []) event e = absurd cc
+fail_size (service ∷ n ∷ []) event e = absurd cc
+fail_size (service ∷ n ∷ leaves ∷ []) event e =
+    let first = bound (service_of service) _ event e in
+    let second = bound (ordinal_of n) _ event first.2 in
+    let third = bound (leaves_of leaves) _ event second.2 in (
+      omega (
+        arith,
+        service_size service first.0 first.1,
+        ordinal_size n second.0 second.1,
+        leaves_size leaves third.0 third.1,
+      ),
+      omega arith,
+    )
+fail_size (service ∷ n ∷ leaves ∷ more ∷ rest) event e = absurd cc
+
+pair_size : (words : List (List ℕ)) (pair : Pair) → pair_of words ≡ Some pair → AreWithin words 510 6
+pair_size [] pair e = absurd cc
+pair_size (from ∷ []) pair e = absurd cc
+pair_size (from ∷ to ∷ []) pair e =
+    let first = bound (entity_of from) _ pair e in
+    let second = bound (entity_of to) _ pair first.2 in
+    (omega (arith, entity_size from first.0 first.1, entity_size to second.0 second.1), omega arith)
+pair_size (from ∷ to ∷ more ∷ rest) pair e = absurd cc
+
+-- what is made of arguments that are within the sizes
+made_size : {A E : Type 0} (make : A → E) (found : Option A) (words : List (List ℕ)) (event : E)
+    → ((x : A) → found ≡ Some x → AreWithin words 510 6) → option_map make found ≡ Some event → AreWithin words 510 6
+made_size make found words event within e = let x = mapped make found event e in within x.0 x.1
+
+arguments_size : (of : Verb) (words : List (List ℕ)) (event : Event) → event_by of words ≡ Some event → AreWithin words 510 6
+arguments_size verb.Place words it e = made_size event.Order (place_of words) words it (place_size words) e
+arguments_size verb.Cancel words it e = made_size event.Order (cancel_of words) words it (cancel_size words) e
+arguments_size verb.Receive words it e = made_size event.Stock (receive_of words) words it (receive_size words) e
+arguments_size verb.Limit words it e = made_size event.Account (limit_of words) words it (limit_size words) e
+arguments_size verb.Open words it e = made_size event.Open (connection_of words) words it (any_connection_size words) e
+arguments_size verb.Cut words it e = made_size event.Cut (connection_of words) words it (any_connection_size words) e
+arguments_size verb.Fill words it e = fill_size words it e
+arguments_size verb.Resend words it e = made_size event.Resend (connection_of words) words it (any_connection_size words) e
+arguments_size verb.Carry words it e = carry_size words it e
+arguments_size verb.Take words it e = made_size event.Take (connection_of words) words it (any_connection_size words) e
+arguments_size verb.Drain words it e = made_size event.Drain (connection_of words) words it (any_connection_size words) e
+arguments_size verb.Repeat words it e =
+    made_size event.Repeat (alone ordinal_of words) words it (alone_size ordinal_of ordinal_size words) e
+arguments_size verb.Fail words it e = fail_size words it e
+arguments_size verb.Reopen words it e =
+    made_size event.Reopen (alone service_of words) words it (alone_size service_of any_service_size words) e
+arguments_size verb.Stop words it e = alone_size stopped_of stopped_size words it e
+arguments_size verb.Pump words it e = made_size event.Pump (alone rounds_of words) words it (alone_size rounds_of rounds_size words) e
+arguments_size verb.Show words it e = made_size event.Show (alone entity_of words) words it (alone_size entity_of entity_size words) e
+arguments_size verb.Pair words it e = made_size event.Pair (pair_of words) words it (pair_size words) e
+arguments_size verb.Frames words it e =
+    made_size event.Frames (alone service_of words) words it (alone_size service_of any_service_size words) e
+arguments_size verb.Journal words it e =
+    made_size event.Journal (alone service_of words) words it (alone_size service_of any_service_size words) e
+
+-- ---- whole events
+
+-- a word of a table whose words have at most 7 octets
+lookup_size : {V : Type 0} (word : List ℕ) (table : List (List ℕ × V)) (x : V) → list_all (λ entry. leb (length entry.0) 7) table ≡ true
+    → lookup (bytes_eq word) table ≡ Some x → length word ≤ 7
+lookup_size word [] x short e = absurd cc
+lookup_size word (entry ∷ table) x short e =
+    let both = both_true (leb (length entry.0) 7) (list_all (λ entry. leb (length entry.0) 7) table) short in
+    elim (chosen (bytes_eq word entry.0) (Some entry.1) (lookup (bytes_eq word) table) x e) [
+      | inl here ↦ is_short word entry.0 7 here.0 (leb-true _ _ both.0)
+      | inr later ↦ lookup_size word table x both.1 later
+    ]
+
+-- each event of a language has few and short words
+abbrev pub Fits : {E : Type 0} → Language E → Type 0
+Fits {E} event_of = (words : List (List ℕ)) (it : E) → event_of words ≡ Some it → AreWithin words 525 7
+
+pub events_fit : Fits event_of
+events_fit [] it e = absurd cc
+events_fit (name ∷ arguments) it e =
+    let found = bound (verb_of name) (λ of. event_by of arguments) it e in
+    let short : length name ≤ 7 = lookup_size name verbs found.0 refl found.1 in
+    let rest : AreWithin arguments 510 6 = arguments_size found.0 arguments it found.2 in
+    (omega (arith, short, rest.0), omega (arith, rest.1))
 
 -- what the first word and its arguments come to
 with_name : (name text : List ℕ) (arguments : List (List ℕ)) → bytes_eq name text ≡ true → length text ≤ 7 → AreWithin arguments 510 6
     → AreWithin (name ∷ arguments) 525 7
 with_name name text arguments named short rest =
-    let same : name ≡ text = same_text name text (sym named) in
-    (rw same (omega (arith, rest.0)), omega (arith, rest.1))
+    let few : length name ≤ 7 = is_short name text 7 named short in (omega (arith, few, rest.0), omega (arith, rest.1))
 
--- a service is told of what the last arguments show
-of_service : (name text : List ℕ) (make : Service → Event) (arguments : List (List ℕ)) (event : Event) → length text ≤ 7
-    → bytes_eq name text ≡ true
-    → option_map make (the_service arguments) ≡ Some event → AreWithin (name ∷ arguments) 525 7
-of_service name text make arguments event short named is =
-    let found = mapped make (the_service arguments) event is in
-    with_name name text arguments named short (service_size arguments found.0 found.1)
+show_size : (words : List (List ℕ)) (it : PurchasingEvent) → show_of words ≡ Some it → AreWithin words 510 6
+show_size [] it e = absurd cc
+show_size (entity ∷ []) it e =
+    let found = mapped alone_event.Show (entity_of entity) it e in (omega (arith, entity_size entity found.0 found.1), omega arith)
+show_size (entity ∷ more ∷ rest) it e = absurd cc
+
+purchasing_size : (told : PurchasingEvent) (words : List (List ℕ)) (it : PurchasingEvent) → of_purchasing told words ≡ Some it
+    → AreWithin words 510 6
+purchasing_size told [] it e = absurd cc
+purchasing_size told (word ∷ []) it e =
+    let short : length word ≤ 10 = is_short word (codes "purchasing") 10 (cond_some _ _ _ e).0 (omega arith) in
+    (omega (arith, short), omega arith)
+purchasing_size told (word ∷ more ∷ rest) it e = absurd cc
 
 -- the arguments are those of one of the five names
-by_name : (a b c d e : Bool) (name : List ℕ) (arguments : List (List ℕ)) (it : Event)
+by_name : (a b c d e : Bool) (name : List ℕ) (arguments : List (List ℕ)) (it : PurchasingEvent)
     → bytes_eq name (codes "place") ≡ a → bytes_eq name (codes "cancel") ≡ b → bytes_eq name (codes "show") ≡ c
     → bytes_eq name (codes "frames") ≡ d → bytes_eq name (codes "journal") ≡ e
-    → cond a (place_of arguments) (cond b (cancel_of arguments)
+    → cond a (option_map alone_event.Order (place_of arguments)) (cond b (option_map alone_event.Order (cancel_of arguments))
     (cond c (show_of arguments)
-    (cond d (option_map event.Frames (the_service arguments)) (cond e (option_map event.Journal (the_service arguments)) None))))
-    ≡ Some it
+    (cond d (of_purchasing alone_event.Frames arguments) (cond e (of_purchasing alone_event.Journal arguments) None)))) ≡ Some it
     → AreWithin (name ∷ arguments) 525 7
 by_name true b c d e name arguments it place cancel show frames journal is =
-    with_name name (codes "place") arguments place (omega arith) (place_size arguments it is)
+    with_name name (codes "place") arguments place (omega arith)
+    (made_size alone_event.Order (place_of arguments) arguments it (place_size arguments) is)
 by_name false true c d e name arguments it place cancel show frames journal is =
-    with_name name (codes "cancel") arguments cancel (omega arith) (cancel_size arguments it is)
+    with_name name (codes "cancel") arguments cancel (omega arith)
+    (made_size alone_event.Order (cancel_of arguments) arguments it (cancel_size arguments) is)
 by_name false false true d e name arguments it place cancel show frames journal is =
     with_name name (codes "show") arguments show (omega arith) (show_size arguments it is)
 by_name false false false true e name arguments it place cancel show frames journal is =
-    of_service name (codes "frames") event.Frames arguments it (omega arith) frames is
+    with_name name (codes "frames") arguments frames (omega arith) (purchasing_size alone_event.Frames arguments it is)
 by_name false false false false true name arguments it place cancel show frames journal is =
-    of_service name (codes "journal") event.Journal arguments it (omega arith) journal is
+    with_name name (codes "journal") arguments journal (omega arith) (purchasing_size alone_event.Journal arguments it is)
 by_name false false false false false name arguments it place cancel show frames journal is = absurd cc
 
-event_size : (words : List (List ℕ)) (it : Event) → event_of words ≡ Some it → AreWithin words 525 7
-event_size [] it is = absurd cc
-event_size (name ∷ arguments) it is = by_name _ _ _ _ _ name arguments it refl refl refl refl refl is
+pub purchasing_events_fit : Fits purchasing_event_of
+purchasing_events_fit [] it is = absurd cc
+purchasing_events_fit (name ∷ arguments) it is = by_name _ _ _ _ _ name arguments it refl refl refl refl refl is
 
 -- the line of an event has at most so many octets, and so many words
-line_size : (line : List ℕ) (event : Event) → (words_of line >>= event_of) ≡ Some event
+line_size : {E : Type 0} (event_of : Language E) → Fits event_of → (line : List ℕ) (event : E) → (words_of line >>= event_of) ≡ Some event
     → (length line ≤ 524) × (length (slice_split (λ o. eqb o 32) line) ≤ 7)
-line_size line event e =
+line_size event_of fits line event e =
     let words = bound (words_of line) event_of event e in
-    let event_is : AreWithin words.0 525 7 = event_size words.0 event words.2 in
+    let event_is : AreWithin words.0 525 7 = fits words.0 event words.2 in
     let parts = words_size (slice_split (λ o. eqb o 32) line) words.0 words.1 in
     (omega (arith, split_size line, parts.0, event_is.0), omega (arith, parts.1, event_is.1))
 
@@ -273,26 +505,26 @@ above a b p e = elim (cases_Bool (ltb a b)) [
   | inr within ↦ inr (sym (ap (λ t. t || p) within) ∙ e)
 ]
 
--- a line that isn't quiet, with more octets, or with as many spaces as an event may have words, has no event
-pub no_event : (line : List ℕ) → is_quiet line ≡ false → (ltb 524 (length line) || leb 7 (count_by (λ o. eqb o 32) line)) ≡ true
-    → event_in line ≡ None
-no_event line loud long =
-    ap (λ b. cond b (Some None) (option_map Some (words_of line >>= event_of))) loud
-    ∙ ap (option_map Some) (none_of (words_of line >>= event_of) (λ it is.
-    let fits = line_size line it is in
+-- a line with more octets, or with as many spaces as an event may have words, has no event
+pub no_event : {E : Type 0} (event_of : Language E) → Fits event_of → (line : List ℕ)
+    → (ltb 524 (length line) || leb 7 (count_by (λ o. eqb o 32) line)) ≡ true → (words_of line >>= event_of) ≡ None
+no_event event_of fits line long =
+    none_of (words_of line >>= event_of) (λ it is.
+    let size = line_size event_of fits line it is in
     elim (above 524 (length line) (leb 7 (count_by (λ o. eqb o 32) line)) long) [
-      | inl octets ↦ omega (arith, fits.0, octets)
-      | inr spaces ↦ omega (arith, fits.1, leb-true _ _ spaces, length-slice_split (λ o. eqb o 32) line)
-    ]))
+      | inl octets ↦ omega (arith, size.0, octets)
+      | inr spaces ↦ omega (arith, size.1, leb-true _ _ spaces, length-slice_split (λ o. eqb o 32) line)
+    ])
 
 -- what an event on a line is read from
-event_words : (text quiet : Bool) (found : Option Event) (it : Event)
+event_words : {E : Type 0} (text quiet : Bool) (found : Option E) (it : E)
     → cond text (cond quiet (Some None) (option_map Some found)) None ≡ Some (Some it) → found ≡ Some it
 event_words true true found it e = absurd cc
 event_words true false None it e = absurd cc
 event_words true false (Some x) it e = cc
 event_words false quiet found it e = absurd cc
 
-pub event_line_size : (line : List ℕ) (it : Event) → event_on line ≡ Some (Some it)
+pub event_line_size : (line : List ℕ) (it : Event) → found_on event_of line ≡ Some (Some it)
     → (length line ≤ 524) × (length (slice_split (λ o. eqb o 32) line) ≤ 7)
-event_line_size line it is = line_size line it (event_words (is_utf8 line) (is_quiet line) (words_of line >>= event_of) it is)
+event_line_size line it is =
+    line_size event_of events_fit line it (event_words (is_utf8 line) (is_quiet line) (words_of line >>= event_of) it is)

@@ -1,13 +1,11 @@
 -- What reading a schedule answers.
 use Rattle.std.specs.Prelude.{◌≡◌, List, ℕ, Result, Ok, Err}
 use Rattle.std.specs.Global.{Vec}
-use Rattle.schedules.specs.declared.event.Event.{Event}
 use Rattle.schedules.specs.declared.fault.ScheduleFault.{ScheduleFault}
 use Rattle.schedules.specs.declared.fault.ScheduleFault.TheVariants.{BadEvent, Memory}
-use Rattle.schedules.specs.Events.{events_of}
 
--- the events of the text, or the number of its first faulty line; memory may have run out
-abbrev pub IsRead : List ℕ → Result (Vec Event) ScheduleFault → Type 0
-IsRead text (Ok events) = events_of text ≡ Ok events.items
-IsRead text (Err (BadEvent number)) = events_of text ≡ Err number
-IsRead text (Err Memory) = Unit {0}
+-- the events that are to be read, or the number of the first faulty line; memory may have run out
+abbrev pub IsRead : {E : Type 0} → Result (List E) ℕ → Result (Vec E) ScheduleFault → Type 0
+IsRead expected (Ok events) = expected ≡ Ok events.items
+IsRead expected (Err (BadEvent number)) = expected ≡ Err number
+IsRead expected (Err Memory) = Unit {0}

@@ -3,6 +3,13 @@ pub mod Words
 pub mod Cuts
 pub mod Escapes
 pub mod Numbers
+pub mod Arguments
+pub mod Commands
+pub mod Verbs
+pub mod Schedules
 pub mod Events
+pub mod Alone
+pub mod Part
 pub mod Reading
 pub mod Faults
+pub mod Outcomes

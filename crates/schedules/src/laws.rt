@@ -4,8 +4,10 @@ ghost use Rattle.std.specs.Prelude.{◌≡◌, ◌<◌, ◌≤◌, ◌==◌, ◌
 ghost use Rattle.std.specs.List.{slice_split};
 ghost use Rattle.schedules.specs.declared.event.Event.{Event};
 ghost use Rattle.schedules.specs.Cuts.{Lacks};
-ghost use Rattle.schedules.specs.Events.{event_on};
+ghost use Rattle.schedules.specs.Events.{event_of};
+ghost use Rattle.schedules.specs.Schedules.{found_on};
 ghost use Rattle.schedules.specs.Lines.{lines_of, ended};
+ghost use Rattle.schedules.specs.Part.{IsPart};
 ghost use Rattle.schedules.specs.Numbers.{numeral_value};
 ghost use Rattle.schedules.specs.Words.{word_of, escaped};
 
@@ -32,6 +34,11 @@ pub fn written_lines_are_read_again()
 
 /// The line of an event has at most 524 octets and 7 words.
 pub fn an_event_has_few_words()
-    ensures { (line : List ℕ) (event : Event) → event_on line ≡ Some (Some event)
+    ensures { (line : List ℕ) (event : Event) → found_on event_of line ≡ Some (Some event)
         → (length line ≤ 524) × (length (slice_split (λ o. o == 32) line) ≤ 7) }
+{}
+
+/// A schedule of purchasing alone is one of the whole world, with the same events.
+pub fn purchasing_is_a_part()
+    ensures { IsPart }
 {}

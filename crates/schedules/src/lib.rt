@@ -1,7 +1,8 @@
-//! Schedules: texts of events, one a line, and how they are read.
+//! Schedules: texts of events, one a line, how they are read, and the lines that tell what became of them.
 //!
 //! A schedule is read exactly: its events in order, or the number of its first line that is none. What no event can be isn't kept: a line
-//! of any length costs no more than an event.
+//! of any length costs no more than an event. There are two languages: that of three services and a broker, and its part that purchasing
+//! alone can run.
 //!
 //! ```rust
 //! pub fn a_schedule_is_read(alloc: Global) -> Result<usize, ScheduleFault> {
@@ -13,17 +14,27 @@
 //! The answer is the fault `BadEvent(3)`: the third line is no event, and the comment is counted.
 #![tactic(auto)]
 
+mod arguments;
+mod bounded;
+mod commands;
 mod event;
 mod fault;
 mod laws;
 mod numbers;
+mod outcome;
+mod parsing;
 mod reading;
+mod verb;
 mod words;
 
-pub use event::{Event, SeatNumber, Service};
+pub use bounded::{Ordinal, Rounds, SeatNumber};
+pub use event::{
+    ConnectionName, ConnectionNumber, Event, FailureLeaves, PurchasingEvent, SeatCommand, Service,
+};
 pub use fault::ScheduleFault;
 pub use laws::{
     a_number_has_one_word, a_printed_word_is_read_again, an_event_has_few_words,
-    written_lines_are_read_again,
+    purchasing_is_a_part, written_lines_are_read_again,
 };
-pub use reading::read_schedule;
+pub use outcome::Outcome;
+pub use reading::{read_purchasing_schedule, read_schedule};

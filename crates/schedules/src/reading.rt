@@ -1,19 +1,17 @@
 //! Schedules, read from text.
 
 ghost use Rattle.std.specs.Prelude.{◌≡◌, ◌<◌, ◌∷◌, ◌++◌, ◌==◌, ◌||◌, nat_lt, nat_le, length, count_by, position, option_to_list, OnOk};
-ghost use Rattle.schedules.specs.Events.{seat_of, key_of, entity_of, service_of, placing_of, place_of};
-ghost use Rattle.schedules.specs.Events.{cancel_of, show_of, the_service, event_of, is_quiet, event_in, event_on};
-ghost use Rattle.schedules.specs.Numbers.{numeral_value};
+ghost use Rattle.schedules.specs.Alone.{purchasing_events_of};
+ghost use Rattle.schedules.specs.Events.{events_of};
+ghost use Rattle.schedules.specs.Faults.{IsRead};
 ghost use Rattle.schedules.specs.Lines.{lines_of};
 ghost use Rattle.schedules.specs.Reading.{Reads};
-ghost use Rattle.schedules.specs.Faults.{IsRead};
+ghost use Rattle.schedules.specs.Schedules.{is_quiet, found_in, found_on, read_by};
 
-use crate::event::{Event, SeatNumber, Service};
+use crate::event::{Event, PurchasingEvent};
 use crate::fault::{LineFault, ScheduleFault};
-use crate::numbers::read_number;
-use crate::words::{Word, read_words};
-use activities::OrderCommand;
-use base::{Entity, EntityFault, Key, Kind};
+use crate::parsing::{read_event, read_purchasing_event};
+use crate::words::read_words;
 use std::alloc::{AllocError, Global};
 
 /// The most octets of an event's line, were each octet of its words escaped.
@@ -22,145 +20,43 @@ const LONGEST_LINE: usize = 524;
 /// The most words of an event: those of `place`.
 const MOST_WORDS: usize = 7;
 
-fn number_at(word: &Word) -> Result<u64, LineFault>
-    ensures { Reads (λ n. n) result (numeral_value word.now) }
-{
-    read_number(word.as_str()).ok_or(LineFault::Bad)
+/// The events of a language of schedules.
+trait Language: Drop {
+    ghost use Rattle.schedules.specs.Schedules.{Language, said_on};
+
+    /// The event of the words of a line.
+    ghost event_of: { Language Self };
+
+    /// The event of a line.
+    fn read(alloc: Global, line: &str) -> Result<Self, LineFault>
+        ensures { Reads (λ event. event) result (said_on event_of line.now) };
 }
 
-fn seat_at(word: &Word) -> Result<SeatNumber, LineFault>
-    ensures { Reads (λ seat. seat) result (seat_of word.now) }
-{
-    let number = number_at(word)?;
-    SeatNumber::new(number).ok_or(LineFault::Bad)
-}
+impl Language for Event {
+    ghost use Rattle.schedules.specs.Events.{event_of};
 
-fn key_at(alloc: Global, word: &Word) -> Result<Key, LineFault>
-    ensures { Reads (λ key. key) result (key_of word.now) }
-{
-    match Key::read(alloc, word.as_str()) {
-        Ok(key) => Ok(key),
-        Err(EntityFault::Memory) => Err(LineFault::Memory),
-        Err(EntityFault::BadKey) => Err(LineFault::Bad),
-        Err(EntityFault::BadKind) => Err(LineFault::Bad),
+    ghost event_of = { event_of };
+
+    fn read(alloc: Global, line: &str) -> Result<Event, LineFault> {
+        if exceeds_events(line) {
+            return Err(LineFault::Bad);
+        }
+        let words = read_words(alloc, line)?;
+        read_event(alloc, words.as_slice())
     }
 }
 
-fn entity_at(alloc: Global, word: &Word) -> Result<Entity, LineFault>
-    ensures { Reads (λ entity. entity) result (entity_of word.now) }
-{
-    match Entity::read(alloc, word.as_str()) {
-        Ok(entity) => Ok(entity),
-        Err(EntityFault::Memory) => Err(LineFault::Memory),
-        Err(EntityFault::BadKey) => Err(LineFault::Bad),
-        Err(EntityFault::BadKind) => Err(LineFault::Bad),
-    }
-}
+impl Language for PurchasingEvent {
+    ghost use Rattle.schedules.specs.Alone.{purchasing_event_of};
 
-fn service_at(word: &Word) -> Result<Service, LineFault>
-    ensures { Reads (λ service. service) result (service_of word.now) }
-{
-    if word.as_str() == "purchasing" {
-        Ok(Service::Purchasing)
-    } else {
-        Err(LineFault::Bad)
-    }
-}
+    ghost event_of = { purchasing_event_of };
 
-/// `STOCK N ACCOUNT AMOUNT`: asks both partners.
-fn read_placing(alloc: Global, words: &[Word]) -> Result<OrderCommand, LineFault>
-    ensures { Reads (λ command. command) result (placing_of words.now) }
-{
-    let [stock, quantity, account, amount] = words else {
-        return Err(LineFault::Bad);
-    };
-    let stock = key_at(alloc, stock)?;
-    let quantity = number_at(quantity)?;
-    let account = key_at(alloc, account)?;
-    let amount = number_at(amount)?;
-    Ok(OrderCommand::Place {
-        stock,
-        quantity,
-        account,
-        amount,
-    })
-}
-
-/// `SEAT KEY STOCK N ACCOUNT AMOUNT`: a seat places an order.
-fn read_place(alloc: Global, words: &[Word]) -> Result<Event, LineFault>
-    ensures { Reads (λ event. event) result (place_of words.now) }
-{
-    let [seat, key, arguments @ ..] = words else {
-        return Err(LineFault::Bad);
-    };
-    let seat = seat_at(seat)?;
-    let key = key_at(alloc, key)?;
-    let command = read_placing(alloc, arguments)?;
-    let order = Entity::new(alloc, Kind::Order, &key)?;
-    Ok(Event::Order {
-        seat,
-        order,
-        command,
-    })
-}
-
-/// `SEAT KEY`: a seat cancels an order.
-fn read_cancel(alloc: Global, words: &[Word]) -> Result<Event, LineFault>
-    ensures { Reads (λ event. event) result (cancel_of words.now) }
-{
-    let [seat, key] = words else {
-        return Err(LineFault::Bad);
-    };
-    let seat = seat_at(seat)?;
-    let key = key_at(alloc, key)?;
-    let order = Entity::new(alloc, Kind::Order, &key)?;
-    Ok(Event::Order {
-        seat,
-        order,
-        command: OrderCommand::CancelOrder,
-    })
-}
-
-/// `ENTITY`: shows its row.
-fn read_show(alloc: Global, words: &[Word]) -> Result<Event, LineFault>
-    ensures { Reads (λ event. event) result (show_of words.now) }
-{
-    let [entity] = words else {
-        return Err(LineFault::Bad);
-    };
-    Ok(Event::Show(entity_at(alloc, entity)?))
-}
-
-/// `SERVICE`.
-fn read_service(words: &[Word]) -> Result<Service, LineFault>
-    ensures { Reads (λ service. service) result (the_service words.now) }
-{
-    let [service] = words else {
-        return Err(LineFault::Bad);
-    };
-    service_at(service)
-}
-
-/// The event of the words of a line: the first names it.
-fn read_event(alloc: Global, words: &[Word]) -> Result<Event, LineFault>
-    ensures { Reads (λ event. event) result (event_of words.now) }
-{
-    let [name, arguments @ ..] = words else {
-        return Err(LineFault::Bad);
-    };
-    let name = name.as_str();
-    if name == "place" {
-        read_place(alloc, arguments)
-    } else if name == "cancel" {
-        read_cancel(alloc, arguments)
-    } else if name == "show" {
-        read_show(alloc, arguments)
-    } else if name == "frames" {
-        Ok(Event::Frames(read_service(arguments)?))
-    } else if name == "journal" {
-        Ok(Event::Journal(read_service(arguments)?))
-    } else {
-        Err(LineFault::Bad)
+    fn read(alloc: Global, line: &str) -> Result<PurchasingEvent, LineFault> {
+        if exceeds_events(line) {
+            return Err(LineFault::Bad);
+        }
+        let words = read_words(alloc, line)?;
+        read_purchasing_event(alloc, words.as_slice())
     }
 }
 
@@ -180,24 +76,19 @@ fn exceeds_events(line: &str) -> bool
 }
 
 /// What a line of text has to run.
-fn read_text(alloc: Global, line: &str) -> Result<Option<Event>, LineFault>
-    ensures { Reads (λ found. found) result (event_in line.now) }
+fn read_text<E: Language>(alloc: Global, line: &str) -> Result<Option<E>, LineFault>
+    ensures { Reads (λ found. found) result (found_in E.event_of line.now) }
 {
     if is_quiet(line) {
         return Ok(None);
     }
-    if exceeds_events(line) {
-        return Err(LineFault::Bad);
-    }
-    let words = read_words(alloc, line)?;
-    let event = read_event(alloc, words.as_slice())?;
-    Ok(Some(event))
+    Ok(Some(E::read(alloc, line)?))
 }
 
 /// What a line has to run: it's text, or faulty.
 #[tactic(auto, using(crate::proofs::Utf8::utf8_yes, crate::proofs::Utf8::utf8_no))]
-fn read_line(alloc: Global, line: &[u8]) -> Result<Option<Event>, LineFault>
-    ensures { Reads (λ found. found) result (event_on line.now) }
+fn read_line<E: Language>(alloc: Global, line: &[u8]) -> Result<Option<E>, LineFault>
+    ensures { Reads (λ found. found) result (found_on E.event_of line.now) }
 {
     match str::from_utf8(line) {
         Ok(text) => read_text(alloc, text),
@@ -225,7 +116,7 @@ fn first_line(text: &[u8]) -> (&[u8], &[u8])
 }
 
 /// Puts the event of a line behind the others, where it has one.
-fn add(events: &mut Vec<Event>, found: Option<Event>) -> Result<(), AllocError>
+fn add<E: Language>(events: &mut Vec<E>, found: Option<E>) -> Result<(), AllocError>
     ensures { OnOk result (events.new.items ≡ events.old.items ++ option_to_list found) }
 {
     if let Some(event) = found {
@@ -234,15 +125,9 @@ fn add(events: &mut Vec<Event>, found: Option<Event>) -> Result<(), AllocError>
     Ok(())
 }
 
-/// The events of a schedule, in order.
-///
-/// A schedule is lines of UTF-8, each ended by LF, which the last may lack. Empty lines and lines that begin with `#` have no event,
-/// but are counted.
-///
-/// # Errors
-/// `BadEvent` with the number of the first line that is no event, counted from 1; else `Memory` where a growth was refused.
-pub fn read_schedule(alloc: Global, text: &[u8]) -> Result<Vec<Event>, ScheduleFault>
-    ensures { IsRead text.now result }
+/// The events of a text in a language, in order, or its first faulty line.
+fn read_by<E: Language>(alloc: Global, text: &[u8]) -> Result<Vec<E>, ScheduleFault>
+    ensures { IsRead (read_by E.event_of text.now) result }
 {
     let mut events = Vec::new(alloc);
     let mut rest = text;
@@ -259,4 +144,30 @@ pub fn read_schedule(alloc: Global, text: &[u8]) -> Result<Vec<Event>, ScheduleF
         rest = after;
     }
     Ok(events)
+}
+
+/// The events of a schedule, in order.
+///
+/// A schedule is lines of UTF-8, each ended by LF, which the last may lack. Empty lines and lines that begin with `#` have no event,
+/// but are counted.
+///
+/// # Errors
+/// `BadEvent` with the number of the first line that is no event, counted from 1; else `Memory` where a growth was refused.
+pub fn read_schedule(alloc: Global, text: &[u8]) -> Result<Vec<Event>, ScheduleFault>
+    ensures { IsRead (events_of text.now) result }
+{
+    read_by(alloc, text)
+}
+
+/// The events of a schedule of purchasing alone, in order: `place`, `cancel`, `show`, and `frames` and `journal` of purchasing.
+///
+/// # Errors
+/// As `read_schedule`: a line with any other event is no event here.
+pub fn read_purchasing_schedule(
+    alloc: Global,
+    text: &[u8],
+) -> Result<Vec<PurchasingEvent>, ScheduleFault>
+    ensures { IsRead (purchasing_events_of text.now) result }
+{
+    read_by(alloc, text)
 }

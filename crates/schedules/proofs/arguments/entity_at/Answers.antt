@@ -1,7 +1,7 @@
 use Rattle.std.proofs.Common.{◌≢◌, ◌∙◌, sym}
 use Rattle.base.specs.Entity.{Name, text_of}
 use Rattle.schedules.proofs.Named.{entity_unnamed}
-use Rattle.schedules.proofs.reading.entity_at.Goals as goal
+use Rattle.schedules.proofs.arguments.entity_at.Goals as goal
 
 pub returns-in-Err-BadKind : goal.returns-in-Err-BadKind
 returns-in-Err-BadKind c =
