@@ -252,6 +252,29 @@ def resets():
     return f"{len(bodies)} taken over, in order: {bodies == [b'm%d' % n for n in range(100)]}", sorted(bodies) == sorted(b"m%d" % n for n in range(100))
 
 
+@kind("1,000 subscribers that are reset at once, each with a queue of its own and 16 messages out")
+def at_once_reset():
+    name, subscribe = f"/queue/thousand.{random.random()}", {"id": "0", "ack": "client-individual"}
+    clients = [connected(PORT) for _ in range(1_000)]
+    for number, client in enumerate(clients):
+        own = {"destination": f"{name}.{number}"}
+        frames = spell("SUBSCRIBE", {**subscribe, **own}) + spell("SEND", own, b"x" * 100) * 16
+        client.socket.sendall(frames)
+    for client in clients:
+        client.frames(16)
+        client.socket.setsockopt(socket.SOL_SOCKET, socket.SO_LINGER, struct.pack("ii", 1, 0))
+    start = processor()
+    for client in clients:
+        client.close()
+    settle(60)
+    spent = processor() - start
+    taker = connected(PORT)
+    for number in range(60):
+        taker.send("SUBSCRIBE", {**subscribe, "id": str(number), "destination": f"{name}.{number}"})
+    taken = len(taker.frames(60 * 16))
+    return f"the broker took {spent:.2f} s of processor for that; {taken} of the first 60 are taken over", spent < 1
+
+
 @kind("60 connections where the system has descriptors for 20")
 def few_descriptors():
     limits = resource.prlimit(PID, resource.RLIMIT_NOFILE)
