@@ -28,21 +28,33 @@ pub struct Bench {
     broker: Broker<MAX_QUEUED>,
     /// The session that sends.
     sender: SessionId,
-    /// A SEND to the queue of each subscription.
-    sends: Vec<Vec<u8>>,
+    /// The lines of a SEND to the queue of each subscription.
+    heads: Vec<String>,
+    /// The body of each SEND, with its NUL.
+    body: Vec<u8>,
+    /// The SEND that is being written: as a socket's reader does, the bench hands over all octets in one place.
+    send: Vec<u8>,
     /// The ACK that is being written.
     ack: String,
 }
 
-/// A SEND to a queue, with a body of so many octets.
-fn send_text(alloc: Global, queue: &str, body: usize) -> Result<Vec<u8>, AllocError> {
-    let head = format!(in alloc; "SEND\ncontent-length:{body}\ndestination:/queue/{queue}\n\n")?;
+/// The lines of a SEND to a queue, with a body of so many octets.
+fn head_text(alloc: Global, queue: &str, body: usize) -> Result<String, AllocError> {
+    format!(in alloc; "SEND\ncontent-length:{body}\ndestination:/queue/{queue}\n\n")
+}
+
+/// A body of so many octets, and its NUL.
+fn body_text(alloc: Global, body: usize) -> Result<Vec<u8>, AllocError> {
     let mut text = vec![in alloc; b'x'; body]?;
     text.push(0)?;
-    let mut send = Vec::new(alloc);
+    Ok(text)
+}
+
+/// A SEND is written, in place of the one before.
+fn write_send(send: &mut Vec<u8>, head: &str, body: &[u8]) -> Result<(), AllocError> {
+    send.clear();
     send.extend_from_slice(head.as_bytes())?;
-    send.extend_from_slice(&text)?;
-    Ok(send)
+    send.extend_from_slice(body)
 }
 
 /// The octets for a session are taken away: how many they were.
@@ -100,7 +112,9 @@ impl Bench {
         let mut bench = Bench {
             broker,
             sender,
-            sends: Vec::new(alloc),
+            heads: Vec::new(alloc),
+            body: body_text(alloc, usize::try_from(load.body).unwrap_or(0))?,
+            send: Vec::new(alloc),
             ack: String::new(alloc),
         };
         bench.subscribe_all(alloc, load)?;
@@ -115,7 +129,7 @@ impl Bench {
         for queue in 0..load.subscriptions {
             subscribe(alloc, &mut self.broker, queue)?;
             let name = format!(in alloc; "{queue}")?;
-            self.sends.push(send_text(alloc, name.as_str(), body)?)?;
+            self.heads.push(head_text(alloc, name.as_str(), body)?)?;
         }
         Ok(())
     }
@@ -124,7 +138,8 @@ impl Bench {
     fn fill(&mut self, alloc: Global, load: &Load) -> Result<(), BenchFault> {
         for queue in 0..load.waiting.div_ceil(IN_A_QUEUE) {
             let name = format!(in alloc; "waiting-{queue}")?;
-            let send = send_text(alloc, name.as_str(), 10)?;
+            let mut send = Vec::new(alloc);
+            write_send(&mut send, head_text(alloc, name.as_str(), 10)?.as_str(), b"0123456789\0")?;
             let rest = load
                 .waiting
                 .saturating_sub(queue.saturating_mul(IN_A_QUEUE));
@@ -137,10 +152,11 @@ impl Bench {
     /// A message is sent, and the session that it goes out to takes its octets and acknowledges the delivery of this number. The answer is
     /// how many octets went out: 0 where no session had any.
     fn hand_one(&mut self, queue: usize, delivery: u64) -> Result<usize, BenchFault> {
-        let Some(send) = self.sends.get(queue) else {
+        let Some(head) = self.heads.get(queue) else {
             return Ok(0);
         };
-        self.broker.feed(self.sender, send)?;
+        write_send(&mut self.send, head.as_str(), &self.body)?;
+        self.broker.feed(self.sender, &self.send)?;
         let Some(session) = self.broker.take_fresh() else {
             return Ok(0);
         };
@@ -159,7 +175,7 @@ impl Bench {
         for delivery in 1..=messages {
             octets = octets.saturating_add(self.hand_one(queue, delivery)? as u64);
             queue = queue.saturating_add(1);
-            if queue >= self.sends.len() {
+            if queue >= self.heads.len() {
                 queue = 0;
             }
         }

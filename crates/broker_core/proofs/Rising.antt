@@ -242,14 +242,20 @@ got_within [] at s e = let z : None ≡ Some s = e in cc
 got_within (x ∷ xs) zero s e = omega arith
 got_within (x ∷ xs) (suc at) s e = let h = got_within xs at s e in omega (arith, h)
 
+-- a session stands at the place of its number
+pub stands : (n last : ℕ) (ss : List Session) → AreRising 0 ss last → (at : ℕ) (s : Session) → slice_get ss at ≡ Some s → s.number ≡ n
+    → IsFirstAt (is_session n) ss at
+stands n last ss r at s get is =
+    let within : at < length ss = got_within ss at s get in
+    let here : s ≡ get_or ss at s = same_item (slice_get ss at) (get_or ss at s) s (slice_get-get_or ss at s within) get in
+    placed n 0 last ss r at s within here is
+
 pub names_fresh : (book : Book) (ss news : List Session) (opened at number : ℕ) (s : Session) → AreRising 0 ss opened → IsFreshAt ss at
     → slice_get ss at ≡ Some s → news ≡ slice_set ss at (named s) → number ≡ s.number
     → NamesFresh (broker_of book (roster ss opened)) number (broker_of book (roster news opened))
 names_fresh book ss news opened at number s r fresh get set e =
     let m : s ≡ fresh.0 = same_item (slice_get ss at) fresh.0 s fresh.1 get in
-    let within : at < length ss = got_within ss at s get in
-    let here : s ≡ get_or ss at s = same_item (slice_get ss at) (get_or ss at s) s (slice_get-get_or ss at s within) get in
-    let its = placed s.number 0 opened ss r at s within here refl in
+    let its = stands s.number opened ss r at s get refl in
     record {
       session = s;
       found = rw e (found_at s.number ss at s its get);

@@ -1,6 +1,6 @@
 //! The sessions of a broker.
 
-ghost use Rattle.std.specs.Prelude.{◌≡◌, ◌<◌, ◌≤◌, ◌++◌, ◌∷◌, [], length, slice_set, false, Some, None, OnOk, OnErr, IfErr, IfSome};
+ghost use Rattle.std.specs.Prelude.{◌≡◌, ◌<◌, ◌≤◌, ◌++◌, ◌∷◌, [], length, slice_set, true, false, Some, None, OnOk, OnErr, IfErr, IfSome};
 ghost use Rattle.std.specs.Option.{option_copied};
 ghost use Rattle.std.specs.List.{find, position, slice_get};
 ghost use Rattle.stomp_session.specs.Replies.{message_frame};
@@ -25,13 +25,15 @@ use std::marker::Model;
 use stomp_session::{Delivery, Refused};
 
 /// The sessions, the oldest first, and the last number that one was given: contracts see both. `noted` are numbers of sessions that may
-/// have fresh octets, at most one for each session: a hint, which is looked at before it counts.
+/// have fresh octets, at most one for each session, and `last` is where the session of the last call stood: hints, which are looked at
+/// before they count.
 #[derive(Drop)]
 pub struct Sessions {
     alloc: Global,
     items: Vec<Session>,
     opened: u64,
     noted: Vec<u64>,
+    last: usize,
 }
 
 impl Model for Sessions {
@@ -56,6 +58,7 @@ impl Sessions {
             items: Vec::new(alloc),
             opened: 0,
             noted: Vec::new(alloc),
+            last: 0,
         }
     }
 
@@ -88,6 +91,9 @@ impl Sessions {
     fn place(&self, number: u64) -> Option<usize>
         ensures { PlaceAnswer number self.now.sessions result }
     {
+        if is_at(&self.items, self.last, number) {
+            return Some(self.last);
+        }
         self.items
             .binary_search_by_key(&number, |session| session.number)
             .ok()
@@ -149,7 +155,10 @@ impl Sessions {
         ensures { (book : Book) → FreshAnswer (broker_of book self.old) (broker_of book self.new) result }
     {
         match fresh_place(self.items.as_slice(), &mut self.noted) {
-            Some(at) => Some(name_at(&mut self.items, at)),
+            Some(at) => {
+                self.last = at;
+                Some(name_at(&mut self.items, at))
+            }
             None => None,
         }
     }
@@ -159,7 +168,10 @@ impl Sessions {
         ensures { (book : Book) → FedAnswer number piece.now (broker_of book self.old) (broker_of book self.new) result }
     {
         match self.place(number) {
-            Some(at) => feed_at(&mut self.items, at, piece),
+            Some(at) => {
+                self.last = at;
+                feed_at(&mut self.items, at, piece)
+            }
             None => Ok(()),
         }
     }
@@ -256,6 +268,16 @@ impl Sink for Sessions {
             }
             None => Ok(()),
         }
+    }
+}
+
+/// Whether the session of a number stands at this place.
+fn is_at(items: &[Session], at: usize, number: u64) -> bool
+    ensures { result ≡ true → (s : Session) × ((slice_get items.now at ≡ Some s) × (s.number ≡ number)) }
+{
+    match items.get(at) {
+        Some(session) => session.number == number,
+        None => false,
     }
 }
 

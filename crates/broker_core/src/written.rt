@@ -17,8 +17,12 @@ use stomp_session::{Delivery, Outgoing};
 /// The octets that were written for a session and not taken yet: contracts see them alone.
 #[derive(Drop)]
 pub struct Written {
+    alloc: Global,
     outgoing: Outgoing,
 }
+
+/// From so many octets on the memory that they lay in is given back once they are taken.
+const LARGE: usize = 4_096;
 
 impl Model for Written {
     ghost use Rattle.std.specs.Prelude.{List, ℕ};
@@ -34,6 +38,7 @@ impl Written {
         ensures { result ≡ [] }
     {
         Written {
+            alloc,
             outgoing: Outgoing::new(alloc),
         }
     }
@@ -52,12 +57,15 @@ impl Written {
         self.outgoing.as_slice()
     }
 
-    /// Takes the first of them away.
+    /// Takes the first of them away. Where many were taken and none is left, their memory is given back: a session that rests keeps little.
     pub fn taken(&mut self, count: usize)
         requires { count ≤ length self.old }
         ensures { self.new ≡ drop count self.old }
     {
         self.outgoing.taken(count);
+        if count >= LARGE && self.outgoing.len() == 0 {
+            self.outgoing = Outgoing::new(self.alloc);
+        }
     }
 
     /// Takes all away but the first so many.

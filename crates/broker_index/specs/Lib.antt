@@ -1,5 +1,6 @@
 pub mod Aged
 pub mod Index
+pub mod Named
 pub mod Places
 pub mod Slots
 pub mod Standing

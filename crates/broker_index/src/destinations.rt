@@ -1,45 +1,88 @@
 //! The destinations of a broker.
 
-ghost use Rattle.std.specs.Prelude.{◌≡◌, ◌<◌, [], false, map, All, Some, IfOk, OnOk, OnErr};
-ghost use Rattle.std.specs.String.{string_bytes};
-ghost use Rattle.std.specs.Option.{option_copied, option_map, option_map_or, option_and_then, ForSome};
+ghost use Rattle.std.specs.Prelude.{◌≡◌, ◌≢◌, ◌<◌, ℕ, [], true, false, map, All, Some, IfNone, IfOk, IfSome, OnOk, OnErr};
+ghost use Rattle.std.specs.Option.{option_copied, option_map, option_and_then, ForSome};
+ghost use Rattle.slab.specs.Slab.{get};
 ghost use Rattle.broker_index.specs.Index.{Sets, is_idle, opened, queue_at, unless_idle, with_number, without_number, counting, ready_from};
 ghost use Rattle.broker_index.specs.Index.{with_subscriber, without_subscriber, taken_from};
+ghost use Rattle.broker_index.specs.Named.{IsIndexed, queues_in};
+ghost use Rattle.broker_index.specs.declared.destinations.Destination.{Destination};
 
 use crate::Place;
 use crate::queue::StoredQueue;
+use slab::Slab;
 use std::alloc::{AllocError, Global};
 use std::collections::BTreeMap;
 use std::marker::Model;
 use stomp_session::Text;
 
-/// The queues of a broker by the names of their destinations.
+/// A destination: its name and its queue.
+#[derive(Drop)]
+struct Destination {
+    name: Text,
+    queue: StoredQueue,
+}
+
+/// The queues of a broker by the names of their destinations. A queue lies in a slab under the key that the map tells for its name; `last`
+/// is the key that was last looked up, a hint that saves the map's search where the same name comes again.
 #[derive(Drop)]
 pub struct Destinations {
     alloc: Global,
-    queues: BTreeMap<String, StoredQueue>,
+    slab: Slab<Destination>,
+    keys: BTreeMap<String, usize>,
+    last: usize,
 }
 
 impl Model for Destinations {
-    ghost use Rattle.std.specs.Prelude.{ℕ, List, map};
-    ghost use Rattle.std.specs.String.{string_bytes};
+    ghost use Rattle.std.specs.Prelude.{ℕ, List};
     ghost use Rattle.broker_index.specs.Index.{Queue};
+    ghost use Rattle.broker_index.specs.Named.{IsIndexed, queues_in};
 
     ghost Value = { List (List ℕ × Queue) };
 
-    ghost view = { λ d. map (λ e. (string_bytes e.0, e.1)) d.queues.entries };
+    ghost view = { λ d. queues_in d.slab.slots };
+
+    ghost invariant = { λ d. IsIndexed d.slab.slots d.keys };
 }
 
-/// The keys of a map as texts.
-fn copied_names(
-    alloc: Global,
-    queues: &BTreeMap<String, StoredQueue>,
-) -> Result<Vec<Text>, AllocError>
-    ensures { IfOk result (λ names. names.items ≡ map (λ e. string_bytes e.0) queues.now.entries) }
+/// Whether the queue of this name is at a key.
+fn is_at(slab: &Slab<Destination>, key: usize, name: &Text) -> bool
+    ensures yes { result ≡ true → (d : Destination) × (get slab.now key ≡ Some d) × (d.name ≡ name.now) }
+    ensures no { result ≡ false → (d : Destination) → get slab.now key ≡ Some d → d.name ≢ name.now }
+{
+    match slab.get(key) {
+        Some(destination) => destination.name.same(name),
+        None => false,
+    }
+}
+
+/// The key of the queue of this name: the hint, if that is it, or else the one that the map tells.
+fn find_queue(
+    slab: &Slab<Destination>,
+    keys: &BTreeMap<String, usize>,
+    hint: usize,
+    name: &Text,
+) -> Option<usize>
+    requires { IsIndexed slab.now.slots keys.now }
+    ensures found { IfSome result (λ key. (d : Destination) × (get slab.now key ≡ Some d) × (d.name ≡ name.now)) }
+    ensures absent { IfNone result ((key : ℕ) (d : Destination) → get slab.now key ≡ Some d → d.name ≢ name.now) }
+{
+    if is_at(slab, hint, name) {
+        return Some(hint);
+    }
+    match keys.get(name.as_str()) {
+        Some(key) => Some(*key),
+        None => None,
+    }
+}
+
+/// The names of all queues, in memory of their own.
+fn copied_names(alloc: Global, slab: &Slab<Destination>) -> Result<Vec<Text>, AllocError>
+    ensures { IfOk result (λ names. names.items ≡ map (λ e. e.0) (queues_in slab.now.slots)) }
 {
     let mut names = Vec::new(alloc);
-    for name in queues.keys() {
-        names.push(Text::new(String::from_str(alloc, name.as_str())?))?;
+    for (_, destination) in slab.iter() {
+        names.push(destination.name.copy(alloc)?)?;
     }
     Ok(names)
 }
@@ -51,7 +94,9 @@ impl Destinations {
     {
         Destinations {
             alloc,
-            queues: BTreeMap::new(alloc),
+            slab: Slab::new(alloc),
+            keys: BTreeMap::new(alloc),
+            last: 0,
         }
     }
 
@@ -59,7 +104,20 @@ impl Destinations {
     pub fn get(&self, name: &Text) -> Option<&StoredQueue>
         ensures { option_copied result ≡ queue_at self.now name.now }
     {
-        self.queues.get(name.as_str())
+        match find_queue(&self.slab, &self.keys, self.last, name) {
+            Some(key) => Some(&self.slab[key].queue),
+            None => None,
+        }
+    }
+
+    /// Looks a name up, so that the next calls with it needn't: a hint, and nothing changes.
+    pub fn seek(&mut self, name: &Text)
+        ensures { self.new ≡ self.old }
+    {
+        match find_queue(&self.slab, &self.keys, self.last, name) {
+            Some(key) => self.last = key,
+            None => {}
+        }
     }
 
     /// The names of all queues, in memory of their own.
@@ -69,7 +127,7 @@ impl Destinations {
     pub fn names(&self) -> Result<Vec<Text>, AllocError>
         ensures { IfOk result (λ names. names.items ≡ map (λ e. e.0) self.now) }
     {
-        let names = copied_names(self.alloc, &self.queues)?;
+        let names = copied_names(self.alloc, &self.slab)?;
         Ok(names)
     }
 
@@ -81,11 +139,29 @@ impl Destinations {
         ensures ok { OnOk result (Sets (queue_at self.old) (queue_at self.new) name.now (Some (opened (queue_at self.old name.now)))) }
         ensures err { OnErr result (self.new ≡ self.old) }
     {
-        if self.queues.contains_key(name.as_str()) {
-            return Ok(());
+        match find_queue(&self.slab, &self.keys, self.last, name) {
+            Some(key) => {
+                self.last = key;
+                Ok(())
+            }
+            None => self.add(name),
         }
-        let key = String::from_str(self.alloc, name.as_str())?;
-        self.queues.insert(key, StoredQueue::new(self.alloc))?;
+    }
+
+    /// Adds an empty queue of a name that none has.
+    fn add(&mut self, name: &Text) -> Result<(), AllocError>
+        requires { queue_at self.old name.now ≡ None }
+        ensures ok { OnOk result (Sets (queue_at self.old) (queue_at self.new) name.now (Some (opened (queue_at self.old name.now)))) }
+        ensures err { OnErr result (self.new ≡ self.old) }
+    {
+        let destination = Destination {
+            name: name.copy(self.alloc)?,
+            queue: StoredQueue::new(self.alloc),
+        };
+        let text = String::from_str(self.alloc, name.as_str())?;
+        self.slab.reserve(1)?;
+        self.keys.insert(text, self.slab.vacant_key())?;
+        self.last = self.slab.insert_reserved(destination);
         Ok(())
     }
 
@@ -99,10 +175,10 @@ impl Destinations {
             (option_map (with_number place) (queue_at self.old name.now))) }
         ensures err { OnErr result (self.new ≡ self.old) }
     {
-        match self.queues.get_mut(name.as_str()) {
-            Some(queue) => {
-                queue.push_number(place)?;
-                Ok(())
+        match find_queue(&self.slab, &self.keys, self.last, name) {
+            Some(key) => {
+                self.last = key;
+                self.slab[key].queue.push_number(place)
             }
             None => Ok(()),
         }
@@ -112,8 +188,11 @@ impl Destinations {
     pub fn remove_number(&mut self, name: &Text, number: u64)
         ensures { Sets (queue_at self.old) (queue_at self.new) name.now (option_map (without_number number) (queue_at self.old name.now)) }
     {
-        match self.queues.get_mut(name.as_str()) {
-            Some(queue) => queue.remove_number(number),
+        match find_queue(&self.slab, &self.keys, self.last, name) {
+            Some(key) => {
+                self.last = key;
+                self.slab[key].queue.remove_number(number);
+            }
             None => {}
         }
     }
@@ -122,8 +201,11 @@ impl Destinations {
     pub fn set_count(&mut self, name: &Text, count: usize)
         ensures { Sets (queue_at self.old) (queue_at self.new) name.now (option_map (counting count) (queue_at self.old name.now)) }
     {
-        match self.queues.get_mut(name.as_str()) {
-            Some(queue) => queue.set_count(count),
+        match find_queue(&self.slab, &self.keys, self.last, name) {
+            Some(key) => {
+                self.last = key;
+                self.slab[key].queue.set_count(count);
+            }
             None => {}
         }
     }
@@ -132,8 +214,11 @@ impl Destinations {
     pub fn set_ready_from(&mut self, name: &Text, number: u64)
         ensures { Sets (queue_at self.old) (queue_at self.new) name.now (option_map (ready_from number) (queue_at self.old name.now)) }
     {
-        match self.queues.get_mut(name.as_str()) {
-            Some(queue) => queue.set_ready_from(number),
+        match find_queue(&self.slab, &self.keys, self.last, name) {
+            Some(key) => {
+                self.last = key;
+                self.slab[key].queue.set_ready_from(number);
+            }
             None => {}
         }
     }
@@ -148,10 +233,10 @@ impl Destinations {
             (option_map (with_subscriber place) (queue_at self.old name.now))) }
         ensures err { OnErr result (self.new ≡ self.old) }
     {
-        match self.queues.get_mut(name.as_str()) {
-            Some(queue) => {
-                queue.push_subscriber(place)?;
-                Ok(())
+        match find_queue(&self.slab, &self.keys, self.last, name) {
+            Some(key) => {
+                self.last = key;
+                self.slab[key].queue.push_subscriber(place)
             }
             None => Ok(()),
         }
@@ -161,8 +246,11 @@ impl Destinations {
     pub fn remove_subscriber(&mut self, name: &Text, age: u64)
         ensures { Sets (queue_at self.old) (queue_at self.new) name.now (option_map (without_subscriber age) (queue_at self.old name.now)) }
     {
-        match self.queues.get_mut(name.as_str()) {
-            Some(queue) => queue.remove_subscriber(age),
+        match find_queue(&self.slab, &self.keys, self.last, name) {
+            Some(key) => {
+                self.last = key;
+                self.slab[key].queue.remove_subscriber(age);
+            }
             None => {}
         }
     }
@@ -171,19 +259,12 @@ impl Destinations {
     pub fn set_taker_from(&mut self, name: &Text, age: u64)
         ensures { Sets (queue_at self.old) (queue_at self.new) name.now (option_map (taken_from age) (queue_at self.old name.now)) }
     {
-        match self.queues.get_mut(name.as_str()) {
-            Some(queue) => queue.set_taker_from(age),
+        match find_queue(&self.slab, &self.keys, self.last, name) {
+            Some(key) => {
+                self.last = key;
+                self.slab[key].queue.set_taker_from(age);
+            }
             None => {}
-        }
-    }
-
-    /// Whether there is a queue of this name that is idle.
-    fn has_idle(&self, name: &Text) -> bool
-        ensures { result ≡ option_map_or is_idle (queue_at self.now name.now) false }
-    {
-        match self.queues.get(name.as_str()) {
-            Some(queue) => queue.is_idle(),
-            None => false,
         }
     }
 
@@ -191,8 +272,14 @@ impl Destinations {
     pub fn close(&mut self, name: &Text)
         ensures { Sets (queue_at self.old) (queue_at self.new) name.now (option_and_then unless_idle (queue_at self.old name.now)) }
     {
-        if self.has_idle(name) {
-            drop(self.queues.remove(name.as_str()));
+        match find_queue(&self.slab, &self.keys, self.last, name) {
+            Some(key) => {
+                if self.slab[key].queue.is_idle() {
+                    drop(self.slab.try_remove(key));
+                    drop(self.keys.remove(name.as_str()));
+                }
+            }
+            None => {}
         }
     }
 }

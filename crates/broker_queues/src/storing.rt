@@ -63,6 +63,7 @@ impl Parts {
         requires { IsShelf (holding_of self.old) }
         ensures { PutsIn full (holding_of self.old) sent.now (holding_of self.new) result }
     {
+        self.destinations.seek(&sent.get().destination);
         if count(&self.destinations, &sent.get().destination) >= full {
             return Err(QueueFault::QueueFull);
         }

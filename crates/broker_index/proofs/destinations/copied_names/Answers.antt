@@ -1,12 +1,26 @@
-use Rattle.std.proofs.Common.{◌≡◌, ◌++◌, [], map, sym, ap, ◌∙◌, append-nil}
-use Rattle.std.specs.Map.Iter.{deref}
-use Rattle.std.specs.String.{string_bytes}
-use Rattle.std.proofs.lemmas.Map.Iter.{rest_all}
-use Rattle.broker_index.proofs.Named.{named-keys}
+use Rattle.std.proofs.Common.{ℕ, ◌++◌, ◌∷◌, [], List, map, sym, ap, ◌∙◌, append-nil, append_assoc}
+use Rattle.broker_index.specs.declared.destinations.Destination.{Destination}
+use Rattle.broker_index.proofs.Named.{names_of}
 use Rattle.broker_index.proofs.destinations.copied_names.Goals as goal
+
+abbrev names : List (ℕ × Destination) → List (List ℕ)
+names ps = map (λ (p : ℕ × Destination). p.1.name) ps
+
+pub loop-destination-init : goal.loop-destination-init
+loop-destination-init c =
+    let left = c.into_iter-destination-iterator.ensures.into_iter_gives ∙ c.iter-destination-items.ensures.rest in
+    rw (c.new-names.ensures.items, left) (names_of 0 c.args.slab.now.slots)
+
+pub loop-destination-preserved : goal.loop-destination-preserved
+loop-destination-preserved c =
+    let before = c.loop-destination.names.items in
+    let rest = names c.next.new.self in
+    ap (λ l. l ++ rest) c.in_ok-push.ensures.items ∙ append_assoc before (c.in_ok-copy.field-0 ∷ []) rest
+    ∙ ap (λ n. before ++ n ∷ rest) c.in_ok-copy.ensures ∙ ap (λ ps. before ++ names ps) (sym c.in-Some.ensures.steps)
+    ∙ c.loop-destination.invariant
 
 pub returns : goal.returns
 returns c =
-    let none = rest_all deref c.loop-name.name-iterator c.next.new.self c.next.result c.in-None.is c.next.ensures.steps in
-    let ends = ap (λ ks. c.loop-name.names.items ++ map string_bytes ks) none in
-    sym (append-nil c.loop-name.names.items) ∙ sym ends ∙ c.loop-name.invariant ∙ named-keys c.args.queues.now.entries
+    sym (append-nil c.loop-destination.names.items)
+    ∙ ap (λ ps. c.loop-destination.names.items ++ names ps) (sym c.in-None.ensures.steps.0)
+    ∙ c.loop-destination.invariant

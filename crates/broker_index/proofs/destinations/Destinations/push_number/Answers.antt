@@ -1,38 +1,30 @@
-use Rattle.std.proofs.Common.{Some, None, is_some, refl, sym, ap, ◌∙◌}
-use Rattle.std.specs.Option.{option_map}
-use Rattle.std.proofs.lemmas.Map.Steps.{set_value_same}
+use Rattle.std.proofs.Common.{◌≡◌, ap, ◌∙◌}
 use Rattle.broker_index.specs.Index.{with_number}
-use Rattle.broker_index.proofs.Named.{named, found-named, Sets-changed, Sets-not_changed}
-use Rattle.broker_index.proofs.Numbered.{on_err}
+use Rattle.broker_index.specs.declared.destinations.Destination.{Destination}
+use Rattle.broker_index.proofs.Named.{Sets-absent, Sets-changed, on_ok, queue_there, still_indexed}
 use Rattle.broker_index.proofs.destinations.Destinations.push_number.Goals as goal
-use Rattle.broker_index.proofs.destinations.Destinations.push_number.Goals.{in-Some+in_ok-push_number-in-Some, in-None}
+
+pub invariant_of-self : goal.invariant_of-self
+invariant_of-self c =
+    still_indexed c.self.inside.slab c.self.inside.keys c.self.invariant.found c.in-Some.key c.index_mut.result.now
+    c.index_mut.ensures.value c.push_number.new.self c.self.invariant.led
 
 pub push_number-requires : goal.push_number-requires
 push_number-requires c =
-    c.requires c.in-Some.queue.now
-    (found-named c.as_str.result.now c.args.name.now c.self.inside.queues (Some c.in-Some.queue.now) c.args.self.now c.as_str.ensures
-    c.self.view_is c.in-Some.ensures.value)
+    let found = c.in-Some.ensures.found in
+    let same : c.index_mut.result.now ≡ found.0 = cc (c.index_mut.ensures.value, found.1) in
+    c.requires c.index_mut.result.now.queue
+    (rw (← c.self.view_is) (queue_there c.self.inside.slab c.self.inside.keys c.self.invariant.found c.args.name.now c.in-Some.key
+    c.index_mut.result.now c.index_mut.ensures.value (ap (λ (d : Destination). d.name) same ∙ found.2)))
 
-pub returns-in_err-push_number-in-Some-clause-err : goal.returns-in_err-push_number-in-Some-clause-err
-returns-in_err-push_number-in-Some-clause-err c =
-    on_err c.from_residual.result _
-    (ap named ((c.get_mut.follows.holds c.push_number.new.self).0
-    ∙ set_value_same _ c.self.inside.queues.entries c.push_number.new.self
-    (sym c.in-Some.ensures.value ∙ ap Some (sym c.in_err-push_number-in-Some.ensures.err)))
-    ∙ c.self.view_is)
+pub returns-in-Some-clause-ok : goal.returns-in-Some-clause-ok
+returns-in-Some-clause-ok c =
+    let found = c.in-Some.ensures.found in
+    let same : c.index_mut.result.now ≡ found.0 = cc (c.index_mut.ensures.value, found.1) in
+    on_ok c.push_number.result c.push_number.ensures.ok (λ changed. rw (← c.self.view_is)
+    (Sets-changed c.self.inside.slab c.self.inside.keys c.self.invariant.found c.in-Some.key c.index_mut.result.now c.index_mut.ensures.value
+    c.push_number.new.self c.args.name.now (with_number c.args.place) (ap (λ (d : Destination). d.name) same ∙ found.2) changed))
 
-pub returns-clause-ok : goal.returns-clause-ok
-returns-clause-ok c = elim c.match-get_mut.branch [
-  | in-Some+in_ok-push_number-in-Some w ↦
-      rw (w.result-is, w.self-inside-is)
-      (Sets-changed c.as_str.result.now c.args.name.now c.self.inside.queues (c.get_mut.follows.lender w.push_number.new.self)
-      (Some w.in-Some.queue.now) (Some w.push_number.new.self)
-      (option_map (with_number c.args.place)) c.args.self.now c.as_str.ensures c.self.view_is
-      ((c.get_mut.follows.holds w.push_number.new.self).3 (ap is_some (sym w.in-Some.ensures.value))) w.in-Some.ensures.value
-      (ap Some w.in_ok-push_number-in-Some.ensures.ok))
-  | in-None w ↦
-      rw (w.result-is, w.self-inside-is, c.get_mut.follows.holds-at-none)
-      (Sets-not_changed c.as_str.result.now c.args.name.now c.self.inside.queues c.self.inside.queues None
-      (option_map (with_number c.args.place)) c.args.self.now
-      c.as_str.ensures c.self.view_is refl w.in-None.ensures.value refl)
-]
+pub returns-in-None-clause-ok : goal.returns-in-None-clause-ok
+returns-in-None-clause-ok c =
+    rw (← c.self.view_is) (Sets-absent c.self.inside.slab c.args.name.now (with_number c.args.place) c.in-None.ensures.absent)

@@ -1,22 +1,22 @@
-use Rattle.std.proofs.Common.{Some, None, is_some, refl, sym, ap}
-use Rattle.std.specs.Option.{option_map}
+use Rattle.std.proofs.Common.{◌≡◌, ap, ◌∙◌}
 use Rattle.broker_index.specs.Index.{counting}
-use Rattle.broker_index.proofs.Named.{Sets-changed, Sets-not_changed}
+use Rattle.broker_index.specs.declared.destinations.Destination.{Destination}
+use Rattle.broker_index.proofs.Named.{Sets-absent, Sets-changed, still_indexed}
 use Rattle.broker_index.proofs.destinations.Destinations.set_count.Goals as goal
-use Rattle.broker_index.proofs.destinations.Destinations.set_count.Goals.{in-Some, in-None}
 
-pub returns : goal.returns
-returns c = elim c.match-get_mut.branch [
-  | in-Some w ↦
-      rw w.self-inside-is
-      (Sets-changed c.as_str.result.now c.args.name.now c.self.inside.queues (c.get_mut.follows.lender w.set_count.new.self)
-      (Some w.in-Some.queue.now) (Some w.set_count.new.self)
-      (option_map (counting c.args.count)) c.args.self.now c.as_str.ensures c.self.view_is
-      ((c.get_mut.follows.holds w.set_count.new.self).3 (ap is_some (sym w.in-Some.ensures.value))) w.in-Some.ensures.value
-      (ap Some w.set_count.ensures))
-  | in-None w ↦
-      rw (w.self-inside-is, c.get_mut.follows.holds-at-none)
-      (Sets-not_changed c.as_str.result.now c.args.name.now c.self.inside.queues c.self.inside.queues None
-      (option_map (counting c.args.count)) c.args.self.now
-      c.as_str.ensures c.self.view_is refl w.in-None.ensures.value refl)
-]
+pub invariant_of-self : goal.invariant_of-self
+invariant_of-self c =
+    still_indexed c.self.inside.slab c.self.inside.keys c.self.invariant.found c.in-Some.key c.index_mut.result.now
+    c.index_mut.ensures.value c.set_count.new.self c.self.invariant.led
+
+pub returns-in-Some : goal.returns-in-Some
+returns-in-Some c =
+    let found = c.in-Some.ensures.found in
+    let same : c.index_mut.result.now ≡ found.0 = cc (c.index_mut.ensures.value, found.1) in
+    rw (← c.self.view_is)
+    (Sets-changed c.self.inside.slab c.self.inside.keys c.self.invariant.found c.in-Some.key c.index_mut.result.now c.index_mut.ensures.value
+    c.set_count.new.self c.args.name.now (counting c.args.count) (ap (λ (d : Destination). d.name) same ∙ found.2) c.set_count.ensures)
+
+pub returns-in-None : goal.returns-in-None
+returns-in-None c =
+    rw (← c.self.view_is) (Sets-absent c.self.inside.slab c.args.name.now (counting c.args.count) c.in-None.ensures.absent)
