@@ -1,7 +1,7 @@
 -- A letter that was taken has arrived for good: it is held until it is handled.
 use Rattle.std.proofs.Common.{◌≡◌, ℕ, suc, ◌+◌, ◌≤◌, ◌<◌, List, [], ◌∷◌, ◌++◌, Bool, true, false, refl, ap, arith, sym, ◌∙◌}
 use Rattle.std.proofs.Common.{Option, Some, None, Ok, IsSome, length, length-append, subst}
-use Rattle.std.specs.Prelude.{◌&&◌, ◌==◌, slice_get}
+use Rattle.std.specs.Prelude.{◌&&◌, ◌==◌, slice_get, nat_lt}
 use Rattle.std.proofs.lemmas.Bool.Decides.{nat_tests}
 use Rattle.std.proofs.lemmas.List.{append-nil}
 use Rattle.base.specs.Entity.{Name}
@@ -22,6 +22,7 @@ use Rattle.activities.proofs.Journals.{handled_of-letter}
 use Rattle.activities.proofs.Prefixes.{length-numbered, get-numbered_is}
 use Rattle.keep.specs.Tables.{Messages, set_message}
 use Rattle.outbox.specs.Numbering.{pair_between}
+use Rattle.outbox.specs.Rows.{unsettled_of}
 use Rattle.endpoint.specs.declared.answer.Ingested.{Ingested}
 use Rattle.endpoint.specs.declared.answer.Ingested.TheVariants.{Handled, Repeated, Held}
 use Rattle.endpoint.specs.Arrivals.{IngestMay}
@@ -139,9 +140,21 @@ module _ {S C D : Type 0} (reactions : Reactions S C) (x : Kept C) (z : Kept D) 
       let no : false ≡ true = subst (λ (o : Option Message). IsSome o) none some in
       cc
 
-  pub all_arrived : Follows reactions x z → ((n : ℕ) (m : Message) → nth Sent n ≡ Some m → HasArrived z p n)
+  -- what is settled was handled
+  above_settled : Follows reactions x z
+      → ((n : ℕ) (m : Message) → unsettled_of reactions x.journal x.settled p n ≡ Some m → HasArrived z p n)
+      → (n : ℕ) (m : Message) → nth Sent n ≡ Some m → (b : Bool) → nat_lt (x.settled p) n ≡ b → HasArrived z p n
+  above_settled f all n m sent true above = all n m (rw above sent)
+  above_settled f all n m sent false above = λ lt.
+      let settled = f.settled p in
+      let low : n ≤ x.settled p = grind (arith, nat_tests, above) in
+      absurd (omega (arith, settled, low, lt))
+
+  pub all_arrived : Follows reactions x z
+      → ((n : ℕ) (m : Message) → unsettled_of reactions x.journal x.settled p n ≡ Some m → HasArrived z p n)
       → z.held p (suc (handled_of z.journal p)) ≡ None → HandledAll reactions x.journal z.journal p
-  all_arrived f all none = let prefix = f.handled p in no_more prefix.0 prefix.1 all none
+  all_arrived f all none = let prefix = f.handled p in
+      no_more prefix.0 prefix.1 (λ n m sent. above_settled f all n m sent (nat_lt (x.settled p) n) refl) none
 
   full : (rest : List (ℕ × Message)) → There ++ rest ≡ numbered 0 Sent → handled_of z.journal p ≡ length Sent
       → HandledAll reactions x.journal z.journal p

@@ -4,10 +4,10 @@ use Rattle.base.specs.declared.pair.Pair.{Pair}
 use Rattle.envelope.specs.declared.message.Envelope.{Envelope}
 use Rattle.envelope.specs.declared.message.Envelope.TheVariants as envelope
 use Rattle.envelope.specs.declared.message.Letter.{Letter}
-use Rattle.activities.specs.Journal.{sent_of, handled_of}
-use Rattle.activities.specs.Numbered.{nth}
+use Rattle.activities.specs.Journal.{handled_of}
 use Rattle.activities.specs.Service.{Service}
 use Rattle.keep.specs.Tables.{Tables}
+use Rattle.outbox.specs.Rows.{unsettled_of}
 use Rattle.endpoint.specs.Deeds.{kept}
 use Rattle.endpoint.specs.declared.answer.Ingested.{Ingested}
 use Rattle.exchange.specs.declared.event.Delivery.{Delivery}
@@ -58,22 +58,22 @@ module _ {S C T D : Type 0} (one : Service S C) (other : Service T D) where
   IsTaken arrival deliveries outcomes sent letter = (k i : ℕ) × (answer : Ingested) × (slice_get deliveries k ≡ Some (arrival i))
       × (slice_get outcomes k ≡ Some (Taken (Ok answer))) × (slice_get sent i ≡ Some (envelope.Letter letter))
 
-  -- each letter that the journal of a side sends on the pair was taken by the other
+  -- each letter that a side sent on the pair, and that isn't settled, was taken by the other
   abbrev pub AllTakenRight : List (Delivery C D) → List Outcome → Sides S C T D → Pair → Type 0
   AllTakenRight deliveries outcomes z p = (letter : Letter) → letter.pair ≡ p
-      → nth (sent_of one.reactions z.left.journal p) letter.number ≡ Some letter.message
+      → unsettled_of one.reactions z.left.journal z.left.settled p letter.number ≡ Some letter.message
       → IsTaken (λ i. Right (Take i)) deliveries outcomes z.network.from_left letter
 
   abbrev pub AllTakenLeft : List (Delivery C D) → List Outcome → Sides S C T D → Pair → Type 0
   AllTakenLeft deliveries outcomes z p = (letter : Letter) → letter.pair ≡ p
-      → nth (sent_of other.reactions z.right.journal p) letter.number ≡ Some letter.message
+      → unsettled_of other.reactions z.right.journal z.right.settled p letter.number ≡ Some letter.message
       → IsTaken (λ i. Left (Take i)) deliveries outcomes z.network.from_right letter
 
   -- the next letter of the pair isn't held
   abbrev pub NoneWaits : {A B : Type 0} → Tables A B → Pair → Type 0
   NoneWaits t p = t.held p (suc (handled_of t.journal p)) ≡ None
 
-  -- where each letter of a pair was taken, in whatever order, and the next one doesn't wait, all of them were handled
+  -- where each unsettled letter of a pair was taken, in whatever order, and the next one doesn't wait, all that was sent was handled
   abbrev pub TakenAreHandledIn : List (Delivery C D) → List Outcome → Sides S C T D → Type 0
   TakenAreHandledIn deliveries outcomes z = (p : Pair)
       → (AllTakenRight deliveries outcomes z p → NoneWaits z.right p → HandledAll one.reactions z.left.journal z.right.journal p)

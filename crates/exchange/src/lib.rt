@@ -1,18 +1,20 @@
 //! Two services that give each other letters and settles over a network that loses, repeats and reorders them.
 //!
 //! Whatever list of deliveries is carried out, and whatever the stores answer: each side has handled, pair by pair, a beginning of what the
-//! other's journal sends, once each and in its order; what a side marks as settled the other has handled; and a pair of which each letter
-//! was taken in some order, and no next one waits, was handled to its end. It holds of any two handlers and stores, by the contracts of
-//! [`Endpoint`](endpoint::Endpoint) alone; where a store failed, of each content that a stop may leave.
+//! other's journal sends, once each and in its order; what a side marks as settled the other has handled; and a pair of which each
+//! unsettled letter was taken, in some order, and no next one waits, was handled to its end. It holds of any two handlers and stores, by
+//! the contracts of [`Endpoint`](endpoint::Endpoint) alone; where a store failed, of each content that a stop may leave.
 //!
 //! ```rust
-//! pub fn what_comes_early_waits<G, L>(
+//! pub fn what_comes_early_waits<H, K, G, L>(
 //!     alloc: Global,
-//!     purchasing: &mut Endpoint<Orders, PlainKeep<Orders>>,
-//!     partner: &mut Endpoint<G, L>,
+//!     left: &mut Endpoint<H, K>,
+//!     right: &mut Endpoint<G, L>,
 //!     pair: &Pair,
 //! ) -> Result<Vec<Outcome>, AllocError>
 //! where
+//!     H: Handler,
+//!     K: Keep<State = H::State, Command = H::Command> + Drop,
 //!     G: Handler,
 //!     L: Keep<State = G::State, Command = G::Command> + Drop,
 //! {
@@ -23,12 +25,13 @@
 //!     deliveries.push(Delivery::Right(Event::Take(2)))?;
 //!     deliveries.push(Delivery::Right(Event::Drain(pair.copy(alloc)?)))?;
 //!     let mut network = Network::new(alloc);
-//!     exchange(alloc, purchasing, partner, &mut network, &deliveries)
+//!     exchange(alloc, left, right, &mut network, &deliveries)
 //! }
 //! ```
 //!
-//! Where an order was placed and cancelled, and the pair is its own with its stock, a request and a cancel go there. The cancel comes first
-//! and is held, the request is handled, is known when it comes again, and then the cancel is handled: all that the pair sent.
+//! Where an order was placed and cancelled at the left, and the pair is its own with its stock at the right, a request and a cancel go there.
+//! The cancel comes first and is held, the request is handled, is known when it comes again, and then the cancel is handled: all that the
+//! pair sent.
 #![tactic(auto)]
 
 mod both;
