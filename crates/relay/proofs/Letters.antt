@@ -1,9 +1,9 @@
 -- A filling, letter by letter.
-use Rattle.std.proofs.Common.{◌≡◌, ℕ, zero, suc, ◌+◌, ◌-◌, ◌<◌, ◌≤◌, Bool, true, false, List, [], ◌∷◌, ◌++◌, length, drop, refl, sym, ap}
-use Rattle.std.proofs.Common.{subst, ◌∙◌, inl, inr, arith, append_assoc, append-nil, length-append, Result, Ok, Err}
+use Rattle.std.proofs.Common.{◌≡◌, ℕ, zero, suc, ◌+◌, ◌-◌, ◌<◌, ◌≤◌, true, false, List, [], ◌∷◌, ◌++◌, length, drop, refl, sym, ap}
+use Rattle.std.proofs.Common.{subst, ◌∙◌, arith, append_assoc, append-nil, length-append, Ok, Err}
 use Rattle.std.proofs.Common.{add-one, zero-add, get_or}
 use Rattle.std.specs.Prelude.{nat_lt}
-use Rattle.std.proofs.lemmas.Bool.{cases_Bool, lt-ltb, le-ltb}
+use Rattle.std.proofs.lemmas.Bool.{lt-ltb, le-ltb}
 use Rattle.std.proofs.lemmas.List.{drop_all}
 use Rattle.std.proofs.Math.Seq.{drop-cons}
 use Rattle.base.specs.declared.pair.Pair.{Pair}
@@ -11,10 +11,10 @@ use Rattle.envelope.specs.declared.message.Letter.{Letter}
 use Rattle.keep.specs.Tables.{set_mark}
 use Rattle.stomp_client.specs.declared.session.Stage.TheVariants.{Connected}
 use Rattle.relay.specs.declared.fault.RelayFault.{RelayFault}
-use Rattle.relay.specs.Filling.{Connection, due, Sends, Stops, with_all_sent}
+use Rattle.relay.specs.Filling.{Connection, due, Sends, Stops}
 use Rattle.relay.specs.Calls.{FillsLetters}
 use Rattle.relay.specs.Parts.Pages.{IsFilling}
-use Rattle.relay.proofs.Sending.{sends_none, sends_append, marks_after, stage_after}
+use Rattle.relay.proofs.Sending.{sends_none, sends_append}
 
 pub due_no : (k : ℕ) (m : Pair → ℕ) (l : Letter) (ls : List Letter) → nat_lt (m l.pair) l.number ≡ false → due k m (l ∷ ls) ≡ due k m ls
 due_no zero m l ls e = refl

@@ -6,7 +6,7 @@ use Rattle.std.specs.declared.cmp.Ordering.{Ordering}
 use Rattle.std.specs.declared.cmp.Ordering.TheVariants.{Less, Equal, Greater}
 use Rattle.std.specs.Ordering.{is_eq}
 use Rattle.std.specs.BTreeMap.{get, is_at}
-use Rattle.base.specs.Order.{pair_cmp, same_pair, same_pair-ties}
+use Rattle.base.specs.Order.{pair_cmp, same_pair-ties}
 use Rattle.base.specs.declared.pair.Pair.{Pair}
 use Rattle.keep.specs.Tables.{set_mark}
 use Rattle.keep.proofs.Places.{pair_cmp-Equal}

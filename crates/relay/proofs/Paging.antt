@@ -1,13 +1,13 @@
 -- A filling, page by page.
-use Rattle.std.proofs.Common.{◌≡◌, ◌≢◌, ◌⊎◌, inl, inr, ℕ, zero, suc, ◌+◌, ◌-◌, ◌<◌, ◌≤◌, List, [], ◌∷◌, ◌++◌, length, Option, Some, None}
-use Rattle.std.proofs.Common.{Result, Ok, Err, Ordering, Less, Equal, Greater, refl, sym, ap, subst, ◌∙◌, arith, append_assoc, append-nil}
+use Rattle.std.proofs.Common.{◌≡◌, ◌≢◌, ◌⊎◌, inl, inr, ℕ, ◌+◌, ◌-◌, ◌<◌, ◌≤◌, List, [], ◌∷◌, ◌++◌, length, Option, Some, None}
+use Rattle.std.proofs.Common.{Ok, Err, Ordering, Less, Equal, Greater, refl, sym, ap, subst, ◌∙◌, arith, append_assoc, append-nil}
 use Rattle.std.proofs.Common.{length-append, add-one, true≢false}
 use Rattle.std.specs.Prelude.{⊤}
 use Rattle.base.specs.declared.pair.Pair.{Pair}
 use Rattle.envelope.specs.declared.message.Letter.{Letter}
 use Rattle.keep.specs.declared.change.Place.{Place}
-use Rattle.keep.specs.Law.{Never, MoreFailures, IsServed, IsCall, IsCallCause, IsRead, IsReadCause, Reads}
-use Rattle.keep.specs.Listing.{place_of, IsAfter, IsNoneAfter, AreFirst}
+use Rattle.keep.specs.Law.{MoreFailures, Reads}
+use Rattle.keep.specs.Listing.{place_of, AreFirst}
 use Rattle.keep.specs.Pages.{place_behind}
 use Rattle.keep.specs.Seen.{Seen, Cause, End, no_memory, failed, unusable, refused}
 use Rattle.keep.specs.Tables.{Tables, Messages}
@@ -20,10 +20,10 @@ use Rattle.endpoint.specs.Calls.{Stays}
 use Rattle.endpoint.specs.declared.fault.EndFault.{EndFault}
 use Rattle.relay.specs.declared.fault.RelayFault.{RelayFault}
 use Rattle.relay.specs.declared.fault.RelayFault.TheVariants.{Client, Envelope, Endpoint}
-use Rattle.relay.specs.Filling.{Connection, due, unsent, Sends, Stops, with_all_sent}
-use Rattle.relay.specs.Calls.{FillsLetters, Fills, Gives, StopsBehind, store_end}
+use Rattle.relay.specs.Filling.{Connection, due, unsent, Sends, Stops}
+use Rattle.relay.specs.Calls.{FillsLetters, Fills, StopsBehind, store_end}
 use Rattle.endpoint.specs.Faults.{end_cause, end_of}
-use Rattle.relay.specs.Parts.Pages.{FillsPage, GoesOn, EndsPage, HasFilled, HasRead, Jumps}
+use Rattle.relay.specs.Parts.Pages.{FillsPage, HasFilled, HasRead, Jumps}
 use Rattle.relay.proofs.Sending.{marked, marks_after, stage_after, sends_none, sends_append}
 use Rattle.relay.proofs.Places.{numbers_rise, gap, before_in_pair, pair_between_places}
 use Rattle.relay.proofs.Due.{first_due, all_due, none_behind, due_within, one_more, not_due}

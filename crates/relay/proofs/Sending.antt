@@ -1,13 +1,11 @@
 -- Letters sent one after another.
 use Rattle.std.proofs.Common.{◌≡◌, ℕ, ◌+◌, List, [], ◌∷◌, ◌++◌, refl, sym, ap, subst, ◌∙◌, append_assoc, arith}
-use Rattle.std.specs.Prelude.{Ok, Result}
 use Rattle.std.proofs.lemmas.List.{append-nil}
 use Rattle.base.specs.declared.pair.Pair.{Pair}
 use Rattle.stomp_frame.specs.Frames.{Content}
 use Rattle.stomp_client.specs.Clients.{Client, receipted}
 use Rattle.stomp_client.specs.Frames.{IsPlain, with_receipt}
 use Rattle.stomp_client.specs.Written.{Wrote, Adds}
-use Rattle.stomp_client.specs.declared.session.Stage.{Stage}
 use Rattle.envelope.specs.Written.{send_of}
 use Rattle.envelope.specs.declared.message.Letter.{Letter}
 use Rattle.envelope.specs.declared.message.Envelope.TheVariants as envelope

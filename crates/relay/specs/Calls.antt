@@ -12,7 +12,7 @@ use Rattle.endpoint.specs.Faults.{end_cause}
 use Rattle.endpoint.specs.declared.fault.EndFault.{EndFault}
 use Rattle.relay.specs.Filling.{Connection, due, unsent, Sends, Stops}
 use Rattle.relay.specs.declared.fault.RelayFault.{RelayFault}
-use Rattle.relay.specs.declared.fault.RelayFault.TheVariants.{Client, Envelope, Endpoint}
+use Rattle.relay.specs.declared.fault.RelayFault.TheVariants.{Client, Endpoint}
 
 -- what a relay answers without a look at any letter: before CONNECTED it sends none, and none after the end of the session
 abbrev pub idle_answer : Stage → Option (Result ℕ RelayFault)

@@ -1,5 +1,5 @@
 -- A filling, page by page.
-use Rattle.std.specs.Prelude.{◌≡◌, ℕ, ◌+◌, ◌≤◌, ◌<◌, ◌⊎◌, List, ◌++◌, length, Option, Some, None, Result, Ok, Err, ⊤}
+use Rattle.std.specs.Prelude.{◌≡◌, ℕ, ◌+◌, ◌≤◌, ◌⊎◌, List, ◌++◌, length, Option, Some, None, Result, Ok, Err, ⊤}
 use Rattle.stomp_client.specs.declared.session.Stage.TheVariants.{Connected}
 use Rattle.base.specs.declared.pair.Pair.{Pair}
 use Rattle.envelope.specs.declared.message.Letter.{Letter}
@@ -10,8 +10,8 @@ use Rattle.keep.specs.Seen.{Seen}
 use Rattle.keep.specs.Tables.{Tables, Messages}
 use Rattle.endpoint.specs.Calls.{Stays}
 use Rattle.endpoint.specs.declared.fault.EndFault.{EndFault}
-use Rattle.relay.specs.Filling.{Connection, due, unsent, with_all_sent, Sends}
-use Rattle.relay.specs.Calls.{Gives, StopsBehind}
+use Rattle.relay.specs.Filling.{Connection, due, unsent, Sends}
+use Rattle.relay.specs.Calls.{Gives}
 use Rattle.relay.specs.declared.fault.RelayFault.{RelayFault}
 
 -- Of some letters these are the first that are due, so many; they were sent, and what is due of the rest comes behind them.

@@ -1,7 +1,6 @@
-use Rattle.std.proofs.Common.{◌≡◌, ℕ, ◌<◌, arith, sym, ap}
-use Rattle.std.proofs.Common.{refl}
+use Rattle.std.proofs.Common.{arith}
 use Rattle.relay.specs.Filling.{connection}
-use Rattle.relay.proofs.Letters.{start, at_limit, at_end, skip, send, stopped, is_so, is_not, letter_at, none_left}
+use Rattle.relay.proofs.Letters.{at_limit, at_end, skip, send, stopped, is_so, is_not, letter_at, none_left}
 use Rattle.relay.proofs.relay.Relay.fill_letters.Goals as goal
 
 pub returns-then-count-limit : goal.returns-then-count-limit

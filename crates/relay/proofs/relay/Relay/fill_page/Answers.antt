@@ -1,4 +1,4 @@
-use Rattle.std.proofs.Common.{◌≡◌, ◌≢◌, ℕ, ◌<◌, ◌≤◌, length, arith}
+use Rattle.std.proofs.Common.{arith}
 use Rattle.relay.specs.Filling.{connection}
 use Rattle.relay.proofs.Paging.{page_full, page_short, page_more, page_stopped}
 use Rattle.relay.proofs.relay.Relay.fill_page.Goals as goal

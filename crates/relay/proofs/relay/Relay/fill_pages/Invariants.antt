@@ -1,4 +1,4 @@
-use Rattle.std.proofs.Common.{◌≡◌, ℕ}
+use Rattle.std.proofs.Common.{◌≡◌}
 use Rattle.relay.specs.Filling.{connection}
 use Rattle.relay.specs.Parts.Pages.{HasRead, HasFilled}
 use Rattle.relay.proofs.relay.Relay.fill_pages.Given as goal

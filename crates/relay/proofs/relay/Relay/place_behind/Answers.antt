@@ -1,4 +1,3 @@
-use Rattle.std.proofs.Common.{◌∙◌}
 use Rattle.relay.specs.Filling.{marks_of}
 use Rattle.relay.proofs.Paging.{jumps_behind}
 use Rattle.relay.proofs.relay.Relay.place_behind.Goals as goal

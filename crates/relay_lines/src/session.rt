@@ -1,0 +1,98 @@
+//! What stands between two lines, and whom a line asks.
+
+use crate::fault::LineFault;
+use crate::service::{Service, call_service, new_service};
+use crate::show::{fault_of, push_event, push_sent};
+use line_script::{Script, first_word, natural, push_octets, read_octets, size};
+use relay::Relay;
+use std::alloc::Global;
+use std::io;
+use std::io::Write;
+use stomp_client::ClientSession;
+use stomp_frame::Decoder;
+
+/// A service, a client's session, and the relay between them.
+#[derive(Drop)]
+pub struct Session {
+    service: Service,
+    client: ClientSession<u64>,
+    relay: Relay,
+}
+
+impl Session {
+    /// A service that did nothing, and a client that wrote nothing.
+    pub fn new(alloc: Global) -> Session {
+        Session {
+            service: new_service(alloc),
+            client: ClientSession::new(alloc),
+            relay: Relay::new(alloc),
+        }
+    }
+
+    /// A new client asks to be connected.
+    fn connect(&mut self, alloc: Global) -> Result<(), LineFault> {
+        self.client = ClientSession::new(alloc);
+        self.client.connect().map_err(LineFault::from)
+    }
+
+    /// What a server's frame tells.
+    fn accept(&mut self, alloc: Global, out: &mut String, text: &str) -> Result<(), LineFault> {
+        let mut decoder = Decoder::new(alloc);
+        decoder.feed(&read_octets(alloc, text)?)?;
+        let frame = decoder.next()?.ok_or(LineFault::Unknown)?;
+        let event = self.client.accept(frame)?;
+        push_event(out, &event)
+    }
+
+    /// Letters of the outbox are sent.
+    fn fill(&mut self, out: &mut String, text: &str) -> Result<(), LineFault> {
+        let limit = size(text)?;
+        let count = self.relay.fill(&mut self.client, &mut self.service, limit)?;
+        write!(out, "{count}").map_err(LineFault::from)
+    }
+
+    /// Appends the answer to a line, or nothing where the call gives nothing.
+    fn answer_line(
+        &mut self,
+        alloc: Global,
+        out: &mut String,
+        line: &str,
+    ) -> Result<(), LineFault> {
+        let (word, rest) = first_word(line);
+        match word {
+            "connect" => self.connect(alloc),
+            "accept" => self.accept(alloc, out, rest),
+            "fill" => self.fill(out, rest),
+            "forget" => {
+                self.relay.forget();
+                Ok(())
+            }
+            "out" => push_octets(out, self.client.out()).map_err(LineFault::from),
+            "sent" => push_sent(alloc, out, &mut self.client),
+            "fault" => {
+                let (whose, number) = first_word(rest);
+                Err(fault_of(whose, natural(number)?))
+            }
+            _ => call_service(&mut self.service, alloc, out, word, rest),
+        }
+    }
+}
+
+impl Script for Session {
+    type Answer = String;
+
+    type Fault = LineFault;
+
+    fn answer(&mut self, alloc: Global, line: &str) -> Result<String, LineFault> {
+        let mut out = String::new(alloc);
+        self.answer_line(alloc, &mut out, line)?;
+        if out.is_empty() {
+            out.push_str("done")?;
+        }
+        Ok(out)
+    }
+
+    fn show<W: Write>(&self, answer: String, out: &mut W) -> io::Result<()> {
+        out.write_all(answer.as_bytes())
+    }
+}
