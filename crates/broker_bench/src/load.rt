@@ -139,7 +139,11 @@ impl Bench {
         for queue in 0..load.waiting.div_ceil(IN_A_QUEUE) {
             let name = format!(in alloc; "waiting-{queue}")?;
             let mut send = Vec::new(alloc);
-            write_send(&mut send, head_text(alloc, name.as_str(), 10)?.as_str(), b"0123456789\0")?;
+            write_send(
+                &mut send,
+                head_text(alloc, name.as_str(), 10)?.as_str(),
+                b"0123456789\0",
+            )?;
             let rest = load
                 .waiting
                 .saturating_sub(queue.saturating_mul(IN_A_QUEUE));

@@ -251,13 +251,15 @@ pub fn a_schedule_is_run(alloc: Global) -> Result<bool, RunFault> {
     Ok(out.as_slice() == b"refused 61 71\n".as_slice())
 }
 
-pub fn what_comes_early_waits<G, L>(
+pub fn what_comes_early_waits<H, K, G, L>(
     alloc: Global,
-    purchasing: &mut Endpoint<Orders, PlainKeep<Orders>>,
-    partner: &mut Endpoint<G, L>,
+    left: &mut Endpoint<H, K>,
+    right: &mut Endpoint<G, L>,
     pair: &Pair,
 ) -> Result<Vec<Outcome>, AllocError>
 where
+    H: Handler,
+    K: Keep<State = H::State, Command = H::Command> + Drop,
     G: Handler,
     L: Keep<State = G::State, Command = G::Command> + Drop,
 {
@@ -268,5 +270,5 @@ where
     deliveries.push(Delivery::Right(Event::Take(2)))?;
     deliveries.push(Delivery::Right(Event::Drain(pair.copy(alloc)?)))?;
     let mut network = Network::new(alloc);
-    exchange(alloc, purchasing, partner, &mut network, &deliveries)
+    exchange(alloc, left, right, &mut network, &deliveries)
 }

@@ -4,7 +4,7 @@
 mod examples;
 mod willing;
 
-use activities::{OrderCommand, Outs};
+use activities::{Handler, OrderCommand, Outs};
 use anyhow::Result;
 use base::{Entity, Key, Number, Pair};
 use endpoint::Endpoint;
@@ -22,7 +22,7 @@ use examples::{
     what_was_put_is_taken,
 };
 use exchange::{Delivery, Event, Network, Outcome, exchange};
-use keep::{Faulty, KeepFault, Leaves};
+use keep::{Faulty, Keep, KeepFault, Leaves};
 use keep_plain::PlainKeep;
 use purchasing::Orders;
 use std::alloc::Global;
@@ -169,20 +169,46 @@ fn around_a_failure(alloc: Global) -> Result<Vec<Delivery<OrderCommand, bool>>> 
     Ok(deliveries)
 }
 
+/// What is answered to these deliveries, over a network where nothing was sent yet.
+fn carry_out<H, K, G, L>(
+    alloc: Global,
+    left: &mut Endpoint<H, K>,
+    right: &mut Endpoint<G, L>,
+    deliveries: &[Delivery<H::Command, G::Command>],
+) -> Result<Vec<Outcome>>
+where
+    H: Handler,
+    K: Keep<State = H::State, Command = H::Command> + Drop,
+    G: Handler,
+    L: Keep<State = G::State, Command = G::Command> + Drop,
+{
+    let mut network = Network::new(alloc);
+    Ok(exchange(alloc, left, right, &mut network, deliveries)?)
+}
+
+/// Whether the right side handled as many letters of a pair as the left side sent.
+fn is_handled<H, K, G, L>(
+    alloc: Global,
+    left: &mut Endpoint<H, K>,
+    right: &mut Endpoint<G, L>,
+    pair: &Pair,
+) -> Result<bool>
+where
+    H: Handler,
+    K: Keep<State = H::State, Command = H::Command> + Drop,
+    G: Handler,
+    L: Keep<State = G::State, Command = G::Command> + Drop,
+{
+    Ok(left.sent(alloc, pair)? == right.handled(alloc, pair)?)
+}
+
 /// A store fails as a letter is taken in.
 fn a_store_fails(alloc: Global) -> Result<Vec<Outcome>> {
     let mut purchasing = cancelled(alloc)?;
     let mut partner = willing_stock(alloc);
     partner.arm(4, Leaves::New);
     let deliveries = around_a_failure(alloc)?;
-    let mut network = Network::new(alloc);
-    Ok(exchange(
-        alloc,
-        &mut purchasing,
-        &mut partner,
-        &mut network,
-        &deliveries,
-    )?)
+    carry_out(alloc, &mut purchasing, &mut partner, &deliveries)
 }
 
 /// Letters between two services, which come early, late and again, and where a store fails as it takes one in.
@@ -192,7 +218,7 @@ fn print_exchanges(rt: &impl Print, alloc: Global) -> Result<()> {
     let pair = pair(alloc)?;
     let outcomes = what_comes_early_waits(alloc, &mut purchasing, &mut partner, &pair)?;
     show(rt, "exchange", &outcomes)?;
-    let all = purchasing.sent(alloc, &pair)? == partner.handled(alloc, &pair)?;
+    let all = is_handled(alloc, &mut purchasing, &mut partner, &pair)?;
     show(rt, "exchange", &all)?;
     show(rt, "exchange", &a_store_fails(alloc)?)
 }
