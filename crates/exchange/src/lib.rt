@@ -29,9 +29,9 @@
 //! }
 //! ```
 //!
-//! Where an order was placed and cancelled at the left, and the pair is its own with its stock at the right, a request and a cancel go there.
-//! The cancel comes first and is held, the request is handled, is known when it comes again, and then the cancel is handled: all that the
-//! pair sent.
+//! Where an order was placed and cancelled at the left, and the pair is its own with its stock at the right, a request and a cancel
+//! go there. The cancel comes first and is held, the request is handled, is known when it comes again, and then the cancel is handled:
+//! all that the pair sent.
 #![tactic(auto)]
 
 mod both;
