@@ -32,12 +32,13 @@ use receipts::{ReceiptFault, Receipts};
 use relay::{Relay, RelayFault};
 use resequencer::next_held;
 use schedules::{ScheduleFault, read_schedule};
+use showing::show_row;
 use std::alloc::{AllocError, Global};
 use stomp_client::{ClientFault, ClientSession};
 use stomp_frame::{Command, Decoder, Frame, FrameFault};
 use stomp_session::{Headers, Octets, ServerSession, Text};
 use stomp_wire::{Link, LinkFault, MemoryWire, Way, pump_out};
-use warehouse::Stocks;
+use warehouse::{Stock, Stocks};
 
 pub fn an_entity_is_named_again(alloc: Global) -> Result<bool, EntityFault> {
     let key = Key::read(alloc, "o1")?;
@@ -243,6 +244,13 @@ pub fn nothing_goes_out_before_the_broker_answers(alloc: Global) -> Result<usize
 pub fn a_schedule_is_read(alloc: Global) -> Result<usize, ScheduleFault> {
     let events = read_schedule(alloc, b"cancel 0 o1\n# a comment\nshow thing\n")?;
     Ok(events.len())
+}
+
+pub fn a_row_is_shown(alloc: Global, bolt: &Entity) -> Result<bool, AllocError> {
+    let row = Some(Stock::new(alloc));
+    let line = show_row::<Stocks>(alloc, bolt, &row)?;
+    let told = b"stock/bolt on_hand 0 held 0 shipped 0 received 0\n".as_slice();
+    Ok(line.as_slice() == told)
 }
 
 pub fn a_schedule_is_run(alloc: Global) -> Result<bool, RunFault> {

@@ -1,0 +1,130 @@
+//! The rows of a journal: what entities took in.
+
+ghost use Rattle.std.specs.Prelude.{◌≡◌, ◌++◌, ◌∷◌, [], OnOk, IfOk};
+ghost use Rattle.showing.specs.Printed.{shown_order_command, shown_stock_command, shown_account_command};
+ghost use Rattle.showing.specs.Printed.{shown_message, shown_input, journal_line, journal_lines};
+
+use crate::services::Shown;
+use crate::words::{push_entity, push_escaped, push_numbered, push_text};
+use activities::{AccountCommand, Input, JournalRow, OrderCommand, StockCommand};
+use envelope::Message;
+use std::alloc::{AllocError, Global};
+
+/// Appends an order's command.
+#[tactic(auto, using(std::proofs::Common::append_assoc))]
+pub(crate) fn push_order_command(
+    line: &mut Vec<u8>,
+    command: &OrderCommand,
+) -> Result<(), AllocError>
+    ensures { OnOk result (line.new.items ≡ line.old.items ++ shown_order_command command.now) }
+{
+    match command {
+        OrderCommand::Place {
+            stock,
+            quantity,
+            account,
+            amount,
+        } => {
+            push_text(line, "place ")?;
+            push_escaped(line, stock.as_str())?;
+            push_numbered(line, " ", *quantity)?;
+            push_text(line, " ")?;
+            push_escaped(line, account.as_str())?;
+            push_numbered(line, " ", *amount)
+        }
+        OrderCommand::CancelOrder => push_text(line, "cancel_order"),
+    }
+}
+
+/// Appends a stock's command.
+pub(crate) fn push_stock_command(
+    line: &mut Vec<u8>,
+    command: &StockCommand,
+) -> Result<(), AllocError>
+    ensures { OnOk result (line.new.items ≡ line.old.items ++ shown_stock_command command.now) }
+{
+    match command {
+        StockCommand::Receive(quantity) => push_numbered(line, "receive ", *quantity),
+    }
+}
+
+/// Appends an account's command.
+pub(crate) fn push_account_command(
+    line: &mut Vec<u8>,
+    command: &AccountCommand,
+) -> Result<(), AllocError>
+    ensures { OnOk result (line.new.items ≡ line.old.items ++ shown_account_command command.now) }
+{
+    match command {
+        AccountCommand::SetLimit(limit) => push_numbered(line, "set_limit ", *limit),
+    }
+}
+
+fn push_message(line: &mut Vec<u8>, message: &Message) -> Result<(), AllocError>
+    ensures { OnOk result (line.new.items ≡ line.old.items ++ shown_message message.now) }
+{
+    match message {
+        Message::Request(number) => push_numbered(line, "request ", number.get()),
+        Message::Tentative => push_text(line, "tentative"),
+        Message::Refused => push_text(line, "refused"),
+        Message::Confirm => push_text(line, "confirm"),
+        Message::Cancel => push_text(line, "cancel"),
+    }
+}
+
+#[tactic(auto, using(std::proofs::Common::append_assoc))]
+fn push_input<H: Shown>(line: &mut Vec<u8>, input: &Input<H::Command>) -> Result<(), AllocError>
+    ensures { OnOk result (line.new.items ≡ line.old.items ++ shown_input H.shown_command input.now) }
+{
+    match input {
+        Input::FromSeat(seat, command) => {
+            push_numbered(line, "seat ", u64::from(*seat))?;
+            push_text(line, " ")?;
+            H::push_command(line, command)
+        }
+        Input::FromEntity(sender, number, message) => {
+            push_text(line, "from ")?;
+            push_entity(line, sender)?;
+            push_numbered(line, " ", number.get())?;
+            push_text(line, " ")?;
+            push_message(line, message)
+        }
+    }
+}
+
+#[tactic(auto, using(std::proofs::Common::append_assoc))]
+fn push_line<H: Shown>(
+    lines: &mut Vec<u8>,
+    pos: u64,
+    row: &JournalRow<H::Command>,
+) -> Result<(), AllocError>
+    ensures { OnOk result (lines.new.items ≡ lines.old.items ++ journal_line H.shown_command pos row.now) }
+{
+    push_numbered(lines, "", pos)?;
+    push_text(lines, " ")?;
+    push_entity(lines, &row.entity)?;
+    push_text(lines, " ")?;
+    push_input::<H>(lines, &row.input)?;
+    lines.push(b'\n')?;
+    Ok(())
+}
+
+/// The lines of `journal`: its rows, whose positions are 1, 2, ..
+///
+/// # Errors
+/// Where a growth was refused.
+#[tactic(auto, using(crate::proofs::Pieces::rows_more, std::proofs::Common::append_assoc))]
+pub fn show_journal<H: Shown>(
+    alloc: Global,
+    rows: &[JournalRow<H::Command>],
+) -> Result<Vec<u8>, AllocError>
+    ensures { IfOk result (λ lines. lines.items ≡ journal_lines H.shown_command rows.now) }
+{
+    let mut lines = Vec::new(alloc);
+    let mut pos: u64 = 0;
+    for row in rows {
+        pos += 1;
+        push_line::<H>(&mut lines, pos, row)?;
+    }
+    Ok(lines)
+}
