@@ -3,4 +3,5 @@ mod Sending
 mod Letters
 mod Places
 mod Due
+mod Knowing
 mod Paging

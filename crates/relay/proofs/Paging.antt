@@ -1,7 +1,7 @@
 -- A filling, page by page.
 use Rattle.std.proofs.Common.{◌≡◌, ◌≢◌, ◌⊎◌, inl, inr, ℕ, ◌+◌, ◌-◌, ◌<◌, ◌≤◌, List, [], ◌∷◌, ◌++◌, length, Option, Some, None}
 use Rattle.std.proofs.Common.{Ok, Err, Ordering, Less, Equal, Greater, refl, sym, ap, subst, ◌∙◌, arith, append_assoc, append-nil}
-use Rattle.std.proofs.Common.{length-append, add-one, true≢false}
+use Rattle.std.proofs.Common.{length-append, add-one, take, true≢false, Bool, true, false, Result}
 use Rattle.std.specs.Prelude.{⊤}
 use Rattle.base.specs.declared.pair.Pair.{Pair}
 use Rattle.envelope.specs.declared.message.Letter.{Letter}
@@ -20,13 +20,19 @@ use Rattle.endpoint.specs.Calls.{Stays}
 use Rattle.endpoint.specs.declared.fault.EndFault.{EndFault}
 use Rattle.relay.specs.declared.fault.RelayFault.{RelayFault}
 use Rattle.relay.specs.declared.fault.RelayFault.TheVariants.{Client, Envelope, Endpoint}
-use Rattle.relay.specs.Filling.{Connection, due, unsent, Sends, Stops}
+use Rattle.relay.specs.Filling.{Connection, marks_of, connection, due, unsent, Sends, Stops}
 use Rattle.relay.specs.Calls.{FillsLetters, Fills, StopsBehind, store_end}
 use Rattle.endpoint.specs.Faults.{end_cause, end_of}
-use Rattle.relay.specs.Parts.Pages.{FillsPage, HasFilled, HasRead, Jumps}
+use Rattle.relay.specs.Knowing.{AllSent}
+use Rattle.relay.specs.Parts.Pages.{FillsPage, HasFilled, HasRead, Jumps, Moves, AreSent}
 use Rattle.relay.proofs.Sending.{marked, marks_after, stage_after, sends_none, sends_append}
 use Rattle.relay.proofs.Places.{numbers_rise, gap, before_in_pair, pair_between_places}
 use Rattle.relay.proofs.Due.{first_due, all_due, none_behind, due_within, one_more, not_due}
+use Rattle.relay.proofs.Knowing.{from_cursor, all_were_sent, marks_rise, risen, rows_sent, page_sent, moved_sent}
+use Rattle.relay.specs.declared.relay.Relay.{Relay}
+use Rattle.relay.specs.Marks.{mark_in}
+use Rattle.std.specs.BTreeMap.{BTreeMap}
+use Rattle.stomp_client.specs.Clients.{Client as Client-state, Seen as Seen-client}
 
 -- ---- one page
 
@@ -38,7 +44,7 @@ stops_behind clean messages after letters last (Client cause) stops next = (stop
 stops_behind clean messages after letters last (Envelope cause) stops next = (stops, next)
 stops_behind clean messages after letters last (Endpoint cause) stops next = tt
 
-module _ (clean : Type 0) (messages : Messages) (after : Option Place) (page limit : ℕ) (rows : List Letter) (old new : Connection)
+module _ (clean : Type 0) (messages : Messages) (after next : Option Place) (page limit : ℕ) (rows : List Letter) (old new : Connection)
     (are : clean → AreFirst messages after page rows) where
   abbrev now_due : List Letter
   now_due = due limit old.marks rows
@@ -51,7 +57,7 @@ module _ (clean : Type 0) (messages : Messages) (after : Option Place) (page lim
 
   -- the limit was reached
   pub page_full : (count : ℕ) → FillsLetters limit rows old new (Ok count) → count ≡ limit
-      → FillsPage clean messages after limit old new (Ok (count, None))
+      → FillsPage clean messages after next limit old new (Ok (count, false))
   page_full count f full = record {
     letters = now_due;
     sends = f.1;
@@ -75,7 +81,7 @@ module _ (clean : Type 0) (messages : Messages) (after : Option Place) (page lim
 
   -- the page was the last
   pub page_short : (count : ℕ) → FillsLetters limit rows old new (Ok count) → count ≢ limit → length rows < page
-      → FillsPage clean messages after limit old new (Ok (count, None))
+      → FillsPage clean messages after next limit old new (Ok (count, false))
   page_short count f other short = record {
     letters = now_due;
     sends = f.1;
@@ -97,7 +103,7 @@ module _ (clean : Type 0) (messages : Messages) (after : Option Place) (page lim
 
   -- a letter couldn't be sent
   pub page_stopped : (fault : RelayFault) → FillsLetters limit rows old new (Err fault)
-      → FillsPage clean messages after limit old new (Err fault)
+      → FillsPage clean messages after next limit old new (Err fault)
   page_stopped fault f =
       let count : ℕ = f.0 in
       let small : count < limit = f.1 in
@@ -123,10 +129,17 @@ module _ (clean : Type 0) (messages : Messages) (after : Option Place) (page lim
       }
 
 -- the outbox couldn't be read
-pub page_unread : (clean : Type 0) (messages : Messages) (after : Option Place) (limit : ℕ) (old : Connection) (fault : EndFault)
-    → FillsPage clean messages after limit old old (Err (Endpoint fault))
-page_unread clean messages after limit old fault =
+pub page_unread : (clean : Type 0) (messages : Messages) (after next : Option Place) (limit : ℕ) (old : Connection) (fault : EndFault)
+    → FillsPage clean messages after next limit old old (Err (Endpoint fault))
+page_unread clean messages after next limit old fault =
     record { letters = []; sends = sends_none old; within = omega arith; ends = (λ c. tt, tt) }
+
+pub page_unread_of : (clean : Type 0) (messages : Messages) (after next : Option Place) (limit : ℕ) (old : Connection) (cause : EndFault)
+    (result : Result (ℕ × Bool) RelayFault) (fault : RelayFault) → result ≡ Err fault → fault ≡ Endpoint cause
+    → FillsPage clean messages after next limit old old result
+page_unread_of clean messages after next limit old cause result fault e f =
+    subst (λ (r : Result (ℕ × Bool) RelayFault). FillsPage clean messages after next limit old old r)
+    (sym (e ∙ ap (λ (x : RelayFault). Err x) f)) (page_unread clean messages after next limit old cause)
 
 abbrev place : Pair → ℕ → Place
 place p n = record { pair = p; number = n }
@@ -162,31 +175,109 @@ jump_over messages m here next (pair, least, inr mark) k more are = elim (cases_
       (λ x h. not_due_upto messages m here next pair mark x h (place_cmp x next) refl) are
 ]
 
-module _ (clean : Type 0) (messages : Messages) (after : Option Place) (page limit : ℕ) (rows : List Letter) (old new : Connection)
+jump_behind : (messages : Messages) (m : Pair → ℕ) (here next : Option Place) → Jumps m here next → (k : ℕ) (more : List Letter)
+    → AreFirst (unsent m messages) next k more → AreFirst (unsent m messages) here k more
+jump_behind messages m None next jumps k more are = absurd jumps
+jump_behind messages m (Some here) None jumps k more are = absurd jumps
+jump_behind messages m (Some here) (Some next) jumps k more are = jump_over messages m here next jumps k more are
+
+-- or from that page's own place
+move_behind : (messages : Messages) (m : Pair → ℕ) (here next : Option Place) → Moves m here next → (k : ℕ) (more : List Letter)
+    → AreFirst (unsent m messages) next k more → AreFirst (unsent m messages) here k more
+move_behind messages m here next (inl same) k more are = subst (λ (x : Option Place). AreFirst (unsent m messages) x k more) same are
+move_behind messages m here next (inr jumps) k more are = jump_behind messages m here next jumps k more are
+
+module _ (clean : Type 0) (messages : Messages) (after next : Option Place) (page limit : ℕ) (rows : List Letter) (old new : Connection)
     (are : clean → AreFirst messages after page rows) (count : ℕ) (f : FillsLetters limit rows old new (Ok count))
     (other : count ≢ limit) where
-  page_at : (next : Option Place) → Jumps new.marks (place_behind after rows) next → (p : Option Place) → place_behind after rows ≡ p
-      → FillsPage clean messages after limit old new (Ok (count, next))
-  page_at next jumps None e = absurd (subst (λ (x : Option Place). Jumps new.marks x next) e jumps)
-  page_at None jumps (Some here) e = absurd (subst (λ (x : Option Place). Jumps new.marks x None) e jumps)
-  page_at (Some next) jumps (Some here) e = record {
+  small : count < limit
+  small = not_full clean messages after next page limit rows old new are count f other
+
+  -- the page is followed by others, which are read behind a place to which the relay moves
+  pub page_more : Moves new.marks (place_behind after rows) next → FillsPage clean messages after next limit old new (Ok (count, true))
+  page_more moves = record {
     letters = due limit old.marks rows;
     sends = f.1;
     within = due_within limit old.marks rows;
     ends = (
       f.0,
       λ c k more behind.
-          behind_all clean messages after page limit rows old new are count f
-          (not_full clean messages after page limit rows old new are count f other) c k more
-          (subst (λ (x : Option Place). AreFirst (unsent new.marks messages) x k more) (sym e)
-          (jump_over messages new.marks here next (subst (λ (x : Option Place). Jumps new.marks x (Some next)) e jumps) k more behind)),
+          behind_all clean messages after next page limit rows old new are count f small c k more
+          (move_behind messages new.marks (place_behind after rows) next moves k more behind),
     );
   }
 
-  -- the page is followed by others, which are read behind a place to which the relay jumps
-  pub page_more : (next : Option Place) → Jumps new.marks (place_behind after rows) next
-      → FillsPage clean messages after limit old new (Ok (count, next))
-  page_more next jumps = page_at next jumps (place_behind after rows) refl
+  -- and each of its rows was sent
+  pub page_was_sent : AreSent new.marks rows
+  page_was_sent =
+      let number = f.0 in
+      subst (λ (m : Pair → ℕ). AreSent m rows) (sym (marks_are clean messages after next page limit rows old new are f.1))
+      (all_were_sent limit old.marks rows (omega (arith, number, small)))
+
+-- whatever was sent, marks only rise
+pub filling_rises : (limit : ℕ) (rows : List Letter) (old new : Connection) (result : Result ℕ RelayFault)
+    → FillsLetters limit rows old new result
+    → (p : Pair) → old.marks p ≤ new.marks p
+filling_rises limit rows old new (Ok count) f p = subst (λ (m : Pair → ℕ). old.marks p ≤ m p)
+    (sym (ap (λ (x : Connection). x.marks) f.1.all ∙ marks_after old (due limit old.marks rows)))
+    (marks_rise limit old.marks rows p)
+filling_rises limit rows old new (Err fault) f p = subst (λ (m : Pair → ℕ). old.marks p ≤ m p)
+    (sym (ap (λ (x : Connection). x.marks) f.3.all ∙ marks_after old (due f.0 old.marks rows)))
+    (marks_rise f.0 old.marks rows p)
+
+abbrev seen_as : (Pair → ℕ) → Client-state ℕ → Connection
+seen_as marks client = record { marks = marks; client = client }
+
+-- the same relay for all that is seen of it
+pub same_connection : (r s : Relay) (c : Seen-client ℕ) → s.marks ≡ r.marks → connection s c ≡ connection r c
+same_connection r s c e = ap (λ (m : BTreeMap Pair ℕ). seen_as (λ p. mark_in m p) c.client) e
+
+pub page_moved : {clean : Type 0} {messages : Messages} {after next : Option Place} {limit : ℕ} {old mid new : Connection}
+    {result : Result (ℕ × Bool) RelayFault} → new ≡ mid → FillsPage clean messages after next limit old mid result
+    → FillsPage clean messages after next limit old new result
+page_moved {clean} {messages} {after} {next} {limit} {old} {mid} {new} {result} e f =
+    subst (λ (x : Connection). FillsPage clean messages after next limit old x result) (sym e) f
+
+module _ (messages : Messages) (page limit : ℕ) (rows : List Letter) (r s t : Relay) (c d : Seen-client ℕ) (same : s.behind ≡ r.behind)
+    (are : AreFirst messages r.behind page rows) (sent : AllSent (marks_of r) messages r.behind) where
+  still_first : AreFirst messages s.behind page rows
+  still_first = subst (λ (x : Option Place). AreFirst messages x page rows) (sym same) are
+
+  still_sent : (result : Result ℕ RelayFault) → FillsLetters limit rows (connection r c) (connection s d) result
+      → AllSent (marks_of s) messages s.behind
+  still_sent result f = subst (λ (x : Option Place). AllSent (marks_of s) messages x) (sym same)
+      (risen messages r.behind (marks_of r) (marks_of s) (filling_rises limit rows (connection r c) (connection s d) result f) sent)
+
+  -- the cursor goes behind what was sent of a page
+  pub goes_part : (result : Result ℕ RelayFault) → FillsLetters limit rows (connection r c) (connection s d) result
+      → ((ms : Messages) (n : ℕ) → AreFirst ms s.behind n rows → AllSent (marks_of s) ms s.behind → AllSent (marks_of t) ms t.behind)
+      → AllSent (marks_of t) messages t.behind
+  goes_part result f goes = goes messages page still_first (still_sent result f)
+
+  -- or behind the whole page
+  pub goes_whole : (count : ℕ) → FillsLetters limit rows (connection r c) (connection s d) (Ok count) → count ≢ limit
+      → Moves (marks_of s) (place_behind s.behind rows) t.behind → t.marks ≡ s.marks
+      → AllSent (marks_of t) messages t.behind
+  goes_whole count f other moves marks = subst (λ (m : BTreeMap Pair ℕ). AllSent (λ p. mark_in m p) messages t.behind) (sym marks)
+      (moved_sent messages (marks_of s) (place_behind s.behind rows) t.behind moves
+      (page_sent messages (marks_of s) s.behind page rows still_first
+      (page_was_sent (AreFirst messages r.behind page rows) messages r.behind r.behind page limit rows (connection r c) (connection s d)
+      (λ x. x) count f other)
+      (still_sent (Ok count) f)))
+
+pub sent_on : (m n : Pair → ℕ) (b d : Option Place) (here there : Messages) → there ≡ here
+    → (AllSent m there b → AllSent n there d) → AllSent m here b → AllSent n here d
+sent_on m n b d here there e f s = subst (λ (x : Messages). AllSent n x d) e (f (subst (λ (x : Messages). AllSent m x b) (sym e) s))
+
+-- the cursor goes behind some rows that stand first, and were sent
+pub goes_behind : (messages : Messages) (r t : Relay) (n page : ℕ) (rows : List Letter) → AreSent (marks_of r) (take n rows)
+    → Moves (marks_of r) (place_behind r.behind (take n rows)) t.behind
+    → t.marks ≡ r.marks
+    → AreFirst messages r.behind page rows → AllSent (marks_of r) messages r.behind → AllSent (marks_of t) messages t.behind
+goes_behind messages r t n page rows low moves marks are sent =
+    subst (λ (m : BTreeMap Pair ℕ). AllSent (λ p. mark_in m p) messages t.behind) (sym marks)
+    (moved_sent messages (marks_of r) (place_behind r.behind (take n rows)) t.behind moves
+    (rows_sent messages (marks_of r) n r.behind page rows are low sent))
 
 behind_last : (after : Option Place) (front : List Letter) (last : Letter) → place_behind after (front ++ last ∷ []) ≡ Some (place_of last)
 behind_last after [] last = refl
@@ -194,11 +285,11 @@ behind_last after (l ∷ ls) last = behind_last (Some (place_of l)) ls last
 
 -- the place behind the last row of a page, or the one to which its pair's mark goes
 pub jumps_behind : (m : Pair → ℕ) (after : Option Place) (rows front : List Letter) (last : Letter) (n mark : ℕ) → rows ≡ front ++ last ∷ []
-    → last.number ≤ n → (n ≡ last.number) ⊎ (n ≡ mark) → mark ≡ m last.pair → Jumps m (place_behind after rows) (Some (place last.pair n))
-jumps_behind m after rows front last n mark cut least which is =
+    → last.number ≤ n → (n ≡ last.number) ⊎ (n ≡ mark) → mark ≡ m last.pair → Moves m (place_behind after rows) (Some (place last.pair n))
+jumps_behind m after rows front last n mark cut least which is = inr (
     subst (λ (x : Option Place). Jumps m x (Some (place last.pair n))) (sym (ap (λ (x : List Letter). place_behind after x) cut
     ∙ behind_last after front last))
-    (refl, least, elim which [ inl same ↦ inl same | inr far ↦ inr (far ∙ is) ])
+    (refl, least, elim which [ inl same ↦ inl same | inr far ↦ inr (far ∙ is) ]))
 
 -- ---- pages one after another
 
@@ -209,38 +300,42 @@ rest_of : (a count limit : ℕ) → count ≡ a → count ≤ limit → a + (lim
 rest_of a count limit e h = omega (arith, e, h)
 
 module _ (messages : Messages) (limit : ℕ) (old : Connection) where
-  pub none_filled : (clean : Type 0) → old.client.stage ≡ Connected → HasFilled clean messages limit old old 0 None
-  none_filled clean stage = record {
+  pub none_filled : (clean : Type 0) (after : Option Place) → (clean → AllSent old.marks messages after) → old.client.stage ≡ Connected
+      → HasFilled clean messages limit old old 0 after
+  none_filled clean after sent stage = record {
     letters = [];
     sends = sends_none old;
     number = refl;
     within = omega arith;
     stage = stage;
-    goes_on = λ c k more behind. subst (λ (n : ℕ). AreFirst (unsent old.marks messages) None n more) (omega arith) behind;
+    goes_on = λ c k more behind.
+        subst (λ (n : ℕ). AreFirst (unsent old.marks messages) None n more) (omega arith)
+        (from_cursor messages old.marks after k more (sent c) behind);
   }
 
-  module _ (clean clean' : Type 0) (messages' : Messages) (mid new : Connection) (count : ℕ) (after : Option Place)
-      (f : HasFilled clean messages limit old mid count after) (earlier : clean' → clean) (same : clean' → messages' ≡ messages) where
+  module _ (clean clean' clean'' : Type 0) (messages' : Messages) (mid new : Connection) (count : ℕ) (after next : Option Place)
+      (f : HasFilled clean messages limit old mid count after) (earlier : clean' → clean) (there : clean' → clean'')
+      (same : clean' → messages' ≡ messages) where
     -- what is due behind the pages so far, as the next page found it
     behind : clean' → (n : ℕ) (ls : List Letter) → AreFirst (unsent mid.marks messages') after n ls
         → AreFirst (unsent old.marks messages) None (length f.letters + n) (f.letters ++ ls)
     behind c n ls are = f.goes_on (earlier c) n ls (subst (λ (ms : Messages). AreFirst (unsent mid.marks ms) after n ls) (same c) are)
 
     -- what was sent of a page is within the limit
-    pub page_within : (sent : ℕ) (place : Option Place) → FillsPage clean' messages' after (limit - count) mid new (Ok (sent, place))
+    pub page_within : (sent : ℕ) (more : Bool) → FillsPage clean'' messages' after next (limit - count) mid new (Ok (sent, more))
         → sent ≤ limit - count
-    page_within sent None p =
+    page_within sent false p =
         let number = p.ends.0 in
         let within = p.within in
         omega (arith, number, within)
-    page_within sent (Some next) p =
+    page_within sent true p =
         let number = p.ends.0 in
         let within = p.within in
         omega (arith, number, within)
 
-    page_behind : (sent : ℕ) (next : Place) → FillsPage clean' messages' after (limit - count) mid new (Ok (sent, Some next))
-        → HasFilled clean' messages limit old new (count + sent) (Some next)
-    page_behind sent next p =
+    page_behind : (sent : ℕ) → FillsPage clean'' messages' after next (limit - count) mid new (Ok (sent, true))
+        → HasFilled clean' messages limit old new (count + sent) next
+    page_behind sent p =
         let number = f.number in
         let within = f.within in
         let number' = p.ends.0 in
@@ -258,10 +353,10 @@ module _ (messages : Messages) (limit : ℕ) (old : Connection) where
               (subst (λ (n : ℕ). AreFirst (unsent old.marks messages) None n (f.letters ++ (p.letters ++ more)))
               (all_of (length f.letters) (length p.letters) k (length (f.letters ++ p.letters)) long)
               (behind c (length p.letters + k) (p.letters ++ more)
-              (p.ends.1 c k more (subst (λ (ms : Messages). AreFirst (unsent new.marks ms) (Some next) k more) (sym (same c)) are))));
+              (p.ends.1 (there c) k more (subst (λ (ms : Messages). AreFirst (unsent new.marks ms) next k more) (sym (same c)) are))));
         }
 
-    page_at_end : (sent : ℕ) → FillsPage clean' messages' after (limit - count) mid new (Ok (sent, None))
+    page_at_end : (sent : ℕ) → FillsPage clean'' messages' after next (limit - count) mid new (Ok (sent, false))
         → Fills clean' messages limit old new (Ok (count + sent))
     page_at_end sent p =
         let number = f.number in
@@ -278,21 +373,21 @@ module _ (messages : Messages) (limit : ℕ) (old : Connection) where
             λ c.
                 subst (λ (n : ℕ). AreFirst (unsent old.marks messages) None n (f.letters ++ p.letters))
                 (rest_of (length f.letters) count limit number within)
-                (behind c (limit - count) p.letters (p.ends.1 c)),
+                (behind c (limit - count) p.letters (p.ends.1 (there c))),
           );
         }
 
-    pub one_page_more : (sent : ℕ) (place : Option Place) (next : Place) → place ≡ Some next
-        → FillsPage clean' messages' after (limit - count) mid new (Ok (sent, place))
-        → HasFilled clean' messages limit old new (count + sent) place
-    one_page_more sent place next e p = subst (λ (x : Option Place). HasFilled clean' messages limit old new (count + sent) x) (sym e)
-        (page_behind sent next (subst (λ (x : Option Place). FillsPage clean' messages' after (limit - count) mid new (Ok (sent, x))) e p))
+    pub one_page_more : (sent : ℕ) (more : Bool) → more ≡ true
+        → FillsPage clean'' messages' after next (limit - count) mid new (Ok (sent, more))
+        → HasFilled clean' messages limit old new (count + sent) next
+    one_page_more sent more e p = page_behind sent
+        (subst (λ (x : Bool). FillsPage clean'' messages' after next (limit - count) mid new (Ok (sent, x))) e p)
 
-    pub last_page : (sent : ℕ) (place : Option Place) → place ≡ None
-        → FillsPage clean' messages' after (limit - count) mid new (Ok (sent, place))
+    pub last_page : (sent : ℕ) (more : Bool) → more ≡ false
+        → FillsPage clean'' messages' after next (limit - count) mid new (Ok (sent, more))
         → Fills clean' messages limit old new (Ok (count + sent))
-    last_page sent place e p = page_at_end sent
-        (subst (λ (x : Option Place). FillsPage clean' messages' after (limit - count) mid new (Ok (sent, x))) e p)
+    last_page sent more e p = page_at_end sent
+        (subst (λ (x : Bool). FillsPage clean'' messages' after next (limit - count) mid new (Ok (sent, x))) e p)
 
     joined : clean' → (letters : List Letter)
         → (l : Letter) × AreFirst (unsent mid.marks messages') after (length letters + 1) (letters ++ l ∷ [])
@@ -308,13 +403,13 @@ module _ (messages : Messages) (limit : ℕ) (old : Connection) where
         )
 
     stopped_there : (fault : RelayFault) (letters : List Letter) (last : ℕ)
-        → StopsBehind clean' (unsent mid.marks messages') after letters last fault
+        → StopsBehind clean'' (unsent mid.marks messages') after letters last fault
         → StopsBehind clean' (unsent old.marks messages) None (f.letters ++ letters) last fault
     stopped_there (Endpoint cause) letters last s = tt
-    stopped_there (Client cause) letters last s = (s.0, λ c. joined c letters (s.1 c))
-    stopped_there (Envelope cause) letters last s = (s.0, λ c. joined c letters (s.1 c))
+    stopped_there (Client cause) letters last s = (s.0, λ c. joined c letters (s.1 (there c)))
+    stopped_there (Envelope cause) letters last s = (s.0, λ c. joined c letters (s.1 (there c)))
 
-    pub stopped_page : (fault : RelayFault) → FillsPage clean' messages' after (limit - count) mid new (Err fault)
+    pub stopped_page : (fault : RelayFault) → FillsPage clean'' messages' after next (limit - count) mid new (Err fault)
         → Fills clean' messages limit old new (Err fault)
     stopped_page fault p =
         let number = f.number in
@@ -327,10 +422,49 @@ module _ (messages : Messages) (limit : ℕ) (old : Connection) where
           within = omega (arith, within, within', number, long);
           gives = (
             λ c. subst (λ (n : ℕ). AreFirst (unsent old.marks messages) None n (f.letters ++ p.letters)) (sym long)
-                (behind c (length p.letters) p.letters (p.ends.0 c)),
+                (behind c (length p.letters) p.letters (p.ends.0 (there c))),
             stopped_there fault p.letters new.client.receipts.last p.ends.1,
           );
         }
+
+-- ---- what is told where less is in doubt
+
+stops_where : (clean clean' : Type 0) → (clean' → clean) → (messages : Messages) (after : Option Place) (letters : List Letter) (last : ℕ)
+    (fault : RelayFault) → StopsBehind clean messages after letters last fault → StopsBehind clean' messages after letters last fault
+stops_where clean clean' less messages after letters last (Endpoint cause) s = tt
+stops_where clean clean' less messages after letters last (Client cause) s = (s.0, λ c. s.1 (less c))
+stops_where clean clean' less messages after letters last (Envelope cause) s = (s.0, λ c. s.1 (less c))
+
+pub fills_where : (clean clean' : Type 0) → (clean' → clean) → (messages : Messages) (limit : ℕ) (old new : Connection)
+    (result : Result ℕ RelayFault)
+    → Fills clean messages limit old new result → Fills clean' messages limit old new result
+fills_where clean clean' less messages limit old new (Ok count) f = record {
+  letters = f.letters;
+  sends = f.sends;
+  within = f.within;
+  gives = (f.gives.0, λ c. f.gives.1 (less c));
+}
+fills_where clean clean' less messages limit old new (Err fault) f = record {
+  letters = f.letters;
+  sends = f.sends;
+  within = f.within;
+  gives = (
+    λ c. f.gives.0 (less c),
+    stops_where clean clean' less (unsent old.marks messages) None f.letters new.client.receipts.last fault f.gives.1,
+  );
+}
+
+pub fills_from : {clean : Type 0} {messages : Messages} {limit : ℕ} {start old new : Connection} {result : Result ℕ RelayFault}
+    → start ≡ old
+    → Fills clean messages limit start new result → Fills clean messages limit old new result
+fills_from {clean} {messages} {limit} {start} {old} {new} {result} e f =
+    subst (λ (x : Connection). Fills clean messages limit x new result) e f
+
+-- the endpoint wasn't usable, and nothing was sent
+pub none_sent : (clean : Type 0) (messages : Messages) (limit : ℕ) (old : Connection) (fault : EndFault)
+    → Fills clean messages limit old old (Err (Endpoint fault))
+none_sent clean messages limit old fault =
+    record { letters = []; sends = sends_none old; within = omega arith; gives = (λ c. tt, tt) }
 
 -- ---- the store
 

@@ -1,12 +1,14 @@
 //! The last number sent of each pair.
 
-ghost use Rattle.std.specs.Prelude.{◌≡◌, OnOk, OnErr, IsSome, Some, None, cond};
+ghost use Rattle.std.specs.Prelude.{◌≡◌, ◌≤◌, OnOk, OnErr, IsSome, Some, None, cond, length, take};
 ghost use Rattle.std.specs.BTreeMap.{get, is_at};
 ghost use Rattle.base.specs.Order.{pair_cmp};
 ghost use Rattle.base.specs.declared.pair.Pair.{Pair};
 ghost use Rattle.relay.specs.Marks.{mark_in};
+ghost use Rattle.relay.specs.Parts.Pages.{AreSent};
 
 use base::{Number, Pair};
+use envelope::Letter;
 use std::alloc::{AllocError, Global};
 use std::collections::BTreeMap;
 
@@ -18,6 +20,21 @@ pub fn find(marks: &BTreeMap<Pair, u64>, pair: &Pair) -> u64
         Some(number) => *number,
         None => 0,
     }
+}
+
+/// How many of these letters stand before the first one that is above its pair's mark.
+pub fn count_sent(marks: &BTreeMap<Pair, u64>, letters: &[Letter]) -> usize
+    ensures within { result ≤ length letters.now }
+    ensures sent { AreSent (mark_in marks.now) (take result letters.now) }
+{
+    let mut count = 0;
+    for letter in letters {
+        if find(marks, &letter.pair) < letter.number.get() {
+            return count;
+        }
+        count += 1;
+    }
+    count
 }
 
 /// Makes a place for the mark of a pair. No mark changes.

@@ -1,16 +1,19 @@
 //! A filling, page by page: the outbox isn't held in memory, and of a pair's rows those that were sent are passed over.
 
-ghost use Rattle.std.specs.Prelude.{◌≡◌, ◌<◌, ◌≤◌, ◌^◌, ◌⊎◌, None, ⊤, length, Option, IfOk};
+ghost use Rattle.std.specs.Prelude.{◌≡◌, ◌<◌, ◌≤◌, ◌^◌, ◌⊎◌, None, false, ⊤, length, ℕ, Option, IfOk};
 ghost use Rattle.keep.specs.declared.change.Place.{Place};
 ghost use Rattle.keep.specs.Law.{Reads};
+ghost use Rattle.keep.specs.Listing.{AreFirst};
 ghost use Rattle.keep.specs.Pages.{place_behind};
+ghost use Rattle.keep.specs.Tables.{Messages};
 ghost use Rattle.endpoint.specs.Calls.{Stays};
 ghost use Rattle.stomp_client.specs.declared.session.Stage.TheVariants.{Connected};
 ghost use Rattle.relay.specs.Filling.{marks_of, connection};
+ghost use Rattle.relay.specs.Knowing.{AllSent, KnowsAll};
 ghost use Rattle.relay.specs.Calls.{Fills, store_end};
-ghost use Rattle.relay.specs.Parts.Pages.{FillsPage, Jumps};
+ghost use Rattle.relay.specs.Parts.Pages.{FillsPage, Moves};
 
-use crate::marks::find;
+use crate::marks::{count_sent, find};
 use crate::{Relay, RelayFault};
 use activities::Handler;
 use base::Number;
@@ -23,8 +26,8 @@ use stomp_client::ClientSession;
 const PAGE: usize = 64;
 
 impl Relay {
-    /// Sends what is due, page by page.
-    pub(crate) fn fill_pages<H, K>(
+    /// Sends what is due, behind the cursor where the journal is as long as it was then.
+    pub(crate) fn fill_connected<H, K>(
         &mut self,
         client: &mut ClientSession<u64>,
         endpoint: &mut Endpoint<H, K>,
@@ -36,39 +39,78 @@ impl Relay {
         requires { client.old.client.stage ≡ Connected }
         ensures read { Reads K.seen endpoint.old endpoint.new (λ _ _. ⊤) (store_end result) }
         ensures stays { Stays K.seen endpoint.old endpoint.new }
-        ensures fills { Fills ((K.seen endpoint.new).doubt ≡ 0) (K.seen endpoint.old).tables.unsettled limit
-            (connection self.old client.old) (connection self.new client.new) result }
+        ensures fills { Fills (((K.seen endpoint.new).doubt ≡ 0) × KnowsAll H.service self.old (K.seen endpoint.old).may_leave)
+            (K.seen endpoint.old).tables.unsettled limit (connection self.old client.old) (connection self.new client.new) result }
+        ensures knows { (K.seen endpoint.new).doubt ≡ 0 → KnowsAll H.service self.old (K.seen endpoint.old).may_leave
+            → KnowsAll H.service self.new (K.seen endpoint.new).may_leave }
+    {
+        let rows = match endpoint.length() {
+            Ok(rows) => rows,
+            Err(fault) => return Err(RelayFault::Endpoint(fault)),
+        };
+        self.begin(rows);
+        self.fill_pages(client, endpoint, limit)
+    }
+
+    /// Begins behind the cursor where the journal has as many rows as it had then, else at the first row.
+    fn begin(&mut self, rows: u64)
+        ensures marks { self.new.marks ≡ self.old.marks }
+        ensures rows { self.new.rows ≡ rows }
+        ensures behind { (self.new.behind ≡ None) ⊎ ((self.old.rows ≡ rows) × (self.new.behind ≡ self.old.behind)) }
+    {
+        if self.rows != rows {
+            self.rows = rows;
+            self.behind = None;
+        }
+    }
+
+    /// Sends what is due behind the cursor, page by page.
+    fn fill_pages<H, K>(
+        &mut self,
+        client: &mut ClientSession<u64>,
+        endpoint: &mut Endpoint<H, K>,
+        limit: usize,
+    ) -> Result<usize, RelayFault>
+    where
+        H: Handler,
+        K: Keep<State = H::State, Command = H::Command> + Drop,
+        requires { client.old.client.stage ≡ Connected }
+        ensures read { Reads K.seen endpoint.old endpoint.new (λ _ _. ⊤) (store_end result) }
+        ensures stays { Stays K.seen endpoint.old endpoint.new }
+        ensures fills { Fills (((K.seen endpoint.new).doubt ≡ 0)
+            × AllSent (marks_of self.old) (K.seen endpoint.old).tables.unsettled self.old.behind)
+            (K.seen endpoint.old).tables.unsettled limit (connection self.old client.old) (connection self.new client.new) result }
+        ensures sent { (K.seen endpoint.new).doubt ≡ 0 → AllSent (marks_of self.old) (K.seen endpoint.old).tables.unsettled self.old.behind
+            → AllSent (marks_of self.new) (K.seen endpoint.old).tables.unsettled self.new.behind }
+        ensures rows { self.new.rows ≡ self.old.rows }
     {
         let mut count = 0;
-        let mut after = None;
         for _page in 0..u64::MAX {
-            let (sent, next) = match self.fill_page(client, endpoint, &after, PAGE, limit - count) {
+            let (sent, more) = match self.fill_page(client, endpoint, PAGE, limit - count) {
                 Ok(done) => done,
                 Err(fault) => return Err(fault),
             };
             count += sent;
-            match next {
-                Some(_) => after = next,
-                None => return Ok(count),
+            if !more {
+                return Ok(count);
             }
         }
         // No outbox has so many pages.
-        let (sent, _) = match self.fill_page(client, endpoint, &after, usize::MAX, limit - count) {
+        let (sent, _) = match self.fill_page(client, endpoint, usize::MAX, limit - count) {
             Ok(done) => done,
             Err(fault) => return Err(fault),
         };
         Ok(count + sent)
     }
 
-    /// Sends what is due of a page of rows after a place, and answers how many these were, and the place behind which it goes on.
+    /// Sends what is due of a page of rows behind the cursor, moves the cursor, and answers how many were sent and whether it goes on.
     fn fill_page<H, K>(
         &mut self,
         client: &mut ClientSession<u64>,
         endpoint: &mut Endpoint<H, K>,
-        after: &Option<Place>,
         page: usize,
         limit: usize,
-    ) -> Result<(usize, Option<Place>), RelayFault>
+    ) -> Result<(usize, bool), RelayFault>
     where
         H: Handler,
         K: Keep<State = H::State, Command = H::Command> + Drop,
@@ -76,34 +118,58 @@ impl Relay {
         requires page { 0 < page }
         ensures read { Reads K.seen endpoint.old endpoint.new (λ _ _. ⊤) (store_end result) }
         ensures stays { Stays K.seen endpoint.old endpoint.new }
-        ensures fills { FillsPage ((K.seen endpoint.new).doubt ≡ 0) (K.seen endpoint.old).tables.unsettled after.now limit
-            (connection self.old client.old) (connection self.new client.new) result }
-        ensures whole { 2 ^ 63 ≤ page → IfOk result (λ done. done.1 ≡ None) }
+        ensures fills { FillsPage ((K.seen endpoint.new).doubt ≡ 0) (K.seen endpoint.old).tables.unsettled self.old.behind self.new.behind
+            limit (connection self.old client.old) (connection self.new client.new) result }
+        ensures sent { (K.seen endpoint.new).doubt ≡ 0 → AllSent (marks_of self.old) (K.seen endpoint.old).tables.unsettled self.old.behind
+            → AllSent (marks_of self.new) (K.seen endpoint.old).tables.unsettled self.new.behind }
+        ensures rows { self.new.rows ≡ self.old.rows }
+        ensures whole { 2 ^ 63 ≤ page → IfOk result (λ done. done.1 ≡ false) }
     {
-        let rows = endpoint.unsettled(self.alloc, after, page)?;
+        let rows = endpoint.unsettled(self.alloc, &self.behind, page)?;
         let sent = match self.fill_letters(client, &rows, limit) {
             Ok(sent) => sent,
-            Err(fault) => return Err(fault),
+            Err(fault) => {
+                self.go_behind_sent(rows);
+                return Err(fault);
+            }
         };
         if sent == limit {
-            return Ok((sent, None));
+            self.go_behind_sent(rows);
+            return Ok((sent, false));
         }
         if rows.len() < page {
-            return Ok((sent, None));
+            self.go_behind(rows);
+            return Ok((sent, false));
         }
-        Ok((sent, self.place_behind(rows)))
+        self.go_behind(rows);
+        Ok((sent, true))
     }
 
-    /// The place behind which the rows after these are to be read: of the last one's pair those up to its mark were sent.
-    fn place_behind(&self, mut rows: Vec<Letter>) -> Option<Place>
-        ensures { (after : Option Place) → 0 < length rows.items → Jumps (marks_of self.now) (place_behind after rows.items) result }
+    /// Moves the cursor behind those of these rows that stand before the first one that is due.
+    fn go_behind_sent(&mut self, mut rows: Vec<Letter>)
+        ensures sent { (messages : Messages) (page : ℕ) → AreFirst messages self.old.behind page rows.items
+            → AllSent (marks_of self.old) messages self.old.behind → AllSent (marks_of self.new) messages self.new.behind }
+        ensures marks { self.new.marks ≡ self.old.marks }
+        ensures rows { self.new.rows ≡ self.old.rows }
     {
-        let last = rows.pop()?;
-        let mark = find(&self.marks, &last.pair);
-        Some(Place {
-            number: greater(last.number, mark),
-            pair: last.pair,
-        })
+        let count = count_sent(&self.marks, &rows);
+        rows.truncate(count);
+        self.go_behind(rows);
+    }
+
+    /// Moves the cursor behind these rows, which were sent; of the last one's pair all up to its mark was.
+    fn go_behind(&mut self, mut rows: Vec<Letter>)
+        ensures behind { Moves (marks_of self.old) (place_behind self.old.behind rows.items) self.new.behind }
+        ensures marks { self.new.marks ≡ self.old.marks }
+        ensures rows { self.new.rows ≡ self.old.rows }
+    {
+        if let Some(last) = rows.pop() {
+            let mark = find(&self.marks, &last.pair);
+            self.behind = Some(Place {
+                number: greater(last.number, mark),
+                pair: last.pair,
+            });
+        }
     }
 }
 

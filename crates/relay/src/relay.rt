@@ -1,12 +1,14 @@
 //! What was sent of each pair on a connection.
 
-ghost use Rattle.std.specs.Prelude.{◌≡◌, ◌≢◌, OnOk, OnErr, IfErr, IfSome, Ok, ⊤, []};
+ghost use Rattle.std.specs.Prelude.{◌≡◌, ◌≢◌, ℕ, OnOk, OnErr, IfErr, IfSome, Ok, ⊤, []};
 ghost use Rattle.std.specs.Prelude.{◌∷◌};
 ghost use Rattle.base.specs.declared.pair.Pair.{Pair};
 ghost use Rattle.keep.specs.Law.{Reads};
 ghost use Rattle.endpoint.specs.Calls.{Stays};
+ghost use Rattle.keep.specs.Tables.{Messages};
 ghost use Rattle.stomp_client.specs.declared.session.Stage.TheVariants.{Connected};
 ghost use Rattle.relay.specs.Filling.{marks_of, connection, Sends, Stops};
+ghost use Rattle.relay.specs.Knowing.{KnowsRows, KnowsAll};
 ghost use Rattle.relay.specs.Calls.{idle_answer, FillsLetters, Fills, store_end};
 
 use crate::RelayFault;
@@ -15,34 +17,56 @@ use activities::Handler;
 use base::Pair;
 use endpoint::Endpoint;
 use envelope::{Envelope, Letter, to_send};
-use keep::Keep;
+use keep::{Keep, Place};
 use std::alloc::Global;
 use std::collections::BTreeMap;
 use stomp_client::{ClientFault, ClientSession, Stage};
 
-/// What was sent of each pair on a connection: contracts see the last number of each pair, 0 where nothing was sent.
+/// What was sent of each pair on a connection: contracts see the last number of each pair, 0 where nothing was sent. And a cursor: up to
+/// a place all that stood in the outbox was sent, when the journal had so many rows.
 #[derive(Drop)]
 pub struct Relay {
     pub(crate) alloc: Global,
     pub(crate) marks: BTreeMap<Pair, u64>,
+    pub(crate) behind: Option<Place>,
+    pub(crate) rows: u64,
 }
 
 impl Relay {
     /// Nothing was sent. It takes no memory.
+    #[tactic(auto, using(crate::proofs::Knowing::knows_start))]
     pub fn new(alloc: Global) -> Relay
-        ensures { (p : Pair) → marks_of result p ≡ 0 }
+        ensures marks { (p : Pair) → marks_of result p ≡ 0 }
+        ensures knows { (rows : ℕ) (messages : Messages) → KnowsRows result rows messages }
     {
         Relay {
             alloc,
             marks: BTreeMap::new(alloc),
+            behind: None,
+            rows: 0,
         }
     }
 
     /// Makes all rows of the outbox due again, as on a connection on which nothing was sent. It takes no memory.
+    #[tactic(auto, using(crate::proofs::Knowing::knows_start))]
     pub fn forget(&mut self)
-        ensures { (p : Pair) → marks_of self.new p ≡ 0 }
+        ensures marks { (p : Pair) → marks_of self.new p ≡ 0 }
+        ensures knows { (rows : ℕ) (messages : Messages) → KnowsRows self.new rows messages }
     {
         self.marks.clear();
+        self.behind = None;
+        self.rows = 0;
+    }
+
+    /// Lets the next filling look from the first row of the outbox on, for whichever service it is. What was sent stays known, so that nothing
+    /// is sent twice. It takes no memory.
+    #[tactic(auto, using(crate::proofs::Knowing::knows_start))]
+    pub fn look_anew(&mut self)
+        ensures marks { self.new.marks ≡ self.old.marks }
+        ensures knows { (rows : ℕ) (messages : Messages) → KnowsRows self.new rows messages }
+    {
+        self.behind = None;
+        self.rows = 0;
     }
 
     /// Sends one letter, or changes nothing.
@@ -56,6 +80,8 @@ impl Relay {
         ensures sends { OnOk result (Sends (letter.now ∷ []) (connection self.old client.old) (connection self.new client.new)) }
         ensures same { OnErr result (connection self.new client.new ≡ connection self.old client.old) }
         ensures fault { IfErr result (Stops client.old.client.receipts.last) }
+        ensures behind { self.new.behind ≡ self.old.behind }
+        ensures rows { self.new.rows ≡ self.old.rows }
     {
         if client.receipts() == u64::MAX {
             return Err(RelayFault::Client(ClientFault::NumbersUsed));
@@ -84,6 +110,7 @@ impl Relay {
             (λ answer. (result ≡ answer) × (connection self.new client.new ≡ connection self.old client.old)) }
         ensures fills { client.old.client.stage ≡ Connected
             → FillsLetters limit letters.now (connection self.old client.old) (connection self.new client.new) result }
+        ensures knows { (rows : ℕ) (messages : Messages) → KnowsRows self.old rows messages → KnowsRows self.new rows messages }
     {
         match client.stage() {
             Stage::Connected => self.fill_letters(client, letters, limit),
@@ -100,7 +127,9 @@ impl Relay {
         limit: usize,
     ) -> Result<usize, RelayFault>
         requires { client.old.client.stage ≡ Connected }
-        ensures { FillsLetters limit letters.now (connection self.old client.old) (connection self.new client.new) result }
+        ensures fills { FillsLetters limit letters.now (connection self.old client.old) (connection self.new client.new) result }
+        ensures behind { self.new.behind ≡ self.old.behind }
+        ensures rows { self.new.rows ≡ self.old.rows }
     {
         let mut count = 0;
         for letter in letters {
@@ -122,7 +151,11 @@ impl Relay {
     /// most `limit`, and answers how many. Each SEND has the next receipt number, with the letter's number as its tag. Before CONNECTED it
     /// sends none, and the store isn't called.
     ///
-    /// Calls of the store: one `unsettled` or more, each for a page of rows.
+    /// Calls of the store: one `unsettled` or more, each for a page of rows. Where the journal has as many rows as at the last filling,
+    /// it begins behind the last row that was sent, else at the first one; so after a commit all pairs are passed over once. What it
+    /// sends is told where the cursor is right: of each content of this service's store that it went over ([`each_deed_is_known`]).
+    ///
+    /// [`each_deed_is_known`]: crate::each_deed_is_known
     ///
     /// # Errors
     /// `Closed` after the end of the session: nothing is sent, and the store isn't called. `StoreFailed`, `Memory` and `Unusable` of the
@@ -142,11 +175,13 @@ impl Relay {
         ensures read { client.old.client.stage ≡ Connected → Reads K.seen endpoint.old endpoint.new (λ _ _. ⊤) (store_end result) }
         ensures stays { Stays K.seen endpoint.old endpoint.new }
         ensures fills { client.old.client.stage ≡ Connected
-            → Fills ((K.seen endpoint.new).doubt ≡ 0) (K.seen endpoint.old).tables.unsettled limit
-            (connection self.old client.old) (connection self.new client.new) result }
+            → Fills (((K.seen endpoint.new).doubt ≡ 0) × KnowsAll H.service self.old (K.seen endpoint.old).may_leave)
+            (K.seen endpoint.old).tables.unsettled limit (connection self.old client.old) (connection self.new client.new) result }
+        ensures knows { (K.seen endpoint.new).doubt ≡ 0 → KnowsAll H.service self.old (K.seen endpoint.old).may_leave
+            → KnowsAll H.service self.new (K.seen endpoint.new).may_leave }
     {
         match client.stage() {
-            Stage::Connected => self.fill_pages(client, endpoint, limit),
+            Stage::Connected => self.fill_connected(client, endpoint, limit),
             Stage::Closed => Err(RelayFault::Client(ClientFault::Closed)),
             _ => Ok(0),
         }

@@ -8,7 +8,7 @@
 //! - `commit ORDER ENTITY N`: an order sends an entity N letters;
 //! - `ingest ENTITY ORDER N`: a letter of this number comes from an entity;
 //! - `settle ORDER ENTITY N`: letters are settled up to this number;
-//! - `outbox LIMIT`: the first letters of its outbox;
+//! - `outbox LIMIT`: the first letters of its outbox; `drainable`: the first pair of which the next letter is held;
 //! - `arm N`, `disarm`, `reopen`: the N-th call of its store fails, or none does; it is opened again.
 //!
 //! The client and the relay:

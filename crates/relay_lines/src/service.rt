@@ -91,6 +91,18 @@ fn outbox(
     Ok(())
 }
 
+/// The first pair of which the next letter is held.
+fn drainable(service: &mut Service, alloc: Global, out: &mut String) -> Result<(), LineFault> {
+    match service.drainable(alloc)? {
+        Some(pair) => {
+            let from = pair.from.text();
+            let to = pair.to.text();
+            write!(out, "{from} {to}").map_err(LineFault::from)
+        }
+        None => write!(out, "none").map_err(LineFault::from),
+    }
+}
+
 /// Appends who sent a letter, to whom, and its number.
 fn push_place(out: &mut String, letter: &Letter) -> Result<(), LineFault> {
     let from = letter.pair.from.text();
@@ -112,6 +124,7 @@ pub fn call_service(
         "ingest" => ingest(service, alloc, out, rest),
         "settle" => settle(service, alloc, out, rest),
         "outbox" => outbox(service, alloc, out, rest),
+        "drainable" => drainable(service, alloc, out),
         "arm" => {
             service.arm(natural(rest)?, Leaves::Old);
             Ok(())

@@ -1,5 +1,6 @@
 -- A filling, page by page.
-use Rattle.std.specs.Prelude.{◌≡◌, ℕ, ◌+◌, ◌≤◌, ◌⊎◌, List, ◌++◌, length, Option, Some, None, Result, Ok, Err, ⊤}
+use Rattle.std.specs.Prelude.{◌≡◌, ℕ, ◌+◌, ◌≤◌, ◌⊎◌, List, [], ◌∷◌, ◌++◌, length, Bool, true, false}
+use Rattle.std.specs.Prelude.{Option, Some, None, Result, Ok, Err, ⊤}
 use Rattle.stomp_client.specs.declared.session.Stage.TheVariants.{Connected}
 use Rattle.base.specs.declared.pair.Pair.{Pair}
 use Rattle.envelope.specs.declared.message.Letter.{Letter}
@@ -28,23 +29,23 @@ abbrev pub GoesOn : (messages : Messages) → (old now : Connection) → (after 
 GoesOn messages old now after next letters = (k : ℕ) (more : List Letter) → AreFirst (unsent now.marks messages) next k more
     → AreFirst (unsent old.marks messages) after (length letters + k) (letters ++ more)
 
--- how a page ends: no more is to be sent; or behind this place it goes on; or it stopped
-abbrev pub EndsPage : (clean : Type 0) → Messages → Option Place → (limit : ℕ) → (old new : Connection) → List Letter
-    → Result (ℕ × Option Place) RelayFault → Type 0
-EndsPage clean messages after limit old new letters (Ok (count, None)) =
+-- how a page ends: no more is to be sent; or it goes on behind this place; or it stopped
+abbrev pub EndsPage : (clean : Type 0) → Messages → (after next : Option Place) → (limit : ℕ) → (old new : Connection) → List Letter
+    → Result (ℕ × Bool) RelayFault → Type 0
+EndsPage clean messages after next limit old new letters (Ok (count, false)) =
     Gives clean (unsent old.marks messages) after limit letters new.client.receipts.last (Ok count)
-EndsPage clean messages after limit old new letters (Ok (count, Some next)) =
-    (count ≡ length letters) × (clean → GoesOn messages old new after (Some next) letters)
-EndsPage clean messages after limit old new letters (Err fault) =
+EndsPage clean messages after next limit old new letters (Ok (count, true)) =
+    (count ≡ length letters) × (clean → GoesOn messages old new after next letters)
+EndsPage clean messages after next limit old new letters (Err fault) =
     Gives clean (unsent old.marks messages) after limit letters new.client.receipts.last (Err fault)
 
 -- what is due of a page after a place was sent
-pub record FillsPage (clean : Type 0) (messages : Messages) (after : Option Place) (limit : ℕ) (old new : Connection)
-    (result : Result (ℕ × Option Place) RelayFault) : Type 0 where
+pub record FillsPage (clean : Type 0) (messages : Messages) (after next : Option Place) (limit : ℕ) (old new : Connection)
+    (result : Result (ℕ × Bool) RelayFault) : Type 0 where
   pub letters : List Letter
   pub sends : Sends letters old new
   pub within : length letters ≤ limit
-  pub ends : EndsPage clean messages after limit old new letters result
+  pub ends : EndsPage clean messages after next limit old new letters result
 
 -- the pages behind the one place begin behind this one: the same, or one of its pair up to which all was sent
 abbrev pub Jumps : (Pair → ℕ) → Option Place → Option Place → Type 0
@@ -52,6 +53,15 @@ Jumps marks (Some here) (Some next) = (next.pair ≡ here.pair) × (here.number 
     × ((next.number ≡ here.number) ⊎ (next.number ≡ marks here.pair))
 Jumps marks (Some here) None = ⊥
 Jumps marks None next = ⊥
+
+-- and they are the pages behind the place itself, where there is no such place
+abbrev pub Moves : (Pair → ℕ) → Option Place → Option Place → Type 0
+Moves marks here next = (next ≡ here) ⊎ Jumps marks here next
+
+-- none of these letters is above what was sent of its pair
+abbrev pub AreSent : (Pair → ℕ) → List Letter → Type 0
+AreSent marks [] = ⊤
+AreSent marks (l ∷ ls) = (l.number ≤ marks l.pair) × AreSent marks ls
 
 -- a store was read, or nothing was done
 abbrev pub HasRead : {E S C : Type 0} → (E → Seen (Tables S C)) → (old now : E) → Type 0
