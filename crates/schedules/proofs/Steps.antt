@@ -17,7 +17,8 @@ two (x ∷ y ∷ z ∷ l) a b least below first second = absurd (omega (arith, b
 pub three : {A : Type 0} (l : List A) (a b c : A) → 3 ≤ length l → length l < 4 → a ≡ get_or l 0 a → b ≡ get_or l 1 b → c ≡ get_or l 2 c
     → l ≡ a ∷ b ∷ c ∷ []
 three [] a b c least below first second third = absurd (omega (arith, least))
-three (w ∷ l) a b c least below first second third = rw first (rw (two l b c (omega (arith, least)) (omega (arith, below)) second third) refl)
+three (w ∷ l) a b c least below first second third =
+    rw first (rw (two l b c (omega (arith, least)) (omega (arith, below)) second third) refl)
 
 -- four items alone
 pub four : {A : Type 0} (l : List A) (a b c d : A) → 4 ≤ length l → length l < 5 → a ≡ get_or l 0 a → b ≡ get_or l 1 b → c ≡ get_or l 2 c

@@ -4,7 +4,7 @@ ghost use Rattle.std.specs.Prelude.{◌≡◌};
 ghost use Rattle.schedules.specs.Verbs.{verb_of};
 
 /// The first word of a line, which names its event.
-#[derive(Clone, Copy, Debug, PartialEq, Eq)]
+#[derive(Clone, Copy)]
 pub(crate) enum Verb {
     /// `place SEAT KEY STOCK N ACCOUNT AMOUNT`
     Place,

@@ -11,7 +11,7 @@ use std::alloc::Global;
 use std::marker::Model;
 
 /// A word of a line, without its escapes: contracts see its octets.
-#[derive(Debug, Drop)]
+#[derive(Drop)]
 pub(crate) struct Word {
     text: String,
 }
