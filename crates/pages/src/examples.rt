@@ -25,6 +25,7 @@ use inbox::{Class, classify};
 use keep::{Change, Keep, KeepFault};
 use keep_plain::PlainKeep;
 use line_script::{WordFault, push_octets, read_octets};
+use mail::{Connection, Mail, OpenFault};
 use outbox::settle;
 use programs::{RunFault, run_text};
 use purchasing::Orders;
@@ -279,4 +280,12 @@ where
     deliveries.push(Delivery::Right(Event::Drain(pair.copy(alloc)?)))?;
     let mut network = Network::new(alloc);
     exchange(alloc, left, right, &mut network, &deliveries)
+}
+
+pub fn octets_wait_where_they_were_written(alloc: Global) -> Result<bool, OpenFault> {
+    let mut mail = Mail::new(alloc);
+    let mut connection = Connection::open(alloc, &mut mail)?;
+    let gone = connection.carry_up(&mut mail, 8)?;
+    let left = b"accept-version:1.2\nhost:outbox\n\n\0".as_slice();
+    Ok(gone == 8 && connection.client.out() == left)
 }

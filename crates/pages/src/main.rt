@@ -17,9 +17,10 @@ use examples::{
     a_settle_is_sent, a_transaction_keeps_its_actions, an_entity_is_named_again,
     an_idle_destination_is_closed, an_order_is_refused, answers_reach_back_in_mode_client,
     first_state_of, no_mark_is_taken_back, nothing_goes_out_before_the_broker_answers,
-    nothing_is_held_at_first, printed_octets_are_read, so_much_is_on_hand, so_much_is_the_limit,
-    tables_hold_nothing_at_first, what_a_client_reads_was_sent, what_comes_early_waits,
-    what_wants_an_ack_stays_until_it_comes, what_was_put_is_taken,
+    nothing_is_held_at_first, octets_wait_where_they_were_written, printed_octets_are_read,
+    so_much_is_on_hand, so_much_is_the_limit, tables_hold_nothing_at_first,
+    what_a_client_reads_was_sent, what_comes_early_waits, what_wants_an_ack_stays_until_it_comes,
+    what_was_put_is_taken,
 };
 use exchange::{Delivery, Event, Network, Outcome, exchange};
 use keep::{Faulty, Keep, KeepFault, Leaves};
@@ -81,7 +82,8 @@ fn print_sessions(rt: &impl Print, alloc: Global) -> Result<()> {
     what_wants_an_ack_stays_until_it_comes();
     what_a_client_reads_was_sent();
     tell(rt, "receipts", a_receipt_is_closed_once(alloc))?;
-    tell(rt, "stomp_client", a_client_asks_to_connect(alloc))
+    tell(rt, "stomp_client", a_client_asks_to_connect(alloc))?;
+    tell(rt, "mail", octets_wait_where_they_were_written(alloc))
 }
 
 /// Whether an order refuses its first command.

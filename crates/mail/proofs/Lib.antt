@@ -1,0 +1,6 @@
+mod Again
+mod Keeping
+mod Places
+mod Repeated
+mod Sameness
+mod Sessions
