@@ -30,6 +30,7 @@ use outbox::settle;
 use programs::{RunFault, run_text};
 use purchasing::Orders;
 use receipts::{ReceiptFault, Receipts};
+use reception::{ReceptionFault, take_frame};
 use relay::{Relay, RelayFault};
 use resequencer::next_held;
 use schedules::{ScheduleFault, read_schedule};
@@ -240,6 +241,23 @@ pub fn nothing_goes_out_before_the_broker_answers(alloc: Global) -> Result<usize
     let mut client = ClientSession::new(alloc);
     let mut relay = Relay::new(alloc);
     relay.fill(&mut client, &mut purchasing, 64)
+}
+
+pub fn a_connected_client_subscribes(alloc: Global) -> Result<bool, ReceptionFault> {
+    let mut purchasing: Endpoint<Orders, PlainKeep<Orders>> = Endpoint::new(PlainKeep::new(alloc));
+    let mut client = ClientSession::new(alloc);
+    client.connect()?;
+    let asked = client.out().len();
+    client.taken(asked);
+    let connected = Frame::new(alloc, Command::Connected);
+    if let Err(untaken) = take_frame(alloc, &mut purchasing, &mut client, connected) {
+        return Err(untaken.fault);
+    }
+    Ok(
+        client
+            .out()
+            .starts_with(b"SUBSCRIBE\nid:0\ndestination:/queue/purchasing\n"),
+    )
 }
 
 pub fn a_schedule_is_read(alloc: Global) -> Result<usize, ScheduleFault> {

@@ -11,16 +11,16 @@ use endpoint::Endpoint;
 use envelope::{Letter, Message};
 use examples::{
     a_broker_answers_connect, a_client_asks_to_connect, a_command_is_taken_in,
-    a_frame_before_connect_is_refused, a_frame_is_read_from_pieces, a_letter_comes_again,
-    a_mark_is_one_change, a_mark_is_read, a_message_is_accepted, a_receipt_is_closed_once,
-    a_row_is_shown, a_schedule_is_read, a_schedule_is_run, a_server_is_asked_to_end,
-    a_settle_is_sent, a_transaction_keeps_its_actions, an_entity_is_named_again,
-    an_idle_destination_is_closed, an_order_is_refused, answers_reach_back_in_mode_client,
-    first_state_of, no_mark_is_taken_back, nothing_goes_out_before_the_broker_answers,
-    nothing_is_held_at_first, octets_wait_where_they_were_written, printed_octets_are_read,
-    so_much_is_on_hand, so_much_is_the_limit, tables_hold_nothing_at_first,
-    what_a_client_reads_was_sent, what_comes_early_waits, what_wants_an_ack_stays_until_it_comes,
-    what_was_put_is_taken,
+    a_connected_client_subscribes, a_frame_before_connect_is_refused, a_frame_is_read_from_pieces,
+    a_letter_comes_again, a_mark_is_one_change, a_mark_is_read, a_message_is_accepted,
+    a_receipt_is_closed_once, a_row_is_shown, a_schedule_is_read, a_schedule_is_run,
+    a_server_is_asked_to_end, a_settle_is_sent, a_transaction_keeps_its_actions,
+    an_entity_is_named_again, an_idle_destination_is_closed, an_order_is_refused,
+    answers_reach_back_in_mode_client, first_state_of, no_mark_is_taken_back,
+    nothing_goes_out_before_the_broker_answers, nothing_is_held_at_first,
+    octets_wait_where_they_were_written, printed_octets_are_read, so_much_is_on_hand,
+    so_much_is_the_limit, tables_hold_nothing_at_first, what_a_client_reads_was_sent,
+    what_comes_early_waits, what_wants_an_ack_stays_until_it_comes, what_was_put_is_taken,
 };
 use exchange::{Delivery, Event, Network, Outcome, exchange};
 use keep::{Faulty, Keep, KeepFault, Leaves};
@@ -233,6 +233,7 @@ fn print_runs(rt: &impl Print, alloc: Global) -> Result<()> {
         "relay",
         nothing_goes_out_before_the_broker_answers(alloc),
     )?;
+    tell(rt, "reception", a_connected_client_subscribes(alloc))?;
     show(rt, "schedules", &a_schedule_is_read(alloc))?;
     tell(rt, "showing", a_row_is_shown(alloc, &pair(alloc)?.to))?;
     tell(rt, "programs", a_schedule_is_run(alloc))

@@ -1,0 +1,4 @@
+pub mod Spelling
+pub mod Composing
+pub mod Accepted
+pub mod Next

@@ -1,0 +1,7 @@
+pub mod Faults
+pub mod Replies
+pub mod Answers
+pub mod Deeds
+pub mod Draining
+pub mod Connections
+pub mod Parts

@@ -1,0 +1,2 @@
+-- What only private functions speak of.
+pub mod Letters
