@@ -58,8 +58,8 @@ impl Relay {
         self.rows = 0;
     }
 
-    /// Lets the next filling look from the first row of the outbox on, for whichever service it is. What was sent stays known, so that nothing
-    /// is sent twice. It takes no memory.
+    /// Lets the next filling look from the first row of the outbox on, for whichever service it is. What was sent stays known, so that
+    /// nothing is sent twice. It takes no memory.
     #[tactic(auto, using(crate::proofs::Knowing::knows_start))]
     pub fn look_anew(&mut self)
         ensures marks { self.new.marks ≡ self.old.marks }
