@@ -1,0 +1,121 @@
+-- What was done to a service that a connection was taken out of, was done to the service.
+use Rattle.std.proofs.Common.{◌≡◌, ℕ, List, Option, Some, None, ◌∙◌, sym, subst, Result, Ok, Err}
+use Rattle.mail.specs.Offices.{Office}
+use Rattle.stomp_frame.specs.Frames.{Content}
+use Rattle.stomp_frame.specs.declared.fault.FrameFault.{FrameFault}
+use Rattle.activities.specs.Service.{Service}
+use Rattle.keep.specs.Seen.{Seen}
+use Rattle.keep.specs.Tables.{Tables, Messages}
+use Rattle.relay.specs.Calls.{Fills, Gives, StopsBehind}
+use Rattle.relay.specs.Filling.{Connection, unsent}
+use Rattle.relay.specs.declared.fault.RelayFault.{RelayFault}
+use Rattle.relay.specs.declared.fault.RelayFault.TheVariants as fault
+use Rattle.envelope.specs.declared.message.Letter.{Letter}
+use Rattle.keep.specs.declared.change.Place.{Place}
+use Rattle.schedules.specs.declared.event.ConnectionNumber.{ConnectionNumber}
+use Rattle.schedules.specs.declared.outcome.Outcome.{Outcome}
+use Rattle.sites.specs.Happenings.{Falls, SendsRows, TakesFrame, TakesWhat, TakesOne, DrainsOver, DrainsOne, over, with_store, waiting_of}
+use Rattle.sites.specs.Lines.{line_of, with_line, TakesLine}
+use Rattle.sites.specs.Outcomes.{decoder_fate, fall_fate, fill_fate, taken_fate, drain_fate}
+use Rattle.sites.specs.declared.line.Line.{Line}
+use Rattle.sites.specs.declared.site.Site.{Site}
+use Rattle.sites.proofs.Fates.{with_again, meets_again, took_open}
+
+module _ {H K S C : Type 0} (number : ConnectionNumber) (k : Option Line) (l : Line) (outcome : Outcome) (s : Site H K S C) (from : Office)
+    (t : Site H K S C) (to : Office) where
+  pub falls_again : (most : ℕ) → Falls number most l outcome (with_line number k s) from t to → Falls number most l outcome s from t to
+  falls_again most h = record {
+    result = h.result;
+    later = h.later;
+    between = h.between;
+    carries = h.carries;
+    tells = h.tells;
+    meets = meets_again (fall_fate h.result) number (over l h.later) k s h.between t to h.meets;
+  }
+
+  module _ (seen : K → Seen (Tables S C)) (service : Service S C) where
+    pub sends_again : (limit : ℕ) → SendsRows seen service number limit l outcome (with_line number k s) from t to
+        → SendsRows seen service number limit l outcome s from t to
+    sends_again limit h = record {
+      result = h.result;
+      later = h.later;
+      idle = h.idle;
+      reads = h.reads;
+      keeps = h.keeps;
+      fills = h.fills;
+      rest = h.rest;
+      tells = h.tells;
+      meets = meets_again (fill_fate h.result) number h.later k (with_store t.endpoint s) from t to h.meets;
+    }
+
+    pub frame_again : (f : Content) → TakesFrame seen service number l f outcome (with_line number k s) from t to
+        → TakesFrame seen service number l f outcome s from t to
+    frame_again f h = record {
+      result = h.result;
+      client = h.client;
+      answers = h.answers;
+      comes = h.comes;
+      used = h.used;
+      tells = h.tells;
+      meets = meets_again (taken_fate h.result) number
+          (over l (record l.connection { client = h.client; waiting = waiting_of h.result f })) k (with_store t.endpoint s) from t to h.meets;
+    }
+
+    pub drains_again : DrainsOver seen service number l outcome (with_line number k s) from t to
+        → DrainsOver seen service number l outcome s from t to
+    drains_again h = record {
+      result = h.result;
+      client = h.client;
+      wrote = h.wrote;
+      comes = h.comes;
+      used = h.used;
+      tells = h.tells;
+      meets = meets_again (drain_fate h.result) number (over l (record l.connection { client = h.client })) k (with_store t.endpoint s)
+          from t to h.meets;
+    }
+
+    pub what_again : (came : Result (Option Content) FrameFault) → TakesWhat seen service came number l outcome (with_line number k s) from t to
+        → TakesWhat seen service came number l outcome s from t to
+    what_again (Ok None) h = (h.0, (h.1.0 ∙ with_again number (Some l) k s, h.1.1))
+    what_again (Ok (Some f)) h = frame_again f h
+    what_again (Err fault) h = (h.0, meets_again (decoder_fate fault) number l k s from t to h.1)
+
+module _ {H K S C : Type 0} (seen : K → Seen (Tables S C)) (service : Service S C) (number : ConnectionNumber) (k : Option Line) (l : Line)
+    (outcome : Outcome) (s : Site H K S C) (from : Office) (t : Site H K S C) (to : Office) where
+  pub takes_again : TakesOne seen service number l outcome (with_line number k s) from t to
+      → TakesOne seen service number l outcome s from t to
+  takes_again h = (h.0, h.1, h.2, what_again number k (over l h.1) outcome s from t to seen service h.0 h.3)
+
+module _ {H K S C : Type 0} (seen : K → Seen (Tables S C)) (service : Service S C) (number : ConnectionNumber) (l : Line)
+    (outcome : Outcome) (s : Site H K S C) (from : Office) (t : Site H K S C) (to : Office) where
+  -- a held letter was handled over a connection that was open
+  pub drains_open : (between : Site H K S C) (r : Option Line) → r ≡ Some l → TakesLine number s between r
+      → DrainsOver seen service number l outcome between from t to
+      → DrainsOne seen service number (line_of number s) outcome s from t to
+  drains_open between r is takes d =
+      let took = took_open number s between r l is takes in
+      subst (λ o. DrainsOne seen service number o outcome s from t to) (sym took.0)
+      (drains_again number None l outcome s from t to seen service
+      (subst (λ x. DrainsOver seen service number l outcome x from t to) took.1 d))
+
+-- where more is known, the same rows are sent
+module _ (A B : Type 0) (more : B → A) where
+  stops_more : (messages : Messages) (after : Option Place) (letters : List Letter) (last : ℕ) (why : RelayFault)
+      → StopsBehind A messages after letters last why → StopsBehind B messages after letters last why
+  stops_more messages after letters last (fault.Endpoint cause) h = h
+  stops_more messages after letters last (fault.Client cause) h = (h.0, λ b. h.1 (more b))
+  stops_more messages after letters last (fault.Envelope cause) h = (h.0, λ b. h.1 (more b))
+
+  gives_more : (messages : Messages) (after : Option Place) (limit : ℕ) (letters : List Letter) (last : ℕ) (r : Result ℕ RelayFault)
+      → Gives A messages after limit letters last r → Gives B messages after limit letters last r
+  gives_more messages after limit letters last (Ok count) h = (h.0, λ b. h.1 (more b))
+  gives_more messages after limit letters last (Err why) h = (λ b. h.0 (more b), stops_more messages after letters last why h.1)
+
+  pub fills_more : (messages : Messages) (limit : ℕ) (old new : Connection) (r : Result ℕ RelayFault)
+      → Fills A messages limit old new r → Fills B messages limit old new r
+  fills_more messages limit old new r h = record {
+    letters = h.letters;
+    sends = h.sends;
+    within = h.within;
+    gives = gives_more (unsent old.marks messages) None limit h.letters new.client.receipts.last r h.gives;
+  }

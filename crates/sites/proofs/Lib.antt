@@ -1,0 +1,5 @@
+mod Doing
+mod Fates
+mod Going
+mod Sending
+mod Telling

@@ -1,0 +1,90 @@
+-- The two connections of a service, and how they are cut.
+use Rattle.std.specs.Prelude.{◌≡◌, Option, Some, None, Result, Ok, Err}
+use Rattle.std.specs.declared.alloc.AllocError.{AllocError}
+use Rattle.base.specs.declared.pair.Pair.{Pair}
+use Rattle.endpoint.specs.declared.fault.EndFault.{EndFault}
+use Rattle.endpoint.specs.declared.fault.EndFault.TheVariants.{StoreFailed}
+use Rattle.mail.specs.Connecting.{Cuts}
+use Rattle.mail.specs.Offices.{Office}
+use Rattle.relay.specs.Filling.{Connection, connection, marks_of}
+use Rattle.relay.specs.declared.relay.Relay.{Relay}
+use Rattle.schedules.specs.declared.event.ConnectionNumber.{ConnectionNumber}
+use Rattle.schedules.specs.declared.event.ConnectionNumber.TheVariants.{Zero, One}
+use Rattle.sites.specs.declared.fate.Fate.{Fate}
+use Rattle.sites.specs.declared.fate.Fate.TheVariants.{Stays, IsCut, BothAreCut}
+use Rattle.sites.specs.declared.line.Line.{Line}
+use Rattle.sites.specs.declared.site.Site.{Site}
+
+-- what was sent on a line, and its client
+abbrev pub sending : Line → Connection
+sending l = connection l.relay l.connection.client
+
+-- nothing counts as sent
+abbrev pub IsAllDue : Relay → Type 0
+IsAllDue relay = (p : Pair) → marks_of relay p ≡ 0
+
+-- what stands at number 0 behind a change of the one of this number, and at number 1
+abbrev pub at_zero : {A : Type 0} → ConnectionNumber → (new old : A) → A
+at_zero Zero new old = new
+at_zero One new old = old
+
+abbrev pub at_one : {A : Type 0} → ConnectionNumber → (new old : A) → A
+at_one Zero new old = old
+at_one One new old = new
+
+-- of two things the one of this number
+abbrev pub at_number : {A : Type 0} → ConnectionNumber → (zero one : A) → A
+at_number Zero zero one = zero
+at_number One zero one = one
+
+-- the mail behind the cut of a connection, where it was open; that memory was refused to the deals isn't told
+abbrev pub Leaves : Option Line → Office → Office → Type 0
+Leaves None from to = to ≡ from
+Leaves (Some l) from to = (r : Result (Unit {0}) AllocError) × Cuts l.connection from to r
+
+module _ {H K S C : Type 0} where
+  -- the connection of a number, where it is open
+  abbrev pub line_of : ConnectionNumber → Site H K S C → Option Line
+  line_of number s = at_number number s.zero s.one
+
+  -- the site with this in its place
+  abbrev pub with_line : ConnectionNumber → Option Line → Site H K S C → Site H K S C
+  with_line number l s = record s { zero = at_zero number l s.zero; one = at_one number l s.one }
+
+  -- a connection is taken out, where it is open
+  abbrev pub TakesLine : ConnectionNumber → Site H K S C → Site H K S C → Option Line → Type 0
+  TakesLine number s t (Some l) = (line_of number s ≡ Some l) × (t ≡ with_line number None s)
+  TakesLine number s t None = (line_of number s ≡ None) × (t ≡ s)
+
+  -- nothing has changed
+  abbrev pub Same : Site H K S C → Office → Site H K S C → Office → Type 0
+  Same s from t to = (t ≡ s) × (to ≡ from)
+
+  -- both connections are cut, that of number 0 first
+  pub record CutsBoth (s : Site H K S C) (from : Office) (t : Site H K S C) (to : Office) : Type 0 where
+    pub between : Office
+    pub zero : Leaves s.zero from between
+    pub one : Leaves s.one between to
+    pub site : t ≡ record s { zero = None; one = None }
+
+  -- behind a fault of the endpoint both are cut where the store failed, and else nothing changes
+  abbrev pub AfterFault : EndFault → Site H K S C → Office → Site H K S C → Office → Type 0
+  AfterFault StoreFailed s from t to = CutsBoth s from t to
+  AfterFault _ s from t to = Same s from t to
+
+  -- and behind an answer
+  abbrev pub After : {R : Type 0} → Result R EndFault → Site H K S C → Office → Site H K S C → Office → Type 0
+  After (Ok _) s from t to = Same s from t to
+  After (Err fault) s from t to = AfterFault fault s from t to
+
+  -- an open connection, which is this now, has this fate
+  abbrev pub Meets : Fate → ConnectionNumber → Line → Site H K S C → Office → Site H K S C → Office → Type 0
+  Meets Stays number l s from t to = Same (with_line number (Some l) s) from t to
+  Meets IsCut number l s from t to = Leaves (Some l) from to × (t ≡ with_line number None s)
+  Meets BothAreCut number l s from t to = CutsBoth (with_line number (Some l) s) from t to
+
+  -- and where it isn't open
+  abbrev pub MeetsAlone : Fate → Site H K S C → Office → Site H K S C → Office → Type 0
+  MeetsAlone Stays s from t to = Same s from t to
+  MeetsAlone IsCut s from t to = Same s from t to
+  MeetsAlone BothAreCut s from t to = CutsBoth s from t to
