@@ -22,7 +22,7 @@ use endpoint::{EndFault, Endpoint};
 use envelope::{Envelope, EnvelopeFault, Letter, to_send};
 use exchange::{Delivery, Event, Network, Outcome, exchange};
 use inbox::{Class, classify};
-use keep::{Change, Keep, KeepFault};
+use keep::{Change, Faulty, Keep, KeepFault};
 use keep_plain::PlainKeep;
 use line_script::{WordFault, push_octets, read_octets};
 use mail::{Connection, Mail, OpenFault};
@@ -33,8 +33,10 @@ use receipts::{ReceiptFault, Receipts};
 use reception::{ReceptionFault, take_frame};
 use relay::{Relay, RelayFault};
 use resequencer::next_held;
-use schedules::{ScheduleFault, read_schedule};
+use schedule_runner::World;
+use schedules::{ConnectionName, ConnectionNumber, ScheduleFault, read_schedule};
 use showing::show_row;
+use sites::Site;
 use std::alloc::{AllocError, Global};
 use stomp_client::{ClientFault, ClientSession};
 use stomp_frame::{Command, Decoder, Frame, FrameFault};
@@ -306,4 +308,23 @@ pub fn octets_wait_where_they_were_written(alloc: Global) -> Result<bool, OpenFa
     let gone = connection.carry_up(&mut mail, 8)?;
     let left = b"accept-version:1.2\nhost:outbox\n\n\0".as_slice();
     Ok(gone == 8 && connection.client.out() == left)
+}
+
+pub fn nothing_is_sent_where_no_connection_is_open(alloc: Global) -> Result<bool, AllocError> {
+    let purchasing: Endpoint<Orders, Faulty<PlainKeep<Orders>>> = Endpoint::new(Faulty::new(
+        PlainKeep::new(alloc),
+    ));
+    let mut site = Site::new(purchasing);
+    let mut mail = Mail::new(alloc);
+    let outcome = site.fill(&mut mail, ConnectionNumber::Zero, 64);
+    Ok(matches!(outcome, schedules::Outcome::Closed))
+}
+
+pub fn an_open_connection_stays_open(
+    world: &mut World<PlainKeep<Orders>, PlainKeep<Stocks>, PlainKeep<Accounts>>,
+    connection: ConnectionName,
+) -> bool {
+    let open = schedules::Event::Open(connection);
+    let _opened = world.step(&open);
+    matches!(world.step(&open), schedules::Outcome::Already)
 }

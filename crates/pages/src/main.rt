@@ -7,6 +7,7 @@ mod willing;
 use activities::{Handler, OrderCommand, Outs};
 use anyhow::Result;
 use base::{Entity, Key, Number, Pair};
+use billing::Accounts;
 use endpoint::Endpoint;
 use envelope::{Letter, Message};
 use examples::{
@@ -15,20 +16,24 @@ use examples::{
     a_letter_comes_again, a_mark_is_one_change, a_mark_is_read, a_message_is_accepted,
     a_receipt_is_closed_once, a_row_is_shown, a_schedule_is_read, a_schedule_is_run,
     a_server_is_asked_to_end, a_settle_is_sent, a_transaction_keeps_its_actions,
-    an_entity_is_named_again, an_idle_destination_is_closed, an_order_is_refused,
-    answers_reach_back_in_mode_client, first_state_of, no_mark_is_taken_back,
+    an_entity_is_named_again, an_idle_destination_is_closed, an_open_connection_stays_open,
+    an_order_is_refused, answers_reach_back_in_mode_client, first_state_of, no_mark_is_taken_back,
     nothing_goes_out_before_the_broker_answers, nothing_is_held_at_first,
-    octets_wait_where_they_were_written, printed_octets_are_read, so_much_is_on_hand,
-    so_much_is_the_limit, tables_hold_nothing_at_first, what_a_client_reads_was_sent,
-    what_comes_early_waits, what_wants_an_ack_stays_until_it_comes, what_was_put_is_taken,
+    nothing_is_sent_where_no_connection_is_open, octets_wait_where_they_were_written,
+    printed_octets_are_read, so_much_is_on_hand, so_much_is_the_limit,
+    tables_hold_nothing_at_first, what_a_client_reads_was_sent, what_comes_early_waits,
+    what_wants_an_ack_stays_until_it_comes, what_was_put_is_taken,
 };
 use exchange::{Delivery, Event, Network, Outcome, exchange};
 use keep::{Faulty, Keep, KeepFault, Leaves};
 use keep_plain::PlainKeep;
 use purchasing::Orders;
+use schedule_runner::World;
+use schedules::{ConnectionName, ConnectionNumber, Service};
 use std::alloc::Global;
 use std::error::Error;
 use std::fmt::Debug;
+use warehouse::Stocks;
 use willing::Willing;
 
 /// One more than a limit can be.
@@ -38,6 +43,25 @@ const LIMIT_TOO_GREAT: u64 = 1_099_511_627_777;
 fn show<T: Debug>(rt: &impl Print, library: &str, told: &T) -> Result<()> {
     println!(rt; "{library}: {told:?}")?;
     Ok(())
+}
+
+/// Opens a connection of a warehouse twice, in a world where nothing has happened yet.
+fn a_warehouse_stays_open(alloc: Global) -> bool {
+    let purchasing: Endpoint<Orders, Faulty<PlainKeep<Orders>>> = Endpoint::new(Faulty::new(
+        PlainKeep::new(alloc),
+    ));
+    let warehouse: Endpoint<Stocks, Faulty<PlainKeep<Stocks>>> = Endpoint::new(Faulty::new(
+        PlainKeep::new(alloc),
+    ));
+    let billing: Endpoint<Accounts, Faulty<PlainKeep<Accounts>>> = Endpoint::new(Faulty::new(
+        PlainKeep::new(alloc),
+    ));
+    let mut world = World::open(alloc, purchasing, warehouse, billing);
+    let connection = ConnectionName {
+        service: Service::Warehouse,
+        number: ConnectionNumber::Zero,
+    };
+    an_open_connection_stays_open(&mut world, connection)
 }
 
 /// Prints what an example answers.
@@ -235,6 +259,12 @@ fn print_runs(rt: &impl Print, alloc: Global) -> Result<()> {
     )?;
     tell(rt, "reception", a_connected_client_subscribes(alloc))?;
     show(rt, "schedules", &a_schedule_is_read(alloc))?;
+    tell(
+        rt,
+        "sites",
+        nothing_is_sent_where_no_connection_is_open(alloc),
+    )?;
+    show(rt, "schedule_runner", &a_warehouse_stays_open(alloc))?;
     tell(rt, "showing", a_row_is_shown(alloc, &pair(alloc)?.to))?;
     tell(rt, "programs", a_schedule_is_run(alloc))
 }

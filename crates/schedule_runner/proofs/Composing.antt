@@ -1,0 +1,114 @@
+-- One part of a step after another.
+use Rattle.std.proofs.Common.{◌≡◌, ℕ, suc, List, [], ◌∷◌, ◌++◌, refl, sym, subst}
+use Rattle.std.proofs.Math.Logic.{∥∥₁_elim, ∥∥₁_map}
+use Rattle.std.proofs.Props.{props}
+use Rattle.keep.specs.Seen.{Seen}
+use Rattle.schedules.specs.declared.event.Event.{Event}
+use Rattle.schedules.specs.declared.event.ConnectionName.{ConnectionName}
+use Rattle.schedules.specs.declared.event.Event.TheVariants.{Take, Pump}
+use Rattle.schedules.specs.declared.outcome.Outcome.{Outcome}
+use Rattle.schedules.specs.declared.outcome.Outcome.TheVariants.{Pumped}
+use Rattle.schedule_runner.specs.declared.world.World.{World}
+use Rattle.schedule_runner.specs.Deeds.{Moment, moment, GoesBy, Step}
+use Rattle.schedule_runner.specs.Passing.{Passes, PassesAll}
+use Rattle.schedule_runner.specs.Paths.{Leads, Makes}
+use Rattle.schedule_runner.specs.Rounds.{takes, round_events, all_rounds}
+use Rattle.schedule_runner.specs.Sight.{OrderTables, StockTables, AccountTables, StaysClean, StaysMatching}
+use Rattle.schedule_runner.specs.Steps.{Happened}
+use Rattle.schedule_runner.proofs.Following.{leads_append, leads_none, leads_one}
+
+module _ {KO KS KA : Type 0} (orders : KO → Seen OrderTables) (stocks : KS → Seen StockTables) (accounts : KA → Seen AccountTables) where
+  abbrev W : Type 0
+  W = World KO KS KA
+
+  abbrev M : Type 0
+  M = Moment KO KS KA
+
+  -- what leads so leads thus too
+  pub goes_map : (R Q : M → M → Type 0) → ((a b : M) → R a b → Q a b) → (old new : W) → GoesBy orders stocks accounts R old new
+      → GoesBy orders stocks accounts Q old new
+  goes_map R Q map old new goes clean good t may = ∥∥₁_map (goes clean good t may) (λ led. record {
+    before = led.before;
+    was = led.was;
+    leads = map (moment old led.before) (moment new t) led.leads;
+  })
+
+  -- and one part behind another
+  pub goes_then : (R Q P : M → M → Type 0) → ((a b c : M) → R a b → Q b c → P a c) → (old mid new : W)
+      → StaysClean orders stocks accounts mid new → StaysMatching orders stocks accounts old mid
+      → GoesBy orders stocks accounts R old mid → GoesBy orders stocks accounts Q mid new → GoesBy orders stocks accounts P old new
+  goes_then R Q P join old mid new clean sound first next now good t may =
+      let was = clean now in
+      ∥∥₁_elim (next now (sound was good) t may) (hlevel props) (λ led. ∥∥₁_map (first was good led.before led.was) (λ from. record {
+        before = from.before;
+        was = from.was;
+        leads = join (moment old from.before) (moment mid led.before) (moment new t) from.leads led.leads;
+      }))
+
+  -- nothing was done
+  pub goes_none : (R : M → M → Type 0) → ((a : M) → R a a) → (w : W) → GoesBy orders stocks accounts R w w
+  goes_none R same w clean good t may = ∣ record { before = t; was = may; leads = same (moment w t) } ∣₁
+
+  pub passes_map : (D E : W → W → Type 0) (R Q : M → M → Type 0) (old new : W) → (D old new → E old new) → ((a b : M) → R a b → Q a b)
+      → Passes orders stocks accounts D R old new → Passes orders stocks accounts E Q old new
+  passes_map D E R Q old new whole map p = record {
+    clean = p.clean;
+    sound = p.sound;
+    did = whole p.did;
+    goes = goes_map R Q map old new p.goes;
+  }
+
+  pub passes_then : (D E F : W → W → Type 0) (R Q P : M → M → Type 0) (old mid new : W) → (D old mid → E mid new → F old new)
+      → ((a b c : M) → R a b → Q b c → P a c)
+      → Passes orders stocks accounts D R old mid → Passes orders stocks accounts E Q mid new → Passes orders stocks accounts F P old new
+  passes_then D E F R Q P old mid new whole join first next = record {
+    clean = λ now. first.clean (next.clean now);
+    sound = λ now good. next.sound now (first.sound (next.clean now) good);
+    did = whole first.did next.did;
+    goes = goes_then R Q P join old mid new next.clean first.sound first.goes next.goes;
+  }
+
+  -- ---- events, whatever their outcomes were
+
+  abbrev H : Event → Outcome → W → W → Type 0
+  H = Happened orders stocks accounts
+
+  abbrev S : Event → Outcome → M → M → Type 0
+  S = Step orders stocks accounts
+
+  pub passes_all : (es more : List Event) (old mid new : W) → PassesAll orders stocks accounts es old mid
+      → PassesAll orders stocks accounts more mid new → PassesAll orders stocks accounts (es ++ more) old new
+  passes_all es more old mid new = passes_then (Leads H es) (Leads H more) (Leads H (es ++ more)) (Leads S es) (Leads S more)
+      (Leads S (es ++ more)) old mid new (leads_append H es more old mid new) (leads_append S es more)
+
+  pub passes_nothing : (w : W) → PassesAll orders stocks accounts [] w w
+  passes_nothing w = record {
+    clean = λ now. now;
+    sound = λ now good. good;
+    did = leads_none H w;
+    goes = goes_none (Leads S []) (leads_none S) w;
+  }
+
+  pub passes_one : (e : Event) (o : Outcome) (old new : W) → Passes orders stocks accounts (H e o) (S e o) old new
+      → PassesAll orders stocks accounts (e ∷ []) old new
+  passes_one e o old new = passes_map (H e o) (Leads H (e ∷ [])) (S e o) (Leads S (e ∷ [])) old new (leads_one H e o old new)
+      (leads_one S e o)
+
+  -- one frame more, and one round more
+  pub takes_more : (n k : ℕ) (c : ConnectionName) (old mid new : W) → k ≡ suc n → PassesAll orders stocks accounts (takes n c) old mid
+      → PassesAll orders stocks accounts (Take c ∷ []) mid new → PassesAll orders stocks accounts (takes k c) old new
+  takes_more n k c old mid new more first next =
+      subst (λ j. PassesAll orders stocks accounts (takes j c) old new) (sym more)
+      (passes_all (takes n c) (Take c ∷ []) old mid new first next)
+
+  pub rounds_more : (n k : ℕ) (old mid new : W) → k ≡ suc n → PassesAll orders stocks accounts (all_rounds n) old mid
+      → PassesAll orders stocks accounts round_events mid new → PassesAll orders stocks accounts (all_rounds k) old new
+  rounds_more n k old mid new more first next =
+      subst (λ j. PassesAll orders stocks accounts (all_rounds j) old new) (sym more)
+      (passes_all (all_rounds n) round_events old mid new first next)
+
+  -- a pump is its rounds
+  pub passes_pump : (n : ℕ) (old new : W) → PassesAll orders stocks accounts (all_rounds n) old new
+      → Passes orders stocks accounts (Makes H (Pump n) Pumped) (Makes S (Pump n) Pumped) old new
+  passes_pump n old new = passes_map (Leads H (all_rounds n)) (Makes H (Pump n) Pumped) (Leads S (all_rounds n)) (Makes S (Pump n) Pumped)
+      old new (λ did. (refl, did)) (λ a b leads. (refl, leads))

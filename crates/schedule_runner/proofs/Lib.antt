@@ -1,0 +1,9 @@
+pub mod Following
+pub mod Composing
+pub mod Lifting
+pub mod Telling
+pub mod Resting
+pub mod Receiving
+pub mod Journaling
+pub mod Advancing
+mod Reading

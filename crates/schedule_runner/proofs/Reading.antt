@@ -1,0 +1,138 @@
+-- What a read of one service does, and what is shown of it.
+use Rattle.std.proofs.Common.{◌≡◌, ◌≤◌, ℕ, List, Option, refl, sym, ◌∙◌, subst, arith}
+use Rattle.std.specs.Prelude.{Result, Ok, Err}
+use Rattle.std.specs.Global.{Vec}
+use Rattle.base.specs.Entity.{Name}
+use Rattle.base.specs.declared.entity.Kind.{Kind}
+use Rattle.base.specs.declared.pair.Pair.{Pair}
+use Rattle.keep.specs.Law.{Reads}
+use Rattle.keep.specs.Seen.{Seen}
+use Rattle.keep.specs.Tables.{Tables}
+use Rattle.endpoint.specs.Calls.{Views}
+use Rattle.endpoint.specs.Faults.{end_of}
+use Rattle.endpoint.specs.declared.fault.EndFault.{EndFault}
+use Rattle.endpoint.specs.declared.fault.EndFault.TheVariants.{NotMine, Business, TooEarly, StoreFailed, Memory, Unusable, NumberLimit}
+use Rattle.endpoint.specs.declared.fault.EndFault.TheVariants.{NotSent}
+use Rattle.schedules.specs.declared.outcome.Outcome.{Outcome}
+use Rattle.sites.specs.declared.site.Site.{Site}
+use Rattle.schedule_runner.specs.declared.looking.Mark.{Mark}
+use Rattle.schedule_runner.specs.declared.world.World.{World}
+use Rattle.schedule_runner.specs.Deeds.{Moment, Same}
+use Rattle.schedule_runner.specs.Looks.{shown_told, StoreStays}
+use Rattle.schedule_runner.specs.Passing.{Both, Passes}
+use Rattle.schedule_runner.specs.Shows.{Tells, Behind, Marks, MarkOf, RowOf, MayShow, ShowsLine}
+use Rattle.schedule_runner.specs.Sight.{OrderTables, StockTables, AccountTables}
+use Rattle.schedule_runner.proofs.Composing.{passes_map, passes_then}
+
+module _ {H K S C : Type 0} (seen : K → Seen (Tables S C)) where
+  same_store : (s : Site H K S C) → StoreStays seen s s
+  same_store s = record { doubt = omega arith; stays = λ clean t m. m }
+
+module _ {KO KS KA : Type 0} (orders : KO → Seen OrderTables) (stocks : KS → Seen StockTables) (accounts : KA → Seen AccountTables) where
+  abbrev W : Type 0
+  W = World KO KS KA
+
+  abbrev M : Type 0
+  M = Moment KO KS KA
+
+  -- the world changes so, and no store has others than before
+  pub lift_stays : (R : W → W → Type 0) (old new : W) → StoreStays orders old.purchasing new.purchasing
+      → StoreStays stocks old.warehouse new.warehouse → StoreStays accounts old.billing new.billing → R old new
+      → Passes orders stocks accounts R (Both R Same) old new
+  lift_stays R old new p q r did =
+      let a = p.doubt in
+      let b = q.doubt in
+      let c = r.doubt in record {
+        clean = λ now. let x = now.0 in let y = now.1 in let z = now.2 in (omega (arith, a, x), omega (arith, b, y), omega (arith, c, z));
+        sound = λ now good. (
+          λ t m. good.0 t (p.stays now.0 t m),
+          λ t m. good.1 t (q.stays now.1 t m),
+          λ t m. good.2 t (r.stays now.2 t m),
+        );
+        did = did;
+        goes = λ now good t m. ∣ record {
+          before = t;
+          was = record {
+            purchasing = p.stays now.0 t.purchasing m.purchasing;
+            warehouse = q.stays now.1 t.warehouse m.warehouse;
+            billing = r.stays now.2 t.billing m.billing;
+          };
+          leads = (did, refl);
+        } ∣₁;
+      }
+
+  pub lift_order_read : (R : W → W → Type 0) (old new : W) → StoreStays orders old.purchasing new.purchasing
+      → new.warehouse ≡ old.warehouse → new.billing ≡ old.billing → R old new → Passes orders stocks accounts R (Both R Same) old new
+  lift_order_read R old new p q r did = lift_stays R old new p
+      (subst (λ s. StoreStays stocks old.warehouse s) (sym q) (same_store stocks old.warehouse))
+      (subst (λ s. StoreStays accounts old.billing s) (sym r) (same_store accounts old.billing)) did
+
+  pub lift_stock_read : (R : W → W → Type 0) (old new : W) → new.purchasing ≡ old.purchasing
+      → StoreStays stocks old.warehouse new.warehouse → new.billing ≡ old.billing → R old new
+      → Passes orders stocks accounts R (Both R Same) old new
+  lift_stock_read R old new p q r did = lift_stays R old new
+      (subst (λ s. StoreStays orders old.purchasing s) (sym p) (same_store orders old.purchasing)) q
+      (subst (λ s. StoreStays accounts old.billing s) (sym r) (same_store accounts old.billing)) did
+
+  pub lift_account_read : (R : W → W → Type 0) (old new : W) → new.purchasing ≡ old.purchasing → new.warehouse ≡ old.warehouse
+      → StoreStays accounts old.billing new.billing → R old new → Passes orders stocks accounts R (Both R Same) old new
+  lift_account_read R old new p q r did = lift_stays R old new
+      (subst (λ s. StoreStays orders old.purchasing s) (sym p) (same_store orders old.purchasing))
+      (subst (λ s. StoreStays stocks old.warehouse s) (sym q) (same_store stocks old.warehouse)) r did
+
+  -- the row of an entity of that kind
+  pub passes_row : (found kind : Kind) (e : Name) (result : Result (Vec ℕ) Outcome) (old new : W) → found ≡ kind
+      → Passes orders stocks accounts (RowOf orders stocks accounts found e result)
+      (Both (RowOf orders stocks accounts found e result) Same)
+      old new
+      → Passes orders stocks accounts (RowOf orders stocks accounts kind e result) (Both (RowOf orders stocks accounts kind e result) Same)
+      old new
+  passes_row found kind e result old new same = subst (λ k. Passes orders stocks accounts (RowOf orders stocks accounts k e result)
+      (Both (RowOf orders stocks accounts k e result) Same) old new) same
+
+  -- what was read is shown
+  pub passes_told : (D : Result (Vec ℕ) Outcome → W → W → Type 0) (result : Result (Vec ℕ) Outcome) (o : Outcome) (old new : W)
+      → o ≡ shown_told result → Passes orders stocks accounts (D result) (Both (D result) Same) old new
+      → Passes orders stocks accounts (Tells D o) (Both (Tells D o) Same) old new
+  passes_told D result o old new is = passes_map orders stocks accounts (D result) (Tells D o) (Both (D result) Same)
+      (Both (Tells D o) Same)
+      old new (λ did. (result, did, is)) (λ a b h. ((result, h.0, is), h.1))
+
+  -- a line is shown, and nothing changes
+  pub passes_line : (line : List ℕ) (o : Outcome) (w : W) → MayShow line o
+      → Passes orders stocks accounts (ShowsLine line o) (Both (ShowsLine line o) Same) w w
+  passes_line line o w may = lift_stays (ShowsLine line o) w w (same_store orders w.purchasing) (same_store stocks w.warehouse)
+      (same_store accounts w.billing) (may, refl)
+
+  module _ (found kind : Kind) (same : found ≡ kind) (mark : Mark) (p : Pair) (Next : ℕ → Outcome → W → W → Type 0)
+      (result : Result ℕ Outcome)
+      (o : Outcome) where
+    abbrev Reading : Kind → W → W → Type 0
+    Reading k = MarkOf orders stocks accounts k mark p result
+
+    abbrev Whole : W → W → Type 0
+    Whole = Marks orders stocks accounts kind mark p Next o
+
+    of_kind : (old mid : W) → Passes orders stocks accounts (Reading found) (Both (Reading found) Same) old mid
+        → Passes orders stocks accounts (Reading kind) (Both (Reading kind) Same) old mid
+    of_kind old mid = subst (λ k. Passes orders stocks accounts (Reading k) (Both (Reading k) Same) old mid) same
+
+    -- a mark was read, and what comes behind it was done
+    pub passes_next : (n : ℕ) (old mid new : W) → result ≡ Ok n
+        → Passes orders stocks accounts (Reading found) (Both (Reading found) Same) old mid
+        → Passes orders stocks accounts (Next n o) (Both (Next n o) Same) mid new
+        → Passes orders stocks accounts Whole (Both Whole Same) old new
+    passes_next n old mid new is first next = passes_then orders stocks accounts (Reading kind) (Next n o) Whole (Both (Reading kind) Same)
+        (Both (Next n o) Same) (Both Whole Same) old mid new
+        (λ did more. (result, mid, did, subst (λ r. Behind r Next o mid new) (sym is) more))
+        (λ a b c did more. ((result, b.world, did.0, subst (λ r. Behind r Next o b.world c.world) (sym is) more.0), more.1 ∙ did.1))
+        (of_kind old mid first) next
+
+    -- or it wasn't, and that is told
+    pub passes_fault : (old new : W) → result ≡ Err o → Passes orders stocks accounts (Reading found) (Both (Reading found) Same) old new
+        → Passes orders stocks accounts Whole (Both Whole Same) old new
+    passes_fault old new is first = passes_map orders stocks accounts (Reading kind) Whole (Both (Reading kind) Same) (Both Whole Same)
+        old new
+        (λ did. (result, new, did, subst (λ r. Behind r Next o new new) (sym is) (refl, refl)))
+        (λ a b h. ((result, b.world, h.0, subst (λ r. Behind r Next o b.world b.world) (sym is) (refl, refl)), h.1))
+        (of_kind old new first)

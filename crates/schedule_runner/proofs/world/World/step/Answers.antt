@@ -1,0 +1,14 @@
+use Rattle.std.proofs.Common.{[], ◌∷◌}
+use Rattle.schedule_runner.specs.Deeds.{Step}
+use Rattle.schedule_runner.specs.Paths.{IsPath, Makes}
+use Rattle.schedule_runner.proofs.Composing.{goes_map}
+use Rattle.schedule_runner.proofs.Following.{path_one}
+use Rattle.schedule_runner.proofs.world.World.step.Goals as goal
+
+pub returns-clause-goes : goal.returns-clause-goes
+returns-clause-goes g c =
+    let e = c.args.event.now in
+    let o = c.happen.result in
+    goes_map g.KO.Keep.seen g.KS.Keep.seen g.KA.Keep.seen (Makes (Step g.KO.Keep.seen g.KS.Keep.seen g.KA.Keep.seen) e o)
+    (IsPath (Makes (Step g.KO.Keep.seen g.KS.Keep.seen g.KA.Keep.seen)) (e ∷ []) (o ∷ []))
+    (path_one (Makes (Step g.KO.Keep.seen g.KS.Keep.seen g.KA.Keep.seen)) e o) c.args.self.now c.happen.new.self c.happen.ensures.goes

@@ -1,0 +1,99 @@
+-- What an event does to the tables of the three services, by its outcome.
+use Rattle.std.specs.Prelude.{◌≡◌, List}
+use Rattle.activities.specs.Service.{Service as ServiceOf}
+use Rattle.activities.specs.declared.commands.OrderCommand.{OrderCommand}
+use Rattle.activities.specs.declared.commands.StockCommand.{StockCommand}
+use Rattle.activities.specs.declared.commands.AccountCommand.{AccountCommand}
+use Rattle.keep.specs.Seen.{Seen}
+use Rattle.keep.specs.Tables.{Tables}
+use Rattle.endpoint.specs.Deeds.{kept, Deed, Did}
+use Rattle.schedules.specs.declared.event.Event.{Event}
+use Rattle.schedules.specs.declared.event.Event.TheVariants as event
+use Rattle.schedules.specs.declared.event.Service.{Service}
+use Rattle.schedules.specs.declared.event.Service.TheVariants.{Purchasing, Warehouse, Billing}
+use Rattle.schedules.specs.declared.outcome.Outcome.{Outcome}
+use Rattle.sites.specs.Deeds.{Lines, SiteMay, lines_of}
+use Rattle.sites.specs.SiteEvents.{SiteEvent, Commits}
+use Rattle.schedule_runner.specs.declared.acting.ServiceEvent.{ServiceEvent}
+use Rattle.schedule_runner.specs.declared.acting.ServiceEvent.TheVariants.{Open, Cut, Fill, Resend, Carry, Take, Drain, Fail, Reopen, Stop}
+use Rattle.schedule_runner.specs.declared.world.World.{World}
+use Rattle.schedule_runner.specs.Events.{asked_of}
+use Rattle.schedule_runner.specs.Paths.{IsPath, Makes}
+use Rattle.schedule_runner.specs.Sight.{AllTables, OrderTables, StockTables, AccountTables}
+use Rattle.schedule_runner.specs.Sight.{orders_service, stocks_service, accounts_service}
+use Rattle.schedule_runner.specs.Sight.{sight, AreClean, AreMatching, MayLeave}
+use Rattle.schedule_runner.specs.Steps.{Happened}
+
+-- the world, and with it tables of each service that a stop may leave
+pub record Moment (KO KS KA : Type 0) : Type 0 where
+  pub world : World KO KS KA
+  pub tables : AllTables
+
+abbrev pub moment : {KO KS KA : Type 0} → World KO KS KA → AllTables → Moment KO KS KA
+moment w t = record { world = w; tables = t }
+
+-- a deed that this event and its outcome allow leads from tables to these
+abbrev pub Moves : {S C : Type 0} → ServiceOf S C → Lines → SiteEvent C → Outcome → Tables S C → Tables S C → Type 0
+Moves {S} {C} service lines e o x y = (d : Deed C) × SiteMay service lines e o (kept x) d × Did service (kept x) d (kept y)
+
+module _ {KO KS KA : Type 0} where
+  -- one service moves, and the tables of the others stay as they are
+  abbrev pub InPurchasing : SiteEvent OrderCommand → Outcome → (a b : Moment KO KS KA) → Type 0
+  InPurchasing e o a b = Moves orders_service (lines_of a.world.purchasing) e o a.tables.purchasing b.tables.purchasing
+      × (b.tables.warehouse ≡ a.tables.warehouse) × (b.tables.billing ≡ a.tables.billing)
+
+  abbrev pub InWarehouse : SiteEvent StockCommand → Outcome → (a b : Moment KO KS KA) → Type 0
+  InWarehouse e o a b = Moves stocks_service (lines_of a.world.warehouse) e o a.tables.warehouse b.tables.warehouse
+      × (b.tables.purchasing ≡ a.tables.purchasing) × (b.tables.billing ≡ a.tables.billing)
+
+  abbrev pub InBilling : SiteEvent AccountCommand → Outcome → (a b : Moment KO KS KA) → Type 0
+  InBilling e o a b = Moves accounts_service (lines_of a.world.billing) e o a.tables.billing b.tables.billing
+      × (b.tables.purchasing ≡ a.tables.purchasing) × (b.tables.warehouse ≡ a.tables.warehouse)
+
+  -- an event of this service, which isn't a command
+  abbrev pub In : Service → ServiceEvent → Outcome → (a b : Moment KO KS KA) → Type 0
+  In Purchasing e o = InPurchasing (asked_of e) o
+  In Warehouse e o = InWarehouse (asked_of e) o
+  In Billing e o = InBilling (asked_of e) o
+
+  -- no table changes
+  abbrev pub Same : (a b : Moment KO KS KA) → Type 0
+  Same a b = b.tables ≡ a.tables
+
+  -- what one event but a pump does to the tables
+  abbrev pub Turn : Event → Outcome → (a b : Moment KO KS KA) → Type 0
+  Turn (event.Order asked) o = InPurchasing (Commits asked) o
+  Turn (event.Stock asked) o = InWarehouse (Commits asked) o
+  Turn (event.Account asked) o = InBilling (Commits asked) o
+  Turn (event.Open c) o = In c.service (Open c.number) o
+  Turn (event.Cut c) o = In c.service (Cut c.number) o
+  Turn (event.Fill c limit) o = In c.service (Fill c.number limit) o
+  Turn (event.Resend c) o = In c.service (Resend c.number) o
+  Turn (event.Carry c way most) o = In c.service (Carry c.number way most) o
+  Turn (event.Take c) o = In c.service (Take c.number) o
+  Turn (event.Drain c) o = In c.service (Drain c.number) o
+  Turn (event.Fail service n leaves) o = In service (Fail n leaves) o
+  Turn (event.Reopen service) o = In service Reopen o
+  Turn (event.Stop service) o = In service Stop o
+  Turn (event.Pump rounds) o = λ a b. ⊥
+  Turn _ o = Same
+
+module _ {KO KS KA : Type 0} (orders : KO → Seen OrderTables) (stocks : KS → Seen StockTables) (accounts : KA → Seen AccountTables) where
+  -- what the event does to the world, and to the tables
+  abbrev pub Step : Event → Outcome → (a b : Moment KO KS KA) → Type 0
+  Step e o a b = Happened orders stocks accounts e o a.world b.world × Turn e o a b
+
+  -- tables now come so of some that a stop might leave before
+  pub record LedBy (Leads : (a b : Moment KO KS KA) → Type 0) (old new : World KO KS KA) (now : AllTables) : Type 0 where
+    pub before : AllTables
+    pub was : MayLeave (sight orders stocks accounts old) before
+    pub leads : Leads (moment old before) (moment new now)
+
+  -- so do all that a stop may leave now
+  abbrev pub GoesBy : ((a b : Moment KO KS KA) → Type 0) → (old new : World KO KS KA) → Type 0
+  GoesBy Leads old new = AreClean (sight orders stocks accounts new) → AreMatching (sight orders stocks accounts old)
+      → (t : AllTables) → MayLeave (sight orders stocks accounts new) t → ∥ LedBy Leads old new t ∥₁
+
+  -- by what these events do with these outcomes
+  abbrev pub Goes : List Event → List Outcome → (old new : World KO KS KA) → Type 0
+  Goes events outcomes old new = GoesBy (IsPath (Makes Step) events outcomes) old new

@@ -1,0 +1,11 @@
+pub mod Sight
+pub mod Events
+pub mod Rounds
+pub mod Paths
+pub mod Looks
+pub mod Shows
+pub mod Steps
+pub mod Deeds
+pub mod Told
+pub mod Runs
+pub mod Passing

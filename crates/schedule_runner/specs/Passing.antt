@@ -1,0 +1,27 @@
+-- What a part of a step does to the world and to its tables.
+use Rattle.std.specs.Prelude.{List}
+use Rattle.keep.specs.Seen.{Seen}
+use Rattle.schedules.specs.declared.event.Event.{Event}
+use Rattle.schedule_runner.specs.declared.world.World.{World}
+use Rattle.schedule_runner.specs.Deeds.{Moment, GoesBy, Step}
+use Rattle.schedule_runner.specs.Paths.{Leads}
+use Rattle.schedule_runner.specs.Sight.{OrderTables, StockTables, AccountTables, StaysClean, StaysMatching}
+use Rattle.schedule_runner.specs.Steps.{Happened}
+
+-- the world goes so, and the tables so
+abbrev pub Both : {KO KS KA : Type 0} → ((a b : World KO KS KA) → Type 0) → ((a b : Moment KO KS KA) → Type 0)
+    → (a b : Moment KO KS KA) → Type 0
+Both Whole Tables a b = Whole a.world b.world × Tables a b
+
+module _ {KO KS KA : Type 0} (orders : KO → Seen OrderTables) (stocks : KS → Seen StockTables) (accounts : KA → Seen AccountTables) where
+  -- from the old world to the new one: it goes so, and with its tables so
+  pub record Passes (Whole : (a b : World KO KS KA) → Type 0) (Leading : (a b : Moment KO KS KA) → Type 0) (old new : World KO KS KA)
+      : Type 0 where
+    pub clean : StaysClean orders stocks accounts old new
+    pub sound : StaysMatching orders stocks accounts old new
+    pub did : Whole old new
+    pub goes : GoesBy orders stocks accounts Leading old new
+
+  -- by all these events, whatever their outcomes were
+  abbrev pub PassesAll : List Event → (old new : World KO KS KA) → Type 0
+  PassesAll events old new = Passes (Leads (Happened orders stocks accounts) events) (Leads (Step orders stocks accounts) events) old new

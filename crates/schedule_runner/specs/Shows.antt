@@ -1,0 +1,87 @@
+-- What is shown of the world.
+use Rattle.std.specs.Prelude.{◌≡◌, ℕ, List, Result, Ok, Err}
+use Rattle.std.specs.Global.{Vec}
+use Rattle.base.specs.Entity.{Name}
+use Rattle.base.specs.declared.entity.Kind.{Kind}
+use Rattle.base.specs.declared.entity.Kind.TheVariants.{Order, Stock, Account}
+use Rattle.base.specs.declared.pair.Pair.{Pair}
+use Rattle.keep.specs.Seen.{Seen}
+use Rattle.schedules.specs.declared.event.Service.{Service}
+use Rattle.schedules.specs.declared.event.Service.TheVariants.{Purchasing, Warehouse, Billing}
+use Rattle.schedules.specs.declared.outcome.Outcome.{Outcome}
+use Rattle.schedules.specs.declared.outcome.Outcome.TheVariants.{Shown, Refused}
+use Rattle.showing.specs.Printed.{shown_or_none, shown_order, shown_stock, shown_account, pair_line}
+use Rattle.showing.specs.Printed.{shown_order_command, shown_stock_command, shown_account_command}
+use Rattle.schedule_runner.specs.declared.looking.Listing.{Listing}
+use Rattle.schedule_runner.specs.declared.looking.Mark.{Mark}
+use Rattle.schedule_runner.specs.declared.looking.Mark.TheVariants.{Sent, Settled, Handled}
+use Rattle.schedule_runner.specs.declared.world.World.{World}
+use Rattle.schedule_runner.specs.Looks.{mark_of, IsRow, AreListed, shown_told, ReadsSite}
+use Rattle.schedule_runner.specs.Sight.{OrderTables, StockTables, AccountTables}
+
+-- this line is shown, or memory was refused to it
+abbrev pub MayShow : List ℕ → Outcome → Type 0
+MayShow line (Shown lines) = lines.items ≡ line
+MayShow line (Refused n) = n ≡ 64
+MayShow line _ = ⊥
+
+module _ {KO KS KA : Type 0} where
+  -- what was read is shown, or the outcome of its fault told
+  abbrev pub Tells : (Result (Vec ℕ) Outcome → (a b : World KO KS KA) → Type 0) → Outcome → (a b : World KO KS KA) → Type 0
+  Tells Reads o a b = (result : Result (Vec ℕ) Outcome) × Reads result a b × (o ≡ shown_told result)
+
+  -- behind a mark comes this; or the outcome of its fault is told
+  abbrev pub Behind : Result ℕ Outcome → (ℕ → Outcome → (a b : World KO KS KA) → Type 0) → Outcome → (mid b : World KO KS KA) → Type 0
+  Behind (Ok n) Next o mid b = Next n o mid b
+  Behind (Err told) Next o mid b = (o ≡ told) × (b ≡ mid)
+
+  abbrev pub ShowsLine : List ℕ → Outcome → (a b : World KO KS KA) → Type 0
+  ShowsLine line o a b = MayShow line o × (b ≡ a)
+
+module _ {KO KS KA : Type 0} (orders : KO → Seen OrderTables) (stocks : KS → Seen StockTables) (accounts : KA → Seen AccountTables) where
+  -- one service reads, and the other two are as they were
+  abbrev pub ReadsPurchasing : {R : Type 0} → (OrderTables → R → Type 0) → Result R Outcome → (a b : World KO KS KA) → Type 0
+  ReadsPurchasing gives result a b = ReadsSite orders gives result a.purchasing a.mail b.purchasing b.mail
+      × (b.warehouse ≡ a.warehouse) × (b.billing ≡ a.billing)
+
+  abbrev pub ReadsWarehouse : {R : Type 0} → (StockTables → R → Type 0) → Result R Outcome → (a b : World KO KS KA) → Type 0
+  ReadsWarehouse gives result a b = ReadsSite stocks gives result a.warehouse a.mail b.warehouse b.mail
+      × (b.purchasing ≡ a.purchasing) × (b.billing ≡ a.billing)
+
+  abbrev pub ReadsBilling : {R : Type 0} → (AccountTables → R → Type 0) → Result R Outcome → (a b : World KO KS KA) → Type 0
+  ReadsBilling gives result a b = ReadsSite accounts gives result a.billing a.mail b.billing b.mail
+      × (b.purchasing ≡ a.purchasing) × (b.warehouse ≡ a.warehouse)
+
+  -- the row of an entity, in the service of its kind
+  abbrev pub RowOf : Kind → Name → Result (Vec ℕ) Outcome → (a b : World KO KS KA) → Type 0
+  RowOf Order e = ReadsPurchasing (λ t lines. IsRow (shown_or_none shown_order) e t lines.items)
+  RowOf Stock e = ReadsWarehouse (λ t lines. IsRow shown_stock e t lines.items)
+  RowOf Account e = ReadsBilling (λ t lines. IsRow shown_account e t lines.items)
+
+  -- the frames that a service is to send, or its journal
+  abbrev pub ListOf : Service → Listing → Result (Vec ℕ) Outcome → (a b : World KO KS KA) → Type 0
+  ListOf Purchasing listing = ReadsPurchasing (λ t lines. AreListed shown_order_command listing t lines.items)
+  ListOf Warehouse listing = ReadsWarehouse (λ t lines. AreListed shown_stock_command listing t lines.items)
+  ListOf Billing listing = ReadsBilling (λ t lines. AreListed shown_account_command listing t lines.items)
+
+  -- a mark of a pair, in the service of this kind
+  abbrev pub MarkOf : Kind → Mark → Pair → Result ℕ Outcome → (a b : World KO KS KA) → Type 0
+  MarkOf Order mark p = ReadsPurchasing (λ t n. n ≡ mark_of mark t p)
+  MarkOf Stock mark p = ReadsWarehouse (λ t n. n ≡ mark_of mark t p)
+  MarkOf Account mark p = ReadsBilling (λ t n. n ≡ mark_of mark t p)
+
+  -- a mark is read, and then comes this
+  abbrev pub Marks : Kind → Mark → Pair → (ℕ → Outcome → (a b : World KO KS KA) → Type 0) → Outcome → (a b : World KO KS KA) → Type 0
+  Marks kind mark p Next o a b = (result : Result ℕ Outcome) × (mid : World KO KS KA) × MarkOf kind mark p result a mid
+      × Behind result Next o mid b
+
+  -- how many letters of a pair were handled, of which so many were sent and so many settled
+  abbrev pub ShowsHandled : Pair → ℕ → ℕ → Outcome → (a b : World KO KS KA) → Type 0
+  ShowsHandled p sent settled = Marks p.to.kind Handled p (λ handled. ShowsLine (pair_line p sent settled handled))
+
+  abbrev pub ShowsSettled : Pair → ℕ → Outcome → (a b : World KO KS KA) → Type 0
+  ShowsSettled p sent = Marks p.from.kind Settled p (λ settled. ShowsHandled p sent settled)
+
+  -- the marks of a pair: the sender's service tells what was sent and settled, the receiver's what was handled
+  abbrev pub ShowsPair : Pair → Outcome → (a b : World KO KS KA) → Type 0
+  ShowsPair p = Marks p.from.kind Sent p (λ sent. ShowsSettled p sent)

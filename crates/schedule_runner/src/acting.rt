@@ -1,0 +1,68 @@
+//! What one service is told to do, and which of its functions does it.
+
+ghost use Rattle.mail.specs.Offices.{Office};
+ghost use Rattle.schedule_runner.specs.Events.{asked_of};
+ghost use Rattle.sites.specs.Deeds.{DoubtStays, Matches, Goes, SiteMay, lines_of};
+ghost use Rattle.sites.specs.Happenings.{Happens};
+
+use activities::Handler;
+use keep::Keep;
+use mail::Mail;
+use schedules::{ConnectionNumber, FailureLeaves, Ordinal, Outcome};
+use sites::Site;
+use std::alloc::Global;
+use stomp_wire::Way;
+
+/// What a service is told to do, but for commands.
+#[derive(Clone, Copy, Debug, PartialEq, Eq)]
+pub enum ServiceEvent {
+    /// Opens a connection.
+    Open(ConnectionNumber),
+    /// Cuts it.
+    Cut(ConnectionNumber),
+    /// Sends rows on it, at most so many.
+    Fill(ConnectionNumber, u64),
+    /// Makes all rows due on it again.
+    Resend(ConnectionNumber),
+    /// Carries octets, at most so many.
+    Carry(ConnectionNumber, Way, u64),
+    /// Takes a frame.
+    Take(ConnectionNumber),
+    /// Handles a held letter.
+    Drain(ConnectionNumber),
+    /// Lets a call of the store fail.
+    Fail(Ordinal, FailureLeaves),
+    /// Opens the store anew.
+    Reopen,
+    /// Stops the service and starts it again.
+    Stop,
+}
+
+/// The service does it.
+pub(crate) fn act<H, K>(
+    alloc: Global,
+    site: &mut Site<H, K>,
+    mail: &mut Mail,
+    event: ServiceEvent,
+) -> Outcome
+where
+    H: Handler,
+    K: Keep<State = H::State, Command = H::Command> + Drop,
+    ensures did { Happens K.seen H.service (asked_of event) result site.old mail.old site.new mail.new }
+    ensures doubt { DoubtStays K.seen site.old site.new }
+    ensures matches { Matches K.seen site.old site.new H.service }
+    ensures comes { Goes K.seen site.old site.new H.service (SiteMay H.service (lines_of site.old) (asked_of event) result) }
+{
+    match event {
+        ServiceEvent::Open(number) => site.open(alloc, mail, number),
+        ServiceEvent::Cut(number) => site.cut(mail, number),
+        ServiceEvent::Fill(number, limit) => site.fill(mail, number, limit),
+        ServiceEvent::Resend(number) => site.resend(number),
+        ServiceEvent::Carry(number, way, most) => site.carry(mail, number, way, most),
+        ServiceEvent::Take(number) => site.take(alloc, mail, number),
+        ServiceEvent::Drain(number) => site.drain(alloc, mail, number),
+        ServiceEvent::Fail(n, leaves) => site.fail(n, leaves),
+        ServiceEvent::Reopen => site.reopen(alloc, mail),
+        ServiceEvent::Stop => site.stop(alloc, mail),
+    }
+}

@@ -1,0 +1,177 @@
+//! What is shown of the services.
+
+ghost use Rattle.std.specs.Prelude.{◌≡◌};
+ghost use Rattle.showing.specs.Printed.{pair_line};
+ghost use Rattle.schedule_runner.specs.Deeds.{Same};
+ghost use Rattle.schedule_runner.specs.Passing.{Both, Passes};
+ghost use Rattle.schedule_runner.specs.Shows.{Tells, RowOf, ListOf, MarkOf, MayShow, ShowsHandled, ShowsSettled, ShowsPair};
+
+use crate::World;
+use crate::looking::{Listing, Mark, look_at_list, look_at_mark, look_at_row, shown};
+use activities::{AccountCommand, OrderCommand, StockCommand};
+use base::{Entity, Kind, Pair};
+use billing::{Account, Accounts};
+use keep::Keep;
+use purchasing::{Order, Orders};
+use schedules::{Outcome, Service};
+use showing::show_marks;
+use std::alloc::Global;
+use warehouse::{Stock, Stocks};
+
+/// The line of a pair's marks, or 64 where memory was refused.
+fn show_pair(alloc: Global, pair: &Pair, sent: u64, settled: u64, handled: u64) -> Outcome
+    ensures { MayShow (pair_line pair.now sent settled handled) result }
+{
+    match show_marks(alloc, pair, sent, settled, handled) {
+        Ok(lines) => Outcome::Shown(lines),
+        Err(_) => Outcome::Refused(64),
+    }
+}
+
+impl<KO, KS, KA> World<KO, KS, KA>
+where
+    KO: Keep<State = Option<Order>, Command = OrderCommand> + Drop,
+    KS: Keep<State = Stock, Command = StockCommand> + Drop,
+    KA: Keep<State = Account, Command = AccountCommand> + Drop,
+{
+    /// Reads a row in the service of its entity.
+    fn row(&mut self, entity: &Entity) -> Result<Vec<u8>, Outcome>
+        ensures { Passes KO.seen KS.seen KA.seen (RowOf KO.seen KS.seen KA.seen entity.now.kind entity.now result)
+            (Both (RowOf KO.seen KS.seen KA.seen entity.now.kind entity.now result) Same) self.old self.new }
+    {
+        match entity.kind() {
+            Kind::Order => look_at_row::<Orders, KO>(
+                self.alloc,
+                &mut self.purchasing,
+                &mut self.mail,
+                entity,
+            ),
+            Kind::Stock => look_at_row::<Stocks, KS>(
+                self.alloc,
+                &mut self.warehouse,
+                &mut self.mail,
+                entity,
+            ),
+            Kind::Account => look_at_row::<Accounts, KA>(
+                self.alloc,
+                &mut self.billing,
+                &mut self.mail,
+                entity,
+            ),
+        }
+    }
+
+    /// Reads a list in a service.
+    fn list(&mut self, service: Service, listing: Listing) -> Result<Vec<u8>, Outcome>
+        ensures { Passes KO.seen KS.seen KA.seen (ListOf KO.seen KS.seen KA.seen service listing result)
+            (Both (ListOf KO.seen KS.seen KA.seen service listing result) Same) self.old self.new }
+    {
+        match service {
+            Service::Purchasing => look_at_list::<Orders, KO>(
+                self.alloc,
+                &mut self.purchasing,
+                &mut self.mail,
+                listing,
+            ),
+            Service::Warehouse => look_at_list::<Stocks, KS>(
+                self.alloc,
+                &mut self.warehouse,
+                &mut self.mail,
+                listing,
+            ),
+            Service::Billing => look_at_list::<Accounts, KA>(
+                self.alloc,
+                &mut self.billing,
+                &mut self.mail,
+                listing,
+            ),
+        }
+    }
+
+    /// Reads a mark in the service of a kind.
+    fn mark(&mut self, kind: Kind, mark: Mark, pair: &Pair) -> Result<u64, Outcome>
+        ensures { Passes KO.seen KS.seen KA.seen (MarkOf KO.seen KS.seen KA.seen kind mark pair.now result)
+            (Both (MarkOf KO.seen KS.seen KA.seen kind mark pair.now result) Same) self.old self.new }
+    {
+        match kind {
+            Kind::Order => look_at_mark::<Orders, KO>(
+                self.alloc,
+                &mut self.purchasing,
+                &mut self.mail,
+                mark,
+                pair,
+            ),
+            Kind::Stock => look_at_mark::<Stocks, KS>(
+                self.alloc,
+                &mut self.warehouse,
+                &mut self.mail,
+                mark,
+                pair,
+            ),
+            Kind::Account => look_at_mark::<Accounts, KA>(
+                self.alloc,
+                &mut self.billing,
+                &mut self.mail,
+                mark,
+                pair,
+            ),
+        }
+    }
+
+    /// How many letters of a pair were handled, and with it the line.
+    fn pair_handled(&mut self, pair: &Pair, sent: u64, settled: u64) -> Outcome
+        ensures { Passes KO.seen KS.seen KA.seen (ShowsHandled KO.seen KS.seen KA.seen pair.now sent settled result)
+            (Both (ShowsHandled KO.seen KS.seen KA.seen pair.now sent settled result) Same) self.old self.new }
+    {
+        match self.mark(pair.to.kind(), Mark::Handled, pair) {
+            Ok(handled) => show_pair(self.alloc, pair, sent, settled, handled),
+            Err(told) => told,
+        }
+    }
+
+    /// How many letters of a pair are settled, and so on.
+    fn pair_settled(&mut self, pair: &Pair, sent: u64) -> Outcome
+        ensures { Passes KO.seen KS.seen KA.seen (ShowsSettled KO.seen KS.seen KA.seen pair.now sent result)
+            (Both (ShowsSettled KO.seen KS.seen KA.seen pair.now sent result) Same) self.old self.new }
+    {
+        match self.mark(pair.from.kind(), Mark::Settled, pair) {
+            Ok(settled) => self.pair_handled(pair, sent, settled),
+            Err(told) => told,
+        }
+    }
+
+    /// The marks of a pair.
+    pub(crate) fn pair(&mut self, pair: &Pair) -> Outcome
+        ensures { Passes KO.seen KS.seen KA.seen (ShowsPair KO.seen KS.seen KA.seen pair.now result)
+            (Both (ShowsPair KO.seen KS.seen KA.seen pair.now result) Same) self.old self.new }
+    {
+        match self.mark(pair.from.kind(), Mark::Sent, pair) {
+            Ok(sent) => self.pair_settled(pair, sent),
+            Err(told) => told,
+        }
+    }
+
+    /// The row of an entity.
+    pub(crate) fn show(&mut self, entity: &Entity) -> Outcome
+        ensures { Passes KO.seen KS.seen KA.seen (Tells (RowOf KO.seen KS.seen KA.seen entity.now.kind entity.now) result)
+            (Both (Tells (RowOf KO.seen KS.seen KA.seen entity.now.kind entity.now) result) Same) self.old self.new }
+    {
+        shown(self.row(entity))
+    }
+
+    /// The frames that a service is to send.
+    pub(crate) fn frames(&mut self, service: Service) -> Outcome
+        ensures { Passes KO.seen KS.seen KA.seen (Tells (ListOf KO.seen KS.seen KA.seen service Listing.Frames) result)
+            (Both (Tells (ListOf KO.seen KS.seen KA.seen service Listing.Frames) result) Same) self.old self.new }
+    {
+        shown(self.list(service, Listing::Frames))
+    }
+
+    /// The journal of a service.
+    pub(crate) fn journal(&mut self, service: Service) -> Outcome
+        ensures { Passes KO.seen KS.seen KA.seen (Tells (ListOf KO.seen KS.seen KA.seen service Listing.Journal) result)
+            (Both (Tells (ListOf KO.seen KS.seen KA.seen service Listing.Journal) result) Same) self.old self.new }
+    {
+        shown(self.list(service, Listing::Journal))
+    }
+}

@@ -1,0 +1,61 @@
+//! The world of three services.
+
+ghost use Rattle.std.specs.Prelude.{◌≡◌, None};
+ghost use Rattle.mail.specs.Offices.{new_office};
+
+use activities::{AccountCommand, OrderCommand, StockCommand};
+use billing::{Account, Accounts};
+use endpoint::Endpoint;
+use keep::{Faulty, Keep};
+use mail::Mail;
+use purchasing::{Order, Orders};
+use sites::Site;
+use std::alloc::Global;
+use warehouse::{Stock, Stocks};
+
+/// Purchasing, warehouse and billing, each with its connections, and the mail between them.
+#[derive(Drop)]
+pub struct World<KO, KS, KA>
+where
+    KO: Keep<State = Option<Order>, Command = OrderCommand> + Drop,
+    KS: Keep<State = Stock, Command = StockCommand> + Drop,
+    KA: Keep<State = Account, Command = AccountCommand> + Drop,
+{
+    /// The service that has the orders.
+    pub purchasing: Site<Orders, KO>,
+    /// The service that has the stocks.
+    pub warehouse: Site<Stocks, KS>,
+    /// The service that has the accounts.
+    pub billing: Site<Accounts, KA>,
+    /// The broker, and all that was ever accepted.
+    pub mail: Mail,
+    pub(crate) alloc: Global,
+}
+
+impl<KO, KS, KA> World<KO, KS, KA>
+where
+    KO: Keep<State = Option<Order>, Command = OrderCommand> + Drop,
+    KS: Keep<State = Stock, Command = StockCommand> + Drop,
+    KA: Keep<State = Account, Command = AccountCommand> + Drop,
+{
+    /// Three services over their stores, with no connection, and a broker that accepted nothing. It takes no memory.
+    pub fn open(
+        alloc: Global,
+        purchasing: Endpoint<Orders, Faulty<KO>>,
+        warehouse: Endpoint<Stocks, Faulty<KS>>,
+        billing: Endpoint<Accounts, Faulty<KA>>,
+    ) -> Self
+        ensures purchasing { result.purchasing ≡ record { endpoint = purchasing; zero = None; one = None } }
+        ensures warehouse { result.warehouse ≡ record { endpoint = warehouse; zero = None; one = None } }
+        ensures billing { result.billing ≡ record { endpoint = billing; zero = None; one = None } }
+        ensures mail { result.mail ≡ new_office }
+    {
+        World {
+            purchasing: Site::new(purchasing),
+            warehouse: Site::new(warehouse),
+            billing: Site::new(billing),
+            mail: Mail::new(alloc),
+            alloc,
+        }
+    }
+}
