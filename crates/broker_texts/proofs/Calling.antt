@@ -26,7 +26,8 @@ use Rattle.broker_texts.specs.Written.{IsLater, Speaks, nothing}
 use Rattle.broker_texts.proofs.Dealing.{dealing_stands}
 use Rattle.broker_texts.proofs.Deciding.{WaitingFits}
 use Rattle.broker_texts.proofs.Feeding.{ends_stand, handled_stands, handling_all, stops_stand}
-use Rattle.broker_texts.proofs.Fitting.{BookFits, book_weaker, ended_fits}
+use Rattle.broker_texts.specs.Fitting.{BookFits}
+use Rattle.broker_texts.proofs.Fitting.{book_weaker, ended_fits}
 use Rattle.broker_texts.proofs.Lists.{all_split}
 use Rattle.broker_texts.proofs.Living.{Knows, SessionFits, Stands, SubscriptionFits, Touches, is_live, same_alike, stands_alike, touched}
 use Rattle.broker_texts.proofs.Sessions.{Each, each_changed, new_found, new_other, none_changed, none_left, old_found, other_found}
@@ -282,7 +283,7 @@ module _ (R : Sent → Type 0) (Q : Subscription → Type 0) (n : ℕ) where
         fits = record { waits = (h.sessions m s e).waits; transactions = (h.sessions m s e).transactions };
       }) h)
   call_stands full Accepts a old new t k h = rw t (record {
-    book = record { living = h.book.living; subscriptions = h.book.subscriptions };
+    book = record { living = h.book.living; subscriptions = h.book.subscriptions; accepted = tt };
     sessions = h.sessions;
     speaks = h.speaks;
   })
@@ -296,7 +297,7 @@ module _ (R : Sent → Type 0) (Q : Subscription → Type 0) (n : ℕ) where
 
   pub empty_stands : Stands R Q n no_account empty
   empty_stands = record {
-    book = record { living = tt; subscriptions = tt };
+    book = record { living = tt; subscriptions = tt; accepted = tt };
     sessions = λ m s e. absurd cc;
     speaks = gone_speaks no_account (Some (new_session 0)) (fresh_speaks 0);
   }

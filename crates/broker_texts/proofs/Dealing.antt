@@ -12,7 +12,7 @@ use Rattle.stomp_frame.specs.Frames.{IsFrame}
 use Rattle.stomp_session.proofs.Framing.{message_is_a_frame}
 use Rattle.stomp_session.proofs.Owning.{all_append}
 use Rattle.stomp_session.proofs.Taking.{same_text}
-use Rattle.stomp_session.specs.Replies.{IsGivenIfAny, message_frame}
+use Rattle.stomp_session.specs.Replies.{IsEchoed, IsGivenIfAny, message_frame}
 use Rattle.broker_book.specs.Books.{Book, Message, has_credit, is_auto, may_take, unanswered}
 use Rattle.broker_book.specs.Steps.{Deal, Deals, Handed, Taken, left_of, next_ack}
 use Rattle.broker_book.specs.declared.parts.Sent.{Sent}
@@ -23,7 +23,7 @@ use Rattle.broker_core.specs.declared.session.Session.{Session}
 use Rattle.broker_core.proofs.Left.{find_with}
 use Rattle.broker_texts.specs.Lives.{Account}
 use Rattle.broker_texts.specs.Written.{IsLater, message, Speaks, receipts_asked}
-use Rattle.broker_texts.proofs.Fitting.{BookFits, MessageFits}
+use Rattle.broker_texts.specs.Fitting.{BookFits, MessageFits}
 use Rattle.broker_texts.proofs.Living.{SessionFits, Stands, SubscriptionFits, is_live}
 use Rattle.broker_texts.proofs.Lists.{all_found, all_split, found_passes}
 use Rattle.broker_texts.proofs.Sessions.{Each, each_changed, other_found}
@@ -64,34 +64,34 @@ live_session (Some s) e = let k = both s.server (not s.closed) e in (s, refl, k.
     not_true true e = absurd cc
     not_true false e = refl
 
-module _ (R : Sent → Type 0) (Q : Subscription → Type 0) (n : ℕ) where
+module _ (R : Sent → Type 0) (P : Subscription → Type 0) where
   left_fits : (m : Message) (s : Subscription) (o : Option ℕ) (back : List Message) → MessageFits R m → AllByRecursion (MessageFits R) back
       → AllByRecursion (MessageFits R) (left_of m s o ++ back)
   left_fits m s None back g h = h
   left_fits m s (Some k) back g h = (record { sent = g.sent; number = g.number }, h)
 
   -- what is handed out, and the book then
-  record HandsOut (u : Bool) (d : Handed) (new : Book) : Type 0 where
-    frame : IsFrame MAX_BODY (message_frame (delivery_of d))
-    brought : R d.sent
-    to : SubscriptionFits Q n u d.to
-    destination : d.to.destination ≡ d.sent.destination
-    ack : is_some d.ack ≡ not (is_auto d.to.mode)
-    book : BookFits R (SubscriptionFits Q n u) new
+  pub record HandsOut (d : Handed) (new : Book) : Type 0 where
+    pub frame : IsFrame MAX_BODY (message_frame (delivery_of d))
+    pub brought : R d.sent
+    pub to : P d.to
+    pub destination : d.to.destination ≡ d.sent.destination
+    pub ack : is_some d.ack ≡ not (is_auto d.to.mode)
+    pub book : BookFits R P new
 
-  hands_out : (u : Bool) (old : Book) (d : Handed) (new : Book) → Deal old d new → BookFits R (SubscriptionFits Q n u) old
-      → HandsOut u d new
-  hands_out u old d new h g =
+  pub hands_out : ((s : Subscription) → P s → IsEchoed s.id) → (old : Book) (d : Handed) (new : Book) → Deal old d new → BookFits R P old
+      → HandsOut d new
+  hands_out echoed old d new h g =
       let living = all_split (MessageFits R) h.front (h.message ∷ h.back)
       (subst (λ l. AllByRecursion (MessageFits R) l) h.found g.living) in
       let m = living.1.0 in
       let passes = both (bytes_eq d.to.destination h.message.sent.destination) (has_credit old d.to)
       (found_passes (may_take old h.message) old.subscriptions d.to h.oldest) in
-      let to = all_found (SubscriptionFits Q n u) (may_take old h.message) d.to old.subscriptions g.subscriptions h.oldest in
+      let to = all_found P (may_take old h.message) d.to old.subscriptions g.subscriptions h.oldest in
       record {
         frame = message_is_a_frame (delivery_of d) (record {
           carried = rw h.sent m.sent.carried;
-          subscription = to.echoed;
+          subscription = echoed d.to to;
           number = rw h.number m.number;
           ack = rw h.ack (ack_given old d.to passes.1);
         });
@@ -102,11 +102,14 @@ module _ (R : Sent → Type 0) (Q : Subscription → Type 0) (n : ℕ) where
         book = rw h.changed (record {
           living = all_append (MessageFits R) h.front _ living.0 (left_fits h.message d.to d.ack h.back m living.1.1);
           subscriptions = g.subscriptions;
+          accepted = g.accepted;
         });
       }
 
+module _ (R : Sent → Type 0) (Q : Subscription → Type 0) (n : ℕ) where
   -- a MESSAGE is written to a session that is connected and open
-  message_speaks : (a : Account) (s : Session) (d : Handed) (u : Bool) (new : Book) → HandsOut u d new → d.to.session ≡ n → s.server ≡ true
+  message_speaks : (a : Account) (s : Session) (d : Handed) (u : Bool) (new : Book) → HandsOut R (SubscriptionFits Q n u) d new
+      → d.to.session ≡ n → s.server ≡ true
       → s.closed ≡ false → Speaks (IsLater R Q n) a (Some s) → Speaks (IsLater R Q n) a (Some (writing (message_frame (delivery_of d)) s))
   message_speaks a s d u new h z server unclosed k = elim (fresh_or_running (IsLater R Q n) a s k unclosed) [
     | inl g ↦ absurd (let y : true ≡ false = sym server ∙ g.connected in cc)
@@ -120,7 +123,7 @@ module _ (R : Sent → Type 0) (Q : Subscription → Type 0) (n : ℕ) where
   written_sessions m f from number fits all = each_changed (SessionFits R) m f from (λ s e. number s) all (λ s e. fits s (all m s e))
 
   deal_step : (a : Account) (old new : Book) (from : Roster) (d : Handed) (v : Bool) → (d.to.session == n) ≡ v
-      → HandsOut (is_live (find (is_session n) from.sessions)) d new → Stands R Q n a (broker_of old from)
+      → HandsOut R (SubscriptionFits Q n (is_live (find (is_session n) from.sessions))) d new → Stands R Q n a (broker_of old from)
       → Stands R Q n a (broker_of new (in_roster d.to.session (writing (message_frame (delivery_of d))) from))
   deal_step a old new from d true e h k =
       let z : d.to.session ≡ n = eqb-true d.to.session n e in
@@ -156,7 +159,7 @@ module _ (R : Sent → Type 0) (Q : Subscription → Type 0) (n : ℕ) where
   deals_stand a [] old new from to h t k = rw (h, t) k
   deals_stand a (d ∷ ds) old new from to h t k =
       let one = deal_step a old h.0 from d (d.to.session == n) refl
-      (hands_out (is_live (find (is_session n) from.sessions)) old d h.0 h.1 k.book) k in
+      (hands_out R (SubscriptionFits Q n (is_live (find (is_session n) from.sessions))) (λ s g. g.echoed) old d h.0 h.1 k.book) k in
       deals_stand a ds h.0 new t.0 to h.2 t.2 (subst (λ r. Stands R Q n a (broker_of h.0 r)) (sym t.1) one)
 
   -- deals leave what stands

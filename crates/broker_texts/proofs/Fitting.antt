@@ -18,7 +18,6 @@ use Rattle.broker_book.specs.declared.parts.Subscription.{Subscription}
 use Rattle.broker_tx.specs.Transactions.{Transaction, is_open, is_transaction, actions_in, actions_of, begin_of, with_action, add_to}
 use Rattle.broker_tx.specs.Transactions.{add_of, end_of}
 use Rattle.broker_tx.specs.declared.fault.TransactionFault.{TransactionFault}
-use Rattle.stomp_session.specs.Replies.{IsCarried, IsGiven}
 use Rattle.stomp_session.specs.Requests.{ack_mode}
 use Rattle.stomp_session.specs.declared.request.Request.{Request}
 use Rattle.stomp_session.specs.declared.request.Request.TheVariants.{Connect, Send, Subscribe, Unsubscribe, Ack, Nack, Begin, Commit}
@@ -31,34 +30,8 @@ use Rattle.broker_core.specs.Performing.{subscribe_in, unsubscribe_done, answer_
 use Rattle.broker_core.specs.Performing.{ending, commit_done}
 use Rattle.broker_core.specs.Words.{is_destination, mode_of, number_of}
 use Rattle.broker_core.specs.declared.fault.Refusal.{Refusal}
+use Rattle.broker_texts.specs.Fitting.{SentFits, MessageFits, AcceptedFits, BookFits, ActionFits, TransactionFits}
 use Rattle.broker_texts.proofs.Lists.{all_weaker, all_map, all_kept, all_found, all_changed}
-
--- ---- what can be told
-
--- a MESSAGE can carry what a SEND brought, and it was brought
-pub record SentFits (R : Sent → Type 0) (s : Sent) : Type 0 where
-  pub carried : IsCarried s.destination s.headers s.body
-  pub brought : R s
-
--- the same of a living message, with its number
-pub record MessageFits (R : Sent → Type 0) (m : Message) : Type 0 where
-  pub sent : SentFits R m.sent
-  pub number : IsGiven m.number
-
--- the same of all that live, and what holds of each subscription
-pub record BookFits (R : Sent → Type 0) (P : Subscription → Type 0) (b : Book) : Type 0 where
-  pub living : AllByRecursion (MessageFits R) b.living
-  pub subscriptions : AllByRecursion P b.subscriptions
-
--- what is kept of a SEND can be carried
-abbrev pub ActionFits : (Sent → Type 0) → Action → Type 0
-ActionFits R (Put sent) = SentFits R sent
-ActionFits R (AckOf number) = Unit {0}
-ActionFits R (NackOf number) = Unit {0}
-
--- the same of all that a transaction keeps
-abbrev pub TransactionFits : (Sent → Type 0) → Transaction → Type 0
-TransactionFits R t = AllByRecursion (ActionFits R) t.actions
 
 -- what a request may change
 pub record ReachFits (R : Sent → Type 0) (P : Subscription → Type 0) (r : Reach) : Type 0 where
@@ -88,7 +61,11 @@ Brings R P n _ = Unit {0}
 
 pub book_weaker : (R : Sent → Type 0) (P Q : Subscription → Type 0) (b : Book) → ((s : Subscription) → P s → Q s) → BookFits R P b
     → BookFits R Q b
-book_weaker R P Q b k h = record { living = h.living; subscriptions = all_weaker P Q b.subscriptions k h.subscriptions }
+book_weaker R P Q b k h = record {
+  living = h.living;
+  subscriptions = all_weaker P Q b.subscriptions k h.subscriptions;
+  accepted = h.accepted;
+}
 
 not_there : (b : Bool) → not b ≡ true → b ≡ false
 not_there true e = absurd cc
@@ -110,6 +87,7 @@ ended_fits R P b session h = record {
   living = ready_fits R (out_of session) b.living h.living;
   subscriptions = all_kept P (λ s. (s.session == session) ≡ false) _ b.subscriptions (λ s e. not_there (s.session == session) e)
       h.subscriptions;
+  accepted = h.accepted;
 }
 
 module _ (R : Sent → Type 0) (P : Subscription → Type 0) where
@@ -117,6 +95,7 @@ module _ (R : Sent → Type 0) (P : Subscription → Type 0) where
   released_fits b session id h = record {
     living = ready_fits R (out_to session id) b.living h.living;
     subscriptions = all_filter P _ b.subscriptions h.subscriptions;
+    accepted = h.accepted;
   }
 
   below : (n : ℕ) → nat_lt n (2 ^ 64 - 1) ≡ true → n + 1 < 2 ^ 64
@@ -127,6 +106,7 @@ module _ (R : Sent → Type 0) (P : Subscription → Type 0) where
   put_last b sent fault true e s h = record {
     living = all_append (MessageFits R) b.living _ h.living (record { sent = s; number = below b.last e }, tt);
     subscriptions = h.subscriptions;
+    accepted = all_append (AcceptedFits R) b.accepted _ h.accepted (s, tt);
   }
   put_last b sent fault false e s h = tt
 
@@ -140,11 +120,19 @@ module _ (R : Sent → Type 0) (P : Subscription → Type 0) where
 
   acked_fits : (b : Book) (number : ℕ) (o : Option Subscription) → BookFits R P b → StepFits R P (acked b number o)
   acked_fits b number None h = tt
-  acked_fits b number (Some s) h = record { living = all_filter (MessageFits R) _ b.living h.living; subscriptions = h.subscriptions }
+  acked_fits b number (Some s) h = record {
+    living = all_filter (MessageFits R) _ b.living h.living;
+    subscriptions = h.subscriptions;
+    accepted = h.accepted;
+  }
 
   nacked_fits : (b : Book) (number : ℕ) (o : Option Subscription) → BookFits R P b → StepFits R P (nacked b number o)
   nacked_fits b number None h = tt
-  nacked_fits b number (Some s) h = record { living = ready_fits R _ b.living h.living; subscriptions = h.subscriptions }
+  nacked_fits b number (Some s) h = record {
+    living = ready_fits R _ b.living h.living;
+    subscriptions = h.subscriptions;
+    accepted = h.accepted;
+  }
 
   ack_fits : (b : Book) (session number : ℕ) → BookFits R P b → StepFits R P (ack_of b session number)
   ack_fits b session number h = acked_fits b number (holder b session number) h
@@ -264,6 +252,7 @@ module _ (R : Sent → Type 0) (P : Subscription → Type 0) where
           living = h.book.living;
           subscriptions =
               all_append P r.book.subscriptions _ h.book.subscriptions (g mode refl, tt);
+          accepted = h.book.accepted;
         };
         transactions = h.transactions;
       }) tt)

@@ -32,7 +32,8 @@ use Rattle.broker_core.proofs.Left.{find_with}
 use Rattle.broker_texts.specs.Lives.{Account}
 use Rattle.broker_texts.specs.Written.{IsLater, receipt, Speaks, receipts_asked}
 use Rattle.broker_texts.proofs.Deciding.{DecidedFits, WaitingFits, none_fits}
-use Rattle.broker_texts.proofs.Fitting.{BookFits, DoneFits, TransactionFits, Brings, book_weaker}
+use Rattle.broker_texts.specs.Fitting.{BookFits, TransactionFits}
+use Rattle.broker_texts.proofs.Fitting.{DoneFits, Brings, book_weaker}
 use Rattle.broker_texts.proofs.Fitting.{ended_fits}
 use Rattle.broker_texts.proofs.Fitting.{performed_fits}
 use Rattle.broker_texts.proofs.Lists.{found_passes}

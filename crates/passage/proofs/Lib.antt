@@ -1,0 +1,16 @@
+pub mod Dealing
+pub mod Deciding
+mod Examples
+pub mod Feeding
+pub mod Frames
+pub mod More
+pub mod Moving
+pub mod Offices
+pub mod Placing
+pub mod Repeating
+pub mod Rising
+pub mod Serving
+pub mod Sessions
+pub mod Spelling
+pub mod Texts
+pub mod Writing
