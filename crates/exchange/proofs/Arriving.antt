@@ -1,5 +1,5 @@
 -- A letter that was taken has arrived for good: it is held until it is handled.
-use Rattle.std.proofs.Common.{◌≡◌, ℕ, suc, ◌+◌, ◌≤◌, ◌<◌, List, [], ◌∷◌, ◌++◌, Bool, true, false, refl, ap, arith, sym, ◌∙◌}
+use Rattle.std.proofs.Common.{◌≡◌, ℕ, suc, ◌≤◌, ◌<◌, List, [], ◌∷◌, ◌++◌, Bool, true, false, refl, ap, arith, sym, ◌∙◌}
 use Rattle.std.proofs.Common.{Option, Some, None, Ok, IsSome, length, length-append, subst}
 use Rattle.std.specs.Prelude.{◌&&◌, ◌==◌, slice_get, nat_lt}
 use Rattle.std.proofs.lemmas.Bool.Decides.{nat_tests}
@@ -18,7 +18,6 @@ use Rattle.activities.specs.Journal.{sent_of, letters_of, handled_of}
 use Rattle.activities.specs.Numbered.{nth, numbered}
 use Rattle.activities.specs.Reaction.{Reactions}
 use Rattle.activities.specs.Service.{Service}
-use Rattle.activities.proofs.Journals.{handled_of-letter}
 use Rattle.activities.proofs.Prefixes.{length-numbered, get-numbered_is}
 use Rattle.keep.specs.Tables.{Messages, set_message}
 use Rattle.outbox.specs.Numbering.{pair_between}
@@ -28,7 +27,8 @@ use Rattle.endpoint.specs.declared.answer.Ingested.TheVariants.{Handled, Repeate
 use Rattle.endpoint.specs.Arrivals.{IngestMay}
 use Rattle.endpoint.specs.Deeds.{Kept, Deed, Nothing, TakesIn, Holds, Settles, Did, held_after, or_else}
 use Rattle.exchange.specs.Fair.{Follows, HandledAll}
-use Rattle.exchange.proofs.Doing.{both_same, did_handled}
+use Rattle.accord.proofs.Doing.{both_same, did_handled}
+use Rattle.accord.proofs.Writing.{handled-now}
 
 -- the letter of a pair and number has arrived: until it is handled one is held
 abbrev pub HasArrived : {C : Type 0} → Kept C → Pair → ℕ → Type 0
@@ -36,15 +36,6 @@ HasArrived x p n = handled_of x.journal p < n → IsSome (x.held p n)
 
 same_pair-same : (p : Pair) → same_pair p p ≡ true
 same_pair-same p = (same_pair-Decides p p).1 refl
-
--- after a letter was handled its number is that of the last
-handled-now : {C : Type 0} (rows : List (JournalRow C)) (s e : Name) (n : ℕ) (m : Message) → n ≡ suc (handled_of rows (pair_between s e))
-    → handled_of (rows ++ record { entity = e; input = FromEntity s n m } ∷ []) (pair_between s e) ≡ n
-handled-now rows s e n m next =
-    let more : handled_of (rows ++ record { entity = e; input = FromEntity s n m } ∷ []) (pair_between s e)
-    ≡ handled_of rows (pair_between s e) + 1
-    = rw (same_pair-same (pair_between s e)) at (handled_of-letter rows (pair_between s e) n m (pair_between s e)) in
-    omega (arith, more, next)
 
 -- ---- one more held
 

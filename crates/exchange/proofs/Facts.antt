@@ -11,7 +11,8 @@ use Rattle.activities.proofs.Propositions.{message-set, prefix-prop}
 use Rattle.endpoint.specs.Deeds.{Kept}
 use Rattle.exchange.specs.declared.event.Delivery.{Delivery}
 use Rattle.exchange.specs.declared.event.Outcome.{Outcome}
-use Rattle.exchange.specs.Envelopes.{IsAuthentic, AreAuthentic}
+use Rattle.accord.specs.Writing.{IsTrueIn}
+use Rattle.exchange.specs.Envelopes.{AreAuthentic}
 use Rattle.exchange.specs.Fair.{Follows, IsFair}
 use Rattle.exchange.specs.Runs.{TakenAreHandledIn}
 use Rattle.exchange.specs.Sides.{Sides}
@@ -20,7 +21,7 @@ letters-set : IsSet (List (ℕ × Message))
 letters-set = hlevel (props, message-set)
 
 authentic-prop : {S C : Type 0} (reactions : Reactions S C) (journal : List (JournalRow C)) (e : Envelope)
-    → IsProp (IsAuthentic reactions journal e)
+    → IsProp (IsTrueIn reactions journal e)
 authentic-prop reactions journal (Letter l) = hlevel (props, message-set)
 authentic-prop reactions journal (Settle p n) = hlevel props
 

@@ -1,58 +1,58 @@
 -- One side's turn keeps both following each other, and all that was ever sent authentic.
-use Rattle.std.proofs.Common.{◌≡◌, ℕ, zero, suc, ◌≤◌, List, [], ◌∷◌, ◌++◌, ◌⊎◌, Bool, true, false, refl, arith, sym, inl, inr}
-use Rattle.std.proofs.Common.{Option, Some, None, Ok, subst}
-use Rattle.std.specs.Prelude.{map, nat_lt, slice_get}
+use Rattle.std.proofs.Common.{◌≡◌, ℕ, zero, suc, ◌≤◌, List, [], ◌∷◌, ◌++◌, ◌⊎◌, refl, arith, sym, inl, inr}
+use Rattle.std.proofs.Common.{Some, None, Ok, subst}
+use Rattle.std.specs.Prelude.{map, slice_get}
 use Rattle.base.specs.declared.pair.Pair.{Pair}
-use Rattle.envelope.specs.declared.message.Message.{Message}
 use Rattle.envelope.specs.declared.message.Envelope.{Envelope}
 use Rattle.envelope.specs.declared.message.Envelope.TheVariants as envelope
 use Rattle.envelope.specs.declared.message.Letter.{Letter}
-use Rattle.activities.specs.declared.input.JournalRow.{JournalRow}
 use Rattle.activities.specs.Journal.{sent_of, letters_of, handled_of}
-use Rattle.activities.specs.Numbered.{nth, IsPrefixOf}
+use Rattle.activities.specs.Numbered.{IsPrefixOf}
 use Rattle.activities.specs.Reaction.{Reactions}
 use Rattle.activities.specs.Service.{Service}
 use Rattle.activities.proofs.Prefixes.{prefix-same, prefix_trans, numbered-prefix, numbered_prefix-next, nth-prefix}
 use Rattle.activities.proofs.Sameness.{either}
-use Rattle.keep.specs.declared.change.Place.{Place}
-use Rattle.keep.specs.Listing.{AreFirst, place_of}
-use Rattle.outbox.specs.Rows.{above, unsettled_of}
+use Rattle.keep.specs.Listing.{AreFirst}
+use Rattle.outbox.specs.Rows.{unsettled_of}
 use Rattle.endpoint.specs.Deeds.{Kept, Deed, Did}
 use Rattle.exchange.specs.declared.event.Event.{Event}
 use Rattle.exchange.specs.declared.event.Event.TheVariants.{Send, Tell}
 use Rattle.exchange.specs.declared.event.Outcome.{Outcome}
 use Rattle.exchange.specs.declared.event.Outcome.TheVariants.{Sent, Told}
-use Rattle.exchange.specs.Envelopes.{IsAuthentic, AreAuthentic}
+use Rattle.exchange.specs.Envelopes.{AreAuthentic}
 use Rattle.exchange.specs.Fair.{Follows}
 use Rattle.exchange.specs.Turns.{MaySend, Turn}
-use Rattle.exchange.proofs.Doing.{DeedIs, did_sent, did_handled, did_letters, did_settled, did_held}
+use Rattle.accord.specs.Deeds.{DeedIs}
+use Rattle.accord.specs.Writing.{IsTrueIn}
+use Rattle.accord.proofs.Doing.{did_sent, did_handled, did_letters, did_settled, did_held}
+use Rattle.accord.proofs.Writing.{listed_stands, unsettled_true}
 use Rattle.exchange.proofs.Founded.{may_do_is}
 
 -- ---- the side that acts, as a sender and as a receiver; its partner keeps `z`
 
 module _ {S C T D : Type 0} (s : Service S C) (partner : Reactions T D) (x y : Kept C) (z : Kept D) (d : Deed C) (did : Did s x d y)
-    (is : DeedIs (IsAuthentic partner z.journal) d) where
+    (is : DeedIs (IsTrueIn partner z.journal) d) where
   pub partner_follows : Follows s.reactions x z → Follows s.reactions y z
   partner_follows f = record {
     handled = λ p. prefix_trans _ _ _ (f.handled p) (numbered-prefix 0 _ _ (did_sent s x y d did p));
     held = λ p n m h. nth-prefix n m _ _ (did_sent s x y d did p) (f.held p n m h);
-    settled = λ p. let old = f.settled p in either (did_settled s (IsAuthentic partner z.journal) x y d did is p)
+    settled = λ p. let old = f.settled p in either (did_settled s (IsTrueIn partner z.journal) x y d did is p)
         (λ same. omega (arith, old, same))
         (λ up. let to = up.1 in let most = up.2 in omega (arith, old, to, most));
   }
 
   pub follows_partner : Follows partner z x → Follows partner z y
   follows_partner f = record {
-    handled = λ p. either (did_letters s (IsAuthentic partner z.journal) x y d did is p)
+    handled = λ p. either (did_letters s (IsTrueIn partner z.journal) x y d did is p)
         (λ e. rw e (f.handled p))
         (λ e. rw e.1 (numbered_prefix-next (letters_of x.journal p) (sent_of partner z.journal p) e.0 (f.handled p) e.2));
-    held = λ p n m h. either (did_held s (IsAuthentic partner z.journal) x y d did is p n m h) (λ old. f.held p n m old) (λ new. new);
+    held = λ p n m h. either (did_held s (IsTrueIn partner z.journal) x y d did is p n m h) (λ old. f.held p n m old) (λ new. new);
     settled = λ p. let old = f.settled p in let more = did_handled s x y d did p in omega (arith, old, more);
   }
 
 -- what was authentic stays so
 authentic-later : {S C : Type 0} (s : Service S C) (x y : Kept C) (d : Deed C) → Did s x d y → (e : Envelope)
-    → IsAuthentic s.reactions x.journal e → IsAuthentic s.reactions y.journal e
+    → IsTrueIn s.reactions x.journal e → IsTrueIn s.reactions y.journal e
 authentic-later s x y d did (envelope.Letter l) h = nth-prefix l.number l.message _ _ (did_sent s x y d did l.pair) h
 authentic-later s x y d did (envelope.Settle p n) h = let more = did_handled s x y d did p in omega (arith, h, more)
 
@@ -70,24 +70,6 @@ get_map [] i e h = absurd (cc)
 get_map (l ∷ ls) zero e h = (l, cc, refl)
 get_map (l ∷ ls) (suc i) e h = get_map ls i e h
 
-above-some : (mark : ℕ) (ms : List Message) (n : ℕ) (m : Message) (b : Bool) → nat_lt mark n ≡ b
-    → above mark ms n ≡ Some m → nth ms n ≡ Some m
-above-some mark ms n m true e h = rw e at h
-above-some mark ms n m false e h = let z : None ≡ Some m = rw e at h in cc
-
--- a listing of unsettled letters gives what the journal sends
-first_sent : {S C : Type 0} (reactions : Reactions S C) (journal : List (JournalRow C)) (settled : Pair → ℕ)
-    (after : Option Place) (limit : ℕ) (ls : List Letter) → AreFirst (unsettled_of reactions journal settled) after limit ls
-    → (i : ℕ) (l : Letter) → slice_get ls i ≡ Some l → IsAuthentic reactions journal (envelope.Letter l)
-first_sent reactions journal settled after limit [] h i l at = absurd (cc)
-first_sent reactions journal settled after zero (k ∷ ls) h i l at = absurd h
-first_sent reactions journal settled after (suc n) (k ∷ ls) h zero l at =
-    let same : k ≡ l = cc in
-    subst (λ v. IsAuthentic reactions journal (envelope.Letter v)) same
-    (above-some (settled k.pair) _ k.number k.message _ refl h.0.stands)
-first_sent reactions journal settled after (suc n) (k ∷ ls) h (suc i) l at =
-    first_sent reactions journal settled (Some (place_of k)) n ls h.1 i l at
-
 module _ {S C : Type 0} (s : Service S C) (y : Kept C) where
   abbrev Authentic : List Envelope → Type 0
   Authentic sent = AreAuthentic s.reactions y.journal sent
@@ -99,14 +81,15 @@ module _ {S C : Type 0} (s : Service S C) (y : Kept C) where
       → Authentic (map envelope.Letter ls)
   letters_authentic limit ls first i e at =
       let l = get_map ls i e at in
-      subst (IsAuthentic s.reactions y.journal) (sym l.1)
-      (first_sent s.reactions y.journal y.settled None limit ls first i l.0 l.2)
+      subst (IsTrueIn s.reactions y.journal) (sym l.1)
+      (unsettled_true s.reactions y.journal y.settled l.0
+      (listed_stands (unsettled_of s.reactions y.journal y.settled) None limit ls first i l.0 l.2))
 
   told_authentic : (p : Pair) (n : ℕ) → n ≡ handled_of y.journal p → Authentic (envelope.Settle p n ∷ [])
   told_authentic p n is zero e at =
       let same : envelope.Settle p n ≡ e = cc in
       let most : n ≤ handled_of y.journal p = omega (arith, is) in
-      subst (IsAuthentic s.reactions y.journal) same most
+      subst (IsTrueIn s.reactions y.journal) same most
   told_authentic p n is (suc i) e at = absurd (cc)
 
   same_authentic : (sent later : List Envelope) → Authentic sent → later ≡ sent → Authentic later
@@ -133,8 +116,8 @@ module _ {S C T D : Type 0} (s : Service S C) (partner : Reactions T D) (event :
     (arriving sent later : List Envelope) (x y : Kept C) (z : Kept D)
     (arrives : AreAuthentic partner z.journal arriving) (follows : Follows partner z x)
     (turn : Turn s event outcome arriving sent later x y) where
-  founded : DeedIs (IsAuthentic partner z.journal) turn.deed
-  founded = may_do_is s (IsAuthentic partner z.journal) arriving arrives event outcome x turn.deed (λ p n m h. follows.held p n m h)
+  founded : DeedIs (IsTrueIn partner z.journal) turn.deed
+  founded = may_do_is s (IsTrueIn partner z.journal) arriving arrives event outcome x turn.deed (λ p n m h. follows.held p n m h)
       turn.may
 
   pub turn_right : Follows s.reactions x z → Follows s.reactions y z

@@ -1,4 +1,3 @@
-mod Doing
 mod Founded
 mod Keeping
 mod Arriving

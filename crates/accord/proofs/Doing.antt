@@ -1,7 +1,7 @@
 -- What one deed leaves as it was, and what it changes, whichever service does it.
 use Rattle.std.proofs.Common.{◌≡◌, ℕ, suc, ◌≤◌, List, [], ◌∷◌, ◌++◌, Bool, true, false, ◌⊎◌, refl, ap, arith, sym, ◌∙◌, inl, inr}
 use Rattle.std.proofs.Common.{Option, Some, None, length, subst}
-use Rattle.std.specs.Prelude.{max, ⊤, ◌&&◌, ◌==◌}
+use Rattle.std.specs.Prelude.{max, ◌&&◌, ◌==◌}
 use Rattle.std.proofs.lemmas.Bool.Decides.{nat_tests}
 use Rattle.base.specs.Entity.{Name}
 use Rattle.base.specs.Order.{same_pair}
@@ -24,13 +24,7 @@ use Rattle.agreement.specs.Growth.{IsFrom}
 use Rattle.keep.specs.Tables.{Messages, set_message, set_mark}
 use Rattle.outbox.specs.Numbering.{pair_between}
 use Rattle.endpoint.specs.Deeds.{Kept, Deed, Nothing, TakesIn, Holds, Settles, Did, held_after, or_else, with_held}
-
--- what a deed takes in, holds or settles has this property
-abbrev pub DeedIs : {C : Type 0} → (Envelope → Type 0) → Deed C → Type 0
-DeedIs P Nothing = ⊤
-DeedIs P (TakesIn row) = IsFrom P row.entity row.input
-DeedIs P (Holds l) = P (Letter l)
-DeedIs P (Settles p n) = P (Settle p n)
+use Rattle.accord.specs.Deeds.{DeedIs}
 
 -- ---- what was sent
 

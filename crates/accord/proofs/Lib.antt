@@ -1,0 +1,7 @@
+pub mod Doing
+pub mod Founded
+pub mod Turning
+pub mod Keeping
+pub mod Writing
+pub mod Genuine
+pub mod Beginning

@@ -1,0 +1,4 @@
+pub mod Sight
+pub mod Good
+pub mod Deeds
+pub mod Writing
