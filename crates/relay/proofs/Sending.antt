@@ -1,12 +1,13 @@
 -- Letters sent one after another.
 use Rattle.std.proofs.Common.{◌≡◌, ℕ, ◌+◌, List, [], ◌∷◌, ◌++◌, refl, sym, ap, subst, ◌∙◌, append_assoc, arith}
+use Rattle.std.specs.List.{AllByRecursion}
 use Rattle.std.proofs.lemmas.List.{append-nil}
 use Rattle.base.specs.declared.pair.Pair.{Pair}
 use Rattle.stomp_frame.specs.Frames.{Content}
 use Rattle.stomp_client.specs.Clients.{Client, receipted}
 use Rattle.stomp_client.specs.Frames.{IsPlain, with_receipt}
 use Rattle.stomp_client.specs.Written.{Wrote, Adds}
-use Rattle.envelope.specs.Written.{send_of}
+use Rattle.envelope.specs.Written.{IsEnvelope, send_of}
 use Rattle.envelope.specs.declared.message.Letter.{Letter}
 use Rattle.envelope.specs.declared.message.Envelope.TheVariants as envelope
 use Rattle.keep.specs.Tables.{set_mark}
@@ -38,9 +39,15 @@ frames_append c [] ys = refl
 frames_append c (x ∷ xs) ys = ap
     (λ fs. with_receipt (c.client.receipts.last + 1) (send_of (envelope.Letter x)) ∷ fs) (frames_append (with_sent c x) xs ys)
 
+-- both of two parts
+all_append : {A : Type 0} (P : A → Type 0) (xs ys : List A) → AllByRecursion P xs → AllByRecursion P ys → AllByRecursion P (xs ++ ys)
+all_append P [] ys a b = b
+all_append P (x ∷ xs) ys a b = (a.0, all_append P xs ys a.1 b)
+
 -- none was sent
 pub sends_none : (c : Connection) → Sends [] c c
 sends_none c = record {
+  each = tt;
   all = refl;
   wrote = λ frames gone w. subst (λ (fs : List Content). Wrote fs gone c.client.out) (sym (append-nil frames)) w;
 }
@@ -50,6 +57,7 @@ pub sends_append : (xs ys : List Letter) (a b c : Connection) → Sends xs a b �
 sends_append xs ys a b c s t =
     let more : sends_of b ys ≡ sends_of (with_all_sent a xs) ys = ap (λ (x : Connection). sends_of x ys) s.all in
     record {
+      each = all_append (λ l. IsEnvelope (envelope.Letter l)) xs ys s.each t.each;
       all = t.all ∙ ap (λ (x : Connection). with_all_sent x ys) s.all ∙ sym (sent_append a xs ys);
       wrote = λ frames gone w.
           subst (λ (fs : List Content). Wrote fs gone c.client.out)
@@ -64,9 +72,10 @@ abbrev made : (Pair → ℕ) → Client ℕ → Connection
 made marks client = record { marks = marks; client = client }
 
 pub sends_one : (l : Letter) (m m' : Pair → ℕ) (c c' : Client ℕ) (f : Content) (tag : ℕ) → m' ≡ set_mark l.pair l.number m
-    → f ≡ send_of (envelope.Letter l) → tag ≡ l.number → c' ≡ receipted f tag c
+    → IsEnvelope (envelope.Letter l) → f ≡ send_of (envelope.Letter l) → tag ≡ l.number → c' ≡ receipted f tag c
     → Adds (with_receipt (c.receipts.last + 1) f ∷ []) c.out c'.out → Sends (l ∷ []) (made m c) (made m' c')
-sends_one l m m' c c' f tag marks frame number client wrote = record {
+sends_one l m m' c c' f tag marks is frame number client wrote = record {
+  each = (is, tt);
   all = ap (λ (x : Pair → ℕ). made x c') marks ∙ ap (λ (x : Client ℕ). made (set_mark l.pair l.number m) x)
       (client ∙ ap (λ (x : Content). receipted x tag c) frame ∙ ap (λ n. receipted (send_of (envelope.Letter l)) n c) number);
   wrote = subst (λ (x : Content). Adds (with_receipt (c.receipts.last + 1) x ∷ []) c.out c'.out) frame wrote;

@@ -1,12 +1,13 @@
 -- Which letters are due on a connection, and what sending them does.
 use Rattle.std.specs.Prelude.{◌≡◌, ℕ, zero, suc, ◌+◌, ◌-◌, ◌<◌, ◌^◌, if◌then◌else◌, nat_lt, List, [], ◌∷◌, None}
+use Rattle.std.specs.List.{AllByRecursion}
 use Rattle.base.specs.declared.pair.Pair.{Pair}
 use Rattle.stomp_frame.specs.Frames.{Content}
 use Rattle.stomp_client.specs.Clients.{Client, Seen, receipted}
 use Rattle.stomp_client.specs.Frames.{with_receipt}
 use Rattle.stomp_client.specs.Written.{Adds}
 use Rattle.stomp_client.specs.declared.fault.ClientFault.TheVariants as client
-use Rattle.envelope.specs.Written.{send_of}
+use Rattle.envelope.specs.Written.{IsEnvelope, send_of}
 use Rattle.envelope.specs.declared.message.Letter.{Letter}
 use Rattle.envelope.specs.declared.message.Envelope.TheVariants as envelope
 use Rattle.envelope.specs.declared.fault.EnvelopeFault.TheVariants as envelope_fault
@@ -62,8 +63,9 @@ abbrev pub sends_of : Connection → List Letter → List Content
 sends_of c [] = []
 sends_of c (l ∷ ls) = with_receipt (c.client.receipts.last + 1) (send_of (envelope.Letter l)) ∷ sends_of (with_sent c l) ls
 
--- exactly these letters were sent, and so these frames were written
+-- exactly these letters were sent, each of which can be written, and so these frames were written
 pub record Sends (letters : List Letter) (old new : Connection) : Type 0 where
+  pub each : AllByRecursion (λ l. IsEnvelope (envelope.Letter l)) letters
   pub all : new ≡ with_all_sent old letters
   pub wrote : Adds (sends_of old letters) old.client.out new.client.out
 

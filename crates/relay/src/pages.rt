@@ -41,6 +41,7 @@ impl Relay {
         ensures stays { Stays K.seen endpoint.old endpoint.new }
         ensures fills { Fills (((K.seen endpoint.new).doubt ≡ 0) × KnowsAll H.service self.old (K.seen endpoint.old).may_leave)
             (K.seen endpoint.old).tables.unsettled limit (connection self.old client.old) (connection self.new client.new) result }
+        ensures unused { (K.seen endpoint.old).usable ≡ false → connection self.new client.new ≡ connection self.old client.old }
         ensures knows { (K.seen endpoint.new).doubt ≡ 0 → KnowsAll H.service self.old (K.seen endpoint.old).may_leave
             → KnowsAll H.service self.new (K.seen endpoint.new).may_leave }
     {

@@ -1,6 +1,6 @@
 //! What was sent of each pair on a connection.
 
-ghost use Rattle.std.specs.Prelude.{◌≡◌, ◌≢◌, ℕ, OnOk, OnErr, IfErr, IfSome, Ok, ⊤, []};
+ghost use Rattle.std.specs.Prelude.{◌≡◌, ◌≢◌, ℕ, false, OnOk, OnErr, IfErr, IfSome, Ok, ⊤, []};
 ghost use Rattle.std.specs.Prelude.{◌∷◌};
 ghost use Rattle.base.specs.declared.pair.Pair.{Pair};
 ghost use Rattle.keep.specs.Law.{Reads};
@@ -177,6 +177,7 @@ impl Relay {
         ensures fills { client.old.client.stage ≡ Connected
             → Fills (((K.seen endpoint.new).doubt ≡ 0) × KnowsAll H.service self.old (K.seen endpoint.old).may_leave)
             (K.seen endpoint.old).tables.unsettled limit (connection self.old client.old) (connection self.new client.new) result }
+        ensures unused { (K.seen endpoint.old).usable ≡ false → connection self.new client.new ≡ connection self.old client.old }
         ensures knows { (K.seen endpoint.new).doubt ≡ 0 → KnowsAll H.service self.old (K.seen endpoint.old).may_leave
             → KnowsAll H.service self.new (K.seen endpoint.new).may_leave }
     {

@@ -42,6 +42,7 @@ module _ {H K S C : Type 0} (number : ConnectionNumber) (k : Option Line) (l : L
       idle = h.idle;
       reads = h.reads;
       keeps = h.keeps;
+      unused = h.unused;
       fills = h.fills;
       rest = h.rest;
       tells = h.tells;

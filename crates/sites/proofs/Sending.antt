@@ -1,5 +1,5 @@
 -- A filling over a connection that was taken out.
-use Rattle.std.proofs.Common.{◌≡◌, ℕ, refl, sym, ◌∙◌, ap, subst, length, Result}
+use Rattle.std.proofs.Common.{◌≡◌, ℕ, false, refl, sym, ◌∙◌, ap, subst, length, Result}
 use Rattle.std.specs.Prelude.{⊤, IfSome}
 use Rattle.std.proofs.lemmas.Option.{IfSome_then}
 use Rattle.activities.specs.Service.{Service}
@@ -42,6 +42,7 @@ module _ {H K S C : Type 0} (seen : K → Seen (Tables S C)) (service : Service 
       (λ answer. (r ≡ answer) × (store ≡ s.endpoint) × (connection later client ≡ connection anew l.connection.client))
       → (l.connection.client.client.stage ≡ Connected → Reads (through seen) s.endpoint store (λ _ _. ⊤) (store_end r))
       → Stays (through seen) s.endpoint store
+      → ((through seen s.endpoint).usable ≡ false → connection later client ≡ connection anew l.connection.client)
       → (l.connection.client.client.stage ≡ Connected
       → Fills (((seen store.keep).doubt ≡ 0) × KnowsAll service anew (seen s.endpoint.keep).may_leave)
       (seen s.endpoint.keep).tables.unsettled limit (connection anew l.connection.client) (connection later client) r)
@@ -49,7 +50,7 @@ module _ {H K S C : Type 0} (seen : K → Seen (Tables S C)) (service : Service 
       → outcome ≡ fill_told r → fate ≡ fill_fate r → t.endpoint ≡ store
       → Meets fate number (record l { connection = record l.connection { client = client }; relay = later }) (with_store store s) from t to
       → SendsRows seen service number limit l outcome s from t to
-  sends_on anew later client store r fate marks idle reads keeps fills knows told fated stored meets =
+  sends_on anew later client store r fate marks idle reads keeps unused fills knows told fated stored meets =
       let same : connection anew l.connection.client ≡ sending l = connection_same anew l.relay l.connection.client marks in
       let last : Line = record l { connection = record l.connection { client = client }; relay = later } in
       record {
@@ -58,6 +59,7 @@ module _ {H K S C : Type 0} (seen : K → Seen (Tables S C)) (service : Service 
         idle = IfSome_then (idle_answer l.connection.client.client.stage) idle (λ answer h. (h.0, stored ∙ h.1, h.2 ∙ same));
         reads = λ is. subst (λ e. Reads (through seen) s.endpoint e (λ _ _. ⊤) (store_end r)) (sym stored) (reads is);
         keeps = subst (λ e. Stays (through seen) s.endpoint e) (sym stored) keeps;
+        unused = λ down. unused down ∙ same;
         fills = λ is. fills_more (((seen store.keep).doubt ≡ 0) × KnowsAll service anew (seen s.endpoint.keep).may_leave)
             (((seen t.endpoint.keep).doubt ≡ 0) × AllMatch service (seen s.endpoint.keep).may_leave)
             (λ b. (

@@ -1,5 +1,5 @@
 -- What each event of a service does, and what it answers: exactly this of the service and of the mail, and nothing else of them changes.
-use Rattle.std.specs.Prelude.{◌≡◌, ℕ, Option, Some, None, Result, Ok, Err, IfSome, ⊤}
+use Rattle.std.specs.Prelude.{◌≡◌, ℕ, false, Option, Some, None, Result, Ok, Err, IfSome, ⊤}
 use Rattle.stomp_wire.specs.declared.wire.Way.{Way}
 use Rattle.stomp_wire.specs.declared.wire.Way.TheVariants.{Up, Down}
 use Rattle.stomp_frame.specs.Frames.{Content}
@@ -153,6 +153,7 @@ module _ {H K S C : Type 0} (seen : K → Seen (Tables S C)) (service : Service 
     pub reads : l.connection.client.client.stage ≡ Connected
         → Reads (through seen) s.endpoint t.endpoint (λ _ _. ⊤) (store_end result)
     pub keeps : Stays (through seen) s.endpoint t.endpoint
+    pub unused : (through seen s.endpoint).usable ≡ false → sending later ≡ sending l
     pub fills : l.connection.client.client.stage ≡ Connected
         → Fills (((seen t.endpoint.keep).doubt ≡ 0) × AllMatch service (seen s.endpoint.keep).may_leave)
         (seen s.endpoint.keep).tables.unsettled limit (sending l) (sending later) result

@@ -1,0 +1,4 @@
+pub mod Sitting
+pub mod Writing
+pub mod Three
+pub mod Laws
