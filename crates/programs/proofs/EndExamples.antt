@@ -1,23 +1,21 @@
 -- Examples: how a run of a text ends, in what its writers hold then and in its status, and what the words of the command line come to.
-use Rattle.std.proofs.Common.{◌≡◌, List, [], ◌∷◌, ◌++◌, ℕ, refl, sym, ◌∙◌, ap, inl, inr, get_or, arith}
+use Rattle.std.proofs.Common.{◌≡◌, List, [], ◌∷◌, ◌++◌, ℕ, refl, sym, subst, ◌∙◌, ap, inl, inr, get_or, arith}
 use Rattle.std.specs.Prelude.{codes, Some, None, Ok, Err}
 use Rattle.std.specs.Fmt.{digits}
 use Rattle.std.specs.Str.{is_utf8, chars}
 use Rattle.base.specs.Entity.{order_of}
-use Rattle.base.specs.Order.{same_entity}
 use Rattle.activities.specs.declared.commands.OrderCommand.TheVariants.{CancelOrder}
 use Rattle.activities.specs.declared.handler.Refusal.TheVariants.{NotOpen}
 use Rattle.clap.specs.Faults.{walk_fault, defaults_fault}
 use Rattle.clap.specs.Words.{Kinds, fault_of}
 use Rattle.clap.specs.declared.error.kind.ErrorKind.TheVariants.{DisplayHelp, DisplayVersion, UnknownArgument}
-use Rattle.endpoint.specs.declared.fault.EndFault.TheVariants.{Business}
-use Rattle.schedules.specs.declared.event.PurchasingEvent.{PurchasingEvent}
-use Rattle.schedules.specs.declared.event.PurchasingEvent.TheVariants.{Order}
-use Rattle.schedules.specs.Alone.{purchasing_events_of}
+use Rattle.schedules.specs.declared.event.Event.{Event}
+use Rattle.schedules.specs.declared.event.Event.TheVariants.{Order}
+use Rattle.schedules.specs.declared.outcome.Outcome.TheVariants.{NotDone}
+use Rattle.schedules.specs.Events.{events_of}
 use Rattle.programs.specs.declared.fault.RunFault.TheVariants.{BadEvent, Memory, Device}
-use Rattle.programs.specs.declared.running.Outcome.TheVariants.{Refused}
-use Rattle.programs.specs.Ends.{Writers, IsCutRun, IsRunOf, IsUnread, IsRunFrom, IsEndOf, IsUntold, fault_line}
-use Rattle.programs.specs.Runs.{Prints}
+use Rattle.programs.specs.Ends.{Writers, lines_of, IsRunOf, IsUnread, IsRunFrom, IsEndOf, IsUntold, fault_line}
+use Rattle.programs.specs.Runs.{HasRun}
 use Rattle.programs.specs.Usage.{command_line, Streams, IsStatusOf, IsUsage, IsCutUsage, IsWordAnswer, IsAnswered}
 use Rattle.programs.specs.Written.{AppendsPart}
 
@@ -25,7 +23,7 @@ use Rattle.programs.specs.Written.{AppendsPart}
 abbrev cancels : List ℕ
 cancels = codes "cancel 0 o1\n"
 
-abbrev cancel : PurchasingEvent
+abbrev cancel : Event
 cancel = Order (record { seat = 0; entity = order_of (codes "o1"); command = CancelOrder })
 
 -- what is told of it: the order isn't open
@@ -36,11 +34,11 @@ refused = codes "refused 61 71\n"
 abbrev faulty : List ℕ
 faulty = codes "cancel 0 o1\ncancel 0\n"
 
-line_is_read : purchasing_events_of cancels ≡ Ok (cancel ∷ [])
+line_is_read : events_of cancels ≡ Ok (cancel ∷ [])
 unfolding is_utf8 chars lib.Utf8.encode
 line_is_read = refl
 
-second_line_is_faulty : purchasing_events_of faulty ≡ Err 2
+second_line_is_faulty : events_of faulty ≡ Err 2
 unfolding is_utf8 chars lib.Utf8.encode
 second_line_is_faulty = refl
 
@@ -48,10 +46,10 @@ fault_is_told : fault_line (BadEvent 2) ≡ codes "line 2: bad event\n"
 unfolding digits
 fault_is_told = refl
 
--- the refusal is all that a run of the one line prints
-cancel_prints : Prints (cancel ∷ []) refused
-unfolding same_entity digits
-cancel_prints = ([], (Refused (Business NotOpen), [], [], (refl, omega arith, refl, refl), refl, (refl, refl)))
+-- what is told of the one line
+refusal_is_told : lines_of (NotDone NotOpen ∷ []) ≡ refused
+unfolding digits
+refusal_is_told = refl
 
 -- a writer that failed holds a beginning of what was to be written, which may be nothing or all of it, but not octets from its middle
 a_beginning_is_written : (AppendsPart (Some []) (Some (codes "refu")) refused) × (AppendsPart (Some []) (Some []) refused)
@@ -65,18 +63,6 @@ a_beginning_is_written = (
       let first : 114 ≡ 117 = ap (λ text. get_or text 0 0) whole in omega arith,
 )
 
--- the one line is run and the refusal written, or a beginning of it where the writer failed; or memory was refused, and nothing is written
-a_line_is_run : (IsRunOf cancels (Some []) (Some refused) (Ok tt)) × (IsCutRun (cancel ∷ []) [] (Some []) (Some (codes "refu")))
-    × (IsRunOf cancels (Some []) (Some (codes "refu")) (Err Device)) × (IsRunOf cancels (Some []) (Some []) (Err Memory))
-    × (IsRunOf cancels (Some []) (Some (codes "refu")) (Err Memory) → ⊥)
-a_line_is_run = (
-  (cancel ∷ [], refused, line_is_read, cancel_prints, refl),
-  (refused, cancel_prints.0, cancel_prints.1, a_beginning_is_written.0),
-  (cancel ∷ [], refused, line_is_read, cancel_prints, a_beginning_is_written.0),
-  refl,
-  λ h. absurd (cc),
-)
-
 -- where the second line is faulty the first isn't run either
 a_faulty_line_runs_nothing : (IsRunOf faulty (Some []) (Some []) (Err (BadEvent 2)))
     × (IsRunOf faulty (Some []) (Some refused) (Err (BadEvent 2)) → ⊥)
@@ -84,7 +70,7 @@ a_faulty_line_runs_nothing : (IsRunOf faulty (Some []) (Some []) (Err (BadEvent 
 a_faulty_line_runs_nothing = (
   (second_line_is_faulty, refl),
   λ h. let more = h.1 in absurd (cc),
-  λ h. let events = sym second_line_is_faulty ∙ h.2 in absurd (cc),
+  λ h. let events = sym second_line_is_faulty ∙ h.1.read in absurd (cc),
 )
 
 -- where nothing was read, for want of memory or since the reader failed, nothing is written and no line is at fault
@@ -93,69 +79,9 @@ nothing_is_read : (IsUnread (Some refused) (Some refused) (Err Memory)) × (IsUn
     × (IsUnread (Some []) (Some []) (Ok tt) → ⊥)
 nothing_is_read = (refl, refl, λ h. absurd (cc), λ h. h, λ h. h)
 
--- what the reader has left is run, where it is known; else it's the run of some text
-what_is_left_is_run : (IsRunFrom (Some cancels) (Some []) (Some refused) (Ok tt)) × (IsRunFrom None (Some []) (Some refused) (Ok tt))
-    × (IsRunFrom (Some faulty) (Some []) (Some []) (Err (BadEvent 2))) × (IsRunFrom (Some faulty) (Some []) (Some []) (Err Device))
-    × (IsRunFrom (Some cancels) (Some []) (Some []) (Err (BadEvent 2)) → ⊥)
-what_is_left_is_run = (
-  inl (cancels, refl, a_line_is_run.0),
-  inl (cancels, tt, a_line_is_run.0),
-  inl (faulty, refl, a_faulty_line_runs_nothing.0),
-  inr refl,
-  not_faulty,
-)
-  where
-    not_faulty : IsRunFrom (Some cancels) (Some []) (Some []) (Err (BadEvent 2)) → ⊥
-    not_faulty (inl (text, is, told)) = let answer = sym line_is_read ∙ ap purchasing_events_of (sym is) ∙ told.0 in absurd (cc)
-    not_faulty (inr h) = h
-
 -- what the writers hold
 abbrev hold : List ℕ → List ℕ → Writers
 hold out err = record { out = Some out; err = Some err }
-
--- status 0: the refusal stands on `out` and nothing on `err`; status 1: the faulty line is told on `err`, and nothing stands on `out`
-ends_have_a_status : (IsEndOf (Some cancels) (hold [] []) (hold refused []) 0)
-    × (IsEndOf (Some faulty) (hold [] []) (hold [] (codes "line 2: bad event\n")) 1)
-    × (IsEndOf (Some cancels) (hold [] []) (hold (codes "refu") (codes "fault 2 Device\n")) 1)
-    × (IsEndOf (Some cancels) (hold [] []) (hold refused []) 1 → ⊥)
-    × (IsEndOf (Some cancels) (hold [] []) (hold refused []) 2 → ⊥)
-    × (IsEndOf (Some cancels) (hold [] []) (hold [] refused) 0 → ⊥)
-ends_have_a_status = (
-  inl (refl, refl, what_is_left_is_run.0),
-  inr (refl, BadEvent 2, what_is_left_is_run.2, sym fault_is_told),
-  inr (refl, Device, inl (cancels, refl, a_line_is_run.2), refl),
-  silent,
-  λ h. elim h [ inl whole ↦ let status = whole.0 in absurd (cc) | inr fault ↦ let status = fault.0 in absurd (cc) ],
-  λ h. elim h [ inl whole ↦ let kept = whole.1 in absurd (cc) | inr fault ↦ let status = fault.0 in absurd (cc) ],
-)
-  where
-    nothing : (octet : ℕ) (octets : List ℕ) → [] ≡ octet ∷ octets → ⊥
-    nothing octet octets told = absurd (cc)
-
-    silent : IsEndOf (Some cancels) (hold [] []) (hold refused []) 1 → ⊥
-    silent (inl whole) = let status = whole.0 in absurd (cc)
-    silent (inr (status, BadEvent number, run, told)) = nothing _ _ told
-    silent (inr (status, Memory, run, told)) = nothing _ _ told
-    silent (inr (status, Device, run, told)) = nothing _ _ told
-
--- `err` failed while the faulty line was told: it holds a beginning of that, and the status is 1 as well
-an_end_is_told_in_part : (IsUntold (Some faulty) (hold [] []) (hold [] (codes "line")))
-    × (IsStatusOf (Some faulty) (hold [] []) (hold [] (codes "line")) 1)
-    × (IsStatusOf (Some cancels) (hold [] []) (hold refused []) 0)
-    × (IsStatusOf (Some faulty) (hold [] []) (hold [] (codes "line")) 2 → ⊥)
-an_end_is_told_in_part = (untold, inr (refl, untold), inl (ends_have_a_status.0), no_usage)
-  where
-    untold : IsUntold (Some faulty) (hold [] []) (hold [] (codes "line"))
-    untold = (
-      BadEvent 2,
-      what_is_left_is_run.2,
-      record { part = codes "line"; rest = codes " 2: bad event\n"; whole = fault_is_told; appended = refl },
-    )
-
-    no_usage : IsStatusOf (Some faulty) (hold [] []) (hold [] (codes "line")) 2 → ⊥
-    no_usage (inl (inl whole)) = let status = whole.0 in absurd (cc)
-    no_usage (inl (inr fault)) = let status = fault.0 in absurd (cc)
-    no_usage (inr part) = let status = part.0 in absurd (cc)
 
 -- ---- the words of the command line
 
@@ -213,16 +139,91 @@ streams input writers = record { input = Some input; writers = writers }
 abbrev faults_of : List (List ℕ) → Kinds
 faults_of words = fault_of command_line (codes "outbox-schedule" ∷ words)
 
--- with the name alone the schedule is run; with `--help` or `--version` it isn't, and the input is as it was
-only_a_run_reads : IsAnswered (faults_of []) (streams cancels (hold [] [])) (streams [] (hold refused [])) 0
-    × IsAnswered (faults_of (codes "--help" ∷ [])) (streams cancels (hold [] [])) (streams cancels (hold (codes "Runs\n") [])) 0
-    × IsAnswered (faults_of (codes "--version" ∷ [])) (streams cancels (hold [] []))
-    (streams cancels (hold (codes "outbox-schedule 0.1.0\n") [])) 0
-    × (IsAnswered (faults_of (codes "--help" ∷ [])) (streams cancels (hold [] [])) (streams [] (hold (codes "Runs\n") [])) 0 → ⊥)
-unfolding walk_fault defaults_fault
-only_a_run_reads = (
-  inl (refl, an_end_is_told_in_part.2),
-  inr (refl, words_are_answered.0),
-  inr (refl, inl (DisplayVersion, inl refl, inl (help_is_told.2))),
-  λ h. elim h [ inl run ↦ let none = run.0 in absurd (cc) | inr told ↦ let kept = told.0 in absurd (cc) ],
-)
+-- ---- a run of one line whose outcome is that refusal
+module _ (ran : HasRun (cancel ∷ []) (NotDone NotOpen ∷ [])) where
+  -- it is run and the refusal written, or a beginning of it where the writer failed; or memory was refused, and nothing is written
+  a_line_is_run : (IsRunOf cancels (Some []) (Some refused) (Ok tt)) × (IsRunOf cancels (Some []) (Some (codes "refu")) (Err Device))
+      × (IsRunOf cancels (Some []) (Some []) (Err Memory))
+  a_line_is_run = (
+    (NotDone NotOpen ∷ [], record { events = cancel ∷ []; read = line_is_read; ran = ran }, sym refusal_is_told),
+    (
+      NotDone NotOpen ∷ [],
+      record { events = cancel ∷ []; read = line_is_read; ran = ran },
+      subst (λ t. AppendsPart (Some []) (Some (codes "refu")) t) (sym refusal_is_told) a_beginning_is_written.0,
+    ),
+    inl refl,
+  )
+
+  -- what the reader has left is run, where it is known; else it's the run of some text
+  what_is_left_is_run : (IsRunFrom (Some cancels) (Some []) (Some refused) (Ok tt)) × (IsRunFrom None (Some []) (Some refused) (Ok tt))
+      × (IsRunFrom (Some faulty) (Some []) (Some []) (Err (BadEvent 2))) × (IsRunFrom (Some faulty) (Some []) (Some []) (Err Device))
+      × (IsRunFrom (Some cancels) (Some []) (Some []) (Err (BadEvent 2)) → ⊥)
+  what_is_left_is_run = (
+    inl (cancels, refl, a_line_is_run.0),
+    inl (cancels, tt, a_line_is_run.0),
+    inl (faulty, refl, a_faulty_line_runs_nothing.0),
+    inr refl,
+    not_faulty,
+  )
+    where
+      not_faulty : IsRunFrom (Some cancels) (Some []) (Some []) (Err (BadEvent 2)) → ⊥
+      not_faulty (inl (text, is, told)) = let answer = sym line_is_read ∙ ap events_of (sym is) ∙ told.0 in absurd (cc)
+      not_faulty (inr h) = h
+
+  -- status 0: the refusal stands on `out` and nothing on `err`; status 1: the faulty line is told on `err`, and nothing stands on `out`
+  ends_have_a_status : (IsEndOf (Some cancels) (hold [] []) (hold refused []) 0)
+      × (IsEndOf (Some faulty) (hold [] []) (hold [] (codes "line 2: bad event\n")) 1)
+      × (IsEndOf (Some cancels) (hold [] []) (hold (codes "refu") (codes "fault 2 Device\n")) 1)
+      × (IsEndOf (Some cancels) (hold [] []) (hold refused []) 1 → ⊥)
+      × (IsEndOf (Some cancels) (hold [] []) (hold refused []) 2 → ⊥)
+      × (IsEndOf (Some cancels) (hold [] []) (hold [] refused) 0 → ⊥)
+  ends_have_a_status = (
+    inl (refl, refl, what_is_left_is_run.0),
+    inr (refl, BadEvent 2, what_is_left_is_run.2, sym fault_is_told),
+    inr (refl, Device, inl (cancels, refl, a_line_is_run.1), refl),
+    silent,
+    λ h. elim h [ inl whole ↦ let status = whole.0 in absurd (cc) | inr fault ↦ let status = fault.0 in absurd (cc) ],
+    λ h. elim h [ inl whole ↦ let kept = whole.1 in absurd (cc) | inr fault ↦ let status = fault.0 in absurd (cc) ],
+  )
+    where
+      nothing : (octet : ℕ) (octets : List ℕ) → [] ≡ octet ∷ octets → ⊥
+      nothing octet octets told = absurd (cc)
+
+      silent : IsEndOf (Some cancels) (hold [] []) (hold refused []) 1 → ⊥
+      silent (inl whole) = let status = whole.0 in absurd (cc)
+      silent (inr (status, BadEvent number, run, told)) = nothing _ _ told
+      silent (inr (status, Memory, run, told)) = nothing _ _ told
+      silent (inr (status, Device, run, told)) = nothing _ _ told
+
+  -- `err` failed while the faulty line was told: it holds a beginning of that, and the status is 1 as well
+  an_end_is_told_in_part : (IsUntold (Some faulty) (hold [] []) (hold [] (codes "line")))
+      × (IsStatusOf (Some faulty) (hold [] []) (hold [] (codes "line")) 1)
+      × (IsStatusOf (Some cancels) (hold [] []) (hold refused []) 0)
+      × (IsStatusOf (Some faulty) (hold [] []) (hold [] (codes "line")) 2 → ⊥)
+  an_end_is_told_in_part = (untold, inr (refl, untold), inl (ends_have_a_status.0), no_usage)
+    where
+      untold : IsUntold (Some faulty) (hold [] []) (hold [] (codes "line"))
+      untold = (
+        BadEvent 2,
+        what_is_left_is_run.2,
+        record { part = codes "line"; rest = codes " 2: bad event\n"; whole = fault_is_told; appended = refl },
+      )
+
+      no_usage : IsStatusOf (Some faulty) (hold [] []) (hold [] (codes "line")) 2 → ⊥
+      no_usage (inl (inl whole)) = let status = whole.0 in absurd (cc)
+      no_usage (inl (inr fault)) = let status = fault.0 in absurd (cc)
+      no_usage (inr part) = let status = part.0 in absurd (cc)
+
+  -- with the name alone the schedule is run; with `--help` or `--version` it isn't, and the input is as it was
+  only_a_run_reads : IsAnswered (faults_of []) (streams cancels (hold [] [])) (streams [] (hold refused [])) 0
+      × IsAnswered (faults_of (codes "--help" ∷ [])) (streams cancels (hold [] [])) (streams cancels (hold (codes "Runs\n") [])) 0
+      × IsAnswered (faults_of (codes "--version" ∷ [])) (streams cancels (hold [] []))
+      (streams cancels (hold (codes "outbox-schedule 0.1.0\n") [])) 0
+      × (IsAnswered (faults_of (codes "--help" ∷ [])) (streams cancels (hold [] [])) (streams [] (hold (codes "Runs\n") [])) 0 → ⊥)
+  unfolding walk_fault defaults_fault
+  only_a_run_reads = (
+    inl (refl, an_end_is_told_in_part.2),
+    inr (refl, words_are_answered.0),
+    inr (refl, inl (DisplayVersion, inl refl, inl (help_is_told.2))),
+    λ h. elim h [ inl run ↦ let none = run.0 in absurd (cc) | inr told ↦ let kept = told.0 in absurd (cc) ],
+  )

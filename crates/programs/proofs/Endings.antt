@@ -1,41 +1,57 @@
 -- How a schedule ends.
-use Rattle.std.proofs.Common.{◌≡◌, ◌⊎◌, ℕ, List, [], Option, Result, Ok, Err, inl, inr, refl, sym, subst, ◌∙◌}
+use Rattle.std.proofs.Common.{◌≡◌, ◌⊎◌, ℕ, List, length, take, Option, Result, Ok, Err, inl, inr, refl, sym, subst, ◌∙◌, arith}
+use Rattle.std.proofs.lemmas.List.{take_all}
 use Rattle.std.specs.Prelude.{IfSome, IfOk, OnErr, MatchResult}
 use Rattle.std.specs.Global.{Vec}
 use Rattle.std.specs.Io.KnownBytes.{Appends}
-use Rattle.schedules.specs.declared.event.PurchasingEvent.{PurchasingEvent}
+use Rattle.schedules.specs.declared.event.Event.{Event}
+use Rattle.schedules.specs.declared.outcome.Outcome.{Outcome}
 use Rattle.schedules.specs.declared.fault.ScheduleFault.{ScheduleFault}
 use Rattle.schedules.specs.declared.fault.ScheduleFault.TheVariants as read
 use Rattle.programs.specs.declared.fault.RunFault.{RunFault}
 use Rattle.programs.specs.declared.fault.RunFault.TheVariants.{Memory, Device}
 use Rattle.programs.specs.RunFaults.{run_fault_of}
-use Rattle.schedules.specs.Alone.{purchasing_events_of}
+use Rattle.schedules.specs.Events.{events_of}
 use Rattle.schedules.specs.Faults.{IsRead}
-use Rattle.programs.specs.Runs.{Orders, IsRun}
-use Rattle.programs.specs.Ends.{fault_line, IsCutRun, IsRunOf, IsRunFrom}
+use Rattle.programs.specs.Runs.{HasRun, HasBegun}
+use Rattle.programs.specs.Ends.{fault_line, lines_of, IsRunOf, IsRunFrom}
 use Rattle.programs.specs.Written.{AppendsPart}
 use Rattle.programs.specs.Usage.{IsStatusOf}
 use Rattle.std.specs.declared.io.Error.{Error}
 
 -- a schedule that can't be read
-pub unread : (text : List ℕ) (out : Option (List ℕ)) (fault : ScheduleFault) → IsRead (purchasing_events_of text) (Err fault)
+pub unread : (text : List ℕ) (out : Option (List ℕ)) (fault : ScheduleFault) → IsRead (events_of text) (Err fault)
     → IsRunOf text out out (Err (run_fault_of fault))
 unread text out (read.BadEvent number) told = (told, refl)
-unread text out read.Memory told = refl
+unread text out read.Memory told = inl refl
 
--- a run that begins with nothing
-pub ran_whole : (text : List ℕ) (events : Vec PurchasingEvent) (out out' : Option (List ℕ)) (journal after : Orders) (told : List ℕ)
-    → IsRead (purchasing_events_of text) (Ok events) → journal ≡ [] → Appends out out' told → IsRun events.items journal told after
-    → IsRunOf text out out' (Ok tt)
-ran_whole text events out out' journal after told read none writes run =
-    (events.items, told, read, (after, subst (λ (j : Orders). IsRun events.items j told after) none run), writes)
+-- all events were made, and their outcomes written
+pub ran_whole : (text : List ℕ) (events : Vec Event) (outcomes : List Outcome) (out out' : Option (List ℕ))
+    → IsRead (events_of text) (Ok events) → HasBegun events.items outcomes → length outcomes ≡ length events.items
+    → Appends out out' (lines_of outcomes) → IsRunOf text out out' (Ok tt)
+ran_whole text events outcomes out out' read begun all writes =
+    let whole : take (length outcomes) events.items ≡ events.items = take_all (length outcomes) events.items (omega (arith, all)) in
+    (outcomes, record { events = events.items; read = read; ran = subst (λ es. HasRun es outcomes) whole begun }, writes)
 
--- a run that the writer cut off
-pub ran_cut : (text : List ℕ) (events : Vec PurchasingEvent) (out out' : Option (List ℕ)) (journal : Orders)
-    → IsRead (purchasing_events_of text) (Ok events) → journal ≡ [] → IsCutRun events.items journal out out'
+-- memory was refused behind some of the events, and their outcomes are written
+pub ran_part : (text : List ℕ) (events : Vec Event) (outcomes : List Outcome) (out out' : Option (List ℕ))
+    → IsRead (events_of text) (Ok events) → HasBegun events.items outcomes → Appends out out' (lines_of outcomes)
+    → IsRunOf text out out' (Err Memory)
+ran_part text events outcomes out out' read begun writes =
+    inr (outcomes, record { events = events.items; read = read; ran = begun }, writes)
+
+-- the writer failed
+pub ran_cut : (text : List ℕ) (events : Vec Event) (outcomes : List Outcome) (out out' : Option (List ℕ))
+    → IsRead (events_of text) (Ok events) → HasBegun events.items outcomes → AppendsPart out out' (lines_of outcomes)
     → IsRunOf text out out' (Err Device)
-ran_cut text events out out' journal read none cut =
-    (events.items, cut.0, read, (cut.1, subst (λ (j : Orders). IsRun events.items j cut.0 cut.1) none cut.2), cut.3)
+ran_cut text events outcomes out out' read begun part = (outcomes, record { events = events.items; read = read; ran = begun }, part)
+
+-- there was no room for an outcome
+pub ran_short : (text : List ℕ) (events : Vec Event) (outcomes : List Outcome) (out out' : Option (List ℕ))
+    → IsRead (events_of text) (Ok events) → HasBegun events.items outcomes → Appends out out' (lines_of outcomes)
+    → IsRunOf text out out' (Err Memory)
+ran_short text events outcomes out out' read begun writes =
+    inr (outcomes, record { events = events.items; read = read; ran = begun }, writes)
 
 -- a run of the text that was read is one of what the reader had left
 pub from_text : (input : Option (List ℕ)) (text : List ℕ) (out out' : Option (List ℕ)) (r : Result Unit RunFault)

@@ -1,7 +1,11 @@
 -- Octets that a writer takes piece by piece.
-use Rattle.std.proofs.Common.{ℕ, List, [], ◌++◌, Option, Some, None, sym, ap, ◌∙◌, append_assoc}
+use Rattle.std.proofs.Common.{◌≡◌, ℕ, ◌+◌, ◌<◌, List, [], ◌∷◌, ◌++◌, length, get_or, take, drop, Option, Some, None, sym, ap, subst, ◌∙◌}
+use Rattle.std.proofs.Common.{append_assoc, take-append-drop}
+use Rattle.std.specs.List.{flat_map}
 use Rattle.std.specs.Prelude.{Result, Ok, Err, OnOk, OnErr}
-use Rattle.std.proofs.lemmas.List.{append-nil}
+use Rattle.std.proofs.lemmas.List.{take_more, append-nil}
+use Rattle.std.proofs.lemmas.List.Concat.{flat_map-append}
+use Rattle.std.proofs.lemmas.Result.{on_err_weaker}
 use Rattle.std.specs.Io.KnownBytes.{Appends, Keeps}
 use Rattle.programs.specs.Written.{AppendsPart}
 
@@ -63,3 +67,40 @@ part_keeps a b c x p kept = record { part = p.part; rest = p.rest; whole = p.who
 pub on_err_always : {T E P : Type 0} (r : Result T E) → P → OnErr r P
 on_err_always (Ok x) p = tt
 on_err_always (Err e) p = p
+
+-- ---- three writes
+
+pub first_of_three : (a b : Option (List ℕ)) (x y z : List ℕ) → AppendsPart a b x → AppendsPart a b (x ++ y ++ z)
+first_of_three a b x y z p = part_first a b (x ++ y) z (part_first a b x y p)
+
+pub second_of_three : (a b c : Option (List ℕ)) (x y z : List ℕ) → Appends a b x → AppendsPart b c y → AppendsPart a c (x ++ y ++ z)
+second_of_three a b c x y z first p = part_first a c (x ++ y) z (part_then a b c x y first p)
+
+pub third_of_three : {T E : Type 0} (a b c d : Option (List ℕ)) (x y z : List ℕ) (r : Result T E) → Appends a b x → Appends b c y
+    → OnErr r (AppendsPart c d z) → OnErr r (AppendsPart a d (x ++ y ++ z))
+third_of_three a b c d x y z r first second third =
+    on_err_weaker r (λ p. part_then a c d (x ++ y) z (appends_then a b c x y first second) p) third
+
+-- ---- one write after another
+
+-- one item more
+flat_more : {X : Type 0} (f : X → List ℕ) (xs : List X) (i : ℕ) (d x : X) → i < length xs → x ≡ get_or xs i d
+    → flat_map f (take (i + 1) xs) ≡ flat_map f (take i xs) ++ f x
+flat_more f xs i d x lt at = rw (take_more xs i d lt)
+    (flat_map-append f (take i xs) (get_or xs i d ∷ []) ∙ ap (λ (t : List ℕ). flat_map f (take i xs) ++ t) (append-nil (f (get_or xs i d)))
+    ∙ ap (λ y. flat_map f (take i xs) ++ f y) (sym at))
+
+pub appends_more : {X : Type 0} (f : X → List ℕ) (xs : List X) (i : ℕ) (d x : X) (a b c : Option (List ℕ)) → i < length xs
+    → x ≡ get_or xs i d → Appends a b (flat_map f (take i xs)) → Appends b c (f x) → Appends a c (flat_map f (take (i + 1) xs))
+appends_more f xs i d x a b c lt at so_far next =
+    subst (Appends a c) (sym (flat_more f xs i d x lt at)) (appends_then a b c (flat_map f (take i xs)) (f x) so_far next)
+
+-- a beginning that ends within an item is one of all
+pub part_of_all : {X : Type 0} (f : X → List ℕ) (xs : List X) (i : ℕ) (d x : X) (a b c : Option (List ℕ)) → i < length xs
+    → x ≡ get_or xs i d → Appends a b (flat_map f (take i xs)) → AppendsPart b c (f x) → AppendsPart a c (flat_map f xs)
+part_of_all f xs i d x a b c lt at so_far p =
+    let behind = flat_map f (drop (i + 1) xs) in
+    let upto : flat_map f (take i xs) ++ f x ++ behind ≡ flat_map f xs =
+    ap (λ t. t ++ behind) (sym (flat_more f xs i d x lt at)) ∙ sym (flat_map-append f (take (i + 1) xs) (drop (i + 1) xs))
+    ∙ ap (flat_map f) (take-append-drop (i + 1) xs) in
+    subst (AppendsPart a c) upto (second_of_three a b c (flat_map f (take i xs)) (f x) behind so_far p)

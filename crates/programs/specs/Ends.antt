@@ -1,11 +1,14 @@
 -- How a whole schedule ends.
 use Rattle.std.specs.Prelude.{◌≡◌, ◌⊎◌, ℕ, List, ◌++◌, codes, decimal, Option, Result, Ok, Err, IfSome}
+use Rattle.std.specs.List.{flat_map}
 use Rattle.std.specs.Io.KnownBytes.{Appends}
-use Rattle.schedules.specs.declared.event.PurchasingEvent.{PurchasingEvent}
+use Rattle.schedules.specs.declared.event.Event.{Event}
+use Rattle.schedules.specs.declared.outcome.Outcome.{Outcome}
+use Rattle.schedules.specs.Events.{events_of}
+use Rattle.schedules.specs.Outcomes.{outcome_lines}
 use Rattle.programs.specs.declared.fault.RunFault.{RunFault}
 use Rattle.programs.specs.declared.fault.RunFault.TheVariants.{BadEvent, Memory, Device}
-use Rattle.schedules.specs.Alone.{purchasing_events_of}
-use Rattle.programs.specs.Runs.{Orders, IsRun, Prints}
+use Rattle.programs.specs.Runs.{HasRun, HasBegun}
 use Rattle.programs.specs.Written.{AppendsPart}
 
 -- the line that tells a fault
@@ -14,20 +17,31 @@ fault_line (BadEvent number) = codes "line " ++ decimal number ++ codes ": bad e
 fault_line Memory = codes "fault 81 Memory\n"
 fault_line Device = codes "fault 2 Device\n"
 
--- the writer took a beginning of what a run of these events tells
-abbrev pub IsCutRun : List PurchasingEvent → Orders → Option (List ℕ) → Option (List ℕ) → Type 0
-IsCutRun events journal old new = (told : List ℕ) × (after : Orders) × IsRun events journal told after × AppendsPart old new told
+-- the lines that tell outcomes, in order
+abbrev pub lines_of : List Outcome → List ℕ
+lines_of outcomes = flat_map outcome_lines outcomes
 
--- What running a text answers, over the known octets of the writer before it and after it: the events of the text are run and what they
--- print is written, or a beginning of it where the writer failed; or the first faulty line is told, and nothing is written; or memory was
--- refused before the first line ran.
+-- the events of a text, the first of which were made, with these outcomes
+pub record BeginsRun (text : List ℕ) (outcomes : List Outcome) : Type 0 where
+  pub events : List Event
+  pub read : events_of text ≡ Ok events
+  pub ran : HasBegun events outcomes
+
+-- the events of a text, all of which were made, with these outcomes
+pub record RunsWhole (text : List ℕ) (outcomes : List Outcome) : Type 0 where
+  pub events : List Event
+  pub read : events_of text ≡ Ok events
+  pub ran : HasRun events outcomes
+
+-- What running a text answers, over the known octets of the writer before it and after it: its events are made and their outcomes written;
+-- or the writer failed, and took a beginning of the outcomes of the first events; or the first faulty line is told, and nothing is written;
+-- or memory was refused, before the first event or before a later one, and the outcomes of those before it are written.
 abbrev pub IsRunOf : List ℕ → Option (List ℕ) → Option (List ℕ) → Result Unit RunFault → Type 0
-IsRunOf text old new (Ok _) = (events : List PurchasingEvent) × (told : List ℕ) × (purchasing_events_of text ≡ Ok events)
-    × Prints events told × Appends old new told
-IsRunOf text old new (Err (BadEvent number)) = (purchasing_events_of text ≡ Err number) × (new ≡ old)
-IsRunOf text old new (Err Memory) = new ≡ old
-IsRunOf text old new (Err Device) = (events : List PurchasingEvent) × (told : List ℕ) × (purchasing_events_of text ≡ Ok events)
-    × Prints events told × AppendsPart old new told
+IsRunOf text old new (Ok _) = (outcomes : List Outcome) × RunsWhole text outcomes × Appends old new (lines_of outcomes)
+IsRunOf text old new (Err (BadEvent number)) = (events_of text ≡ Err number) × (new ≡ old)
+IsRunOf text old new (Err Memory) =
+    (new ≡ old) ⊎ ((outcomes : List Outcome) × BeginsRun text outcomes × Appends old new (lines_of outcomes))
+IsRunOf text old new (Err Device) = (outcomes : List Outcome) × BeginsRun text outcomes × AppendsPart old new (lines_of outcomes)
 
 -- nothing was read, for want of memory or since the reader failed; nothing is written
 abbrev pub IsUnread : Option (List ℕ) → Option (List ℕ) → Result Unit RunFault → Type 0
@@ -44,8 +58,7 @@ pub record Writers : Type 0 where
   pub out : Option (List ℕ)
   pub err : Option (List ℕ)
 
--- With status 0 the schedule was run whole: what its events print is written to `out`, and nothing to `err`. With status 1 a fault is
--- told on `err`, and unless the device failed nothing is written to `out`.
+-- With status 0 the schedule was run whole: its outcomes are written to `out`, and nothing to `err`. With status 1 a fault is told on `err`.
 abbrev pub IsEndOf : Option (List ℕ) → Writers → Writers → ℕ → Type 0
 IsEndOf input old new status =
     ((status ≡ 0) × (new.err ≡ old.err) × IsRunFrom input old.out new.out (Ok tt))

@@ -1,4 +1,3 @@
-pub mod Printed
 pub mod RunFaults
 pub mod Runs
 pub mod Written

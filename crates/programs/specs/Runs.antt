@@ -1,116 +1,79 @@
--- What running events tells, over the journal of purchasing.
-use Rattle.std.specs.Prelude.{◌≡◌, ◌≢◌, ℕ, ◌-◌, ◌≤◌, ◌^◌, List, [], ◌∷◌, ◌++◌, codes, decimal, length, Option, None, is_none, Result, Ok}
-use Rattle.std.specs.Prelude.{Err}
-use Rattle.std.specs.Global.{Vec}
-use Rattle.std.specs.Option.{option_flatten}
-use Rattle.base.specs.Entity.{Name}
-use Rattle.base.specs.declared.entity.Kind.TheVariants.{Order}
-use Rattle.envelope.specs.declared.message.Letter.{Letter}
+-- What running events tells: three services over tables in memory, and the mail between them.
+use Rattle.std.specs.Prelude.{◌≡◌, false, List, length, take, Option, None}
+use Rattle.activities.specs.Accounts.{AccountState}
+use Rattle.activities.specs.Orders.{OrderState}
+use Rattle.activities.specs.Stocks.{StockState}
+use Rattle.activities.specs.declared.commands.AccountCommand.{AccountCommand}
 use Rattle.activities.specs.declared.commands.OrderCommand.{OrderCommand}
-use Rattle.activities.specs.declared.input.Input.TheVariants.{FromSeat}
-use Rattle.activities.specs.declared.input.JournalRow.{JournalRow}
-use Rattle.activities.specs.Rows.{row_of}
-use Rattle.activities.specs.Orders.{OrderState, order_reactions}
-use Rattle.activities.specs.Service.{Service}
-use Rattle.activities.specs.Faults.{refusal_number}
-use Rattle.keep.specs.Listing.{AreFirst}
-use Rattle.keep.specs.Tables.{Tables}
-use Rattle.endpoint.specs.declared.fault.EndFault.{EndFault}
-use Rattle.endpoint.specs.declared.fault.EndFault.TheVariants.{NotMine, Business, StoreFailed, Memory, Unusable}
-use Rattle.endpoint.specs.Faults.{end_fault_number}
+use Rattle.activities.specs.declared.commands.StockCommand.{StockCommand}
+use Rattle.purchasing.specs.declared.orders.Orders.{Orders}
+use Rattle.warehouse.specs.declared.stocks.Stocks.{Stocks}
+use Rattle.billing.specs.declared.accounts.Accounts.{Accounts}
+use Rattle.keep.specs.Failing.{Failing}
+use Rattle.keep.specs.Seen.{Seen}
+use Rattle.keep.specs.Tables.{Tables, empty}
+use Rattle.keep_plain.specs.Memory.{in_memory, tables_of}
+use Rattle.keep_plain.specs.declared.plain.PlainKeep.{PlainKeep}
 use Rattle.endpoint.specs.Matches.{TablesMatchJournal}
-use Rattle.outbox.specs.Rows.{unsettled_of}
-use Rattle.endpoint.specs.Answers.{CommitAt}
-use Rattle.schedules.specs.declared.event.PurchasingEvent.{PurchasingEvent}
-use Rattle.schedules.specs.declared.event.PurchasingEvent.TheVariants as event
-use Rattle.schedules.specs.declared.event.SeatCommand.{SeatCommand}
-use Rattle.programs.specs.declared.running.Outcome.{Outcome}
-use Rattle.programs.specs.declared.running.Outcome.TheVariants.{Committed, Refused, Shown}
-use Rattle.programs.specs.Printed.{show_line, row_lines, frame_lines}
+use Rattle.schedules.specs.declared.event.Event.{Event}
+use Rattle.schedules.specs.declared.outcome.Outcome.{Outcome}
+use Rattle.mail.specs.Offices.{new_office}
+use Rattle.schedule_runner.specs.Paths.{IsPath, Makes}
+use Rattle.accord.specs.Sight.{AllTables, orders_service, stocks_service, accounts_service}
+use Rattle.schedule_runner.specs.Steps.{Happened}
+use Rattle.schedule_runner.specs.Told.{AllTold}
+use Rattle.schedule_runner.specs.declared.world.World.{World}
 
--- what purchasing took in, in order
-abbrev pub Orders : Type 0
-Orders = List (JournalRow OrderCommand)
+-- tables in memory, as the store's callers see them
+abbrev pub plain : {H S C : Type 0} → PlainKeep H S C → Seen (Tables S C)
+plain k = in_memory k.maps
 
--- the service purchasing: orders
-abbrev pub orders_service : Service (Option OrderState) OrderCommand
-orders_service = record { kind = Order; reactions = order_reactions; is_none = is_none }
+-- three services, each over tables in memory
+abbrev pub PlainWorld : Type 0
+PlainWorld = World (PlainKeep Orders (Option OrderState) OrderCommand) (PlainKeep Stocks StockState StockCommand)
+    (PlainKeep Accounts AccountState AccountCommand)
 
--- the tables are those of their journal, nothing is settled, and the journal is within its limit
-pub record IsSound (t : Tables (Option OrderState) OrderCommand) : Type 0 where
-  pub matches : TablesMatchJournal orders_service t
-  pub unsettled : t.settled ≡ (λ _. 0)
-  pub few : length t.journal ≤ 2 ^ 40
+-- the tables of all three
+abbrev pub plain_tables : PlainWorld → AllTables
+plain_tables world = record {
+  purchasing = tables_of world.purchasing.endpoint.keep;
+  warehouse = tables_of world.warehouse.endpoint.keep;
+  billing = tables_of world.billing.endpoint.keep;
+}
 
--- a seat's command to an order, as a row of the journal
-abbrev pub order_row : SeatCommand OrderCommand → JournalRow OrderCommand
-order_row asked = record { entity = asked.entity; input = FromSeat asked.seat asked.command }
+-- no tables have anything
+abbrev pub no_tables : AllTables
+no_tables = record { purchasing = empty; warehouse = empty; billing = empty }
 
--- A command is taken in or refused, as the reaction of its order answers. Want of memory changes nothing; tables in memory don't fail.
-abbrev pub IsTaken : JournalRow OrderCommand → Orders → Result ℕ EndFault → Orders → Type 0
-IsTaken row journal (Ok pos) after = CommitAt order_reactions Order journal row (Ok (record { pos = pos })) after
-IsTaken row journal (Err StoreFailed) after = ⊥
-IsTaken row journal (Err Unusable) after = ⊥
-IsTaken row journal (Err Memory) after = after ≡ journal
-IsTaken row journal (Err fault) after = CommitAt order_reactions Order journal row (Err fault) after
+-- a store that did nothing yet, of which no call is to fail
+pub record IsFresh {K : Type 0} (store : Failing K) : Type 0 where
+  pub armed : store.armed ≡ None
+  pub is_up : store.is_down ≡ false
 
--- what is shown of an order is its row; an entity of another kind is none of purchasing's
-abbrev pub IsShow : Name → Orders → Result (Vec ℕ) EndFault → Orders → Type 0
-IsShow e journal (Ok line) after = (after ≡ journal) × (e.kind ≡ Order)
-    × (line.items ≡ show_line e (option_flatten (row_of orders_service journal e)))
-IsShow e journal (Err NotMine) after = (after ≡ journal) × (e.kind ≢ Order)
-IsShow e journal (Err Memory) after = after ≡ journal
-IsShow e journal (Err _) after = ⊥
+-- where a schedule begins: all tables are empty, no connection is open, and the broker accepted nothing
+pub record IsBeginning (world : PlainWorld) : Type 0 where
+  pub tables : plain_tables world ≡ no_tables
+  pub stores : IsFresh world.purchasing.endpoint × IsFresh world.warehouse.endpoint × IsFresh world.billing.endpoint
+  pub purchasing : (world.purchasing.zero ≡ None) × (world.purchasing.one ≡ None)
+  pub warehouse : (world.warehouse.zero ≡ None) × (world.warehouse.one ≡ None)
+  pub billing : (world.billing.zero ≡ None) × (world.billing.one ≡ None)
+  pub mail : world.mail ≡ new_office
 
--- the frames of all messages that the journal sends, in order of pair and number
-abbrev pub IsFrames : Orders → Result (Vec ℕ) EndFault → Orders → Type 0
-IsFrames journal (Ok lines) after = (after ≡ journal) × (letters : List Letter)
-    × AreFirst (unsettled_of order_reactions journal (λ _. 0)) None (2 ^ 64 - 1) letters × (lines.items ≡ frame_lines letters)
-IsFrames journal (Err Memory) after = after ≡ journal
-IsFrames journal (Err _) after = ⊥
+-- the tables of each service match its journal
+abbrev pub AllTablesMatch : AllTables → Type 0
+AllTablesMatch t = TablesMatchJournal orders_service t.purchasing × TablesMatchJournal stocks_service t.warehouse
+    × TablesMatchJournal accounts_service t.billing
 
--- all rows of the journal
-abbrev pub IsJournal : Orders → Result (Vec ℕ) EndFault → Orders → Type 0
-IsJournal journal (Ok lines) after = (after ≡ journal) × (lines.items ≡ row_lines journal)
-IsJournal journal (Err Memory) after = after ≡ journal
-IsJournal journal (Err _) after = ⊥
+-- These events were made one after another, each with its outcome: what happened is what the outcomes say, step by step. In the end the
+-- tables match the journals, and the commands that stand in these are those that the outcomes tell.
+pub record HasRun (events : List Event) (outcomes : List Outcome) : Type 0 where
+  pub first : PlainWorld
+  pub last : PlainWorld
+  pub began : IsBeginning first
+  pub happened : IsPath (Makes (Happened plain plain plain)) events outcomes first last
+  pub matching : AllTablesMatch (plain_tables last)
+  pub told : ∥ AllTold events outcomes no_tables (plain_tables last) ∥₁
 
--- an outcome as the answer of a command: committed or refused
-abbrev pub IsTakenAs : JournalRow OrderCommand → Orders → Outcome → Orders → Type 0
-IsTakenAs row journal (Committed pos) after = IsTaken row journal (Ok pos) after
-IsTakenAs row journal (Refused fault) after = IsTaken row journal (Err fault) after
-IsTakenAs row journal (Shown lines) after = ⊥
-
--- an outcome as the answer of a look: refused or shown
-abbrev pub IsShown : (Result (Vec ℕ) EndFault → Orders → Type 0) → Outcome → Orders → Type 0
-IsShown Answers (Committed pos) after = ⊥
-IsShown Answers (Refused fault) after = Answers (Err fault) after
-IsShown Answers (Shown lines) after = Answers (Ok lines) after
-
--- what an event tells over the journal, and the journal after it
-abbrev pub Tells : PurchasingEvent → Orders → Outcome → Orders → Type 0
-Tells (event.Order asked) journal outcome after = IsTakenAs (order_row asked) journal outcome after
-Tells (event.Show e) journal outcome after = IsShown (IsShow e journal) outcome after
-Tells event.Frames journal outcome after = IsShown (IsFrames journal) outcome after
-Tells event.Journal journal outcome after = IsShown (IsJournal journal) outcome after
-
--- the number of a refusal, and of the business refusal in it
-abbrev pub shown_fault : EndFault → List ℕ
-shown_fault (Business refusal) = codes "61 " ++ decimal (refusal_number refusal)
-shown_fault fault = decimal (end_fault_number fault)
-
--- the lines that tell an outcome
-abbrev pub printed : Outcome → List ℕ
-printed (Committed pos) = codes "committed " ++ decimal pos ++ 10 ∷ []
-printed (Refused fault) = codes "refused " ++ shown_fault fault ++ 10 ∷ []
-printed (Shown lines) = lines.items
-
--- a run of events: each tells its lines over the journal that the one before it leaves
-abbrev pub IsRun : List PurchasingEvent → Orders → List ℕ → Orders → Type 0
-IsRun [] journal text after = (text ≡ []) × (after ≡ journal)
-IsRun (event ∷ events) journal text after = (outcome : Outcome) × (between : Orders) × (rest : List ℕ)
-    × Tells event journal outcome between × (text ≡ printed outcome ++ rest) × IsRun events between rest after
-
--- a whole run, which begins with an empty journal
-abbrev pub Prints : List PurchasingEvent → List ℕ → Type 0
-Prints events text = (after : Orders) × IsRun events [] text after
+-- so many of the first events were made as there are outcomes
+abbrev pub HasBegun : List Event → List Outcome → Type 0
+HasBegun events outcomes = HasRun (take (length outcomes) events) outcomes

@@ -7,7 +7,8 @@ ghost use Rattle.programs.specs.Usage.{command_line, is_request, IsStatusOf, IsU
 ghost use Rattle.programs.specs.Written.{AppendsPart};
 
 use crate::fault::RunFault;
-use crate::schedule::{run_input, tell_fault, write_octets};
+use crate::schedule::{run_input, tell_fault};
+use crate::writing::write_octets;
 use clap::error::ErrorKind;
 use clap::{Command, Error};
 use std::alloc::Global;
@@ -23,27 +24,57 @@ const LINES: &str = "\
 Lines of a schedule:
   place SEAT KEY STOCK N ACCOUNT AMOUNT  an order asks for N of a stock and AMOUNT of an account
   cancel SEAT KEY                        cancels an order
+  receive SEAT KEY N                     N of a stock came in
+  limit SEAT KEY N                       the limit of an account is N from now on
+  open SERVICE CONN                      opens a connection to the broker
+  cut SERVICE CONN                       cuts it: what is on its way is lost
+  fill SERVICE CONN LIMIT                sends letters that are due, at most LIMIT
+  resend SERVICE CONN                    all letters that aren't settled are due again
+  carry SERVICE CONN up MOST             moves octets to the broker, at most MOST
+  carry SERVICE CONN down MOST           moves octets from the broker, at most MOST
+  take SERVICE CONN                      handles one frame that came
+  drain SERVICE CONN                     handles the first held letter whose turn has come
+  repeat K                               what a broker accepted as the K-th is sent again
+  fail SERVICE N old                     the N-th call of its store fails and changes nothing
+  fail SERVICE N new                     the N-th call of its store fails and has changed all
+  reopen SERVICE                         opens its store anew
+  stop SERVICE                           stops it and starts it again
+  stop broker                            a new broker begins: all messages are lost
+  pump N                                 runs N rounds, 1 to 100, in which each service sends, takes
+                                         and drains
   show KIND/KEY                          shows an entity's row, as order/o1
-  frames purchasing                      shows the frames that purchasing is to send
-  journal purchasing                     shows what purchasing took in
+  pair KIND/KEY KIND/KEY                 shows how many letters were sent, settled and handled
+  frames SERVICE                         shows the frames that it is to send
+  journal SERVICE                        shows what it took in
 
-SEAT is 0 to 15. A key has 1 to 64 octets, with \\s for a space, \\n for LF, \\r for CR and \\\\ for a
-backslash. Empty lines and lines that begin with # are passed over. The service begins with empty
-tables, and they end with the run.
+SERVICE is purchasing, warehouse or billing, CONN is 0 or 1, SEAT is 0 to 15. A key has 1 to 64
+octets, with \\s for a space, \\n for LF, \\r for CR and \\\\ for a backslash. Empty lines and lines that
+begin with # are passed over. The services begin with empty tables, which end with the run.
 
-What a command is answered:
-  committed POS  it was taken in, at this position of the journal
-  refused 60     NotMine: the entity isn't an order
-  refused 61 70  AlreadyPlaced: the order was placed before
-  refused 61 71  NotOpen: the order isn't open
-  refused 61 72  OutOfRange: N or AMOUNT isn't from 1 to 1099511627776
-  refused 64     Memory: out of memory; nothing has changed
-  refused 66     NumberLimit: no position or number is left
+What a line is answered, where nothing is shown:
+  committed POS, handled POS             taken in, at this position of the journal
+  opened, already, closed, cut           of a connection; closed: it isn't open
+  sent N, due, carried N                 of letters and octets that are sent
+  connected, receipt N, repeated, held   of frames that came
+  settled N, error TEXT                  of frames that came; after an error the connection is cut
+  drained FROM TO N, idle                a held letter was handled; there was nothing to do
+  again M, none                          sent again as message M; so many weren't accepted
+  armed, reopened, stopped, pumped       it was done
+  refused 61 70                          AlreadyPlaced: the order was placed before
+  refused 61 71                          NotOpen: the order isn't open
+  refused 61 72                          OutOfRange: a number is out of range
+  refused 61 73                          BelowUse: the limit is below what is billed and held
+  refused 63                             StoreFailed: both connections of the service are cut
+  refused 65                             Unusable: the store failed, and wasn't opened anew
+  refused 32, 36, 45, 66                 a queue is full, or no number is left
+  refused 34, 44, 51, 64                 out of memory
+  refused N                              of a frame that came and can't be taken: N is its fault
 
 Exit status:
   0  each line was run, whether it was refused or not
   1  `line N: bad event`: line N is the first that is none of the above, and nothing was run;
-     `fault 81 Memory`: the schedule couldn't be held; `fault 2 Device`: a stream failed
+     `fault 81 Memory`: the schedule or its outcomes couldn't be held, and what was run is told;
+     `fault 2 Device`: a stream failed
   2  the words of the command line are at fault";
 
 /// What is told where a word of the command line isn't UTF-8.
@@ -64,7 +95,7 @@ fn read_words<S: AsStr>(alloc: Global, words: &[S]) -> Result<(), Error>
     let command = Command::new(alloc, "outbox-schedule")
         .version(VERSION)
         .about(
-            "Runs a schedule of events, read from standard input, and prints the outcome of each line.",
+            "Runs a schedule of events over three services and a broker, and prints the outcome of each line.",
         )
         .override_usage("outbox-schedule < SCHEDULE")
         .after_help(LINES);

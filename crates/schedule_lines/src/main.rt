@@ -6,6 +6,7 @@
 //! A schedule:
 //! - `schedule`: from now on it's empty, and no reader and no writer fails;
 //! - `| TEXT`, `|- TEXT`: a line of it; its last one, which lacks its LF;
+//! - `|# TEXT`: a line in which a number is to stand where `#` stands, for `run-each`; the last such line counts;
 //! - `repeat N TEXT`: N such lines; `octets N OCTET`: N equal octets.
 //!
 //! Devices, for the runs of this schedule:
@@ -16,8 +17,10 @@
 //! - `out is-interrupted`, `err is-interrupted`: its first write is.
 //!
 //! Calls:
-//! - `read`: `read_schedule` over it; `read-alone`: `read_purchasing_schedule`;
+//! - `read`: `read_schedule` over it;
 //! - `run WORD..`: `run_schedule` with these words behind the program's name; `measure WORD..`: the same, and only sizes are printed;
+//! - `run-each FIRST LAST`: `run` with each of these numbers in its place: what the first told, the lines of each other that differ from
+//!   it, with its number and theirs, and how many runs there were;
 //! - `run-text`, `run-input`: these calls;
 //! - `tell N`, `tell device`, `tell not-utf8`: a faulty line, a failed stream, or words that aren't text are told.
 //!

@@ -2,9 +2,9 @@
 
 use crate::devices::{Limits, Sink, Source};
 use crate::fault::LineFault;
-use line_script::first_word;
+use line_script::{first_word, size};
 use programs::{RunFault, run_input, run_schedule, run_text, tell_bad_words, tell_fault};
-use schedules::{ScheduleFault, read_purchasing_schedule, read_schedule};
+use schedules::{ScheduleFault, read_schedule};
 use std::alloc::Global;
 use std::fmt::Write;
 use std::{fmt, io};
@@ -118,10 +118,17 @@ impl Told {
     }
 }
 
+/// Whether a line tells that memory was refused.
+fn is_refusal_of_memory(line: &[u8]) -> bool {
+    line == b"refused 34".as_slice()
+        || line == b"refused 44".as_slice()
+        || line == b"refused 51".as_slice()
+        || line == b"refused 64".as_slice()
+}
+
 /// Whether a line of a schedule was refused for want of memory.
 fn has_refusal_of_memory(out: &[u8]) -> bool {
-    let refusal = b"refused 64".as_slice();
-    out.split(|o| *o == b'\n').any(|line| line == refusal)
+    out.split(|o| *o == b'\n').any(is_refusal_of_memory)
 }
 
 /// Adds the lines of what was written, each behind a mark, and `-` behind the mark of one that lacks its LF.
@@ -138,26 +145,13 @@ fn push_lines(text: &mut String, mark: char, octets: &[u8]) -> Result<(), LineFa
     Ok(())
 }
 
-/// Appends how many events were read, or why none were.
-fn push_count<E: Drop>(
-    out: &mut String,
-    answer: Result<Vec<E>, ScheduleFault>,
-) -> Result<(), LineFault> {
-    match answer {
+/// Appends how many events `read_schedule` answers, or why none.
+pub fn push_read(alloc: Global, out: &mut String, schedule: &[u8]) -> Result<(), LineFault> {
+    match read_schedule(alloc, schedule) {
         Ok(events) => write!(out, "events: {}", events.len()).map_err(LineFault::from),
         Err(ScheduleFault::Memory) => Err(LineFault::Memory),
         Err(fault) => write!(out, "{fault}").map_err(LineFault::from),
     }
-}
-
-/// Appends what `read_schedule` answers.
-pub fn push_read(alloc: Global, out: &mut String, schedule: &[u8]) -> Result<(), LineFault> {
-    push_count(out, read_schedule(alloc, schedule))
-}
-
-/// Appends what `read_purchasing_schedule` answers.
-pub fn push_read_alone(alloc: Global, out: &mut String, schedule: &[u8]) -> Result<(), LineFault> {
-    push_count(out, read_purchasing_schedule(alloc, schedule))
 }
 
 /// The fault that is to be told.
@@ -244,4 +238,77 @@ pub fn push_sizes(
 ) -> Result<(), LineFault> {
     let told = call(alloc, devices, schedule, line)?;
     told.push_sizes(out)
+}
+
+/// The schedule with a number at a place of it.
+fn numbered(
+    alloc: Global,
+    (schedule, place): (&[u8], usize),
+    number: usize,
+) -> Result<Vec<u8>, LineFault> {
+    let mut text = String::new(alloc);
+    write!(text, "{number}")?;
+    let mut whole = Vec::new(alloc);
+    let (before, behind) = schedule.split_at(place.min(schedule.len()));
+    whole.extend_from_slice(before)?;
+    whole.extend_from_slice(text.as_bytes())?;
+    whole.extend_from_slice(behind)?;
+    Ok(whole)
+}
+
+/// What a run with a number at a place told.
+fn told_with(
+    alloc: Global,
+    devices: Devices,
+    counted: (&[u8], usize),
+    number: usize,
+) -> Result<String, LineFault> {
+    let schedule = numbered(alloc, counted, number)?;
+    let told = call(alloc, devices, schedule.as_slice(), "run")?;
+    let mut text = String::new(alloc);
+    told.push_text(&mut text)?;
+    Ok(text)
+}
+
+/// Appends the lines that differ from those of the first run, each behind a line end, and where there are fewer or more.
+fn push_differences(
+    out: &mut String,
+    number: usize,
+    first: &str,
+    other: &str,
+) -> Result<(), LineFault> {
+    let mut wanted = first.split('\n');
+    let mut at: usize = 0;
+    for line in other.split('\n') {
+        at = at.saturating_add(1);
+        if wanted.next() != Some(line) {
+            write!(out, "\n{number}, line {at}: {line}")?;
+        }
+    }
+    if wanted.next().is_some() {
+        write!(out, "\n{number}: fewer lines")?;
+    }
+    Ok(())
+}
+
+/// Appends what `run` tells with each number at a place of the schedule, `FIRST LAST`: the first whole, of each other the lines that
+/// differ from it; then how many runs there were.
+pub fn push_each(
+    alloc: Global,
+    out: &mut String,
+    devices: Devices,
+    counted: (&[u8], usize),
+    numbers: &str,
+) -> Result<(), LineFault> {
+    let (first, last) = first_word(numbers);
+    let (first, last) = (size(first)?, size(last)?);
+    let told = told_with(alloc, devices, counted, first)?;
+    out.push_str(told.as_str())?;
+    let mut runs: usize = 1;
+    for number in first.saturating_add(1)..last.saturating_add(1) {
+        let other = told_with(alloc, devices, counted, number)?;
+        push_differences(out, number, told.as_str(), other.as_str())?;
+        runs = runs.saturating_add(1);
+    }
+    write!(out, "\n{runs} runs").map_err(LineFault::from)
 }

@@ -2,7 +2,7 @@
 
 use crate::devices::Limits;
 use crate::fault::LineFault;
-use crate::runs::{Devices, push_call, push_read, push_read_alone, push_sizes};
+use crate::runs::{Devices, push_call, push_each, push_read, push_sizes};
 use line_script::{Script, first_word, size};
 use std::alloc::{AllocError, Global};
 use std::io;
@@ -12,6 +12,7 @@ use std::io::Write;
 #[derive(Drop)]
 pub struct Session {
     schedule: Vec<u8>,
+    place: usize,
     devices: Devices,
 }
 
@@ -20,6 +21,7 @@ impl Session {
     pub fn new(alloc: Global) -> Session {
         Session {
             schedule: Vec::new(alloc),
+            place: 0,
             devices: Devices::sound(),
         }
     }
@@ -27,6 +29,7 @@ impl Session {
     /// An empty schedule over devices that don't fail.
     fn renew(&mut self, alloc: Global) {
         self.schedule = Vec::new(alloc);
+        self.place = 0;
         self.devices = Devices::sound();
     }
 
@@ -34,6 +37,16 @@ impl Session {
     fn add(&mut self, line: &str) -> Result<(), AllocError> {
         self.schedule.extend_from_slice(line.as_bytes())?;
         Ok(self.schedule.push(b'\n')?)
+    }
+
+    /// Adds a line in which a number is to stand where `#` stands.
+    fn add_numbered(&mut self, text: &str) -> Result<(), LineFault> {
+        let Some((before, behind)) = text.split_once('#') else {
+            return Err(LineFault::Unknown);
+        };
+        self.schedule.extend_from_slice(before.as_bytes())?;
+        self.place = self.schedule.len();
+        self.add(behind).map_err(LineFault::from)
     }
 
     /// Adds equal octets: `N OCTET`.
@@ -67,14 +80,19 @@ impl Session {
         Ok(())
     }
 
-    /// Adds what stands behind the mark of a line of a schedule: behind `-` without an LF.
-    fn add_marked(&mut self, text: &str) -> Result<(), AllocError> {
-        match text.strip_prefix('-') {
-            Some(text) => self
-                .schedule
-                .extend_from_slice(without_space(text).as_bytes()),
-            None => self.add(without_space(text)),
+    /// Adds what stands behind the mark of a line of a schedule: behind `-` without an LF, behind `#` with the place of a number.
+    fn add_marked(&mut self, text: &str) -> Result<(), LineFault> {
+        if let Some(numbered) = text.strip_prefix('#') {
+            return self.add_numbered(without_space(numbered));
         }
+        let added = match text.strip_prefix('-') {
+            Some(last) => self
+                .schedule
+                .extend_from_slice(without_space(last).as_bytes())
+                .map_err(AllocError::from),
+            None => self.add(without_space(text)),
+        };
+        added.map_err(LineFault::from)
     }
 
     /// Appends the answer to a line, or nothing where it changes the schedule or the devices alone.
@@ -98,7 +116,7 @@ impl Session {
             "err" => limit(&mut self.devices.err, rest),
             "measure" => push_sizes(alloc, out, self.devices, schedule, rest),
             "read" if rest.is_empty() => push_read(alloc, out, schedule),
-            "read-alone" if rest.is_empty() => push_read_alone(alloc, out, schedule),
+            "run-each" => push_each(alloc, out, self.devices, (schedule, self.place), rest),
             _ => push_call(alloc, out, self.devices, schedule, line),
         }
     }

@@ -9,7 +9,7 @@ use Rattle.schedule_runner.specs.Deeds.{Moment, Goes, Step}
 use Rattle.schedule_runner.specs.Passing.{Passes}
 use Rattle.schedule_runner.specs.Paths.{IsPath, Makes}
 use Rattle.schedule_runner.specs.Runs.{Ran}
-use Rattle.schedule_runner.specs.Sight.{OrderTables, StockTables, AccountTables}
+use Rattle.accord.specs.Sight.{OrderTables, StockTables, AccountTables}
 use Rattle.schedule_runner.specs.Steps.{Happened}
 use Rattle.schedule_runner.specs.Told.{Told}
 use Rattle.schedule_runner.proofs.Composing.{goes_none, passes_then}
@@ -46,6 +46,7 @@ module _ {KO KS KA : Type 0} (orders : KO → Seen OrderTables) (stocks : KS →
     passes = record {
       clean = λ now. now;
       sound = λ now good. good;
+      good = λ now match good. good;
       did = subst (λ es. IsPath (Makes H) es [] w w) (sym (none events)) refl;
       goes = goes_none orders stocks accounts (IsPath (Makes S) (take 0 events) [])
           (λ a. subst (λ es. IsPath (Makes S) es [] a a) (sym (none events)) refl) w;

@@ -13,7 +13,8 @@ use Rattle.schedule_runner.specs.Deeds.{Moment, moment, GoesBy, Step}
 use Rattle.schedule_runner.specs.Passing.{Passes, PassesAll}
 use Rattle.schedule_runner.specs.Paths.{Leads, Makes}
 use Rattle.schedule_runner.specs.Rounds.{takes, round_events, all_rounds}
-use Rattle.schedule_runner.specs.Sight.{OrderTables, StockTables, AccountTables, StaysClean, StaysMatching}
+use Rattle.accord.specs.Sight.{OrderTables, StockTables, AccountTables}
+use Rattle.schedule_runner.specs.Sight.{StaysClean, StaysMatching}
 use Rattle.schedule_runner.specs.Steps.{Happened}
 use Rattle.schedule_runner.proofs.Following.{leads_append, leads_none, leads_one}
 
@@ -54,6 +55,7 @@ module _ {KO KS KA : Type 0} (orders : KO → Seen OrderTables) (stocks : KS →
   passes_map D E R Q old new whole map p = record {
     clean = p.clean;
     sound = p.sound;
+    good = p.good;
     did = whole p.did;
     goes = goes_map R Q map old new p.goes;
   }
@@ -64,6 +66,7 @@ module _ {KO KS KA : Type 0} (orders : KO → Seen OrderTables) (stocks : KS →
   passes_then D E F R Q P old mid new whole join first next = record {
     clean = λ now. first.clean (next.clean now);
     sound = λ now good. next.sound now (first.sound (next.clean now) good);
+    good = λ now match good. next.good now (first.sound (next.clean now) match) (first.good (next.clean now) match good);
     did = whole first.did next.did;
     goes = goes_then R Q P join old mid new next.clean first.sound first.goes next.goes;
   }
@@ -85,6 +88,7 @@ module _ {KO KS KA : Type 0} (orders : KO → Seen OrderTables) (stocks : KS →
   passes_nothing w = record {
     clean = λ now. now;
     sound = λ now good. good;
+    good = λ now match good. good;
     did = leads_none H w;
     goes = goes_none (Leads S []) (leads_none S) w;
   }

@@ -28,8 +28,8 @@ use Rattle.schedule_runner.specs.Deeds.{Moment, In, Turn, Step, Goes}
 use Rattle.schedule_runner.specs.Paths.{IsPath, Leads, Makes}
 use Rattle.schedule_runner.specs.Rounds.{takes, connection_events, service_events, round_events, all_rounds, named}
 use Rattle.schedule_runner.specs.declared.world.World.{World}
-use Rattle.schedule_runner.specs.Sight.{AllTables, OrderTables, StockTables, AccountTables}
-use Rattle.schedule_runner.specs.Sight.{orders_service, stocks_service, accounts_service}
+use Rattle.accord.specs.Sight.{AllTables, OrderTables, StockTables, AccountTables}
+use Rattle.accord.specs.Sight.{orders_service, stocks_service, accounts_service}
 use Rattle.schedule_runner.specs.Told.{commands_from, TellsCommand, RecordsTold, AllTold, Told, asks_orders, asks_stocks, asks_accounts}
 use Rattle.schedule_runner.proofs.Composing.{goes_map}
 use Rattle.schedule_runner.proofs.Receiving.{frame_rests, held_rests}

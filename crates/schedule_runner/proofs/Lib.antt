@@ -1,5 +1,7 @@
 pub mod Following
 pub mod Composing
+pub mod Founding
+pub mod Righting
 pub mod Lifting
 pub mod Telling
 pub mod Resting

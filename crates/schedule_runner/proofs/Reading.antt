@@ -1,28 +1,27 @@
 -- What a read of one service does, and what is shown of it.
-use Rattle.std.proofs.Common.{◌≡◌, ◌≤◌, ℕ, List, Option, refl, sym, ◌∙◌, subst, arith}
+use Rattle.std.proofs.Common.{◌≡◌, ℕ, List, refl, sym, ◌∙◌, subst, arith}
 use Rattle.std.specs.Prelude.{Result, Ok, Err}
 use Rattle.std.specs.Global.{Vec}
 use Rattle.base.specs.Entity.{Name}
 use Rattle.base.specs.declared.entity.Kind.{Kind}
 use Rattle.base.specs.declared.pair.Pair.{Pair}
-use Rattle.keep.specs.Law.{Reads}
+use Rattle.envelope.specs.declared.message.Envelope.{Envelope}
 use Rattle.keep.specs.Seen.{Seen}
 use Rattle.keep.specs.Tables.{Tables}
-use Rattle.endpoint.specs.Calls.{Views}
-use Rattle.endpoint.specs.Faults.{end_of}
-use Rattle.endpoint.specs.declared.fault.EndFault.{EndFault}
-use Rattle.endpoint.specs.declared.fault.EndFault.TheVariants.{NotMine, Business, TooEarly, StoreFailed, Memory, Unusable, NumberLimit}
-use Rattle.endpoint.specs.declared.fault.EndFault.TheVariants.{NotSent}
 use Rattle.schedules.specs.declared.outcome.Outcome.{Outcome}
 use Rattle.sites.specs.declared.site.Site.{Site}
+use Rattle.genuine.specs.Three.{Genuine}
 use Rattle.schedule_runner.specs.declared.looking.Mark.{Mark}
 use Rattle.schedule_runner.specs.declared.world.World.{World}
 use Rattle.schedule_runner.specs.Deeds.{Moment, Same}
-use Rattle.schedule_runner.specs.Looks.{shown_told, StoreStays}
+use Rattle.schedule_runner.specs.Looks.{shown_told, ReadsSite, StoreStays}
+use Rattle.schedule_runner.specs.Good.{MailIs}
 use Rattle.schedule_runner.specs.Passing.{Both, Passes}
 use Rattle.schedule_runner.specs.Shows.{Tells, Behind, Marks, MarkOf, RowOf, MayShow, ShowsLine}
-use Rattle.schedule_runner.specs.Sight.{OrderTables, StockTables, AccountTables}
+use Rattle.accord.specs.Sight.{OrderTables, StockTables, AccountTables}
 use Rattle.schedule_runner.proofs.Composing.{passes_map, passes_then}
+use Rattle.genuine.proofs.Threes.{first_after, second_after, third_after}
+use Rattle.schedule_runner.proofs.Righting.{still_good}
 
 module _ {H K S C : Type 0} (seen : K → Seen (Tables S C)) where
   same_store : (s : Site H K S C) → StoreStays seen s s
@@ -37,9 +36,10 @@ module _ {KO KS KA : Type 0} (orders : KO → Seen OrderTables) (stocks : KS →
 
   -- the world changes so, and no store has others than before
   pub lift_stays : (R : W → W → Type 0) (old new : W) → StoreStays orders old.purchasing new.purchasing
-      → StoreStays stocks old.warehouse new.warehouse → StoreStays accounts old.billing new.billing → R old new
+      → StoreStays stocks old.warehouse new.warehouse → StoreStays accounts old.billing new.billing
+      → ((ok : Envelope → Type 0) → MailIs ok old → MailIs ok new) → R old new
       → Passes orders stocks accounts R (Both R Same) old new
-  lift_stays R old new p q r did =
+  lift_stays R old new p q r mail did =
       let a = p.doubt in
       let b = q.doubt in
       let c = r.doubt in record {
@@ -49,6 +49,11 @@ module _ {KO KS KA : Type 0} (orders : KO → Seen OrderTables) (stocks : KS →
           λ t m. good.1 t (q.stays now.1 t m),
           λ t m. good.2 t (r.stays now.2 t m),
         );
+        good = λ now match good. still_good orders stocks accounts old new (λ t m. record {
+          purchasing = p.stays now.0 t.purchasing m.purchasing;
+          warehouse = q.stays now.1 t.warehouse m.warehouse;
+          billing = r.stays now.2 t.billing m.billing;
+        }) mail good;
         did = did;
         goes = λ now good t m. ∣ record {
           before = t;
@@ -61,24 +66,43 @@ module _ {KO KS KA : Type 0} (orders : KO → Seen OrderTables) (stocks : KS →
         } ∣₁;
       }
 
-  pub lift_order_read : (R : W → W → Type 0) (old new : W) → StoreStays orders old.purchasing new.purchasing
-      → new.warehouse ≡ old.warehouse → new.billing ≡ old.billing → R old new → Passes orders stocks accounts R (Both R Same) old new
-  lift_order_read R old new p q r did = lift_stays R old new p
-      (subst (λ s. StoreStays stocks old.warehouse s) (sym q) (same_store stocks old.warehouse))
-      (subst (λ s. StoreStays accounts old.billing s) (sym r) (same_store accounts old.billing)) did
-
-  pub lift_stock_read : (R : W → W → Type 0) (old new : W) → new.purchasing ≡ old.purchasing
-      → StoreStays stocks old.warehouse new.warehouse → new.billing ≡ old.billing → R old new
+  pub lift_order_read : {A : Type 0} {gives : OrderTables → A → Type 0} {result : Result A Outcome} (R : W → W → Type 0)
+      (old new : W) → StoreStays orders old.purchasing new.purchasing
+      → new.warehouse ≡ old.warehouse → new.billing ≡ old.billing → R old new
+      → ReadsSite orders gives result old.purchasing old.mail new.purchasing new.mail
       → Passes orders stocks accounts R (Both R Same) old new
-  lift_stock_read R old new p q r did = lift_stays R old new
-      (subst (λ s. StoreStays orders old.purchasing s) (sym p) (same_store orders old.purchasing)) q
-      (subst (λ s. StoreStays accounts old.billing s) (sym r) (same_store accounts old.billing)) did
+  lift_order_read R old new p q r did reads = lift_stays R old new p
+      (subst (λ s. StoreStays stocks old.warehouse s) (sym q) (same_store stocks old.warehouse))
+      (subst (λ s. StoreStays accounts old.billing s) (sym r) (same_store accounts old.billing))
+      (λ ok good. subst (λ b. Genuine ok new.purchasing b new.billing new.mail) (sym q)
+      (subst (λ c. Genuine ok new.purchasing old.warehouse c new.mail) (sym r)
+      (first_after ok old.purchasing new.purchasing old.warehouse old.billing old.mail new.mail new.purchasing.endpoint reads.answer
+      reads.after good))) did
 
-  pub lift_account_read : (R : W → W → Type 0) (old new : W) → new.purchasing ≡ old.purchasing → new.warehouse ≡ old.warehouse
-      → StoreStays accounts old.billing new.billing → R old new → Passes orders stocks accounts R (Both R Same) old new
-  lift_account_read R old new p q r did = lift_stays R old new
+  pub lift_stock_read : {A : Type 0} {gives : StockTables → A → Type 0} {result : Result A Outcome} (R : W → W → Type 0)
+      (old new : W) → new.purchasing ≡ old.purchasing
+      → StoreStays stocks old.warehouse new.warehouse → new.billing ≡ old.billing → R old new
+      → ReadsSite stocks gives result old.warehouse old.mail new.warehouse new.mail
+      → Passes orders stocks accounts R (Both R Same) old new
+  lift_stock_read R old new p q r did reads = lift_stays R old new
+      (subst (λ s. StoreStays orders old.purchasing s) (sym p) (same_store orders old.purchasing)) q
+      (subst (λ s. StoreStays accounts old.billing s) (sym r) (same_store accounts old.billing))
+      (λ ok good. subst (λ a. Genuine ok a new.warehouse new.billing new.mail) (sym p)
+      (subst (λ c. Genuine ok old.purchasing new.warehouse c new.mail) (sym r)
+      (second_after ok old.purchasing old.warehouse old.billing new.warehouse old.mail new.mail new.warehouse.endpoint reads.answer
+      reads.after good))) did
+
+  pub lift_account_read : {A : Type 0} {gives : AccountTables → A → Type 0} {result : Result A Outcome} (R : W → W → Type 0)
+      (old new : W) → new.purchasing ≡ old.purchasing → new.warehouse ≡ old.warehouse
+      → StoreStays accounts old.billing new.billing → R old new
+      → ReadsSite accounts gives result old.billing old.mail new.billing new.mail → Passes orders stocks accounts R (Both R Same) old new
+  lift_account_read R old new p q r did reads = lift_stays R old new
       (subst (λ s. StoreStays orders old.purchasing s) (sym p) (same_store orders old.purchasing))
-      (subst (λ s. StoreStays stocks old.warehouse s) (sym q) (same_store stocks old.warehouse)) r did
+      (subst (λ s. StoreStays stocks old.warehouse s) (sym q) (same_store stocks old.warehouse)) r
+      (λ ok good. subst (λ a. Genuine ok a new.warehouse new.billing new.mail) (sym p)
+      (subst (λ b. Genuine ok old.purchasing b new.billing new.mail) (sym q)
+      (third_after ok old.purchasing old.warehouse old.billing new.billing old.mail new.mail new.billing.endpoint reads.answer
+      reads.after good))) did
 
   -- the row of an entity of that kind
   pub passes_row : (found kind : Kind) (e : Name) (result : Result (Vec ℕ) Outcome) (old new : W) → found ≡ kind
@@ -102,7 +126,7 @@ module _ {KO KS KA : Type 0} (orders : KO → Seen OrderTables) (stocks : KS →
   pub passes_line : (line : List ℕ) (o : Outcome) (w : W) → MayShow line o
       → Passes orders stocks accounts (ShowsLine line o) (Both (ShowsLine line o) Same) w w
   passes_line line o w may = lift_stays (ShowsLine line o) w w (same_store orders w.purchasing) (same_store stocks w.warehouse)
-      (same_store accounts w.billing) (may, refl)
+      (same_store accounts w.billing) (λ ok good. good) (may, refl)
 
   module _ (found kind : Kind) (same : found ≡ kind) (mark : Mark) (p : Pair) (Next : ℕ → Outcome → W → W → Type 0)
       (result : Result ℕ Outcome)

@@ -1,5 +1,5 @@
 -- What frames and held letters do is no command.
-use Rattle.std.proofs.Common.{◌≡◌, Option, Some, None}
+use Rattle.std.proofs.Common.{Some}
 use Rattle.std.specs.Prelude.{Result, Ok, Err}
 use Rattle.stomp_frame.specs.Frames.{Content}
 use Rattle.activities.specs.Service.{Service as ServiceOf}

@@ -19,9 +19,10 @@ use Rattle.schedule_runner.specs.declared.acting.ServiceEvent.TheVariants.{Open,
 use Rattle.schedule_runner.specs.declared.world.World.{World}
 use Rattle.schedule_runner.specs.Events.{asked_of}
 use Rattle.schedule_runner.specs.Paths.{IsPath, Makes}
-use Rattle.schedule_runner.specs.Sight.{AllTables, OrderTables, StockTables, AccountTables}
-use Rattle.schedule_runner.specs.Sight.{orders_service, stocks_service, accounts_service}
-use Rattle.schedule_runner.specs.Sight.{sight, AreClean, AreMatching, MayLeave}
+use Rattle.accord.specs.Sight.{AllTables, OrderTables, StockTables, AccountTables}
+use Rattle.accord.specs.Sight.{orders_service, stocks_service, accounts_service}
+use Rattle.accord.specs.Sight.{AreClean, AreMatching, MayLeave}
+use Rattle.schedule_runner.specs.Sight.{sight}
 use Rattle.schedule_runner.specs.Steps.{Happened}
 
 -- the world, and with it tables of each service that a stop may leave

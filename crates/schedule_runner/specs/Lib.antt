@@ -1,4 +1,5 @@
 pub mod Sight
+pub mod Good
 pub mod Events
 pub mod Rounds
 pub mod Paths

@@ -16,7 +16,6 @@ use Rattle.mail.specs.Offices.{Office}
 use Rattle.schedules.specs.declared.outcome.Outcome.{Outcome}
 use Rattle.schedules.specs.declared.outcome.Outcome.TheVariants.{Shown}
 use Rattle.showing.specs.Printed.{show_line, frame_lines, journal_lines}
-use Rattle.activities.specs.declared.input.JournalRow.{JournalRow}
 use Rattle.sites.specs.Deeds.{DoubtStays}
 use Rattle.sites.specs.Lines.{After}
 use Rattle.sites.specs.Outcomes.{fault_told}

@@ -5,7 +5,9 @@ use Rattle.schedules.specs.declared.event.Event.{Event}
 use Rattle.schedule_runner.specs.declared.world.World.{World}
 use Rattle.schedule_runner.specs.Deeds.{Moment, GoesBy, Step}
 use Rattle.schedule_runner.specs.Paths.{Leads}
-use Rattle.schedule_runner.specs.Sight.{OrderTables, StockTables, AccountTables, StaysClean, StaysMatching}
+use Rattle.accord.specs.Sight.{OrderTables, StockTables, AccountTables}
+use Rattle.schedule_runner.specs.Sight.{StaysClean, StaysMatching}
+use Rattle.schedule_runner.specs.Good.{StaysGood}
 use Rattle.schedule_runner.specs.Steps.{Happened}
 
 -- the world goes so, and the tables so
@@ -19,6 +21,7 @@ module _ {KO KS KA : Type 0} (orders : KO → Seen OrderTables) (stocks : KS →
       : Type 0 where
     pub clean : StaysClean orders stocks accounts old new
     pub sound : StaysMatching orders stocks accounts old new
+    pub good : StaysGood orders stocks accounts old new
     pub did : Whole old new
     pub goes : GoesBy orders stocks accounts Leading old new
 

@@ -17,7 +17,7 @@ use Rattle.schedule_runner.specs.declared.looking.Mark.{Mark}
 use Rattle.schedule_runner.specs.declared.looking.Mark.TheVariants.{Sent, Settled, Handled}
 use Rattle.schedule_runner.specs.declared.world.World.{World}
 use Rattle.schedule_runner.specs.Looks.{mark_of, IsRow, AreListed, shown_told, ReadsSite}
-use Rattle.schedule_runner.specs.Sight.{OrderTables, StockTables, AccountTables}
+use Rattle.accord.specs.Sight.{OrderTables, StockTables, AccountTables}
 
 -- this line is shown, or memory was refused to it
 abbrev pub MayShow : List ℕ → Outcome → Type 0

@@ -23,7 +23,7 @@ use Rattle.schedule_runner.specs.declared.looking.Listing.TheVariants.{Frames, J
 use Rattle.schedule_runner.specs.declared.world.World.{World}
 use Rattle.schedule_runner.specs.Events.{asked_of}
 use Rattle.schedule_runner.specs.Shows.{Tells, RowOf, ListOf, ShowsPair}
-use Rattle.schedule_runner.specs.Sight.{OrderTables, StockTables, AccountTables, orders_service, stocks_service, accounts_service}
+use Rattle.accord.specs.Sight.{OrderTables, StockTables, AccountTables, orders_service, stocks_service, accounts_service}
 
 -- what a repetition is answered
 abbrev pub again : Result (Option ℕ) RepeatFault → Outcome

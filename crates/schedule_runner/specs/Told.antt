@@ -13,7 +13,7 @@ use Rattle.schedules.specs.declared.event.SeatCommand.{SeatCommand}
 use Rattle.schedules.specs.declared.outcome.Outcome.{Outcome}
 use Rattle.schedules.specs.declared.outcome.Outcome.TheVariants.{Committed, Refused}
 use Rattle.schedule_runner.specs.Deeds.{GoesBy}
-use Rattle.schedule_runner.specs.Sight.{AllTables, OrderTables, StockTables, AccountTables}
+use Rattle.accord.specs.Sight.{AllTables, OrderTables, StockTables, AccountTables}
 use Rattle.schedule_runner.specs.declared.world.World.{World}
 use Rattle.keep.specs.Seen.{Seen}
 

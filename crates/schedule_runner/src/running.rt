@@ -2,6 +2,7 @@
 
 ghost use Rattle.std.specs.Prelude.{◌∷◌, []};
 ghost use Rattle.schedule_runner.specs.Deeds.{Goes};
+ghost use Rattle.schedule_runner.specs.Good.{StaysGood, Agrees};
 ghost use Rattle.schedule_runner.specs.Paths.{IsPath, Makes};
 ghost use Rattle.schedule_runner.specs.Runs.{Ran};
 ghost use Rattle.schedule_runner.specs.Sight.{StaysClean, StaysMatching};
@@ -24,9 +25,12 @@ where
     KA: Keep<State = Account, Command = AccountCommand> + Drop,
 {
     /// Makes one event, and tells what became of it.
+    #[tactic(auto, using(crate::proofs::Righting::good_agree))]
     pub fn step(&mut self, event: &Event) -> Outcome
         ensures clean { StaysClean KO.seen KS.seen KA.seen self.old self.new }
         ensures sound { StaysMatching KO.seen KS.seen KA.seen self.old self.new }
+        ensures good { StaysGood KO.seen KS.seen KA.seen self.old self.new }
+        ensures agree { Agrees KO.seen KS.seen KA.seen self.old self.new }
         ensures did { Makes (Happened KO.seen KS.seen KA.seen) event.now result self.old self.new }
         ensures goes { Goes KO.seen KS.seen KA.seen (event.now ∷ []) (result ∷ []) self.old self.new }
     {
@@ -37,9 +41,12 @@ where
     ///
     /// # Errors
     /// Where there was no room for an outcome: its event isn't made then, nor any after it.
+    #[tactic(auto, using(crate::proofs::Righting::good_agree))]
     pub fn run(&mut self, events: &[Event], outcomes: &mut Vec<Outcome>) -> Result<(), AllocError>
         ensures clean { StaysClean KO.seen KS.seen KA.seen self.old self.new }
         ensures sound { StaysMatching KO.seen KS.seen KA.seen self.old self.new }
+        ensures good { StaysGood KO.seen KS.seen KA.seen self.old self.new }
+        ensures agree { Agrees KO.seen KS.seen KA.seen self.old self.new }
         ensures did { Ran (λ es os. IsPath (Makes (Happened KO.seen KS.seen KA.seen)) es os self.old self.new)
             events.now outcomes.old.items outcomes.new.items result }
         ensures goes { Ran (λ es os. Goes KO.seen KS.seen KA.seen es os self.old self.new)

@@ -1,7 +1,11 @@
 //! The world of three services.
 
 ghost use Rattle.std.specs.Prelude.{◌≡◌, None};
+ghost use Rattle.accord.specs.Good.{IsGood};
+ghost use Rattle.accord.specs.Sight.{AllTables, MayLeave, all_empty};
 ghost use Rattle.mail.specs.Offices.{new_office};
+ghost use Rattle.schedule_runner.specs.Good.{IsGoodWorld};
+ghost use Rattle.schedule_runner.specs.Sight.{sight};
 
 use activities::{AccountCommand, OrderCommand, StockCommand};
 use billing::{Account, Accounts};
@@ -49,6 +53,9 @@ where
         ensures warehouse { result.warehouse ≡ record { endpoint = warehouse; zero = None; one = None } }
         ensures billing { result.billing ≡ record { endpoint = billing; zero = None; one = None } }
         ensures mail { result.mail ≡ new_office }
+        ensures good { IsGood (sight KO.seen KS.seen KA.seen result) → IsGoodWorld KO.seen KS.seen KA.seen result }
+        ensures unused { ((t : AllTables) → MayLeave (sight KO.seen KS.seen KA.seen result) t → t ≡ all_empty)
+            → IsGoodWorld KO.seen KS.seen KA.seen result }
     {
         World {
             purchasing: Site::new(purchasing),

@@ -10,15 +10,12 @@ use Rattle.activities.specs.declared.commands.AccountCommand.TheVariants.{SetLim
 use Rattle.schedules.specs.declared.event.Event.{Event}
 use Rattle.schedules.specs.declared.event.Event.TheVariants.{Order, Stock, Account, Open, Cut, Fill, Resend, Carry, Take, Drain}
 use Rattle.schedules.specs.declared.event.Event.TheVariants.{Repeat, Fail, Reopen, Stop, StopBroker, Pump, Show, Pair, Frames, Journal}
-use Rattle.schedules.specs.declared.event.PurchasingEvent.{PurchasingEvent}
-use Rattle.schedules.specs.declared.event.PurchasingEvent.TheVariants as alone
 use Rattle.schedules.specs.declared.event.SeatCommand.{SeatCommand}
 use Rattle.schedules.specs.declared.event.ConnectionName.{ConnectionName}
 use Rattle.schedules.specs.declared.event.ConnectionNumber.TheVariants.{Zero, One}
 use Rattle.stomp_wire.specs.declared.wire.Way.TheVariants.{Up, Down}
 use Rattle.schedules.specs.declared.event.FailureLeaves.TheVariants.{Old, New}
 use Rattle.schedules.specs.declared.event.Service.TheVariants.{Purchasing, Warehouse, Billing}
-use Rattle.schedules.specs.Alone.{purchasing_event_of, purchasing_events_of}
 use Rattle.schedules.specs.Events.{event_of, events_of}
 use Rattle.schedules.specs.Schedules.{found_in, found_on, is_faulty, events_on}
 use Rattle.schedules.specs.Lines.{lines_of, ended}
@@ -165,26 +162,3 @@ the_first_fault_is_told : (events_of (codes "cancel 0 o1\ncancel 0\njournal\ncan
     × (events_of (codes "journal") ≡ Err 1) × (events_of (codes "\n# a\ncancel 0 o1\njournal\n") ≡ Err 4)
 unfolding is_utf8 chars lib.Utf8.encode
 the_first_fault_is_told = (refl, refl, refl)
-
--- ---- purchasing alone
-
--- what stands on a line of text where purchasing is alone
-abbrev IsAlone : List ℕ → Option (Option PurchasingEvent) → Type 0
-IsAlone line answer = found_in purchasing_event_of line ≡ answer
-
--- it has commands to orders, and is shown
-purchasing_alone_is_read : (IsAlone (codes "place 0 o1 bolts 3 acme 500")
-    (Some (Some (alone.Order (asks_order 0 (Place (codes "bolts") 3 (codes "acme") 500))))))
-    × (IsAlone (codes "cancel 15 o1") (Some (Some (alone.Order (asks_order 15 CancelOrder)))))
-    × (IsAlone (codes "show stock/bolts") (Some (Some (alone.Show (stock_of (codes "bolts"))))))
-    × (IsAlone (codes "frames purchasing") (Some (Some alone.Frames)))
-    × (IsAlone (codes "journal purchasing") (Some (Some alone.Journal)))
-unfolding is_utf8 chars lib.Utf8.encode
-purchasing_alone_is_read = (refl, refl, refl, refl, refl)
-
--- what needs another service or the broker is no event there
-purchasing_alone_runs_no_other : (IsAlone (codes "receive 0 bolts 10") None) × (IsAlone (codes "open purchasing 0") None)
-    × (IsAlone (codes "pump 1") None) × (IsAlone (codes "frames billing") None) × (IsAlone (codes "journal purchasing x") None)
-    × (purchasing_events_of (codes "journal purchasing\njournal billing\n") ≡ Err 2)
-unfolding is_utf8 chars lib.Utf8.encode
-purchasing_alone_runs_no_other = (refl, refl, refl, refl, refl, refl)

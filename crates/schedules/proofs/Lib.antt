@@ -9,6 +9,4 @@ pub mod Again
 pub mod Sizes
 pub mod Examples
 pub mod CallExamples
-pub mod Part
-pub mod Spelled
 pub mod OutcomeExamples

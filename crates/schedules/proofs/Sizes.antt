@@ -21,8 +21,6 @@ use Rattle.activities.specs.declared.commands.AccountCommand.{AccountCommand}
 use Rattle.schedules.specs.declared.event.SeatCommand.{SeatCommand}
 use Rattle.schedules.specs.declared.event.Event.{Event}
 use Rattle.schedules.specs.declared.event.Event.TheVariants as event
-use Rattle.schedules.specs.declared.event.PurchasingEvent.{PurchasingEvent}
-use Rattle.schedules.specs.declared.event.PurchasingEvent.TheVariants as alone_event
 use Rattle.schedules.specs.declared.event.ConnectionName.{ConnectionName}
 use Rattle.schedules.specs.declared.event.ConnectionNumber.{ConnectionNumber}
 use Rattle.schedules.specs.declared.event.ConnectionNumber.TheVariants.{Zero, One}
@@ -41,7 +39,6 @@ use Rattle.schedules.specs.Arguments.{way_of, leaves_of}
 use Rattle.schedules.specs.Commands.{placing_of, place_of, cancel_of, receive_of, limit_of}
 use Rattle.schedules.specs.Verbs.{verbs, verb_of}
 use Rattle.schedules.specs.Events.{alone, connection_of, fill_of, carry_of, fail_of, stopped_of, pair_of, event_by, event_of}
-use Rattle.schedules.specs.Alone.{show_of, of_purchasing, purchasing_event_of}
 use Rattle.schedules.specs.Schedules.{Language, is_quiet, found_on}
 use Rattle.schedules.proofs.Numerals.{both_true}
 use Rattle.schedules.proofs.Again.{number_only}
@@ -439,52 +436,6 @@ events_fit (name ∷ arguments) it e =
     let short : length name ≤ 7 = lookup_size name verbs found.0 refl found.1 in
     let rest : AreWithin arguments 510 6 = arguments_size found.0 arguments it found.2 in
     (omega (arith, short, rest.0), omega (arith, rest.1))
-
--- what the first word and its arguments come to
-with_name : (name text : List ℕ) (arguments : List (List ℕ)) → bytes_eq name text ≡ true → length text ≤ 7 → AreWithin arguments 510 6
-    → AreWithin (name ∷ arguments) 525 7
-with_name name text arguments named short rest =
-    let few : length name ≤ 7 = is_short name text 7 named short in (omega (arith, few, rest.0), omega (arith, rest.1))
-
-show_size : (words : List (List ℕ)) (it : PurchasingEvent) → show_of words ≡ Some it → AreWithin words 510 6
-show_size [] it e = absurd cc
-show_size (entity ∷ []) it e =
-    let found = mapped alone_event.Show (entity_of entity) it e in (omega (arith, entity_size entity found.0 found.1), omega arith)
-show_size (entity ∷ more ∷ rest) it e = absurd cc
-
-purchasing_size : (told : PurchasingEvent) (words : List (List ℕ)) (it : PurchasingEvent) → of_purchasing told words ≡ Some it
-    → AreWithin words 510 6
-purchasing_size told [] it e = absurd cc
-purchasing_size told (word ∷ []) it e =
-    let short : length word ≤ 10 = is_short word (codes "purchasing") 10 (cond_some _ _ _ e).0 (omega arith) in
-    (omega (arith, short), omega arith)
-purchasing_size told (word ∷ more ∷ rest) it e = absurd cc
-
--- the arguments are those of one of the five names
-by_name : (a b c d e : Bool) (name : List ℕ) (arguments : List (List ℕ)) (it : PurchasingEvent)
-    → bytes_eq name (codes "place") ≡ a → bytes_eq name (codes "cancel") ≡ b → bytes_eq name (codes "show") ≡ c
-    → bytes_eq name (codes "frames") ≡ d → bytes_eq name (codes "journal") ≡ e
-    → cond a (option_map alone_event.Order (place_of arguments)) (cond b (option_map alone_event.Order (cancel_of arguments))
-    (cond c (show_of arguments)
-    (cond d (of_purchasing alone_event.Frames arguments) (cond e (of_purchasing alone_event.Journal arguments) None)))) ≡ Some it
-    → AreWithin (name ∷ arguments) 525 7
-by_name true b c d e name arguments it place cancel show frames journal is =
-    with_name name (codes "place") arguments place (omega arith)
-    (made_size alone_event.Order (place_of arguments) arguments it (place_size arguments) is)
-by_name false true c d e name arguments it place cancel show frames journal is =
-    with_name name (codes "cancel") arguments cancel (omega arith)
-    (made_size alone_event.Order (cancel_of arguments) arguments it (cancel_size arguments) is)
-by_name false false true d e name arguments it place cancel show frames journal is =
-    with_name name (codes "show") arguments show (omega arith) (show_size arguments it is)
-by_name false false false true e name arguments it place cancel show frames journal is =
-    with_name name (codes "frames") arguments frames (omega arith) (purchasing_size alone_event.Frames arguments it is)
-by_name false false false false true name arguments it place cancel show frames journal is =
-    with_name name (codes "journal") arguments journal (omega arith) (purchasing_size alone_event.Journal arguments it is)
-by_name false false false false false name arguments it place cancel show frames journal is = absurd cc
-
-pub purchasing_events_fit : Fits purchasing_event_of
-purchasing_events_fit [] it is = absurd cc
-purchasing_events_fit (name ∷ arguments) it is = by_name _ _ _ _ _ name arguments it refl refl refl refl refl is
 
 -- the line of an event has at most so many octets, and so many words
 line_size : {E : Type 0} (event_of : Language E) → Fits event_of → (line : List ℕ) (event : E) → (words_of line >>= event_of) ≡ Some event

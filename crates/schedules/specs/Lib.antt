@@ -8,8 +8,6 @@ pub mod Commands
 pub mod Verbs
 pub mod Schedules
 pub mod Events
-pub mod Alone
-pub mod Part
 pub mod Reading
 pub mod Faults
 pub mod Outcomes

@@ -5,6 +5,8 @@ use Rattle.base.specs.Entity.{Name, text_of}
 use Rattle.base.specs.declared.pair.Pair.{Pair}
 use Rattle.activities.specs.Faults.{refusal_number}
 use Rattle.schedules.specs.Words.{escaped}
+use Rattle.schedules.specs.declared.outcome.Told.{Told}
+use Rattle.schedules.specs.declared.outcome.Told.TheVariants as pieces
 use Rattle.schedules.specs.declared.outcome.Outcome.{Outcome}
 use Rattle.schedules.specs.declared.outcome.Outcome.TheVariants.{Committed, Opened, Already, Closed, Cut, Sent, Due, Carried, Connected}
 use Rattle.schedules.specs.declared.outcome.Outcome.TheVariants.{Receipt, Handled, Repeated, Held, Settled, Error, Idle, Drained, Again}
@@ -55,3 +57,10 @@ told (Shown lines) = []
 abbrev pub outcome_lines : Outcome → List ℕ
 outcome_lines (Shown lines) = lines.items
 outcome_lines outcome = told outcome ++ 10 ∷ []
+
+-- the lines that pieces make
+abbrev pub told_lines : Told → List ℕ
+told_lines (pieces.Number words number) = words.now ++ decimal number ++ 10 ∷ []
+told_lines (pieces.Text words text) = words.now ++ text.now ++ 10 ∷ []
+told_lines (pieces.OfPair words pair number) = words.now ++ shown_pair pair.now ++ (codes " " ++ decimal number ++ 10 ∷ [])
+told_lines (pieces.Lines lines) = lines.now

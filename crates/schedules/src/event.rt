@@ -98,16 +98,3 @@ pub enum Event {
     /// Shows a service's journal.
     Journal(Service),
 }
-
-/// What one line lets happen in a schedule of purchasing alone, which has no other service and no broker.
-#[derive(Debug, Drop)]
-pub enum PurchasingEvent {
-    /// A seat's command to an order.
-    Order(SeatCommand<OrderCommand>),
-    /// Shows an entity's row.
-    Show(Entity),
-    /// Shows the frames that purchasing is to send.
-    Frames,
-    /// Shows the journal of purchasing.
-    Journal,
-}

@@ -7,7 +7,6 @@ ghost use Rattle.schedules.specs.Cuts.{Lacks};
 ghost use Rattle.schedules.specs.Events.{event_of};
 ghost use Rattle.schedules.specs.Schedules.{found_on};
 ghost use Rattle.schedules.specs.Lines.{lines_of, ended};
-ghost use Rattle.schedules.specs.Part.{IsPart};
 ghost use Rattle.schedules.specs.Numbers.{numeral_value};
 ghost use Rattle.schedules.specs.Words.{word_of, escaped};
 
@@ -36,9 +35,4 @@ pub fn written_lines_are_read_again()
 pub fn an_event_has_few_words()
     ensures { (line : List ℕ) (event : Event) → found_on event_of line ≡ Some (Some event)
         → (length line ≤ 524) × (length (slice_split (λ o. o == 32) line) ≤ 7) }
-{}
-
-/// A schedule of purchasing alone is one of the whole world, with the same events.
-pub fn purchasing_is_a_part()
-    ensures { IsPart }
 {}

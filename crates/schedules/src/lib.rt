@@ -1,8 +1,7 @@
 //! Schedules: texts of events, one a line, how they are read, and the lines that tell what became of them.
 //!
 //! A schedule is read exactly: its events in order, or the number of its first line that is none. What no event can be isn't kept: a line
-//! of any length costs no more than an event. There are two languages: that of three services and a broker, and its part that purchasing
-//! alone can run.
+//! of any length costs no more than an event.
 //!
 //! ```rust
 //! pub fn a_schedule_is_read(alloc: Global) -> Result<usize, ScheduleFault> {
@@ -28,13 +27,11 @@ mod verb;
 mod words;
 
 pub use bounded::{Ordinal, Rounds, SeatNumber};
-pub use event::{
-    ConnectionName, ConnectionNumber, Event, FailureLeaves, PurchasingEvent, SeatCommand, Service,
-};
+pub use event::{ConnectionName, ConnectionNumber, Event, FailureLeaves, SeatCommand, Service};
 pub use fault::ScheduleFault;
 pub use laws::{
     a_number_has_one_word, a_printed_word_is_read_again, an_event_has_few_words,
-    purchasing_is_a_part, written_lines_are_read_again,
+    written_lines_are_read_again,
 };
-pub use outcome::Outcome;
-pub use reading::{read_purchasing_schedule, read_schedule};
+pub use outcome::{Outcome, Told};
+pub use reading::read_schedule;

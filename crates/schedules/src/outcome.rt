@@ -1,13 +1,10 @@
 //! What becomes of events, and the lines that tell it.
 
-ghost use Rattle.std.specs.Prelude.{◌≡◌, ◌++◌, decimal, codes, IfOk, OnOk};
-ghost use Rattle.schedules.specs.Outcomes.{outcome_lines, told, told_number, shown_entity, shown_pair};
-ghost use Rattle.schedules.specs.Words.{spelled, escaped};
+ghost use Rattle.std.specs.Prelude.{◌≡◌};
+ghost use Rattle.schedules.specs.Outcomes.{outcome_lines, told_lines};
 
 use activities::Refusal;
-use base::{Entity, Pair};
-use itoa::Buffer;
-use std::alloc::{AllocError, Global};
+use base::Pair;
 
 /// What became of an event.
 #[derive(Debug, Drop)]
@@ -66,129 +63,54 @@ pub enum Outcome {
     Shown(Vec<u8>),
 }
 
-impl Outcome {
-    /// The lines that tell it.
-    ///
-    /// # Errors
-    /// Where a growth was refused.
-    pub fn lines(&self, alloc: Global) -> Result<Vec<u8>, AllocError>
-        ensures { IfOk result (λ lines. lines.items ≡ outcome_lines self.now) }
-    {
-        let mut lines = Vec::new(alloc);
-        if let Outcome::Shown(shown) = self {
-            lines.extend_from_slice(shown.as_slice())?;
-        } else {
-            self.push_told(&mut lines)?;
-            lines.push(b'\n')?;
-        }
-        Ok(lines)
-    }
+/// The pieces of the lines that tell an outcome: all but the last have one line.
+#[derive(Clone, Copy, Debug)]
+pub enum Told<'a> {
+    /// Words and a number.
+    Number(&'a str, u64),
+    /// Words, and a text, which may be empty.
+    Text(&'a str, &'a str),
+    /// Words, a pair and a number.
+    OfPair(&'a str, &'a Pair, u64),
+    /// Whole lines.
+    Lines(&'a [u8]),
+}
 
-    /// Appends the words that tell it.
-    fn push_told(&self, line: &mut Vec<u8>) -> Result<(), AllocError>
-        ensures { OnOk result (line.new.items ≡ line.old.items ++ told self.now) }
+impl Outcome {
+    /// The pieces of the lines that tell it.
+    #[tactic(auto, using(std::proofs::Common::append_assoc))]
+    pub fn told(&self) -> Told<'_>
+        ensures { told_lines result ≡ outcome_lines self.now }
     {
         match self {
-            Outcome::Committed(pos) => push_numbered(line, "committed ", *pos),
-            Outcome::Opened => push_text(line, "opened"),
-            Outcome::Already => push_text(line, "already"),
-            Outcome::Closed => push_text(line, "closed"),
-            Outcome::Cut => push_text(line, "cut"),
-            Outcome::Sent(count) => push_numbered(line, "sent ", *count),
-            Outcome::Due => push_text(line, "due"),
-            Outcome::Carried(count) => push_numbered(line, "carried ", *count),
-            Outcome::Connected => push_text(line, "connected"),
-            Outcome::Receipt(number) => push_numbered(line, "receipt ", *number),
-            Outcome::Handled(pos) => push_numbered(line, "handled ", *pos),
-            Outcome::Repeated => push_text(line, "repeated"),
-            Outcome::Held => push_text(line, "held"),
-            Outcome::Settled(mark) => push_numbered(line, "settled ", *mark),
-            Outcome::Error(text) => push_error(line, text),
-            Outcome::Idle => push_text(line, "idle"),
-            Outcome::Drained(pair, number) => push_drained(line, pair, *number),
-            Outcome::Again(number) => push_numbered(line, "again ", *number),
-            Outcome::Absent => push_text(line, "none"),
-            Outcome::Armed => push_text(line, "armed"),
-            Outcome::Reopened => push_text(line, "reopened"),
-            Outcome::Stopped => push_text(line, "stopped"),
-            Outcome::Pumped => push_text(line, "pumped"),
-            Outcome::Refused(number) => push_numbered(line, "refused ", u64::from(*number)),
+            Outcome::Committed(pos) => Told::Number("committed ", *pos),
+            Outcome::Opened => Told::Text("opened", ""),
+            Outcome::Already => Told::Text("already", ""),
+            Outcome::Closed => Told::Text("closed", ""),
+            Outcome::Cut => Told::Text("cut", ""),
+            Outcome::Sent(count) => Told::Number("sent ", *count),
+            Outcome::Due => Told::Text("due", ""),
+            Outcome::Carried(count) => Told::Number("carried ", *count),
+            Outcome::Connected => Told::Text("connected", ""),
+            Outcome::Receipt(number) => Told::Number("receipt ", *number),
+            Outcome::Handled(pos) => Told::Number("handled ", *pos),
+            Outcome::Repeated => Told::Text("repeated", ""),
+            Outcome::Held => Told::Text("held", ""),
+            Outcome::Settled(mark) => Told::Number("settled ", *mark),
+            Outcome::Error(text) => Told::Text("error ", text),
+            Outcome::Idle => Told::Text("idle", ""),
+            Outcome::Drained(pair, number) => Told::OfPair("drained ", pair, *number),
+            Outcome::Again(number) => Told::Number("again ", *number),
+            Outcome::Absent => Told::Text("none", ""),
+            Outcome::Armed => Told::Text("armed", ""),
+            Outcome::Reopened => Told::Text("reopened", ""),
+            Outcome::Stopped => Told::Text("stopped", ""),
+            Outcome::Pumped => Told::Text("pumped", ""),
+            Outcome::Refused(number) => Told::Number("refused ", u64::from(*number)),
             Outcome::NotDone(refusal) => {
-                push_numbered(line, "refused 61 ", u64::from(refusal.number()))
+                Told::Number("refused 61 ", u64::from(refusal.number()))
             }
-            Outcome::Shown(_) => Ok(()),
+            Outcome::Shown(lines) => Told::Lines(lines.as_slice()),
         }
     }
-}
-
-fn push_text(line: &mut Vec<u8>, text: &str) -> Result<(), AllocError>
-    ensures { OnOk result (line.new.items ≡ line.old.items ++ text.now) }
-{
-    line.extend_from_slice(text.as_bytes())?;
-    Ok(())
-}
-
-/// Appends a text and a number.
-#[tactic(auto, using(std::proofs::Common::append_assoc))]
-fn push_numbered(line: &mut Vec<u8>, text: &str, number: u64) -> Result<(), AllocError>
-    ensures { OnOk result (line.new.items ≡ line.old.items ++ told_number text.now number) }
-{
-    let mut digits = Buffer::new();
-    push_text(line, text)?;
-    push_text(line, digits.format(number))
-}
-
-#[tactic(auto, using(std::proofs::Common::append_assoc))]
-fn push_error(line: &mut Vec<u8>, text: &str) -> Result<(), AllocError>
-    ensures { OnOk result (line.new.items ≡ line.old.items ++ codes "error " ++ text.now) }
-{
-    push_text(line, "error ")?;
-    push_text(line, text)
-}
-
-fn push_spelled(line: &mut Vec<u8>, octet: u8) -> Result<(), AllocError>
-    ensures { OnOk result (line.new.items ≡ line.old.items ++ spelled octet) }
-{
-    match octet {
-        b'\\' => push_text(line, "\\\\"),
-        b'\n' => push_text(line, "\\n"),
-        b'\r' => push_text(line, "\\r"),
-        b' ' => push_text(line, "\\s"),
-        _ => Ok(line.push(octet)?),
-    }
-}
-
-/// Appends a word with its escapes.
-#[tactic(auto, using(crate::proofs::Spelled::word_more, std::proofs::Common::append_assoc))]
-fn push_escaped(line: &mut Vec<u8>, word: &str) -> Result<(), AllocError>
-    ensures { OnOk result (line.new.items ≡ line.old.items ++ escaped word.now) }
-{
-    for octet in word.as_bytes() {
-        push_spelled(line, *octet)?;
-    }
-    Ok(())
-}
-
-fn push_entity(line: &mut Vec<u8>, entity: &Entity) -> Result<(), AllocError>
-    ensures { OnOk result (line.new.items ≡ line.old.items ++ shown_entity entity.now) }
-{
-    push_escaped(line, entity.text())
-}
-
-#[tactic(auto, using(std::proofs::Common::append_assoc))]
-fn push_pair(line: &mut Vec<u8>, pair: &Pair) -> Result<(), AllocError>
-    ensures { OnOk result (line.new.items ≡ line.old.items ++ shown_pair pair.now) }
-{
-    push_entity(line, &pair.from)?;
-    push_text(line, " ")?;
-    push_entity(line, &pair.to)
-}
-
-#[tactic(auto, using(std::proofs::Common::append_assoc))]
-fn push_drained(line: &mut Vec<u8>, pair: &Pair, number: u64) -> Result<(), AllocError>
-    ensures { OnOk result (line.new.items ≡ line.old.items ++ codes "drained " ++ shown_pair pair.now ++ codes " " ++ decimal number) }
-{
-    push_text(line, "drained ")?;
-    push_pair(line, pair)?;
-    push_numbered(line, " ", number)
 }

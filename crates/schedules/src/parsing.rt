@@ -1,11 +1,9 @@
 //! The events, read from words.
 
 ghost use Rattle.std.specs.Prelude.{◌≡◌};
-ghost use Rattle.schedules.specs.Alone.{show_of, of_purchasing, purchasing_event_of};
 ghost use Rattle.schedules.specs.Arguments.{entity_of, service_of, ordinal_of, rounds_of};
 ghost use Rattle.schedules.specs.Events.{alone, connection_of, fill_of, carry_of, fail_of, stopped_of, pair_of, event_by, event_of};
 ghost use Rattle.schedules.specs.Reading.{Reads};
-ghost use Rattle.schedules.specs.declared.event.PurchasingEvent.TheVariants as told;
 
 use crate::arguments::{
     connection_number_at, entity_at, leaves_at, number_at, ordinal_at, rounds_at, service_at,
@@ -13,7 +11,7 @@ use crate::arguments::{
 };
 use crate::bounded::{Ordinal, Rounds};
 use crate::commands::{read_cancel, read_limit, read_place, read_receive};
-use crate::event::{ConnectionName, Event, PurchasingEvent, Service};
+use crate::event::{ConnectionName, Event, Service};
 use crate::fault::LineFault;
 use crate::verb::Verb;
 use crate::words::Word;
@@ -176,55 +174,5 @@ pub(crate) fn read_event(alloc: Global, words: &[Word]) -> Result<Event, LineFau
     match Verb::of_word(name.as_str()) {
         Some(verb) => read_arguments(alloc, verb, arguments),
         None => Err(LineFault::Bad),
-    }
-}
-
-/// `ENTITY`: shows its row.
-fn read_show(alloc: Global, words: &[Word]) -> Result<PurchasingEvent, LineFault>
-    ensures { Reads (λ event. event) result (show_of words.now) }
-{
-    let [entity] = words else {
-        return Err(LineFault::Bad);
-    };
-    Ok(PurchasingEvent::Show(entity_at(alloc, entity)?))
-}
-
-/// `purchasing`, for the event that is told of it.
-fn read_purchasing(event: PurchasingEvent, words: &[Word]) -> Result<PurchasingEvent, LineFault>
-    ensures { Reads (λ event. event) result (of_purchasing event words.now) }
-{
-    let [service] = words else {
-        return Err(LineFault::Bad);
-    };
-    if service.as_str() == "purchasing" {
-        Ok(event)
-    } else {
-        Err(LineFault::Bad)
-    }
-}
-
-/// The event of the words of a line where purchasing is alone: the first names it.
-pub(crate) fn read_purchasing_event(
-    alloc: Global,
-    words: &[Word],
-) -> Result<PurchasingEvent, LineFault>
-    ensures { Reads (λ event. event) result (purchasing_event_of words.now) }
-{
-    let [name, arguments @ ..] = words else {
-        return Err(LineFault::Bad);
-    };
-    let name = name.as_str();
-    if name == "place" {
-        Ok(PurchasingEvent::Order(read_place(alloc, arguments)?))
-    } else if name == "cancel" {
-        Ok(PurchasingEvent::Order(read_cancel(alloc, arguments)?))
-    } else if name == "show" {
-        read_show(alloc, arguments)
-    } else if name == "frames" {
-        read_purchasing(PurchasingEvent::Frames, arguments)
-    } else if name == "journal" {
-        read_purchasing(PurchasingEvent::Journal, arguments)
-    } else {
-        Err(LineFault::Bad)
     }
 }

@@ -1,16 +1,15 @@
 //! Schedules, read from text.
 
 ghost use Rattle.std.specs.Prelude.{◌≡◌, ◌<◌, ◌∷◌, ◌++◌, ◌==◌, ◌||◌, nat_lt, nat_le, length, count_by, position, option_to_list, OnOk};
-ghost use Rattle.schedules.specs.Alone.{purchasing_events_of};
-ghost use Rattle.schedules.specs.Events.{events_of};
+ghost use Rattle.schedules.specs.Events.{event_of, events_of};
 ghost use Rattle.schedules.specs.Faults.{IsRead};
 ghost use Rattle.schedules.specs.Lines.{lines_of};
 ghost use Rattle.schedules.specs.Reading.{Reads};
-ghost use Rattle.schedules.specs.Schedules.{is_quiet, found_in, found_on, read_by};
+ghost use Rattle.schedules.specs.Schedules.{is_quiet, said_on, found_in, found_on};
 
-use crate::event::{Event, PurchasingEvent};
+use crate::event::Event;
 use crate::fault::{LineFault, ScheduleFault};
-use crate::parsing::{read_event, read_purchasing_event};
+use crate::parsing::read_event;
 use crate::words::read_words;
 use std::alloc::{AllocError, Global};
 
@@ -19,46 +18,6 @@ const LONGEST_LINE: usize = 524;
 
 /// The most words of an event: those of `place`.
 const MOST_WORDS: usize = 7;
-
-/// The events of a language of schedules.
-trait Language: Drop {
-    ghost use Rattle.schedules.specs.Schedules.{Language, said_on};
-
-    /// The event of the words of a line.
-    ghost event_of: { Language Self };
-
-    /// The event of a line.
-    fn read(alloc: Global, line: &str) -> Result<Self, LineFault>
-        ensures { Reads (λ event. event) result (said_on event_of line.now) };
-}
-
-impl Language for Event {
-    ghost use Rattle.schedules.specs.Events.{event_of};
-
-    ghost event_of = { event_of };
-
-    fn read(alloc: Global, line: &str) -> Result<Event, LineFault> {
-        if exceeds_events(line) {
-            return Err(LineFault::Bad);
-        }
-        let words = read_words(alloc, line)?;
-        read_event(alloc, words.as_slice())
-    }
-}
-
-impl Language for PurchasingEvent {
-    ghost use Rattle.schedules.specs.Alone.{purchasing_event_of};
-
-    ghost event_of = { purchasing_event_of };
-
-    fn read(alloc: Global, line: &str) -> Result<PurchasingEvent, LineFault> {
-        if exceeds_events(line) {
-            return Err(LineFault::Bad);
-        }
-        let words = read_words(alloc, line)?;
-        read_purchasing_event(alloc, words.as_slice())
-    }
-}
 
 /// Whether a line has nothing to run: it's empty, or a comment.
 fn is_quiet(line: &str) -> bool
@@ -75,20 +34,31 @@ fn exceeds_events(line: &str) -> bool
         || line.as_bytes().iter().filter(|o| **o == b' ').count() >= MOST_WORDS
 }
 
+/// The event of a line.
+fn read_said(alloc: Global, line: &str) -> Result<Event, LineFault>
+    ensures { Reads (λ event. event) result (said_on event_of line.now) }
+{
+    if exceeds_events(line) {
+        return Err(LineFault::Bad);
+    }
+    let words = read_words(alloc, line)?;
+    read_event(alloc, words.as_slice())
+}
+
 /// What a line of text has to run.
-fn read_text<E: Language>(alloc: Global, line: &str) -> Result<Option<E>, LineFault>
-    ensures { Reads (λ found. found) result (found_in E.event_of line.now) }
+fn read_text(alloc: Global, line: &str) -> Result<Option<Event>, LineFault>
+    ensures { Reads (λ found. found) result (found_in event_of line.now) }
 {
     if is_quiet(line) {
         return Ok(None);
     }
-    Ok(Some(E::read(alloc, line)?))
+    Ok(Some(read_said(alloc, line)?))
 }
 
 /// What a line has to run: it's text, or faulty.
 #[tactic(auto, using(crate::proofs::Utf8::utf8_yes, crate::proofs::Utf8::utf8_no))]
-fn read_line<E: Language>(alloc: Global, line: &[u8]) -> Result<Option<E>, LineFault>
-    ensures { Reads (λ found. found) result (found_on E.event_of line.now) }
+fn read_line(alloc: Global, line: &[u8]) -> Result<Option<Event>, LineFault>
+    ensures { Reads (λ found. found) result (found_on event_of line.now) }
 {
     match str::from_utf8(line) {
         Ok(text) => read_text(alloc, text),
@@ -116,7 +86,7 @@ fn first_line(text: &[u8]) -> (&[u8], &[u8])
 }
 
 /// Puts the event of a line behind the others, where it has one.
-fn add<E: Language>(events: &mut Vec<E>, found: Option<E>) -> Result<(), AllocError>
+fn add(events: &mut Vec<Event>, found: Option<Event>) -> Result<(), AllocError>
     ensures { OnOk result (events.new.items ≡ events.old.items ++ option_to_list found) }
 {
     if let Some(event) = found {
@@ -125,9 +95,15 @@ fn add<E: Language>(events: &mut Vec<E>, found: Option<E>) -> Result<(), AllocEr
     Ok(())
 }
 
-/// The events of a text in a language, in order, or its first faulty line.
-fn read_by<E: Language>(alloc: Global, text: &[u8]) -> Result<Vec<E>, ScheduleFault>
-    ensures { IsRead (read_by E.event_of text.now) result }
+/// The events of a schedule, in order.
+///
+/// A schedule is lines of UTF-8, each ended by LF, which the last may lack. Empty lines and lines that begin with `#` have no event,
+/// but are counted.
+///
+/// # Errors
+/// `BadEvent` with the number of the first line that is no event, counted from 1; else `Memory` where a growth was refused.
+pub fn read_schedule(alloc: Global, text: &[u8]) -> Result<Vec<Event>, ScheduleFault>
+    ensures { IsRead (events_of text.now) result }
 {
     let mut events = Vec::new(alloc);
     let mut rest = text;
@@ -144,30 +120,4 @@ fn read_by<E: Language>(alloc: Global, text: &[u8]) -> Result<Vec<E>, ScheduleFa
         rest = after;
     }
     Ok(events)
-}
-
-/// The events of a schedule, in order.
-///
-/// A schedule is lines of UTF-8, each ended by LF, which the last may lack. Empty lines and lines that begin with `#` have no event,
-/// but are counted.
-///
-/// # Errors
-/// `BadEvent` with the number of the first line that is no event, counted from 1; else `Memory` where a growth was refused.
-pub fn read_schedule(alloc: Global, text: &[u8]) -> Result<Vec<Event>, ScheduleFault>
-    ensures { IsRead (events_of text.now) result }
-{
-    read_by(alloc, text)
-}
-
-/// The events of a schedule of purchasing alone, in order: `place`, `cancel`, `show`, and `frames` and `journal` of purchasing.
-///
-/// # Errors
-/// As `read_schedule`: a line with any other event is no event here.
-pub fn read_purchasing_schedule(
-    alloc: Global,
-    text: &[u8],
-) -> Result<Vec<PurchasingEvent>, ScheduleFault>
-    ensures { IsRead (purchasing_events_of text.now) result }
-{
-    read_by(alloc, text)
 }

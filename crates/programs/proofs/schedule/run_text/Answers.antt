@@ -1,6 +1,11 @@
+use Rattle.std.proofs.Common.{List, subst}
 use Rattle.std.proofs.lemmas.Result.{err_from_is_err_and}
-use Rattle.keep_plain.specs.Memory.{tables_of}
-use Rattle.programs.proofs.Endings.{unread, ran_whole, ran_cut}
+use Rattle.std.specs.Io.KnownBytes.{Appends}
+use Rattle.schedules.specs.declared.event.Event.{Event}
+use Rattle.schedules.specs.declared.outcome.Outcome.{Outcome}
+use Rattle.programs.proofs.Endings.{unread, ran_part}
+use Rattle.programs.specs.Ends.{lines_of}
+use Rattle.programs.specs.Runs.{HasBegun}
 use Rattle.programs.proofs.schedule.run_text.Goals as goal
 
 pub returns-in_err-events : goal.returns-in_err-events
@@ -10,13 +15,9 @@ returns-in_err-events g c =
 
 pub returns-in-Ok : goal.returns-in-Ok
 returns-in-Ok g c =
-    let run = rw c.as_slice.ensures.value at c.in-Ok.ensures.ok in
-    ran_whole c.args.text.now c.in_ok-events.events (g.W.Write.contents c.args.out.now) (g.W.Write.contents c.run_events.new.out)
-    (tables_of c.open_purchasing-purchasing.result).journal (tables_of c.run_events.new.purchasing).journal run.0
-    c.in_ok-events.ensures c.open_purchasing-purchasing.ensures.empty run.1 run.2
-
-pub returns : goal.returns
-returns g c =
-    let cut = rw c.as_slice.ensures.value at c.in-Err.ensures.err in
-    ran_cut c.args.text.now c.in_ok-events.events (g.W.Write.contents c.args.out.now) (g.W.Write.contents c.run_events.new.out)
-    (tables_of c.open_purchasing-purchasing.result).journal c.in_ok-events.ensures c.open_purchasing-purchasing.ensures.empty cut
+    let outcomes = c.run_events-ran.new.outcomes.items in
+    let old = g.W.Write.contents c.args.out.now in
+    let new = g.W.Write.contents c.write_outcomes.new.out in
+    ran_part c.args.text.now c.in_ok-events.events outcomes old new c.in_ok-events.ensures
+    (subst (λ (es : List Event). HasBegun es outcomes) c.as_slice.ensures.value c.in-Err-ran.ensures.begun)
+    (subst (λ (os : List Outcome). Appends old new (lines_of os)) c.as_slice-2.ensures.value c.in-Ok.ensures.ok)

@@ -10,7 +10,8 @@ returns-in-Purchasing g c =
     (lift_order_read g.KO.Keep.seen g.KS.Keep.seen g.KA.Keep.seen
     (ListOf g.KO.Keep.seen g.KS.Keep.seen g.KA.Keep.seen Purchasing c.args.listing c.look_at_list.result)
     c.args.self.now (record c.args.self.now { purchasing = c.look_at_list.new.site; mail = c.look_at_list.new.mail })
-    c.look_at_list.ensures.store refl refl (c.look_at_list.ensures.did, refl, refl))
+    c.look_at_list.ensures.store refl refl (c.look_at_list.ensures.did, refl, refl)
+    c.look_at_list.ensures.did)
 
 pub returns-in-Warehouse : goal.returns-in-Warehouse
 returns-in-Warehouse g c =
@@ -22,7 +23,8 @@ returns-in-Warehouse g c =
       mail =
           c.look_at_list-in-Warehouse.new.mail;
     })
-    refl c.look_at_list-in-Warehouse.ensures.store refl (c.look_at_list-in-Warehouse.ensures.did, refl, refl))
+    refl c.look_at_list-in-Warehouse.ensures.store refl (c.look_at_list-in-Warehouse.ensures.did, refl, refl)
+    c.look_at_list-in-Warehouse.ensures.did)
 
 pub returns-in-Billing : goal.returns-in-Billing
 returns-in-Billing g c =
@@ -30,4 +32,5 @@ returns-in-Billing g c =
     (lift_account_read g.KO.Keep.seen g.KS.Keep.seen g.KA.Keep.seen
     (ListOf g.KO.Keep.seen g.KS.Keep.seen g.KA.Keep.seen Billing c.args.listing c.look_at_list-in-Billing.result)
     c.args.self.now (record c.args.self.now { billing = c.look_at_list-in-Billing.new.site; mail = c.look_at_list-in-Billing.new.mail })
-    refl refl c.look_at_list-in-Billing.ensures.store (c.look_at_list-in-Billing.ensures.did, refl, refl))
+    refl refl c.look_at_list-in-Billing.ensures.store (c.look_at_list-in-Billing.ensures.did, refl, refl)
+    c.look_at_list-in-Billing.ensures.did)

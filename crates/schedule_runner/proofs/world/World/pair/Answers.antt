@@ -1,4 +1,4 @@
-use Rattle.std.proofs.Common.{ℕ, refl}
+use Rattle.std.proofs.Common.{ℕ}
 use Rattle.schedule_runner.specs.declared.looking.Mark.TheVariants.{Sent}
 use Rattle.schedule_runner.specs.Shows.{ShowsSettled}
 use Rattle.schedule_runner.proofs.Reading.{passes_next, passes_fault}

@@ -1,4 +1,4 @@
-use Rattle.std.proofs.Common.{ℕ, refl}
+use Rattle.std.proofs.Common.{ℕ}
 use Rattle.schedule_runner.specs.declared.looking.Mark.TheVariants.{Handled}
 use Rattle.showing.specs.Printed.{pair_line}
 use Rattle.schedule_runner.specs.Shows.{ShowsLine}

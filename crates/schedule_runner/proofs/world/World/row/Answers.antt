@@ -12,7 +12,8 @@ returns-in-Order g c = passes_row g.KO.Keep.seen g.KS.Keep.seen g.KA.Keep.seen O
     (lift_order_read g.KO.Keep.seen g.KS.Keep.seen g.KA.Keep.seen
     (RowOf g.KO.Keep.seen g.KS.Keep.seen g.KA.Keep.seen Order c.args.entity.now c.look_at_row.result)
     c.args.self.now (record c.args.self.now { purchasing = c.look_at_row.new.site; mail = c.look_at_row.new.mail })
-    c.look_at_row.ensures.store refl refl (c.look_at_row.ensures.did, refl, refl))
+    c.look_at_row.ensures.store refl refl (c.look_at_row.ensures.did, refl, refl)
+    c.look_at_row.ensures.did)
 
 pub returns-in-Stock : goal.returns-in-Stock
 returns-in-Stock g c = passes_row g.KO.Keep.seen g.KS.Keep.seen g.KA.Keep.seen Stock c.args.entity.now.kind c.args.entity.now
@@ -22,7 +23,8 @@ returns-in-Stock g c = passes_row g.KO.Keep.seen g.KS.Keep.seen g.KA.Keep.seen S
     (lift_stock_read g.KO.Keep.seen g.KS.Keep.seen g.KA.Keep.seen
     (RowOf g.KO.Keep.seen g.KS.Keep.seen g.KA.Keep.seen Stock c.args.entity.now c.look_at_row-in-Stock.result)
     c.args.self.now (record c.args.self.now { warehouse = c.look_at_row-in-Stock.new.site; mail = c.look_at_row-in-Stock.new.mail })
-    refl c.look_at_row-in-Stock.ensures.store refl (c.look_at_row-in-Stock.ensures.did, refl, refl))
+    refl c.look_at_row-in-Stock.ensures.store refl (c.look_at_row-in-Stock.ensures.did, refl, refl)
+    c.look_at_row-in-Stock.ensures.did)
 
 pub returns-in-Account : goal.returns-in-Account
 returns-in-Account g c = passes_row g.KO.Keep.seen g.KS.Keep.seen g.KA.Keep.seen Account c.args.entity.now.kind c.args.entity.now
@@ -32,4 +34,5 @@ returns-in-Account g c = passes_row g.KO.Keep.seen g.KS.Keep.seen g.KA.Keep.seen
     (lift_account_read g.KO.Keep.seen g.KS.Keep.seen g.KA.Keep.seen
     (RowOf g.KO.Keep.seen g.KS.Keep.seen g.KA.Keep.seen Account c.args.entity.now c.look_at_row-in-Account.result)
     c.args.self.now (record c.args.self.now { billing = c.look_at_row-in-Account.new.site; mail = c.look_at_row-in-Account.new.mail })
-    refl refl c.look_at_row-in-Account.ensures.store (c.look_at_row-in-Account.ensures.did, refl, refl))
+    refl refl c.look_at_row-in-Account.ensures.store (c.look_at_row-in-Account.ensures.did, refl, refl)
+    c.look_at_row-in-Account.ensures.did)

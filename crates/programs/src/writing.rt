@@ -1,0 +1,138 @@
+//! What is written: octets, words and numbers, and the lines that tell outcomes. It takes no memory.
+
+ghost use Rattle.std.specs.Prelude.{◌++◌, decimal, OnOk, OnErr};
+ghost use Rattle.std.specs.List.{flat_map};
+ghost use Rattle.std.specs.Io.{WritesAtMost};
+ghost use Rattle.std.specs.Io.KnownBytes.{Appends, WriteAppends};
+ghost use Rattle.schedules.specs.Outcomes.{outcome_lines, told_lines, shown_entity, shown_pair};
+ghost use Rattle.schedules.specs.Words.{escaped};
+ghost use Rattle.programs.specs.Written.{AppendsPart, of_pair};
+
+use base::{Entity, Pair};
+use itoa::Buffer;
+use schedules::{Outcome, Told};
+use showing::spelled;
+use std::io;
+use std::io::{ErrorKind, Write};
+
+/// Writes a beginning of octets: at least one of them, unless the writer was interrupted.
+fn write_some<W: Write>(out: &mut W, octets: &[u8]) -> io::Result<usize>
+    ensures bound { WritesAtMost result octets.now }
+    ensures bytes { WriteAppends (W.contents out.old) (W.contents out.new) result octets.now }
+{
+    match out.write(octets) {
+        Ok(0) => Err(io::Error::from(ErrorKind::WriteZero)),
+        Err(error) if error.kind() == ErrorKind::Interrupted => Ok(0),
+        answer => answer,
+    }
+}
+
+/// Writes octets. Where the writer fails, it took a beginning of them.
+pub(crate) fn write_octets<W: Write>(out: &mut W, octets: &[u8]) -> io::Result<()>
+    ensures ok { OnOk result (Appends (W.contents out.old) (W.contents out.new) octets.now) }
+    ensures err { OnErr result (AppendsPart (W.contents out.old) (W.contents out.new) octets.now) }
+{
+    let mut written = 0;
+    for _ in 0..u64::MAX {
+        if written == octets.len() {
+            return Ok(());
+        }
+        written += write_some(out, &octets[written..])?;
+    }
+    Err(io::Error::from(ErrorKind::TimedOut))
+}
+
+/// Writes octets, other octets, and others again.
+fn write_three<W: Write>(out: &mut W, first: &[u8], second: &[u8], third: &[u8]) -> io::Result<()>
+    ensures ok { OnOk result (Appends (W.contents out.old) (W.contents out.new) (first.now ++ second.now ++ third.now)) }
+    ensures err { OnErr result (AppendsPart (W.contents out.old) (W.contents out.new) (first.now ++ second.now ++ third.now)) }
+{
+    write_octets(out, first)?;
+    write_octets(out, second)?;
+    write_octets(out, third)
+}
+
+/// Writes octets, a number in decimal, and octets.
+pub(crate) fn write_numbered<W: Write>(
+    out: &mut W,
+    before: &[u8],
+    number: u64,
+    after: &[u8],
+) -> io::Result<()>
+    ensures ok { OnOk result (Appends (W.contents out.old) (W.contents out.new) (before.now ++ decimal number ++ after.now)) }
+    ensures err { OnErr result (AppendsPart (W.contents out.old) (W.contents out.new) (before.now ++ decimal number ++ after.now)) }
+{
+    let mut digits = Buffer::new();
+    write_three(out, before, digits.format(number).as_bytes(), after)
+}
+
+/// Writes a word with its escapes.
+fn write_word<W: Write>(out: &mut W, word: &str) -> io::Result<()>
+    ensures ok { OnOk result (Appends (W.contents out.old) (W.contents out.new) (escaped word.now)) }
+    ensures err { OnErr result (AppendsPart (W.contents out.old) (W.contents out.new) (escaped word.now)) }
+{
+    for octet in word.as_bytes() {
+        write_octets(out, spelled(octet))?;
+    }
+    Ok(())
+}
+
+/// Writes an entity's text, with its escapes.
+fn write_entity<W: Write>(out: &mut W, entity: &Entity) -> io::Result<()>
+    ensures ok { OnOk result (Appends (W.contents out.old) (W.contents out.new) (shown_entity entity.now)) }
+    ensures err { OnErr result (AppendsPart (W.contents out.old) (W.contents out.new) (shown_entity entity.now)) }
+{
+    write_word(out, entity.text())
+}
+
+/// Writes a pair: its sender and its receiver.
+fn write_pair<W: Write>(out: &mut W, pair: &Pair) -> io::Result<()>
+    ensures ok { OnOk result (Appends (W.contents out.old) (W.contents out.new) (shown_pair pair.now)) }
+    ensures err { OnErr result (AppendsPart (W.contents out.old) (W.contents out.new) (shown_pair pair.now)) }
+{
+    write_entity(out, &pair.from)?;
+    write_octets(out, b" ")?;
+    write_entity(out, &pair.to)
+}
+
+/// Writes the line of words, a pair and a number.
+fn write_of_pair<W: Write>(out: &mut W, words: &[u8], pair: &Pair, number: u64) -> io::Result<()>
+    ensures ok { OnOk result (Appends (W.contents out.old) (W.contents out.new) (of_pair words.now pair.now number)) }
+    ensures err { OnErr result (AppendsPart (W.contents out.old) (W.contents out.new) (of_pair words.now pair.now number)) }
+{
+    write_octets(out, words)?;
+    write_pair(out, pair)?;
+    write_numbered(out, b" ", number, b"\n")
+}
+
+/// Writes the lines that pieces make.
+fn write_told<W: Write>(out: &mut W, told: Told<'_>) -> io::Result<()>
+    ensures ok { OnOk result (Appends (W.contents out.old) (W.contents out.new) (told_lines told.entry)) }
+    ensures err { OnErr result (AppendsPart (W.contents out.old) (W.contents out.new) (told_lines told.entry)) }
+{
+    match told {
+        Told::Number(words, number) => write_numbered(out, words.as_bytes(), number, b"\n"),
+        Told::Text(words, text) => write_three(out, words.as_bytes(), text.as_bytes(), b"\n"),
+        Told::OfPair(words, pair, number) => write_of_pair(out, words.as_bytes(), pair, number),
+        Told::Lines(lines) => write_octets(out, lines),
+    }
+}
+
+/// Writes the lines that tell an outcome.
+fn write_outcome<W: Write>(out: &mut W, outcome: &Outcome) -> io::Result<()>
+    ensures ok { OnOk result (Appends (W.contents out.old) (W.contents out.new) (outcome_lines outcome.now)) }
+    ensures err { OnErr result (AppendsPart (W.contents out.old) (W.contents out.new) (outcome_lines outcome.now)) }
+{
+    write_told(out, outcome.told())
+}
+
+/// Writes the lines that tell outcomes, and ends the writing.
+pub(crate) fn write_outcomes<W: Write>(out: &mut W, outcomes: &[Outcome]) -> io::Result<()>
+    ensures ok { OnOk result (Appends (W.contents out.old) (W.contents out.new) (flat_map outcome_lines outcomes.now)) }
+    ensures err { OnErr result (AppendsPart (W.contents out.old) (W.contents out.new) (flat_map outcome_lines outcomes.now)) }
+{
+    for outcome in outcomes {
+        write_outcome(out, outcome)?;
+    }
+    out.flush()
+}

@@ -1,0 +1,30 @@
+-- When three services and the mail between them are good, and that they stay so.
+use Rattle.envelope.specs.declared.message.Envelope.{Envelope}
+use Rattle.keep.specs.Seen.{Seen}
+use Rattle.accord.specs.Good.{IsGenuine, IsGood, AllAgree}
+use Rattle.accord.specs.Sight.{OrderTables, StockTables, AccountTables, AreClean, AreMatching}
+use Rattle.genuine.specs.Three.{Genuine}
+use Rattle.schedule_runner.specs.Sight.{sight}
+use Rattle.schedule_runner.specs.declared.world.World.{World}
+
+-- All envelopes on their way have this property: in what a client wrote and what was carried, in the broker's sessions, queues and open
+-- transactions, and among all SENDs that were ever accepted.
+abbrev pub MailIs : {KO KS KA : Type 0} → (Envelope → Type 0) → World KO KS KA → Type 0
+MailIs ok w = Genuine ok w.purchasing w.warehouse w.billing w.mail
+
+module _ {KO KS KA : Type 0} (orders : KO → Seen OrderTables) (stocks : KS → Seen StockTables) (accounts : KA → Seen AccountTables) where
+  -- the services are good, and each envelope on its way is genuine
+  pub record IsGoodWorld (w : World KO KS KA) : Type 0 where
+    pub services : IsGood (sight orders stocks accounts w)
+    pub mail : MailIs (IsGenuine (sight orders stocks accounts w)) w
+
+  module _ (old new : World KO KS KA) where
+    -- where it was good it is good
+    abbrev pub StaysGood : Type 0
+    StaysGood = AreClean (sight orders stocks accounts new) → AreMatching (sight orders stocks accounts old)
+        → IsGoodWorld old → IsGoodWorld new
+
+    -- and so its services agree
+    abbrev pub Agrees : Type 0
+    Agrees = AreClean (sight orders stocks accounts new) → AreMatching (sight orders stocks accounts old)
+        → IsGoodWorld old → AllAgree (sight orders stocks accounts new)

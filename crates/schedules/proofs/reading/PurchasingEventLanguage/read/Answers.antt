@@ -1,8 +1,0 @@
-use Rattle.std.proofs.Common.{sym, ◌∙◌}
-use Rattle.schedules.specs.Alone.{purchasing_event_of}
-use Rattle.schedules.proofs.Sizes.{no_event, purchasing_events_fit}
-use Rattle.schedules.proofs.reading.PurchasingEventLanguage.read.Goals as goal
-
-pub returns-then-exceeds_events : goal.returns-then-exceeds_events
-returns-then-exceeds_events c =
-    no_event purchasing_event_of purchasing_events_fit c.args.line.now (sym c.exceeds_events.ensures ∙ c.if-exceeds_events.true)
