@@ -1,11 +1,22 @@
 //! One example for the page of each library.
 
-ghost use Rattle.std.specs.Prelude.{◌≤◌, ℕ};
+ghost use Rattle.std.specs.Prelude.{◌≤◌, ℕ, Bool};
+ghost use Rattle.accord.specs.Deeds.{Turns};
+ghost use Rattle.accord.specs.Good.{HoldsAuthentic, journals_of};
+ghost use Rattle.accord.specs.Sight.{AllTables};
+ghost use Rattle.agreement.specs.Envelopes.{IsAuthentic};
+ghost use Rattle.agreement.specs.Journals.{AreLawful};
 ghost use Rattle.agreement.specs.Steps.{Configuration, Reaches};
 ghost use Rattle.base.specs.declared.pair.Pair.{Pair};
 ghost use Rattle.broker_laws.specs.Runs.{NoLifeLosesAny};
 ghost use Rattle.broker_texts.specs.Carried.{MessagesWereSent};
+ghost use Rattle.envelope.specs.declared.message.Envelope.{Envelope};
+ghost use Rattle.genuine.specs.Laws.{EventPasses};
+ghost use Rattle.mail.specs.Offices.{Office};
+ghost use Rattle.passage.specs.Laws.{ReadingPasses};
+ghost use Rattle.sites.specs.declared.site.Site.{Site};
 
+use accord::a_turn_keeps_the_laws;
 use activities::{AccountCommand, Handler, HandlerFault, Input, OrderCommand, Outs, StockCommand};
 use agreement::stays_authentic;
 use base::{Entity, EntityFault, Key, Kind, Number, Pair};
@@ -19,14 +30,17 @@ use broker_server::Stop;
 use broker_texts::each_message_was_sent;
 use broker_tx::{TransactionFault, Transactions};
 use endpoint::{EndFault, Endpoint};
-use envelope::{Envelope, EnvelopeFault, Letter, to_send};
+use envelope::{Envelope, EnvelopeFault, Letter, Message, to_send};
 use exchange::{Delivery, Event, Network, Outcome, exchange};
+use genuine::each_event_makes_nothing_up;
+use hotel::{Room, Rooms};
 use inbox::{Class, classify};
 use keep::{Change, Faulty, Keep, KeepFault};
 use keep_plain::PlainKeep;
 use line_script::{WordFault, push_octets, read_octets};
 use mail::{Connection, Mail, OpenFault};
 use outbox::settle;
+use passage::what_is_read_passes;
 use programs::{RunFault, run_text};
 use purchasing::Orders;
 use receipts::{ReceiptFault, Receipts};
@@ -141,6 +155,12 @@ pub fn what_a_client_reads_was_sent()
     each_message_was_sent();
 }
 
+pub fn what_is_read_of_a_good_frame_passes()
+    ensures { ReadingPasses }
+{
+    what_is_read_passes();
+}
+
 pub fn a_receipt_is_closed_once(alloc: Global) -> Result<bool, ReceiptFault> {
     let mut receipts = Receipts::new(alloc);
     let number = receipts.open('a')?;
@@ -193,10 +213,25 @@ pub fn so_much_is_the_limit(alloc: Global, amount: u64) -> Result<u64, HandlerFa
     Ok(account.limit())
 }
 
+pub fn a_free_room_is_promised(alloc: Global, order: Entity) -> Result<bool, HandlerFault> {
+    let mut room = Rooms::opening(alloc)?;
+    let mut outs = Outs::new(alloc);
+    let request = Input::FromEntity(order, Number::FIRST, Message::Request(Number::FIRST));
+    Rooms::apply(alloc, &mut room, &request, &mut outs)?;
+    Ok(matches!(room, Room::Promised(_)))
+}
+
 pub fn no_mark_is_taken_back()
     ensures { (old new : Configuration) (pair : Pair) → Reaches old new → old.settled pair ≤ new.settled pair }
 {
     stays_authentic();
+}
+
+pub fn lawful_journals_stay_lawful()
+    ensures { (x y : AllTables) → Turns (IsAuthentic (journals_of x)) x y → HoldsAuthentic x →
+        AreLawful (journals_of x) → AreLawful (journals_of y) }
+{
+    a_turn_keeps_the_laws();
 }
 
 pub fn a_mark_is_read<K: Keep>(keep: &mut K, alloc: Global, pair: &Pair) -> Result<u64, KeepFault> {
@@ -318,6 +353,16 @@ pub fn nothing_is_sent_where_no_connection_is_open(alloc: Global) -> Result<bool
     let mut mail = Mail::new(alloc);
     let outcome = site.fill(&mut mail, ConnectionNumber::Zero, 64);
     Ok(matches!(outcome, schedules::Outcome::Closed))
+}
+
+pub fn a_service_that_acts_makes_nothing_up<H, K>()
+where
+    H: Handler,
+    K: Keep<State = H::State, Command = H::Command> + Drop,
+    ensures { (test : Envelope → Bool) (s t : Site H K H.State H.Command) (from to : Office)
+        → EventPasses K.seen H.service test s t from to }
+{
+    each_event_makes_nothing_up::<H, K>();
 }
 
 pub fn an_open_connection_stays_open(

@@ -2,7 +2,7 @@
 #![tactic(auto)]
 
 mod examples;
-mod willing;
+mod hotel_day;
 
 use activities::{Handler, OrderCommand, Outs};
 use anyhow::Result;
@@ -13,18 +13,22 @@ use envelope::{Letter, Message};
 use examples::{
     a_broker_answers_connect, a_client_asks_to_connect, a_command_is_taken_in,
     a_connected_client_subscribes, a_frame_before_connect_is_refused, a_frame_is_read_from_pieces,
-    a_letter_comes_again, a_mark_is_one_change, a_mark_is_read, a_message_is_accepted,
-    a_receipt_is_closed_once, a_row_is_shown, a_schedule_is_read, a_schedule_is_run,
-    a_server_is_asked_to_end, a_settle_is_sent, a_transaction_keeps_its_actions,
-    an_entity_is_named_again, an_idle_destination_is_closed, an_open_connection_stays_open,
-    an_order_is_refused, answers_reach_back_in_mode_client, first_state_of, no_mark_is_taken_back,
-    nothing_goes_out_before_the_broker_answers, nothing_is_held_at_first,
+    a_free_room_is_promised, a_letter_comes_again, a_mark_is_one_change, a_mark_is_read,
+    a_message_is_accepted, a_receipt_is_closed_once, a_row_is_shown, a_schedule_is_read,
+    a_schedule_is_run, a_server_is_asked_to_end, a_service_that_acts_makes_nothing_up,
+    a_settle_is_sent, a_transaction_keeps_its_actions, an_entity_is_named_again,
+    an_idle_destination_is_closed, an_open_connection_stays_open, an_order_is_refused,
+    answers_reach_back_in_mode_client, first_state_of, lawful_journals_stay_lawful,
+    no_mark_is_taken_back, nothing_goes_out_before_the_broker_answers, nothing_is_held_at_first,
     nothing_is_sent_where_no_connection_is_open, octets_wait_where_they_were_written,
     printed_octets_are_read, so_much_is_on_hand, so_much_is_the_limit,
     tables_hold_nothing_at_first, what_a_client_reads_was_sent, what_comes_early_waits,
-    what_wants_an_ack_stays_until_it_comes, what_was_put_is_taken,
+    what_is_read_of_a_good_frame_passes, what_wants_an_ack_stays_until_it_comes,
+    what_was_put_is_taken,
 };
 use exchange::{Delivery, Event, Network, Outcome, exchange};
+use hotel::{RoomCommand, Rooms};
+use hotel_day::a_day_at_the_hotel;
 use keep::{Faulty, Keep, KeepFault, Leaves};
 use keep_plain::PlainKeep;
 use purchasing::Orders;
@@ -34,7 +38,6 @@ use std::alloc::Global;
 use std::error::Error;
 use std::fmt::Debug;
 use warehouse::Stocks;
-use willing::Willing;
 
 /// One more than a limit can be.
 const LIMIT_TOO_GREAT: u64 = 1_099_511_627_777;
@@ -107,7 +110,9 @@ fn print_sessions(rt: &impl Print, alloc: Global) -> Result<()> {
     what_a_client_reads_was_sent();
     tell(rt, "receipts", a_receipt_is_closed_once(alloc))?;
     tell(rt, "stomp_client", a_client_asks_to_connect(alloc))?;
-    tell(rt, "mail", octets_wait_where_they_were_written(alloc))
+    tell(rt, "mail", octets_wait_where_they_were_written(alloc))?;
+    what_is_read_of_a_good_frame_passes();
+    Ok(())
 }
 
 /// Whether an order refuses its first command.
@@ -119,10 +124,16 @@ fn is_refused(alloc: Global) -> bool {
 /// What services do with it, and what holds of all of them.
 fn print_reactions(rt: &impl Print, alloc: Global) -> Result<()> {
     no_mark_is_taken_back();
+    lawful_journals_stay_lawful();
     show(rt, "activities", &is_refused(alloc))?;
     show(rt, "purchasing", &an_order_is_refused(alloc))?;
     tell(rt, "warehouse", so_much_is_on_hand(alloc, 10))?;
-    show(rt, "billing", &so_much_is_the_limit(alloc, LIMIT_TOO_GREAT))
+    show(rt, "billing", &so_much_is_the_limit(alloc, LIMIT_TOO_GREAT))?;
+    tell(
+        rt,
+        "hotel",
+        a_free_room_is_promised(alloc, pair(alloc)?.from),
+    )
 }
 
 /// A mark of empty tables.
@@ -160,13 +171,20 @@ fn take_in(alloc: Global) -> Result<u64> {
     Ok(a_command_is_taken_in(alloc, &order, command)?)
 }
 
-/// Purchasing, where an order was placed and cancelled.
+/// The pair of an order and the room that it asks for.
+fn room_pair(alloc: Global) -> Result<Pair> {
+    let from = Entity::read(alloc, "order/o1")?;
+    let to = Entity::read(alloc, "stock/seven")?;
+    Ok(Pair { from, to })
+}
+
+/// Purchasing, where an order of that room was placed and cancelled.
 fn cancelled(alloc: Global) -> Result<Endpoint<Orders, PlainKeep<Orders>>> {
     let mut purchasing: Endpoint<Orders, PlainKeep<Orders>> = Endpoint::new(PlainKeep::new(alloc));
     let order = Entity::read(alloc, "order/o1")?;
     let command = OrderCommand::Place {
-        stock: Key::read(alloc, "bolt")?,
-        quantity: 3,
+        stock: Key::read(alloc, "seven")?,
+        quantity: 2,
         account: Key::read(alloc, "ann")?,
         amount: 500,
     };
@@ -175,20 +193,20 @@ fn cancelled(alloc: Global) -> Result<Endpoint<Orders, PlainKeep<Orders>>> {
     Ok(purchasing)
 }
 
-/// A stock that holds whatever it is asked for, over a store that may fail.
-fn willing_stock(alloc: Global) -> Endpoint<Willing, Faulty<PlainKeep<Willing>>> {
+/// A hotel over a store that may fail.
+fn open_hotel(alloc: Global) -> Endpoint<Rooms, Faulty<PlainKeep<Rooms>>> {
     Endpoint::new(Faulty::new(PlainKeep::new(alloc)))
 }
 
 /// The deliveries around a failure of the store, which leaves the letter taken in.
-fn around_a_failure(alloc: Global) -> Result<Vec<Delivery<OrderCommand, bool>>> {
+fn around_a_failure(alloc: Global) -> Result<Vec<Delivery<OrderCommand, RoomCommand>>> {
     let mut deliveries = Vec::new(alloc);
     deliveries.push(Delivery::Left(Event::Send(4)))?;
     deliveries.push(Delivery::Right(Event::Take(2)))?;
     deliveries.push(Delivery::Right(Event::Take(2)))?;
     deliveries.push(Delivery::Right(Event::Reopen))?;
     deliveries.push(Delivery::Right(Event::Take(2)))?;
-    deliveries.push(Delivery::Right(Event::Tell(pair(alloc)?)))?;
+    deliveries.push(Delivery::Right(Event::Tell(room_pair(alloc)?)))?;
     deliveries.push(Delivery::Left(Event::Take(0)))?;
     deliveries.push(Delivery::Right(Event::Send(1)))?;
     deliveries.push(Delivery::Left(Event::Take(1)))?;
@@ -231,7 +249,7 @@ where
 /// A store fails as a letter is taken in.
 fn a_store_fails(alloc: Global) -> Result<Vec<Outcome>> {
     let mut purchasing = cancelled(alloc)?;
-    let mut partner = willing_stock(alloc);
+    let mut partner = open_hotel(alloc);
     partner.arm(4, Leaves::New);
     let deliveries = around_a_failure(alloc)?;
     carry_out(alloc, &mut purchasing, &mut partner, &deliveries)
@@ -240,8 +258,8 @@ fn a_store_fails(alloc: Global) -> Result<Vec<Outcome>> {
 /// Letters between two services, which come early, late and again, and where a store fails as it takes one in.
 fn print_exchanges(rt: &impl Print, alloc: Global) -> Result<()> {
     let mut purchasing = cancelled(alloc)?;
-    let mut partner = willing_stock(alloc);
-    let pair = pair(alloc)?;
+    let mut partner = open_hotel(alloc);
+    let pair = room_pair(alloc)?;
     let outcomes = what_comes_early_waits(alloc, &mut purchasing, &mut partner, &pair)?;
     show(rt, "exchange", &outcomes)?;
     let all = is_handled(alloc, &mut purchasing, &mut partner, &pair)?;
@@ -264,6 +282,7 @@ fn print_runs(rt: &impl Print, alloc: Global) -> Result<()> {
         "sites",
         nothing_is_sent_where_no_connection_is_open(alloc),
     )?;
+    a_service_that_acts_makes_nothing_up::<Orders, PlainKeep<Orders>>();
     show(rt, "schedule_runner", &a_warehouse_stays_open(alloc))?;
     tell(rt, "showing", a_row_is_shown(alloc, &pair(alloc)?.to))?;
     tell(rt, "programs", a_schedule_is_run(alloc))
@@ -275,5 +294,6 @@ fn main(rt: HostRuntime) -> Result<()> {
     print_reactions(&rt, rt.alloc())?;
     print_tables(&rt, rt.alloc())?;
     print_exchanges(&rt, rt.alloc())?;
+    a_day_at_the_hotel(&rt, rt.alloc())?;
     print_runs(&rt, rt.alloc())
 }
