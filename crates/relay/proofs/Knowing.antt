@@ -1,8 +1,7 @@
 -- What a cursor tells stays true.
-use Rattle.std.proofs.Common.{◌≡◌, ◌⊎◌, inl, inr, ℕ, zero, suc, ◌+◌, ◌<◌, ◌≤◌, Bool, true, false, List, [], ◌∷◌, length, take}
+use Rattle.std.proofs.Common.{◌≡◌, ◌⊎◌, inl, inr, ℕ, zero, suc, ◌+◌, ◌<◌, ◌≤◌, Bool, true, false, List, [], ◌∷◌, length, take, drop, length-drop, ◌++◌}
 use Rattle.std.proofs.Common.{Option, Some, None, Ordering, Less, Equal, Greater, refl, sym, ap, subst, ◌∙◌, arith, length-append}
 use Rattle.std.proofs.Common.{add-one, get_or}
-use Rattle.std.specs.BTreeMap.{BTreeMap}
 use Rattle.std.specs.Prelude.{IsSome, max, nat_lt, if◌then◌else◌}
 use Rattle.std.proofs.lemmas.Bool.{cases_Bool, cases_lt, lt-ltb, le-ltb}
 use Rattle.std.proofs.lemmas.Bool.Decides.{Decides-ltb}
@@ -15,6 +14,13 @@ use Rattle.envelope.specs.declared.message.Letter.{Letter}
 use Rattle.envelope.specs.declared.message.Message.{Message}
 use Rattle.activities.specs.Service.{Service}
 use Rattle.activities.specs.Numbered.{nth}
+use Rattle.activities.specs.Reaction.{Reactions, sent}
+use Rattle.activities.specs.Journal.{part, sent_of}
+use Rattle.activities.specs.declared.input.Input.{Input}
+use Rattle.activities.specs.declared.input.JournalRow.{JournalRow}
+use Rattle.activities.proofs.Journals.{part-append}
+use Rattle.std.proofs.lemmas.List.{take-append-le, append-nil}
+use Rattle.relay.specs.Parts.News.{SentBut, Skips}
 use Rattle.keep.specs.declared.change.Place.{Place}
 use Rattle.keep.specs.Listing.{place_of, IsAfter, IsNext, AreFirst}
 use Rattle.keep.specs.Pages.{place_behind}
@@ -22,17 +28,16 @@ use Rattle.keep.specs.Places.{place_cmp, IsBefore}
 use Rattle.keep.specs.Seen.{Seen, IsSound}
 use Rattle.keep.specs.Tables.{Tables, Messages, set_mark}
 use Rattle.keep.proofs.Places.{place_cmp-Equal, place_cmp-Greater}
-use Rattle.outbox.specs.Rows.{above}
+use Rattle.outbox.specs.Rows.{above, unsettled_of}
 use Rattle.endpoint.specs.Calls.{Stays, Finds}
 use Rattle.endpoint.specs.Deeds.{Kept, kept, Deed, Nothing, TakesIn, Holds, Settles, Did}
 use Rattle.endpoint.specs.Matches.{AllMatch}
 use Rattle.relay.specs.Filling.{marks_of, unsent, due}
 use Rattle.relay.specs.Knowing.{IsUpto, AllSent, KnowsRows, Knows, KnowsAll}
 use Rattle.relay.specs.Parts.Pages.{AreSent, Jumps, Moves}
-use Rattle.relay.specs.Marks.{mark_in}
 use Rattle.relay.specs.declared.relay.Relay.{Relay}
 use Rattle.relay.proofs.Letters.{due_no, due_yes}
-use Rattle.relay.proofs.Places.{numbers_rise, gap, pair_between_places}
+use Rattle.relay.proofs.Places.{numbers_rise, gap, gap_over, pair_between_places}
 use Rattle.relay.proofs.Sending.{marked}
 
 -- ---- places
@@ -129,6 +134,18 @@ module _ (messages : Messages) (m : Pair → ℕ) where
   moved_sent here next (inl same) sent = subst (λ (x : Option Place). AllSent m messages x) (sym same) sent
   moved_sent here next (inr j) sent = jump here next j sent
 
+  -- what is due behind a place to which the cursor skips is what is due
+  pub skip_first : (after next : Option Place) (n : ℕ) (ls : List Letter) → Skips m messages after next
+      → AreFirst (unsent m messages) next n ls → AreFirst (unsent m messages) after n ls
+  skip_first after next n ls skips are = gap_over (unsent m messages) after next n ls skips.0
+      (λ x h. elim (is_after next x) [ inl up ↦ inr (not_unsent x (λ some. skips.1 x h up some)) | inr late ↦ inl late ]) are
+
+  pub skip_sent : (after next : Option Place) → Skips m messages after next → AllSent m messages after → AllSent m messages next
+  skip_sent after next skips sent = λ x up some. elim (is_after after x) [
+    | inl old ↦ sent x old some
+    | inr late ↦ skips.1 x late up some
+  ]
+
 -- marks that rise tell no less
 pub risen : (messages : Messages) (after : Option Place) (m n : Pair → ℕ) → ((p : Pair) → m p ≤ n p) → AllSent m messages after
     → AllSent n messages after
@@ -217,7 +234,7 @@ is_low a b x y e f h = omega (arith, e, f, h)
 pub knows_start : (r : Relay) → r.rows ≡ 0 → r.behind ≡ None → (rows : ℕ) (messages : Messages) → KnowsRows r rows messages
 knows_start r none start rows messages = (
   omega (arith, none),
-  λ same x up some. absurd (subst (λ (after : Option Place). IsUpto after x) start up),
+  λ x up some. absurd (subst (λ (after : Option Place). IsUpto after x) start up),
 )
 
 -- the same cursor, and marks that rose
@@ -226,8 +243,8 @@ pub knows_risen : (r s : Relay) → s.rows ≡ r.rows → s.behind ≡ r.behind 
 knows_risen r s same behind rise rows messages k =
     let least = k.0 in (
       omega (arith, least, same),
-      λ e. risen messages s.behind (marks_of r) (marks_of s) rise
-          (subst (λ (after : Option Place). AllSent (marks_of r) messages after) (sym behind) (k.1 (e ∙ same))),
+      risen messages s.behind (marks_of r) (marks_of s) rise
+          (subst (λ (after : Option Place). AllSent (marks_of r) messages after) (sym behind) k.1),
     )
 
 -- a settle only takes rows away
@@ -252,12 +269,18 @@ module _ {S C : Type 0} (service : Service S C) (r : Relay) where
   deed_known x y (TakesIn row) k did =
       let least = k.0 in
       let long : length y.journal ≡ length x.journal + 1 = ap length did.0.appended ∙ length-append x.journal (row ∷ []) in
-      (omega (arith, least, long), λ same. absurd (omega (arith, least, long, same)))
+      let front : take r.rows y.journal ≡ take r.rows x.journal = ap (take r.rows) did.0.appended
+      ∙ take-append-le r.rows x.journal (row ∷ []) least in (
+        omega (arith, least, long),
+        λ q up some.
+            k.1 q up (subst (λ (marks : Pair → ℕ). IsSome (unsettled_of service.reactions (take r.rows x.journal) marks q.pair q.number)) did.1
+            (subst (λ (j : List (JournalRow C)). IsSome (unsettled_of service.reactions j y.settled q.pair q.number)) front some)),
+      )
   deed_known x y (Holds l) k did = subst (λ (z : Kept C). Knows service r z) (sym did.2) k
   deed_known x y (Settles p n) k did = subst (λ (z : Kept C). Knows service r z) (sym did.2) (
     k.0,
-    λ same q up some.
-        k.1 same q up (less_above (x.settled q.pair) (set_mark p (max (x.settled p) n) x.settled q.pair) _ q.number
+    λ q up some.
+        k.1 q up (less_above (x.settled q.pair) (set_mark p (max (x.settled p) n) x.settled q.pair) _ q.number
         (raised x.settled p n q.pair) some),
   )
 
@@ -271,28 +294,68 @@ module _ {S C : Type 0} (service : Service S C) (r : Relay) where
   found_known seen old new clean finds good known =
       (good, λ t l. ∥∥₁_elim (finds clean t l) (knows-prop (kept t)) (λ was. known.1 t was))
 
+all_taken : {A : Type 0} (xs : List A) → take (length xs) xs ≡ xs
+all_taken [] = refl
+all_taken (x ∷ xs) = ap (λ ys. x ∷ ys) (all_taken xs)
+
+all_within : {A : Type 0} (n : ℕ) (xs : List A) → length xs ≤ n → take n xs ≡ xs
+all_within zero [] h = refl
+all_within zero (x ∷ xs) h = absurd (omega (arith, h))
+all_within (suc n) [] h = refl
+all_within (suc n) (x ∷ xs) h = ap (λ ys. x ∷ ys) (all_within n xs (omega (arith, h)))
+
+parted : {A : Type 0} (n : ℕ) (xs : List A) → take n xs ++ drop n xs ≡ xs
+parted zero xs = refl
+parted (suc n) [] = refl
+parted (suc n) (x ∷ xs) = ap (λ ys. x ∷ ys) (parted n xs)
+
+-- the rows behind so many, where they aren't more than were read
+pub behind_rows : {A : Type 0} (xs ys : List A) (r i limit : ℕ) → i ≡ r → length xs ≤ r + limit → ys ≡ take limit (drop i xs)
+    → xs ≡ take r xs ++ ys
+behind_rows {A} xs ys r i limit at small read =
+    let long = length-drop r xs in
+    sym (parted r xs) ∙ ap (λ (zs : List A). take r xs ++ zs)
+    (sym (read ∙ ap (λ k. take limit (drop k xs)) at ∙ all_within limit (drop r xs) (omega (arith, long, small))))
+
+-- no rows are there behind all
+pub no_more_rows : {A : Type 0} (xs : List A) (r : ℕ) → r ≡ length xs → xs ≡ take r xs ++ []
+no_more_rows xs r all = sym (append-nil (take r xs) ∙ ap (λ n. take n xs) all ∙ all_taken xs)
+
+-- rows of others send nothing of a pair
+sent_of_none : {S C : Type 0} (t : Reactions S C) (rows news : List (JournalRow C)) (p : Pair) → part p.from news ≡ []
+    → sent_of t (rows ++ news) p ≡ sent_of t rows p
+sent_of_none {S} {C} t rows news p none = ap (λ (inputs : List (Input C)). sent t inputs p.to)
+    (part-append p.from rows news ∙ ap (λ (inputs : List (Input C)). part p.from rows ++ inputs) none ∙ append-nil (part p.from rows))
+
 module _ {E S C : Type 0} (seen : E → Seen (Tables S C)) (sound : (k : E) → IsSound (seen k)) (service : Service S C) where
   abbrev journal_of : E → ℕ
   journal_of k = length (seen k).tables.journal
 
-  -- where the journal is as long as it was, all that stands in the outbox up to the cursor was sent
-  pub known_now : (k : E) (r : Relay) → (seen k).usable ≡ true → (seen k).doubt ≡ 0 → KnowsAll service r (seen k).may_leave
-      → journal_of k ≡ r.rows → AllSent (marks_of r) (seen k).tables.unsettled r.behind
-  known_now k r up clean known long =
+  -- of what stands up to the cursor all was sent but what rows sent that the journal hasn't had then
+  pub known_but : (k : E) (r : Relay) (news : List (JournalRow C)) → (seen k).usable ≡ true → (seen k).doubt ≡ 0
+      → KnowsAll service r (seen k).may_leave
+      → (seen k).tables.journal ≡ take r.rows (seen k).tables.journal ++ news → SentBut news (marks_of r) (seen k).tables.unsettled r.behind
+  known_but k r news up clean known cut =
+      let t : Tables S C = (seen k).tables in
       let here = (sound k).stays clean up in
-      let matches = known.0 (seen k).tables here in
-      λ x upto some. (known.1 (seen k).tables here).1 long x upto (subst IsSome (matches.unsettled x.pair x.number) some)
+      let matches = known.0 t here in
+      λ x upto none some.
+      let front : sent_of service.reactions t.journal x.pair ≡ sent_of service.reactions (take r.rows t.journal) x.pair =
+      ap (λ (j : List (JournalRow C)). sent_of service.reactions j x.pair) cut
+      ∙ sent_of_none service.reactions (take r.rows t.journal) news x.pair none in
+      (known.1 t here).1 x upto (subst (λ (ms : List Message). IsSome (above (t.settled x.pair) ms x.number)) front
+      (subst IsSome (matches.unsettled x.pair x.number) some))
 
-  -- and so it is of where a filling begins
-  pub begun_sent : (k : E) (r b : Relay) (rows : ℕ) → (seen k).usable ≡ true → (seen k).doubt ≡ 0 → rows ≡ journal_of k
-      → b.marks ≡ r.marks → (b.behind ≡ None) ⊎ ((r.rows ≡ rows) × (b.behind ≡ r.behind)) → KnowsAll service r (seen k).may_leave
-      → AllSent (marks_of b) (seen k).tables.unsettled b.behind
-  begun_sent k r b rows up clean long marks (inl none) known =
-      λ x upto some. absurd (subst (λ (after : Option Place). IsUpto after x) none upto)
-  begun_sent k r b rows up clean long marks (inr same) known =
-      subst (λ (m : BTreeMap Pair ℕ). AllSent (λ p. mark_in m p) (seen k).tables.unsettled b.behind) (sym marks)
-      (subst (λ (x : Option Place). AllSent (marks_of r) (seen k).tables.unsettled x) (sym same.1)
-      (known_now k r up clean known (sym long ∙ sym same.0)))
+  -- the same cursor, with marks that rose, of what is left
+  pub known_still : (old new : E) (r s : Relay) → (seen new).doubt ≡ 0 → Stays seen old new → KnowsAll service r (seen old).may_leave
+      → s.rows ≡ r.rows → s.behind ≡ r.behind → ((p : Pair) → marks_of r p ≤ marks_of s p) → KnowsAll service s (seen new).may_leave
+  known_still old new r s clean stays known rows behind rise = (
+    λ t l. known.0 t (stays clean t l),
+    λ t l.
+        let k = known.1 t (stays clean t l) in
+        knows_risen r s rows behind rise (length t.journal) (unsettled_of service.reactions (take s.rows t.journal) t.settled)
+        (subst (λ n. KnowsRows r (length t.journal) (unsettled_of service.reactions (take n t.journal) t.settled)) (sym rows) k),
+  )
 
   -- and the cursor is right again of each content
   pub known_again : (old new : E) (r s : Relay) → (seen old).usable ≡ true → (seen old).doubt ≡ 0 → (seen new).doubt ≡ 0
@@ -303,7 +366,9 @@ module _ {E S C : Type 0} (seen : E → Seen (Tables S C)) (sound : (k : E) → 
     λ t l.
         subst (λ (z : Tables S C). Knows service s (kept z)) (sym ((sound old).only_now clean0 up t (stays clean t l))) (
           omega (arith, long),
-          λ same x upto some. sent x upto (subst IsSome (sym ((known.0 (seen old).tables ((sound old).stays clean0 up)).unsettled x.pair
-              x.number)) some),
+          λ x upto some. sent x upto (subst IsSome (sym ((known.0 (seen old).tables ((sound old).stays clean0 up)).unsettled x.pair
+              x.number)) (subst (λ (j : List (JournalRow C)).
+              IsSome (unsettled_of service.reactions j (seen old).tables.settled x.pair x.number))
+              (ap (λ n. take n (seen old).tables.journal) long ∙ all_taken (seen old).tables.journal) some)),
         ),
   )

@@ -4,4 +4,7 @@ mod Letters
 mod Places
 mod Due
 mod Knowing
+mod Passing
+mod Firsts
 mod Paging
+mod Beginning

@@ -24,11 +24,13 @@ use Rattle.relay.specs.Filling.{Connection, marks_of, connection, due, unsent, S
 use Rattle.relay.specs.Calls.{FillsLetters, Fills, StopsBehind, store_end}
 use Rattle.endpoint.specs.Faults.{end_cause, end_of}
 use Rattle.relay.specs.Knowing.{AllSent}
+use Rattle.activities.specs.declared.input.JournalRow.{JournalRow}
+use Rattle.relay.specs.Parts.News.{SentBut, Skips}
 use Rattle.relay.specs.Parts.Pages.{FillsPage, HasFilled, HasRead, Jumps, Moves, AreSent}
 use Rattle.relay.proofs.Sending.{marked, marks_after, stage_after, sends_none, sends_append}
 use Rattle.relay.proofs.Places.{numbers_rise, gap, before_in_pair, pair_between_places}
 use Rattle.relay.proofs.Due.{first_due, all_due, none_behind, due_within, one_more, not_due}
-use Rattle.relay.proofs.Knowing.{from_cursor, all_were_sent, marks_rise, risen, rows_sent, page_sent, moved_sent}
+use Rattle.relay.proofs.Knowing.{from_cursor, skip_first, skip_sent, all_were_sent, marks_rise, risen, rows_sent, page_sent, moved_sent}
 use Rattle.relay.specs.declared.relay.Relay.{Relay}
 use Rattle.relay.specs.Marks.{mark_in}
 use Rattle.std.specs.BTreeMap.{BTreeMap}
@@ -426,6 +428,47 @@ module _ (messages : Messages) (limit : ℕ) (old : Connection) where
             stopped_there fault p.letters new.client.receipts.last p.ends.1,
           );
         }
+
+-- the cursor skips what was sent, and what is due behind it comes next
+pub passed_filled : (clean : Type 0) (messages : Messages) (limit : ℕ) (old : Connection) (r t : Relay) (c : Seen-client ℕ) (count : ℕ)
+    → HasFilled clean messages limit old (connection r c) count r.behind → t.marks ≡ r.marks
+    → (clean → Skips (marks_of r) messages r.behind t.behind) → HasFilled clean messages limit old (connection t c) count t.behind
+passed_filled clean messages limit old r t c count f marks skips =
+    subst (λ (x : Connection). HasFilled clean messages limit old x count t.behind) (sym (same_connection r t c marks)) (record {
+      letters = f.letters;
+      sends = f.sends;
+      number = f.number;
+      within = f.within;
+      stage = f.stage;
+      goes_on = λ is k more are. f.goes_on is k more (skip_first messages (marks_of r) r.behind t.behind k more (skips is) are);
+    })
+
+pub passed_sent : (messages : Messages) (r t : Relay) → t.marks ≡ r.marks → Skips (marks_of r) messages r.behind t.behind
+    → AllSent (marks_of r) messages r.behind → AllSent (marks_of t) messages t.behind
+passed_sent messages r t marks skips sent = subst (λ (m : BTreeMap Pair ℕ). AllSent (λ p. mark_in m p) messages t.behind) (sym marks)
+    (skip_sent messages (marks_of r) r.behind t.behind skips sent)
+
+-- marks that rise tell no less
+pub risen_but : {C : Type 0} (news : List (JournalRow C)) (messages : Messages) (reach : Option Place) (m n : Pair → ℕ)
+    → ((p : Pair) → m p ≤ n p)
+    → SentBut news m messages reach → SentBut news n messages reach
+risen_but news messages reach m n rise sent = λ x up none some.
+    let low = sent x up none some in let more = rise x.pair in omega (arith, low, more)
+
+pub rise_on : (r s t u : Relay) → ((p : Pair) → marks_of r p ≤ marks_of s p) → t.marks ≡ s.marks
+    → ((p : Pair) → marks_of t p ≤ marks_of u p)
+    → (p : Pair) → marks_of r p ≤ marks_of u p
+rise_on r s t u first same last p =
+    let a = first p in
+    let b = last p in
+    let e = ap (λ (m : BTreeMap Pair ℕ). mark_in m p) same in
+    omega (arith, a, b, e)
+
+pub rises_with : {m : Pair → ℕ} (r s : Relay) → s.marks ≡ r.marks → ((p : Pair) → m p ≤ marks_of r p) → (p : Pair) → m p ≤ marks_of s p
+rises_with {m} r s same rise p =
+    let a = rise p in
+    let e = ap (λ (x : BTreeMap Pair ℕ). mark_in x p) same in
+    omega (arith, a, e)
 
 -- ---- what is told where less is in doubt
 

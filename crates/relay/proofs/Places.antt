@@ -73,13 +73,13 @@ alike d e after (suc n) (l ∷ ls) same are = (
 )
 
 -- and they are those behind an earlier place, where none stands between
-pub gap : (d : Messages) (after : Option Place) (here : Place) (n : ℕ) (ls : List Letter)
-    → ((x : Place) → IsBefore here x → IsAfter after x)
-    → ((x : Place) → IsAfter after x → IsBefore here x ⊎ (d x.pair x.number ≡ None)) → AreFirst d (Some here) n ls → AreFirst d after n ls
-gap d after here zero [] wide none are = tt
-gap d after here zero (l ∷ ls) wide none are = absurd are
-gap d after here (suc n) [] wide none are = λ x h. elim (none x h) [ inl later ↦ are x later | inr none_here ↦ none_here ]
-gap d after here (suc n) (l ∷ ls) wide none are = (
+pub gap_over : (d : Messages) (after here : Option Place) (n : ℕ) (ls : List Letter)
+    → ((x : Place) → IsAfter here x → IsAfter after x)
+    → ((x : Place) → IsAfter after x → IsAfter here x ⊎ (d x.pair x.number ≡ None)) → AreFirst d here n ls → AreFirst d after n ls
+gap_over d after here zero [] wide none are = tt
+gap_over d after here zero (l ∷ ls) wide none are = absurd are
+gap_over d after here (suc n) [] wide none are = λ x h. elim (none x h) [ inl later ↦ are x later | inr none_here ↦ none_here ]
+gap_over d after here (suc n) (l ∷ ls) wide none are = (
   record {
     stands = are.0.stands;
     later = wide (place_of l) are.0.later;
@@ -87,3 +87,8 @@ gap d after here (suc n) (l ∷ ls) wide none are = (
   },
   are.1,
 )
+
+pub gap : (d : Messages) (after : Option Place) (here : Place) (n : ℕ) (ls : List Letter)
+    → ((x : Place) → IsBefore here x → IsAfter after x)
+    → ((x : Place) → IsAfter after x → IsBefore here x ⊎ (d x.pair x.number ≡ None)) → AreFirst d (Some here) n ls → AreFirst d after n ls
+gap d after here n ls = gap_over d after (Some here) n ls

@@ -1,5 +1,5 @@
 -- What a relay knows of an outbox, so that it needn't go over it from the first row.
-use Rattle.std.specs.Prelude.{◌≡◌, ℕ, ◌≤◌, ◌⊎◌, length, Option, Some, None, IsSome}
+use Rattle.std.specs.Prelude.{◌≡◌, ℕ, ◌≤◌, ◌⊎◌, length, take, Option, Some, None, IsSome}
 use Rattle.base.specs.declared.pair.Pair.{Pair}
 use Rattle.activities.specs.Service.{Service}
 use Rattle.keep.specs.declared.change.Place.{Place}
@@ -20,15 +20,15 @@ IsUpto (Some a) x = IsBefore x a ⊎ (x ≡ a)
 abbrev pub AllSent : (Pair → ℕ) → Messages → Option Place → Type 0
 AllSent marks messages behind = (x : Place) → IsUpto behind x → IsSome (messages x.pair x.number) → x.number ≤ marks x.pair
 
--- The cursor is right of an outbox beside a journal of so many rows: it had no more then, and if it had as many, all that stands up to
--- the cursor's place was sent.
+-- The cursor is right of a journal of so many rows, whose first rows sent these messages, as many rows as there were then: it had no more
+-- then, and all that stands up to the cursor's place was sent.
 abbrev pub KnowsRows : Relay → (rows : ℕ) → Messages → Type 0
-KnowsRows r rows messages = (r.rows ≤ rows) × (rows ≡ r.rows → AllSent (marks_of r) messages r.behind)
+KnowsRows r rows messages = (r.rows ≤ rows) × AllSent (marks_of r) messages r.behind
 
 module _ {S C : Type 0} (service : Service S C) where
-  -- it is right of what was kept of a service: its journal, and what that sends and isn't settled
+  -- it is right of what was kept of a service: its journal, and what the rows that it had then sent and isn't settled
   abbrev pub Knows : Relay → Kept C → Type 0
-  Knows r k = KnowsRows r (length k.journal) (unsettled_of service.reactions k.journal k.settled)
+  Knows r k = KnowsRows r (length k.journal) (unsettled_of service.reactions (take r.rows k.journal) k.settled)
 
   -- all contents match their journals, and it is right of each
   abbrev pub KnowsAll : Relay → (Tables S C → Type 0) → Type 0

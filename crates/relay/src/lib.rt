@@ -22,6 +22,7 @@
 mod fault;
 mod laws;
 mod marks;
+mod news;
 mod pages;
 mod relay;
 

@@ -1,32 +1,43 @@
 //! A filling, page by page: the outbox isn't held in memory, and of a pair's rows those that were sent are passed over.
 
-ghost use Rattle.std.specs.Prelude.{◌≡◌, ◌<◌, ◌≤◌, ◌^◌, ◌⊎◌, None, false, ⊤, length, ℕ, Option, IfOk};
+ghost use Rattle.std.specs.Prelude.{◌≡◌, ◌≢◌, ◌<◌, ◌≤◌, ◌^◌, ◌⊎◌, None, Some, Err, false, true, ⊤, length, ℕ, Option, IfOk, IfErr};
 ghost use Rattle.keep.specs.declared.change.Place.{Place};
 ghost use Rattle.keep.specs.Law.{Reads};
 ghost use Rattle.keep.specs.Listing.{AreFirst};
 ghost use Rattle.keep.specs.Pages.{place_behind};
+ghost use Rattle.keep.specs.Places.{place_cmp};
+ghost use Rattle.std.specs.declared.cmp.Ordering.TheVariants.{Greater};
 ghost use Rattle.keep.specs.Tables.{Messages};
 ghost use Rattle.endpoint.specs.Calls.{Stays};
+ghost use Rattle.endpoint.specs.Faults.{end_cause};
+ghost use Rattle.base.specs.declared.pair.Pair.{Pair};
 ghost use Rattle.stomp_client.specs.declared.session.Stage.TheVariants.{Connected};
 ghost use Rattle.relay.specs.Filling.{marks_of, connection};
 ghost use Rattle.relay.specs.Knowing.{AllSent, KnowsAll};
 ghost use Rattle.relay.specs.Calls.{Fills, store_end};
-ghost use Rattle.relay.specs.Parts.Pages.{FillsPage, Moves};
+ghost use Rattle.relay.specs.Parts.Pages.{FillsPage, Moves, HasRead};
+ghost use Rattle.relay.specs.Parts.News.{SentBut, Skips};
+ghost use Rattle.keep.specs.Listing.{IsAfter};
 
 use crate::marks::{count_sent, find};
+use crate::news::clear_place;
 use crate::{Relay, RelayFault};
-use activities::Handler;
+use activities::{Handler, JournalRow};
 use base::Number;
-use endpoint::Endpoint;
+use endpoint::{EndFault, Endpoint};
 use envelope::Letter;
 use keep::{Keep, Place};
+use std::cmp::Ordering;
 use stomp_client::ClientSession;
 
 /// How many rows are read at once.
 const PAGE: usize = 64;
 
+/// How many new rows of the journal are read, and no more: where there are more, they pay for a look from the first row on.
+const NEWS: usize = 256;
+
 impl Relay {
-    /// Sends what is due, behind the cursor where the journal is as long as it was then.
+    /// Sends what is due: before the cursor of what the journal's new rows sent, and behind it.
     pub(crate) fn fill_connected<H, K>(
         &mut self,
         client: &mut ClientSession<u64>,
@@ -49,27 +60,106 @@ impl Relay {
             Ok(rows) => rows,
             Err(fault) => return Err(RelayFault::Endpoint(fault)),
         };
-        self.begin(rows);
-        self.fill_pages(client, endpoint, limit)
+        let news = match self.read_news(endpoint, rows) {
+            Ok(news) => news,
+            Err(fault) => return Err(RelayFault::Endpoint(fault)),
+        };
+        let since = self.rows;
+        let reach = self.begin(rows);
+        let sent = self.fill_pages(client, endpoint, &news, &reach, limit);
+        self.stay_at(reach, since);
+        sent
     }
 
-    /// Begins behind the cursor where the journal has as many rows as it had then, else at the first row.
-    fn begin(&mut self, rows: u64)
-        ensures marks { self.new.marks ≡ self.old.marks }
+    /// Begins at the first row, of a journal of so many rows, and answers where the cursor was.
+    fn begin(&mut self, rows: u64) -> Option<Place>
+        ensures reach { result ≡ self.old.behind }
+        ensures behind { self.new.behind ≡ None }
         ensures rows { self.new.rows ≡ rows }
-        ensures behind { (self.new.behind ≡ None) ⊎ ((self.old.rows ≡ rows) × (self.new.behind ≡ self.old.behind)) }
+        ensures marks { self.new.marks ≡ self.old.marks }
     {
-        if self.rows != rows {
-            self.rows = rows;
+        self.rows = rows;
+        self.behind.take()
+    }
+
+    /// The rows that the journal has more than it had at the last filling. Where they are too many, or all are, the cursor is taken away
+    /// instead.
+    fn read_news<H, K>(
+        &mut self,
+        endpoint: &mut Endpoint<H, K>,
+        rows: u64,
+    ) -> Result<Vec<JournalRow<H::Command>>, EndFault>
+    where
+        H: Handler,
+        K: Keep<State = H::State, Command = H::Command> + Drop,
+        ensures read { IfOk result (λ _. HasRead K.seen endpoint.old endpoint.new) }
+        ensures unread { IfErr result (λ fault. Reads K.seen endpoint.old endpoint.new {R = ℕ} (λ _ _. ⊤) (Err (end_cause fault))) }
+        ensures stays { Stays K.seen endpoint.old endpoint.new }
+        ensures doubt { (K.seen endpoint.old).doubt ≤ (K.seen endpoint.new).doubt }
+        ensures news { (K.seen endpoint.new).doubt ≡ 0 → (K.seen endpoint.old).usable ≡ true
+            → rows ≡ length (K.seen endpoint.old).tables.journal → KnowsAll H.service self.old (K.seen endpoint.old).may_leave
+            → IfOk result (λ news. SentBut news.items (marks_of self.old) (K.seen endpoint.old).tables.unsettled self.new.behind) }
+        ensures marks { self.new.marks ≡ self.old.marks }
+        ensures rows { self.new.rows ≡ self.old.rows }
+        ensures behind { (self.new.behind ≡ None) ⊎ (self.new.behind ≡ self.old.behind) }
+        ensures err { IfErr result (λ _. self.new ≡ self.old) }
+    {
+        if self.rows == rows {
+            return Ok(Vec::new(self.alloc));
+        }
+        if self.behind.is_none() {
+            return Ok(Vec::new(self.alloc));
+        }
+        if rows < self.rows || rows - self.rows > NEWS as u64 {
             self.behind = None;
+            return Ok(Vec::new(self.alloc));
+        }
+        match endpoint.journal(self.alloc, self.rows + 1, NEWS) {
+            Ok(news) => Ok(news),
+            Err(fault) => Err(fault),
         }
     }
 
-    /// Sends what is due behind the cursor, page by page.
+    /// Takes the cursor back to a place, and to the rows of the journal that it knew there, where it hasn't come so far again.
+    fn stay_at(&mut self, reach: Option<Place>, since: u64)
+        ensures marks { self.new.marks ≡ self.old.marks }
+        ensures cursor { ((self.new.behind ≡ self.old.behind) × (self.new.rows ≡ self.old.rows))
+            ⊎ ((self.new.behind ≡ reach) × (self.new.rows ≡ since)) }
+    {
+        let Some(place) = &reach else {
+            return;
+        };
+        if is_ahead(place, &self.behind) {
+            self.behind = reach;
+            self.rows = since;
+        }
+    }
+
+    /// Moves the cursor over what was sent: up to a place all was but letters that these rows' entities sent.
+    fn pass_over<C>(&mut self, news: &[JournalRow<C>], reach: &Option<Place>)
+        ensures skips { (messages : Messages) → SentBut news.now (marks_of self.old) messages reach.now
+            → Skips (marks_of self.old) messages self.old.behind self.new.behind }
+        ensures marks { self.new.marks ≡ self.old.marks }
+        ensures rows { self.new.rows ≡ self.old.rows }
+    {
+        let Some(reach) = reach else {
+            return;
+        };
+        let Some(place) = clear_place(self.alloc, &self.marks, news, &self.behind, reach) else {
+            return;
+        };
+        if is_upto(&place, reach) && is_ahead(&place, &self.behind) {
+            self.behind = Some(place);
+        }
+    }
+
+    /// Sends what is due behind the cursor, page by page, where up to a place all was sent but letters that these rows' entities sent.
     fn fill_pages<H, K>(
         &mut self,
         client: &mut ClientSession<u64>,
         endpoint: &mut Endpoint<H, K>,
+        news: &[JournalRow<H::Command>],
+        reach: &Option<Place>,
         limit: usize,
     ) -> Result<usize, RelayFault>
     where
@@ -79,14 +169,18 @@ impl Relay {
         ensures read { Reads K.seen endpoint.old endpoint.new (λ _ _. ⊤) (store_end result) }
         ensures stays { Stays K.seen endpoint.old endpoint.new }
         ensures fills { Fills (((K.seen endpoint.new).doubt ≡ 0)
-            × AllSent (marks_of self.old) (K.seen endpoint.old).tables.unsettled self.old.behind)
+            × AllSent (marks_of self.old) (K.seen endpoint.old).tables.unsettled self.old.behind
+            × SentBut news.now (marks_of self.old) (K.seen endpoint.old).tables.unsettled reach.now)
             (K.seen endpoint.old).tables.unsettled limit (connection self.old client.old) (connection self.new client.new) result }
         ensures sent { (K.seen endpoint.new).doubt ≡ 0 → AllSent (marks_of self.old) (K.seen endpoint.old).tables.unsettled self.old.behind
+            → SentBut news.now (marks_of self.old) (K.seen endpoint.old).tables.unsettled reach.now
             → AllSent (marks_of self.new) (K.seen endpoint.old).tables.unsettled self.new.behind }
         ensures rows { self.new.rows ≡ self.old.rows }
+        ensures rises { (p : Pair) → marks_of self.old p ≤ marks_of self.new p }
     {
         let mut count = 0;
         for _page in 0..u64::MAX {
+            self.pass_over(news, reach);
             let (sent, more) = match self.fill_page(client, endpoint, PAGE, limit - count) {
                 Ok(done) => done,
                 Err(fault) => return Err(fault),
@@ -124,6 +218,7 @@ impl Relay {
         ensures sent { (K.seen endpoint.new).doubt ≡ 0 → AllSent (marks_of self.old) (K.seen endpoint.old).tables.unsettled self.old.behind
             → AllSent (marks_of self.new) (K.seen endpoint.old).tables.unsettled self.new.behind }
         ensures rows { self.new.rows ≡ self.old.rows }
+        ensures rises { (p : Pair) → marks_of self.old p ≤ marks_of self.new p }
         ensures whole { 2 ^ 63 ≤ page → IfOk result (λ done. done.1 ≡ false) }
     {
         let rows = endpoint.unsettled(self.alloc, &self.behind, page)?;
@@ -171,6 +266,30 @@ impl Relay {
                 pair: last.pair,
             });
         }
+    }
+}
+
+/// Whether a place comes after another, or there is no other.
+fn is_ahead(place: &Place, behind: &Option<Place>) -> bool
+    ensures { result ≡ true → (x : Place) → IsAfter (Some place.now) x → IsAfter behind.now x }
+{
+    match behind {
+        Some(here) => match here.cmp(place) {
+            Ordering::Less => true,
+            _ => false,
+        },
+        None => true,
+    }
+}
+
+/// Whether a place doesn't come after another.
+fn is_upto(place: &Place, reach: &Place) -> bool
+    ensures { result ≡ true → place_cmp place.now reach.now ≢ Greater }
+{
+    match place.cmp(reach) {
+        Ordering::Less => true,
+        Ordering::Equal => true,
+        Ordering::Greater => false,
     }
 }
 

@@ -151,9 +151,10 @@ impl Relay {
     /// most `limit`, and answers how many. Each SEND has the next receipt number, with the letter's number as its tag. Before CONNECTED it
     /// sends none, and the store isn't called.
     ///
-    /// Calls of the store: one `unsettled` or more, each for a page of rows. Where the journal has as many rows as at the last filling,
-    /// it begins behind the last row that was sent, else at the first one; so after a commit all pairs are passed over once. What it
-    /// sends is told where the cursor is right: of each content of this service's store that it went over ([`each_deed_is_known`]).
+    /// Calls of the store: one `unsettled` or more, each for a page of rows. It begins behind the last row that was sent. Where the journal
+    /// has grown since the last filling, one `journal` comes first, and of what stands before that row it looks at what the new rows'
+    /// entities sent; where more than 256 rows came, it looks from the first row on. What it sends is told where the cursor is right: of
+    /// each content of this service's store that it went over ([`each_deed_is_known`]).
     ///
     /// [`each_deed_is_known`]: crate::each_deed_is_known
     ///

@@ -1,5 +1,5 @@
 -- A filling over a connection that was taken out.
-use Rattle.std.proofs.Common.{◌≡◌, ℕ, false, refl, sym, ◌∙◌, ap, subst, length, Result}
+use Rattle.std.proofs.Common.{◌≡◌, ℕ, false, refl, sym, ◌∙◌, ap, subst, length, take, Result}
 use Rattle.std.specs.Prelude.{⊤, IfSome}
 use Rattle.std.proofs.lemmas.Option.{IfSome_then}
 use Rattle.activities.specs.Service.{Service}
@@ -67,7 +67,7 @@ module _ {H K S C : Type 0} (seen : K → Seen (Tables S C)) (service : Service 
               (
                 b.1,
                 λ u may. knows (length (kept u).journal)
-                    (unsettled_of service.reactions (kept u).journal (kept u).settled),
+                    (unsettled_of service.reactions (take anew.rows (kept u).journal) (kept u).settled),
               ),
             ))
             (seen s.endpoint.keep).tables.unsettled limit (sending l) (sending last) r

@@ -4,7 +4,7 @@ use Rattle.keep.specs.declared.change.Place.{Place}
 use Rattle.keep.specs.Pages.{place_behind}
 use Rattle.relay.specs.Filling.{marks_of, connection}
 use Rattle.relay.specs.Parts.Pages.{Moves}
-use Rattle.relay.proofs.Paging.{page_unread_of}
+use Rattle.relay.proofs.Paging.{page_unread_of, filling_rises, rises_with}
 use Rattle.relay.proofs.Paging.{page_full, page_short, page_more, page_stopped, page_moved, same_connection, goes_part, goes_whole}
 use Rattle.relay.proofs.relay.Relay.fill_page.Goals as goal
 
@@ -70,3 +70,27 @@ returns-in_err-rows-clause-fills g c =
     let p = err_from_is_err_and c.from_residual.result c.from_residual.ensures.1 in
     page_unread_of _ _ c.args.self.now.behind c.args.self.now.behind c.args.limit (connection c.args.self.now c.args.client.now) _
     c.from_residual.result p.0 p.1 p.2
+
+pub returns-in-Err-clause-rises : goal.returns-in-Err-clause-rises
+returns-in-Err-clause-rises g c =
+    rises_with c.fill_letters.new.self c.go_behind_sent.new.self c.go_behind_sent.ensures.marks
+    (filling_rises c.args.limit c.in_ok-rows.rows.items (connection c.args.self.now c.args.client.now) (connection c.fill_letters.new.self c.fill_letters.new.client) (Err c.in-Err.fault)
+    (rw c.deref.ensures.value at c.in-Err.ensures.fills))
+
+pub returns-then-sent-limit-clause-rises : goal.returns-then-sent-limit-clause-rises
+returns-then-sent-limit-clause-rises g c =
+    rises_with c.fill_letters.new.self c.go_behind_sent-then-sent-limit.new.self c.go_behind_sent-then-sent-limit.ensures.marks
+    (filling_rises c.args.limit c.in_ok-rows.rows.items (connection c.args.self.now c.args.client.now) (connection c.fill_letters.new.self c.fill_letters.new.client) (Ok c.in-Ok.sent)
+    (rw c.deref.ensures.value at c.in-Ok.ensures.fills))
+
+pub returns-then-len-page-clause-rises : goal.returns-then-len-page-clause-rises
+returns-then-len-page-clause-rises g c =
+    rises_with c.fill_letters.new.self c.go_behind.new.self c.go_behind.ensures.marks
+    (filling_rises c.args.limit c.in_ok-rows.rows.items (connection c.args.self.now c.args.client.now) (connection c.fill_letters.new.self c.fill_letters.new.client) (Ok c.in-Ok.sent)
+    (rw c.deref.ensures.value at c.in-Ok.ensures.fills))
+
+pub returns-clause-rises : goal.returns-clause-rises
+returns-clause-rises g c =
+    rises_with c.fill_letters.new.self c.go_behind-2.new.self c.go_behind-2.ensures.marks
+    (filling_rises c.args.limit c.in_ok-rows.rows.items (connection c.args.self.now c.args.client.now) (connection c.fill_letters.new.self c.fill_letters.new.client) (Ok c.in-Ok.sent)
+    (rw c.deref.ensures.value at c.in-Ok.ensures.fills))
