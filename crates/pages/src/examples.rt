@@ -373,3 +373,16 @@ pub fn an_open_connection_stays_open(
     let _opened = world.step(&open);
     matches!(world.step(&open), schedules::Outcome::Already)
 }
+
+/// No order was placed, so that nobody disagrees.
+pub fn services_without_orders_agree(
+    alloc: Global,
+    purchasing: &mut Endpoint<Orders, PlainKeep<Orders>>,
+    warehouse: &mut Endpoint<Stocks, PlainKeep<Stocks>>,
+    billing: &mut Endpoint<Accounts, PlainKeep<Accounts>>,
+) -> bool {
+    matches!(
+        audit::agreement(alloc, purchasing, warehouse, billing),
+        Ok(true)
+    )
+}

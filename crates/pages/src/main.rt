@@ -21,10 +21,10 @@ use examples::{
     answers_reach_back_in_mode_client, first_state_of, lawful_journals_stay_lawful,
     no_mark_is_taken_back, nothing_goes_out_before_the_broker_answers, nothing_is_held_at_first,
     nothing_is_sent_where_no_connection_is_open, octets_wait_where_they_were_written,
-    printed_octets_are_read, so_much_is_on_hand, so_much_is_the_limit,
-    tables_hold_nothing_at_first, what_a_client_reads_was_sent, what_comes_early_waits,
-    what_is_read_of_a_good_frame_passes, what_wants_an_ack_stays_until_it_comes,
-    what_was_put_is_taken,
+    printed_octets_are_read, services_without_orders_agree, so_much_is_on_hand,
+    so_much_is_the_limit, tables_hold_nothing_at_first, what_a_client_reads_was_sent,
+    what_comes_early_waits, what_is_read_of_a_good_frame_passes,
+    what_wants_an_ack_stays_until_it_comes, what_was_put_is_taken,
 };
 use exchange::{Delivery, Event, Network, Outcome, exchange};
 use hotel::{RoomCommand, Rooms};
@@ -267,6 +267,14 @@ fn print_exchanges(rt: &impl Print, alloc: Global) -> Result<()> {
     show(rt, "exchange", &a_store_fails(alloc)?)
 }
 
+/// Three services over empty tables.
+fn nobody_ordered(alloc: Global) -> bool {
+    let mut purchasing: Endpoint<Orders, PlainKeep<Orders>> = Endpoint::new(PlainKeep::new(alloc));
+    let mut warehouse: Endpoint<Stocks, PlainKeep<Stocks>> = Endpoint::new(PlainKeep::new(alloc));
+    let mut billing: Endpoint<Accounts, PlainKeep<Accounts>> = Endpoint::new(PlainKeep::new(alloc));
+    services_without_orders_agree(alloc, &mut purchasing, &mut warehouse, &mut billing)
+}
+
 /// One service, and schedules of what it's given.
 fn print_runs(rt: &impl Print, alloc: Global) -> Result<()> {
     show(rt, "endpoint", &take_in(alloc)?)?;
@@ -276,6 +284,7 @@ fn print_runs(rt: &impl Print, alloc: Global) -> Result<()> {
         nothing_goes_out_before_the_broker_answers(alloc),
     )?;
     tell(rt, "reception", a_connected_client_subscribes(alloc))?;
+    show(rt, "audit", &nobody_ordered(alloc))?;
     show(rt, "schedules", &a_schedule_is_read(alloc))?;
     tell(
         rt,

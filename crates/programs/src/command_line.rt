@@ -46,6 +46,7 @@ Lines of a schedule:
   pair KIND/KEY KIND/KEY                 shows how many letters were sent, settled and handled
   frames SERVICE                         shows the frames that it is to send
   journal SERVICE                        shows what it took in
+  agreement                              shows whether the partners of all orders agree
 
 SERVICE is purchasing, warehouse or billing, CONN is 0 or 1, SEAT is 0 to 15. A key has 1 to 64
 octets, with \\s for a space, \\n for LF, \\r for CR and \\\\ for a backslash. Empty lines and lines that

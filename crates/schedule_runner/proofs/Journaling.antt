@@ -109,6 +109,7 @@ commit_tells s lines asked outcome.Reopened x y d may did = absurd may
 commit_tells s lines asked outcome.Stopped x y d may did = absurd may
 commit_tells s lines asked outcome.Pumped x y d may did = absurd may
 commit_tells s lines asked (outcome.Shown text) x y d may did = absurd may
+commit_tells s lines asked (outcome.Agreement agree) x y d may did = absurd may
 
 -- ---- events
 
@@ -185,6 +186,7 @@ module _ {KO KS KA : Type 0} where
   turn_told (event.Pair pair) o a b h = same_tables a.tables b.tables h
   turn_told (event.Frames service) o a b h = same_tables a.tables b.tables h
   turn_told (event.Journal service) o a b h = same_tables a.tables b.tables h
+  turn_told event.Agreement o a b h = same_tables a.tables b.tables h
 
 -- ---- rounds ask for nothing
 
@@ -267,6 +269,7 @@ module _ {KO KS KA : Type 0} (orders : KO → Seen OrderTables) (stocks : KS →
   makes_told (event.Pair pair) o a b h = turn_told (event.Pair pair) o a b h.1
   makes_told (event.Frames service) o a b h = turn_told (event.Frames service) o a b h.1
   makes_told (event.Journal service) o a b h = turn_told (event.Journal service) o a b h.1
+  makes_told event.Agreement o a b h = turn_told event.Agreement o a b h.1
 
   -- what a schedule's outcomes tell of all three journals
   all_told : (es : List Event) (os : List Outcome) (a b : M) → IsPath (Makes S) es os a b → AllTold es os a.tables b.tables

@@ -9,3 +9,4 @@ pub mod Receiving
 pub mod Journaling
 pub mod Advancing
 mod Reading
+pub mod Asking

@@ -59,6 +59,7 @@ module _ {S C : Type 0} (s : ServiceOf S C) where
   frame_rests Came outcome.Stopped x d may = nothing_is d may
   frame_rests Came outcome.Pumped x d may = nothing_is d may
   frame_rests Came (outcome.Shown text) x d may = nothing_is d may
+  frame_rests Came (outcome.Agreement agree) x d may = nothing_is d may
 
   pub held_rests : (o : Outcome) (x : Kept C) (d : Deed C) → HeldMay s o x d → IsNoCommand d
   held_rests (outcome.Drained p n) x d may = drain_rests s p (Ok (Some n)) x d may.1
@@ -88,3 +89,4 @@ module _ {S C : Type 0} (s : ServiceOf S C) where
   held_rests outcome.Stopped x d may = absurd may
   held_rests outcome.Pumped x d may = absurd may
   held_rests (outcome.Shown text) x d may = absurd may
+  held_rests (outcome.Agreement agree) x d may = absurd may

@@ -5,6 +5,7 @@ pub mod Rounds
 pub mod Paths
 pub mod Looks
 pub mod Shows
+pub mod Agreeing
 pub mod Steps
 pub mod Deeds
 pub mod Told

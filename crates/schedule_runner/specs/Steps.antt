@@ -22,6 +22,7 @@ use Rattle.schedule_runner.specs.declared.acting.ServiceEvent.TheVariants.{Open,
 use Rattle.schedule_runner.specs.declared.looking.Listing.TheVariants.{Frames, Journal}
 use Rattle.schedule_runner.specs.declared.world.World.{World}
 use Rattle.schedule_runner.specs.Events.{asked_of}
+use Rattle.schedule_runner.specs.Agreeing.{TellsAgreement}
 use Rattle.schedule_runner.specs.Shows.{Tells, RowOf, ListOf, ShowsPair}
 use Rattle.accord.specs.Sight.{OrderTables, StockTables, AccountTables, orders_service, stocks_service, accounts_service}
 
@@ -93,3 +94,4 @@ module _ {KO KS KA : Type 0} (orders : KO → Seen OrderTables) (stocks : KS →
   Happened (event.Pair p) o = ShowsPair orders stocks accounts p o
   Happened (event.Frames service) o = Tells (ListOf orders stocks accounts service Frames) o
   Happened (event.Journal service) o = Tells (ListOf orders stocks accounts service Journal) o
+  Happened event.Agreement o = TellsAgreement orders stocks accounts o

@@ -22,6 +22,7 @@
 #![tactic(auto)]
 
 mod acting;
+mod agreeing;
 mod looking;
 mod pumping;
 mod running;

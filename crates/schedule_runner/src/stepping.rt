@@ -124,6 +124,7 @@ where
             Event::Pair(pair) => self.pair(pair),
             Event::Frames(service) => self.frames(*service),
             Event::Journal(service) => self.journal(*service),
+            Event::Agreement => self.tell_agreement(),
         }
     }
 }

@@ -9,7 +9,7 @@ use Rattle.activities.specs.declared.commands.StockCommand.TheVariants.{Receive}
 use Rattle.activities.specs.declared.commands.AccountCommand.TheVariants.{SetLimit}
 use Rattle.schedules.specs.declared.event.Event.{Event}
 use Rattle.schedules.specs.declared.event.Event.TheVariants.{Order, Stock, Account, Open, Cut, Fill, Resend, Carry, Take, Drain}
-use Rattle.schedules.specs.declared.event.Event.TheVariants.{Repeat, Fail, Reopen, Stop, StopBroker, Pump, Show, Pair, Frames, Journal}
+use Rattle.schedules.specs.declared.event.Event.TheVariants.{Repeat, Fail, Reopen, Stop, StopBroker, Pump, Show, Pair, Frames, Journal, Agreement}
 use Rattle.schedules.specs.declared.event.SeatCommand.{SeatCommand}
 use Rattle.schedules.specs.declared.event.ConnectionName.{ConnectionName}
 use Rattle.schedules.specs.declared.event.ConnectionNumber.TheVariants.{Zero, One}
@@ -112,13 +112,14 @@ faults_are_read : Says (codes "repeat 2") (Repeat 2) × Says (codes "fail wareho
 unfolding is_utf8 chars lib.Utf8.encode
 faults_are_read = (refl, refl, refl, refl, refl, refl, refl)
 
--- an entity of any kind is shown, and any pair; of a service the frames and the journal are
+-- an entity of any kind is shown, and any pair; of a service the frames and the journal are; agreement is asked for with no more
 looks_are_read : Says (codes "show order/o1") (Show (order_of (codes "o1")))
     × Says (codes "show stock/bolts") (Show (stock_of (codes "bolts")))
     × Says (codes "pair order/o1 account/acme") (Pair (record { from = order_of (codes "o1"); to = account_of (codes "acme") }))
     × Says (codes "frames purchasing") (Frames Purchasing) × Says (codes "journal warehouse") (Journal Warehouse)
+    × Says (codes "agreement") Agreement × (Is (codes "agreement order/o1") None)
 unfolding is_utf8 chars lib.Utf8.encode
-looks_are_read = (refl, refl, refl, refl, refl)
+looks_are_read = (refl, refl, refl, refl, refl, refl, refl)
 
 -- an empty line and one that begins with # have nothing to run
 quiet_lines_have_no_event : (Is [] (Some None)) × (Is (codes "# place 0") (Some None))

@@ -1,6 +1,6 @@
 -- How long the line of an event is.
 use Rattle.std.proofs.Common.{◌≡◌, ◌⊎◌, ◌<◌, ◌≤◌, ◌+◌, ◌*◌, ◌^◌, ℕ, suc, List, [], ◌∷◌, length, drop, Bool, true, false, ◌||◌, cond, eqb}
-use Rattle.std.proofs.Common.{nat_eq, ltb, leb, refl, sym, ap, ◌∙◌, arith, Option, Some, None, inl, inr, count_by}
+use Rattle.std.proofs.Common.{nat_eq, ltb, leb, refl, sym, ap, subst, ◌∙◌, arith, Option, Some, None, inl, inr, count_by}
 use Rattle.std.specs.Prelude.{codes}
 use Rattle.std.specs.List.{slice_split, onto_first, starts_with, list_all}
 use Rattle.std.specs.Map.{lookup}
@@ -38,7 +38,7 @@ use Rattle.schedules.specs.Arguments.{seat_of, ordinal_of, rounds_of, key_of, na
 use Rattle.schedules.specs.Arguments.{way_of, leaves_of}
 use Rattle.schedules.specs.Commands.{placing_of, place_of, cancel_of, receive_of, limit_of}
 use Rattle.schedules.specs.Verbs.{verbs, verb_of}
-use Rattle.schedules.specs.Events.{alone, connection_of, fill_of, carry_of, fail_of, stopped_of, pair_of, event_by, event_of}
+use Rattle.schedules.specs.Events.{alone, connection_of, fill_of, carry_of, fail_of, stopped_of, pair_of, agreement_of, event_by, event_of}
 use Rattle.schedules.specs.Schedules.{Language, is_quiet, found_on}
 use Rattle.schedules.proofs.Numerals.{both_true}
 use Rattle.schedules.proofs.Again.{number_only}
@@ -381,6 +381,10 @@ pair_size (from ∷ to ∷ []) pair e =
     (omega (arith, entity_size from first.0 first.1, entity_size to second.0 second.1), omega arith)
 pair_size (from ∷ to ∷ more ∷ rest) pair e = absurd cc
 
+no_arguments : (words : List (List ℕ)) (event : Event) → agreement_of words ≡ Some event → AreWithin words 0 0
+no_arguments [] event e = (omega arith, omega arith)
+no_arguments (more ∷ rest) event e = absurd cc
+
 -- what is made of arguments that are within the sizes
 made_size : {A E : Type 0} (make : A → E) (found : Option A) (words : List (List ℕ)) (event : E)
     → ((x : A) → found ≡ Some x → AreWithin words 510 6) → option_map make found ≡ Some event → AreWithin words 510 6
@@ -411,31 +415,52 @@ arguments_size verb.Frames words it e =
     made_size event.Frames (alone service_of words) words it (alone_size service_of any_service_size words) e
 arguments_size verb.Journal words it e =
     made_size event.Journal (alone service_of words) words it (alone_size service_of any_service_size words) e
+arguments_size verb.Agreement words it e = let none = no_arguments words it e in (omega (arith, none.0), omega (arith, none.1))
 
 -- ---- whole events
 
--- a word of a table whose words have at most 7 octets
-lookup_size : {V : Type 0} (word : List ℕ) (table : List (List ℕ × V)) (x : V) → list_all (λ entry. leb (length entry.0) 7) table ≡ true
-    → lookup (bytes_eq word) table ≡ Some x → length word ≤ 7
-lookup_size word [] x short e = absurd cc
-lookup_size word (entry ∷ table) x short e =
-    let both = both_true (leb (length entry.0) 7) (list_all (λ entry. leb (length entry.0) 7) table) short in
-    elim (chosen (bytes_eq word entry.0) (Some entry.1) (lookup (bytes_eq word) table) x e) [
-      | inl here ↦ is_short word entry.0 7 here.0 (leb-true _ _ both.0)
-      | inr later ↦ lookup_size word table x both.1 later
+-- the first of two, or the second
+found_first : {A : Type 0} (b : Bool) (x : A) (y : Option A) (v : A) → cond b (Some x) y ≡ Some v → ((b ≡ true) × (x ≡ v)) ⊎ (y ≡ Some v)
+found_first true x y v e = inl (refl, cc)
+found_first false x y v e = inr e
+
+-- a word of a table whose words have at most so many octets, by what they stand for
+lookup_size : {V : Type 0} (most : V → ℕ) (word : List ℕ) (table : List (List ℕ × V)) (x : V)
+    → list_all (λ entry. leb (length entry.0) (most entry.1)) table ≡ true
+    → lookup (bytes_eq word) table ≡ Some x → length word ≤ most x
+lookup_size most word [] x short e = absurd cc
+lookup_size most word (entry ∷ table) x short e =
+    let both = both_true (leb (length entry.0) (most entry.1)) (list_all (λ entry. leb (length entry.0) (most entry.1)) table) short in
+    elim (found_first (bytes_eq word entry.0) entry.1 (lookup (bytes_eq word) table) x e) [
+      | inl here ↦ subst (λ v. length word ≤ most v) here.1 (is_short word entry.0 (most entry.1) here.0 (leb-true _ _ both.0))
+      | inr later ↦ lookup_size most word table x both.1 later
     ]
+
+-- how many octets the word of a verb has at most
+abbrev verb_most : Verb → ℕ
+verb_most verb.Agreement = 9
+verb_most _ = 7
 
 -- each event of a language has few and short words
 abbrev pub Fits : {E : Type 0} → Language E → Type 0
 Fits {E} event_of = (words : List (List ℕ)) (it : E) → event_of words ≡ Some it → AreWithin words 525 7
 
+-- the word of a verb alone, or with its arguments
+said_size : (of : Verb) (name : List ℕ) (arguments : List (List ℕ)) (it : Event) → length name ≤ verb_most of
+    → event_by of arguments ≡ Some it → AreWithin (name ∷ arguments) 525 7
+said_size verb.Agreement name arguments it short e =
+    let none : AreWithin arguments 0 0 = no_arguments arguments it e in
+    (omega (arith, short, none.0), omega (arith, none.1))
+said_size of name arguments it short e =
+    let rest : AreWithin arguments 510 6 = arguments_size of arguments it e in
+    (omega (arith, short, rest.0), omega (arith, rest.1))
+
 pub events_fit : Fits event_of
 events_fit [] it e = absurd cc
 events_fit (name ∷ arguments) it e =
     let found = bound (verb_of name) (λ of. event_by of arguments) it e in
-    let short : length name ≤ 7 = lookup_size name verbs found.0 refl found.1 in
-    let rest : AreWithin arguments 510 6 = arguments_size found.0 arguments it found.2 in
-    (omega (arith, short, rest.0), omega (arith, rest.1))
+    let short : length name ≤ verb_most found.0 = lookup_size verb_most name verbs found.0 refl found.1 in
+    said_size found.0 name arguments it short found.2
 
 -- the line of an event has at most so many octets, and so many words
 line_size : {E : Type 0} (event_of : Language E) → Fits event_of → (line : List ℕ) (event : E) → (words_of line >>= event_of) ≡ Some event

@@ -8,7 +8,7 @@ use Rattle.schedules.specs.declared.event.Event.TheVariants as event
 use Rattle.schedules.specs.declared.event.ConnectionName.{ConnectionName}
 use Rattle.schedules.specs.declared.verb.Verb.{Verb}
 use Rattle.schedules.specs.declared.verb.Verb.TheVariants.{Place, Cancel, Receive, Limit, Open, Cut, Fill, Resend, Carry, Take, Drain}
-use Rattle.schedules.specs.declared.verb.Verb.TheVariants.{Repeat, Fail, Reopen, Stop, Pump, Show, Frames, Journal}
+use Rattle.schedules.specs.declared.verb.Verb.TheVariants.{Repeat, Fail, Reopen, Stop, Pump, Show, Frames, Journal, Agreement}
 use Rattle.schedules.specs.declared.verb.Verb.TheVariants as verb
 use Rattle.schedules.specs.Arguments.{entity_of, service_of, connection_number, way_of, leaves_of, ordinal_of, rounds_of}
 use Rattle.schedules.specs.Commands.{place_of, cancel_of, receive_of, limit_of}
@@ -68,6 +68,11 @@ pair_of (from ∷ to ∷ []) = do
   Some (record { from = from; to = to })
 pair_of _ = None
 
+-- nothing more
+abbrev pub agreement_of : List (List ℕ) → Option Event
+agreement_of [] = Some event.Agreement
+agreement_of _ = None
+
 -- the event of a verb and its arguments
 abbrev pub event_by : Verb → List (List ℕ) → Option Event
 event_by Place arguments = option_map event.Order (place_of arguments)
@@ -90,6 +95,7 @@ event_by Show arguments = option_map event.Show (alone entity_of arguments)
 event_by verb.Pair arguments = option_map event.Pair (pair_of arguments)
 event_by Frames arguments = option_map event.Frames (alone service_of arguments)
 event_by Journal arguments = option_map event.Journal (alone service_of arguments)
+event_by Agreement arguments = agreement_of arguments
 
 -- the event of the words of a line: the first names it
 abbrev pub event_of : List (List ℕ) → Option Event

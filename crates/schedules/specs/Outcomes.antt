@@ -1,5 +1,5 @@
 -- The lines that tell what became of events.
-use Rattle.std.specs.Prelude.{ℕ, List, [], ◌∷◌, ◌++◌, codes, decimal}
+use Rattle.std.specs.Prelude.{ℕ, true, false, List, [], ◌∷◌, ◌++◌, codes, decimal}
 use Rattle.std.specs.String.{string_bytes}
 use Rattle.base.specs.Entity.{Name, text_of}
 use Rattle.base.specs.declared.pair.Pair.{Pair}
@@ -10,7 +10,7 @@ use Rattle.schedules.specs.declared.outcome.Told.TheVariants as pieces
 use Rattle.schedules.specs.declared.outcome.Outcome.{Outcome}
 use Rattle.schedules.specs.declared.outcome.Outcome.TheVariants.{Committed, Opened, Already, Closed, Cut, Sent, Due, Carried, Connected}
 use Rattle.schedules.specs.declared.outcome.Outcome.TheVariants.{Receipt, Handled, Repeated, Held, Settled, Error, Idle, Drained, Again}
-use Rattle.schedules.specs.declared.outcome.Outcome.TheVariants.{Absent, Armed, Reopened, Stopped, Pumped, Refused, NotDone, Shown}
+use Rattle.schedules.specs.declared.outcome.Outcome.TheVariants.{Absent, Armed, Reopened, Stopped, Pumped, Refused, NotDone, Shown, Agreement}
 
 -- a text and a number
 abbrev pub told_number : List ℕ → ℕ → List ℕ
@@ -52,6 +52,8 @@ told Pumped = codes "pumped"
 told (Refused number) = told_number (codes "refused ") number
 told (NotDone refusal) = told_number (codes "refused 61 ") (refusal_number refusal)
 told (Shown lines) = []
+told (Agreement true) = codes "agreement true"
+told (Agreement false) = codes "agreement false"
 
 -- the lines that tell an outcome: its words, or what is shown
 abbrev pub outcome_lines : Outcome → List ℕ

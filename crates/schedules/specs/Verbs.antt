@@ -12,7 +12,8 @@ verbs =
     ∷ (codes "open", verb.Open) ∷ (codes "cut", verb.Cut) ∷ (codes "fill", verb.Fill) ∷ (codes "resend", verb.Resend)
     ∷ (codes "carry", verb.Carry) ∷ (codes "take", verb.Take) ∷ (codes "drain", verb.Drain) ∷ (codes "repeat", verb.Repeat)
     ∷ (codes "fail", verb.Fail) ∷ (codes "reopen", verb.Reopen) ∷ (codes "stop", verb.Stop) ∷ (codes "pump", verb.Pump)
-    ∷ (codes "show", verb.Show) ∷ (codes "pair", verb.Pair) ∷ (codes "frames", verb.Frames) ∷ (codes "journal", verb.Journal) ∷ []
+    ∷ (codes "show", verb.Show) ∷ (codes "pair", verb.Pair) ∷ (codes "frames", verb.Frames) ∷ (codes "journal", verb.Journal)
+    ∷ (codes "agreement", verb.Agreement) ∷ []
 
 -- the verb that a word is
 abbrev pub verb_of : List ℕ → Option Verb

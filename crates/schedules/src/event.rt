@@ -97,4 +97,6 @@ pub enum Event {
     Frames(Service),
     /// Shows a service's journal.
     Journal(Service),
+    /// Shows whether the partners of each order agree.
+    Agreement,
 }

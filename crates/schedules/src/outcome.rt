@@ -61,6 +61,8 @@ pub enum Outcome {
     NotDone(Refusal),
     /// What was shown: whole lines.
     Shown(Vec<u8>),
+    /// Whether the partners of each order agree.
+    Agreement(bool),
 }
 
 /// The pieces of the lines that tell an outcome: all but the last have one line.
@@ -111,6 +113,8 @@ impl Outcome {
                 Told::Number("refused 61 ", u64::from(refusal.number()))
             }
             Outcome::Shown(lines) => Told::Lines(lines.as_slice()),
+            Outcome::Agreement(true) => Told::Text("agreement true", ""),
+            Outcome::Agreement(false) => Told::Text("agreement false", ""),
         }
     }
 }

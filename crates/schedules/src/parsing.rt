@@ -2,7 +2,7 @@
 
 ghost use Rattle.std.specs.Prelude.{◌≡◌};
 ghost use Rattle.schedules.specs.Arguments.{entity_of, service_of, ordinal_of, rounds_of};
-ghost use Rattle.schedules.specs.Events.{alone, connection_of, fill_of, carry_of, fail_of, stopped_of, pair_of, event_by, event_of};
+ghost use Rattle.schedules.specs.Events.{alone, connection_of, fill_of, carry_of, fail_of, stopped_of, pair_of, agreement_of, event_by, event_of};
 ghost use Rattle.schedules.specs.Reading.{Reads};
 
 use crate::arguments::{
@@ -136,6 +136,16 @@ fn read_pair(alloc: Global, words: &[Word]) -> Result<Pair, LineFault>
     Ok(Pair { from, to })
 }
 
+/// Nothing more: asks whether partners agree.
+fn read_agreement(words: &[Word]) -> Result<Event, LineFault>
+    ensures { Reads (λ event. event) result (agreement_of words.now) }
+{
+    match words {
+        [] => Ok(Event::Agreement),
+        _ => Err(LineFault::Bad),
+    }
+}
+
 /// The event of a verb and its arguments.
 fn read_arguments(alloc: Global, verb: Verb, words: &[Word]) -> Result<Event, LineFault>
     ensures { Reads (λ event. event) result (event_by verb words.now) }
@@ -161,6 +171,7 @@ fn read_arguments(alloc: Global, verb: Verb, words: &[Word]) -> Result<Event, Li
         Verb::Pair => Ok(Event::Pair(read_pair(alloc, words)?)),
         Verb::Frames => Ok(Event::Frames(read_service(words)?)),
         Verb::Journal => Ok(Event::Journal(read_service(words)?)),
+        Verb::Agreement => read_agreement(words),
     }
 }
 

@@ -46,6 +46,8 @@ pub(crate) enum Verb {
     Frames,
     /// `journal SERVICE`
     Journal,
+    /// `agreement`
+    Agreement,
 }
 
 impl Verb {
@@ -74,6 +76,7 @@ impl Verb {
             "pair" => Some(Verb::Pair),
             "frames" => Some(Verb::Frames),
             "journal" => Some(Verb::Journal),
+            "agreement" => Some(Verb::Agreement),
             _ => None,
         }
     }

@@ -61,3 +61,6 @@ returns-in-Frames g c = rw c.in-Frames.is c.frames.ensures
 
 pub returns-in-Journal : goal.returns-in-Journal
 returns-in-Journal g c = rw c.in-Journal.is c.journal.ensures
+
+pub returns-in-Agreement : goal.returns-in-Agreement
+returns-in-Agreement g c = rw c.in-Agreement.is c.tell_agreement.ensures

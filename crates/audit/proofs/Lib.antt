@@ -1,0 +1,4 @@
+pub mod Resting
+pub mod Tallying
+pub mod Going
+pub mod Lawful
