@@ -2,7 +2,8 @@
 
 ghost use Rattle.std.specs.Prelude.{◌≡◌};
 ghost use Rattle.schedules.specs.Arguments.{entity_of, service_of, ordinal_of, rounds_of};
-ghost use Rattle.schedules.specs.Events.{alone, connection_of, fill_of, carry_of, fail_of, stopped_of, pair_of, agreement_of, event_by, event_of};
+ghost use Rattle.schedules.specs.Events.{alone, connection_of, fill_of, carry_of, fail_of, stopped_of, pair_of};
+ghost use Rattle.schedules.specs.Events.{agreement_of, event_by, event_of};
 ghost use Rattle.schedules.specs.Reading.{Reads};
 
 use crate::arguments::{
