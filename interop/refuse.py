@@ -1,7 +1,7 @@
 #!/usr/bin/env python3
 """Refuses one growth to the broker, the first, the second and so on, each in a run of its own, and tells what became of its clients.
 
-usage: interop/refuse BROKER LIBRARY     the status is 0 where at most one client was cut off each time, and all else was as it should be
+usage: interop/refuse.py BROKER LIBRARY     the status is 0 where at most one client was cut off each time, and all else was as it should be
 
 Each run has one client that talks of all that there is to talk of, one that was there before and waits meanwhile, and one that comes behind.
 """
