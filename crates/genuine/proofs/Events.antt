@@ -29,6 +29,7 @@ use Rattle.genuine.proofs.Replying.{WritesGood, all_fit, answers_good, waiting_g
 use Rattle.genuine.proofs.Rows.{rows_good}
 use Rattle.genuine.proofs.Sitting.{again, cut_off, linked, moved, opened_line, passes_any_store, sits_any_store}
 use Rattle.genuine.proofs.Telling.{drains_good, settles_ok}
+use Rattle.sites.specs.Cursors.{AreRight}
 use Rattle.sites.specs.Happenings.{Adds, CarriesOn, DrainsOne, DrainsOver, Falls, Happens, IfOpen, OpensLine, Rises}
 use Rattle.sites.specs.Happenings.{SendsRows, TakesFrame, TakesOne, TakesWhat, leaves_of, over, waiting_of, with_store}
 use Rattle.sites.specs.Lines.{line_of, with_line, Leaves, Meets, Same}
@@ -161,7 +162,7 @@ module _ {H K S C : Type 0} (ok : Envelope → Type 0) where
 
   module _ (seen : K → Seen (Tables S C)) (sound : (k : K) → IsSound (seen k)) (service : Service S C) (outcome : Outcome)
       (s : Site H K S C) (from : Office) (t : Site H K S C) (to : Office) (clean : (seen t.endpoint.keep).doubt ≡ 0)
-      (match : AllMatch service (seen s.endpoint.keep).may_leave)
+      (match : AllMatch service (seen s.endpoint.keep).may_leave) (right : AreRight seen service s)
       (true_ok : (e : Envelope) → IsTrue service (seen t.endpoint.keep).may_leave e → ok e) (up down : ℕ → List ℕ)
       (h : Sits ok up down s from) (office : GoodOffice ok up down from) where
     -- the same service with the store that it has then
@@ -175,7 +176,8 @@ module _ {H K S C : Type 0} (ok : Envelope → Type 0) where
       fills_pass : (limit : ℕ) → SendsRows seen service number limit l outcome s from t to → Passes ok up down s from t to
       fills_pass limit r =
           let here = linked ok up down number s l is from h in
-          let wrote = rows_good ok seen sound service s from t to clean match true_ok number limit l outcome r here.good.wrote in
+          let wrote = rows_good ok seen sound service s from t to clean match right true_ok number limit l is outcome r
+          here.good.wrote in
           let p : Passes ok up down stored from (with_line number (Some r.later) stored) from =
           written up down number stored l is from r.later
           (ap (λ (c : Connection). c.session) r.rest) (ap (λ (c : Connection). c.decoder) r.rest)

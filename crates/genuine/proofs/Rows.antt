@@ -26,6 +26,7 @@ use Rattle.mail.specs.Offices.{Office}
 use Rattle.passage.specs.Passing.{GoodFrame, HasWritten}
 use Rattle.relay.specs.Calls.{Fills, Gives, idle_answer}
 use Rattle.relay.specs.Filling.{Connection, sends_of, unsent, with_sent}
+use Rattle.relay.specs.Knowing.{KnowsAll}
 use Rattle.relay.specs.declared.fault.RelayFault.{RelayFault}
 use Rattle.schedules.specs.declared.event.ConnectionNumber.{ConnectionNumber}
 use Rattle.schedules.specs.declared.outcome.Outcome.{Outcome}
@@ -35,8 +36,10 @@ use Rattle.passage.proofs.Frames.{send_receipted_good}
 use Rattle.passage.proofs.Writing.{adds_written}
 use Rattle.genuine.proofs.Replying.{WritesGood, writes_none}
 use Rattle.genuine.proofs.Telling.{inner_usable}
+use Rattle.sites.proofs.Cursors.{line_has}
 use Rattle.sites.specs.Happenings.{SendsRows}
-use Rattle.sites.specs.Lines.{sending}
+use Rattle.sites.specs.Cursors.{AreRight, KnowsEach}
+use Rattle.sites.specs.Lines.{line_of, sending}
 use Rattle.sites.specs.declared.line.Line.{Line}
 use Rattle.sites.specs.declared.site.Site.{Site}
 
@@ -105,15 +108,15 @@ module _ (ok : Envelope → Type 0) where
 
   module _ {H K S C : Type 0} (seen : K → Seen (Tables S C)) (sound : (k : K) → IsSound (seen k)) (service : Service S C)
       (s : Site H K S C) (from : Office) (t : Site H K S C) (to : Office) (clean : (seen t.endpoint.keep).doubt ≡ 0)
-      (match : AllMatch service (seen s.endpoint.keep).may_leave)
+      (match : AllMatch service (seen s.endpoint.keep).may_leave) (right : AreRight seen service s)
       (true_ok : (e : Envelope) → IsTrue service (seen t.endpoint.keep).may_leave e → ok e) where
-    module _ (number : ConnectionNumber) (limit : ℕ) (l : Line) (outcome : Outcome)
+    module _ (number : ConnectionNumber) (limit : ℕ) (l : Line) (is : line_of number s ≡ Some l) (outcome : Outcome)
         (sends : SendsRows seen service number limit l outcome s from t to) where
       -- a row that stands is true of each content
       row_ok : l.connection.client.client.stage ≡ stage.Connected → (through seen s.endpoint).usable ≡ true → (row : Letter)
           → (seen s.endpoint.keep).tables.unsettled row.pair row.number ≡ Some row.message → ok (envelope.Letter row)
-      row_ok is usable row stands = true_ok (envelope.Letter row) (λ u may.
-          let least = (sends.reads is).doubt in
+      row_ok up usable row stands = true_ok (envelope.Letter row) (λ u may.
+          let least = (sends.reads up).doubt in
           let before : (seen s.endpoint.keep).doubt ≡ 0 = omega (arith, least, clean) in
           let old = sends.keeps clean u may in
           let same : u ≡ (seen s.endpoint.keep).tables =
@@ -126,9 +129,10 @@ module _ (ok : Envelope → Type 0) where
           → WritesGood ok l.connection.client.client sends.later.connection.client.client
       rows_good written = idle_good l.connection.client.client.stage (sending l) (sending sends.later) sends.result
           (t.endpoint ≡ s.endpoint) sends.idle
-          (λ is. either (cases_Bool (through seen s.endpoint).usable)
-          (λ usable. filled_good (((seen t.endpoint.keep).doubt ≡ 0) × AllMatch service (seen s.endpoint.keep).may_leave)
-          (seen s.endpoint.keep).tables.unsettled limit (sending l) (sending sends.later) sends.result (sends.fills is) (clean, match)
-          (row_ok is usable) written)
+          (λ up. either (cases_Bool (through seen s.endpoint).usable)
+          (λ usable. filled_good (((seen t.endpoint.keep).doubt ≡ 0) × KnowsAll service l.relay (seen s.endpoint.keep).may_leave)
+          (seen s.endpoint.keep).tables.unsettled limit (sending l) (sending sends.later) sends.result (sends.fills up)
+          (clean, (match, line_has (KnowsEach service (seen s.endpoint.keep).may_leave) number s l is right))
+          (row_ok up usable) written)
           (λ down. writes_none ok l.connection.client.client sends.later.connection.client.client
           (ap (λ (x : Connection). x.client.out) (sends.unused down))))

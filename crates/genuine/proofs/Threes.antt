@@ -27,6 +27,7 @@ use Rattle.passage.proofs.Offices.{new_office_good, next_good, restarted_good}
 use Rattle.passage.proofs.Repeating.{repeated_good}
 use Rattle.passage.proofs.Rising.{repeated_opened}
 use Rattle.genuine.proofs.Sitting.{linked, passes_any_store, sits_any_store, sits_stay}
+use Rattle.sites.specs.Cursors.{AreRight}
 use Rattle.sites.specs.Deeds.{CameOn, lines_of}
 use Rattle.sites.specs.Happenings.{Happens, with_store}
 use Rattle.sites.specs.Lines.{After, CutsBoth, line_of}
@@ -159,12 +160,12 @@ module _ {H K S C H' K' S' C' H'' K'' S'' C'' : Type 0} where
 
   pub first_keeps : (ok : Envelope → Type 0) (a t : Site H K S C) (b : Site H' K' S' C') (c : Site H'' K'' S'' C'') (from to : Office)
       (seen : K → Seen (Tables S C)) → ((k : K) → IsSound (seen k)) → (service : Service S C) (what : SiteEvent C) (outcome : Outcome)
-      → (seen t.endpoint.keep).doubt ≡ 0 → AllMatch service (seen a.endpoint.keep).may_leave
+      → (seen t.endpoint.keep).doubt ≡ 0 → AllMatch service (seen a.endpoint.keep).may_leave → AreRight seen service a
       → ((e : Envelope) → IsTrue service (seen t.endpoint.keep).may_leave e → ok e) → Happens seen service what outcome a from t to
       → Genuine ok a b c from → Genuine ok t b c to
-  first_keeps ok a t b c from to seen sound service what outcome clean match true_ok happens h =
+  first_keeps ok a t b c from to seen sound service what outcome clean match right true_ok happens h =
       first_passes ok a t b c from to h
-      (event_passes ok seen sound service outcome a from t to clean match true_ok h.up h.down h.first h.office what happens)
+      (event_passes ok seen sound service outcome a from t to clean match right true_ok h.up h.down h.first h.office what happens)
 
   -- a read of a store, which may have failed
   pub first_after : {R : Type 0} (ok : Envelope → Type 0) (a t : Site H K S C) (b : Site H' K' S' C') (c : Site H'' K'' S'' C'')
@@ -209,19 +210,21 @@ module _ {H K S C H' K' S' C' H'' K'' S'' C'' : Type 0} (ok : Envelope → Type 
     (c : Site H'' K'' S'' C'') where
   pub second_keeps : (t : Site H' K' S' C') (from to : Office) (seen : K' → Seen (Tables S' C')) → ((k : K') → IsSound (seen k))
       → (service : Service S' C') (what : SiteEvent C') (outcome : Outcome) → (seen t.endpoint.keep).doubt ≡ 0
-      → AllMatch service (seen b.endpoint.keep).may_leave → ((e : Envelope) → IsTrue service (seen t.endpoint.keep).may_leave e → ok e)
+      → AllMatch service (seen b.endpoint.keep).may_leave → AreRight seen service b
+      → ((e : Envelope) → IsTrue service (seen t.endpoint.keep).may_leave e → ok e)
       → Happens seen service what outcome b from t to → Genuine ok a b c from → Genuine ok a t c to
-  second_keeps t from to seen sound service what outcome clean match true_ok happens h =
+  second_keeps t from to seen sound service what outcome clean match right true_ok happens h =
       rotated ok c a t to (rotated ok t c a to
-      (first_keeps ok b t c a from to seen sound service what outcome clean match true_ok happens (rotated ok a b c from h)))
+      (first_keeps ok b t c a from to seen sound service what outcome clean match right true_ok happens (rotated ok a b c from h)))
 
   pub third_keeps : (t : Site H'' K'' S'' C'') (from to : Office) (seen : K'' → Seen (Tables S'' C'')) → ((k : K'') → IsSound (seen k))
       → (service : Service S'' C'') (what : SiteEvent C'') (outcome : Outcome) → (seen t.endpoint.keep).doubt ≡ 0
-      → AllMatch service (seen c.endpoint.keep).may_leave → ((e : Envelope) → IsTrue service (seen t.endpoint.keep).may_leave e → ok e)
+      → AllMatch service (seen c.endpoint.keep).may_leave → AreRight seen service c
+      → ((e : Envelope) → IsTrue service (seen t.endpoint.keep).may_leave e → ok e)
       → Happens seen service what outcome c from t to → Genuine ok a b c from → Genuine ok a b t to
-  third_keeps t from to seen sound service what outcome clean match true_ok happens h =
+  third_keeps t from to seen sound service what outcome clean match right true_ok happens h =
       rotated ok t a b to
-      (first_keeps ok c t a b from to seen sound service what outcome clean match true_ok happens
+      (first_keeps ok c t a b from to seen sound service what outcome clean match right true_ok happens
       (rotated ok b c a from (rotated ok a b c from h)))
 
   pub second_after : {R : Type 0} (t : Site H' K' S' C') (from to : Office) (e : Failing K') (r : Result R EndFault)

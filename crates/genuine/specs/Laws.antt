@@ -11,20 +11,22 @@ use Rattle.schedules.specs.declared.outcome.Outcome.{Outcome}
 use Rattle.genuine.specs.Sitting.{Sits, Passes}
 use Rattle.genuine.specs.Three.{Genuine}
 use Rattle.genuine.specs.Writing.{IsTrue}
+use Rattle.sites.specs.Cursors.{AreRight}
 use Rattle.sites.specs.Happenings.{Happens}
 use Rattle.sites.specs.SiteEvents.{SiteEvent}
 use Rattle.sites.specs.declared.site.Site.{Site}
 
 module _ {H K S C : Type 0} (seen : K → Seen (Tables S C)) (service : Service S C) (test : Envelope → Bool) (s t : Site H K S C)
     (from to : Office) where
-  -- An event leads there. No file is in doubt then, all contents of the store matched their journal before, and what is true in each
-  -- content that there is then passes.
+  -- An event leads there. No file is in doubt then, all contents of the store matched their journal before, of which the relays' cursors
+  -- were right, and what is true in each content that there is then passes.
   pub record Leads : Type 0 where
     pub event : SiteEvent C
     pub outcome : Outcome
     pub happens : Happens seen service event outcome s from t to
     pub clean : (seen t.endpoint.keep).doubt ≡ 0
     pub matched : AllMatch service (seen s.endpoint.keep).may_leave
+    pub right : AreRight seen service s
     pub true_passes : (e : Envelope) → IsTrue service (seen t.endpoint.keep).may_leave e → passing test e
 
   -- then all is good again where it was good

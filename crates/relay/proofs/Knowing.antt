@@ -284,7 +284,7 @@ module _ {S C : Type 0} (service : Service S C) (r : Relay) where
         (raised x.settled p n q.pair) some),
   )
 
-  knows-prop : (k : Kept C) → IsProp (Knows service r k)
+  pub knows-prop : (k : Kept C) → IsProp (Knows service r k)
   knows-prop k = hlevel props
 
   -- what a reopening finds is known

@@ -3,7 +3,7 @@ mod Sending
 mod Letters
 mod Places
 mod Due
-mod Knowing
+pub mod Knowing
 mod Passing
 mod Firsts
 mod Paging

@@ -21,6 +21,7 @@ use Rattle.sites.specs.declared.site.Site.{Site}
 use Rattle.sites.specs.Deeds.{DoubtStays, Matches, Goes, SiteMay, lines_of}
 use Rattle.sites.specs.Happenings.{Happens}
 use Rattle.sites.specs.Lines.{CutsBoth}
+use Rattle.sites.proofs.Cursors.{RelaysRest, cut_has, stored_right}
 use Rattle.genuine.specs.Three.{Genuine}
 use Rattle.sites.specs.SiteEvents.{SiteEvent}
 use Rattle.schedule_runner.specs.declared.world.World.{World}
@@ -97,9 +98,12 @@ module _ {KO KS KA : Type 0} (orders : KO → Seen OrderTables) (stocks : KS →
 pub lift_same : {KO KS KA : Type 0} (orders : KO → Seen OrderTables) (stocks : KS → Seen StockTables) (accounts : KA → Seen AccountTables)
     (R : (a b : World KO KS KA) → Type 0) (old new : World KO KS KA) → new.purchasing.endpoint ≡ old.purchasing.endpoint
     → new.warehouse.endpoint ≡ old.warehouse.endpoint → new.billing.endpoint ≡ old.billing.endpoint
-    → ((ok : Envelope → Type 0) → MailIs ok old → MailIs ok new) → R old new
+    → ((ok : Envelope → Type 0) → MailIs ok old → MailIs ok new)
+    → RelaysRest old.purchasing new.purchasing
+    → RelaysRest old.warehouse new.warehouse
+    → RelaysRest old.billing new.billing → R old new
     → Passes orders stocks accounts R (Both R Same) old new
-lift_same orders stocks accounts R old new p q r mail did = record {
+lift_same orders stocks accounts R old new p q r mail x y z did = record {
   clean = λ now. (
     subst (λ e. (through orders e).doubt ≡ 0) p now.0,
     subst (λ e. (through stocks e).doubt ≡ 0) q now.1,
@@ -114,7 +118,11 @@ lift_same orders stocks accounts R old new p q r mail did = record {
     purchasing = subst (λ e. (through orders e).may_leave t.purchasing) p m.purchasing;
     warehouse = subst (λ e. (through stocks e).may_leave t.warehouse) q m.warehouse;
     billing = subst (λ e. (through accounts e).may_leave t.billing) r m.billing;
-  }) mail good;
+  }) mail (λ right. (
+    stored_right orders orders_service old.purchasing new.purchasing p x right.0,
+    stored_right stocks stocks_service old.warehouse new.warehouse q y right.1,
+    stored_right accounts accounts_service old.billing new.billing r z right.2,
+  )) good;
   did = did;
   goes = λ now good t m. ∣ record {
     before = t;
@@ -132,7 +140,8 @@ module _ {KO KS KA : Type 0} (orders : KO → Seen OrderTables) (stocks : KS →
   pub lift_again : (place : ℕ) (o : Outcome) (w : World KO KS KA) (mail : Office) → SendsAgain place o w.mail mail
       → Passes orders stocks accounts (AtMail (SendsAgain place o)) (Both (AtMail (SendsAgain place o)) Same) w (record w { mail = mail })
   lift_again place o w mail did = lift_same orders stocks accounts (AtMail (SendsAgain place o)) w (record w { mail = mail }) refl refl refl
-      (λ ok good. repeated_keeps ok w.purchasing w.warehouse w.billing place w.mail mail did.0 did.1 good) (did, refl, refl, refl)
+      (λ ok good. repeated_keeps ok w.purchasing w.warehouse w.billing place w.mail mail did.0 did.1 good)
+      (λ Is h. h) (λ Is h. h) (λ Is h. h) (did, refl, refl, refl)
 
   -- what was cut, and lost, leaves the others good
   module _ (ok : Envelope → Type 0) (old new : World KO KS KA) (one two three : Office)
@@ -154,4 +163,6 @@ module _ {KO KS KA : Type 0} (orders : KO → Seen OrderTables) (stocks : KS →
       (ap (λ (s : Site Orders KO (Option OrderState) OrderCommand). s.endpoint) did.3.site)
       (ap (λ (s : Site Stocks KS StockState StockCommand). s.endpoint) did.4.site)
       (ap (λ (s : Site Accounts KA AccountState AccountCommand). s.endpoint) did.5.site)
-      (λ ok good. anew_is ok old new did.0 did.1 did.2 did.3 did.4 did.5 o new.mail did.6 good) did
+      (λ ok good. anew_is ok old new did.0 did.1 did.2 did.3 did.4 did.5 o new.mail did.6 good)
+      (λ Is h. cut_has Is old.purchasing old.mail new.purchasing did.0 did.3)
+      (λ Is h. cut_has Is old.warehouse did.0 new.warehouse did.1 did.4) (λ Is h. cut_has Is old.billing did.1 new.billing did.2 did.5) did

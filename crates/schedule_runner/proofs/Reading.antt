@@ -9,7 +9,10 @@ use Rattle.envelope.specs.declared.message.Envelope.{Envelope}
 use Rattle.keep.specs.Seen.{Seen}
 use Rattle.keep.specs.Tables.{Tables}
 use Rattle.schedules.specs.declared.outcome.Outcome.{Outcome}
+use Rattle.sites.specs.Happenings.{with_store}
+use Rattle.sites.specs.Lines.{LinesHave}
 use Rattle.sites.specs.declared.site.Site.{Site}
+use Rattle.sites.proofs.Cursors.{RelaysRest, after_has, still_right}
 use Rattle.genuine.specs.Three.{Genuine}
 use Rattle.schedule_runner.specs.declared.looking.Mark.{Mark}
 use Rattle.schedule_runner.specs.declared.world.World.{World}
@@ -18,7 +21,7 @@ use Rattle.schedule_runner.specs.Looks.{shown_told, ReadsSite, StoreStays}
 use Rattle.schedule_runner.specs.Good.{MailIs}
 use Rattle.schedule_runner.specs.Passing.{Both, Passes}
 use Rattle.schedule_runner.specs.Shows.{Tells, Behind, Marks, MarkOf, RowOf, MayShow, ShowsLine}
-use Rattle.accord.specs.Sight.{OrderTables, StockTables, AccountTables}
+use Rattle.accord.specs.Sight.{OrderTables, StockTables, AccountTables, orders_service, stocks_service, accounts_service}
 use Rattle.schedule_runner.proofs.Composing.{passes_map, passes_then}
 use Rattle.genuine.proofs.Threes.{first_after, second_after, third_after}
 use Rattle.schedule_runner.proofs.Righting.{still_good}
@@ -37,13 +40,16 @@ module _ {KO KS KA : Type 0} (orders : KO → Seen OrderTables) (stocks : KS →
   -- the world changes so, and no store has others than before
   pub lift_stays : (R : W → W → Type 0) (old new : W) → StoreStays orders old.purchasing new.purchasing
       → StoreStays stocks old.warehouse new.warehouse → StoreStays accounts old.billing new.billing
-      → ((ok : Envelope → Type 0) → MailIs ok old → MailIs ok new) → R old new
+      → ((ok : Envelope → Type 0) → MailIs ok old → MailIs ok new)
+      → RelaysRest old.purchasing new.purchasing
+      → RelaysRest old.warehouse new.warehouse
+      → RelaysRest old.billing new.billing → R old new
       → Passes orders stocks accounts R (Both R Same) old new
-  lift_stays R old new p q r mail did =
+  lift_stays R old new p q r mail x y z did =
       let a = p.doubt in
       let b = q.doubt in
       let c = r.doubt in record {
-        clean = λ now. let x = now.0 in let y = now.1 in let z = now.2 in (omega (arith, a, x), omega (arith, b, y), omega (arith, c, z));
+        clean = λ now. let d = now.0 in let e = now.1 in let f = now.2 in (omega (arith, a, d), omega (arith, b, e), omega (arith, c, f));
         sound = λ now good. (
           λ t m. good.0 t (p.stays now.0 t m),
           λ t m. good.1 t (q.stays now.1 t m),
@@ -53,7 +59,11 @@ module _ {KO KS KA : Type 0} (orders : KO → Seen OrderTables) (stocks : KS →
           purchasing = p.stays now.0 t.purchasing m.purchasing;
           warehouse = q.stays now.1 t.warehouse m.warehouse;
           billing = r.stays now.2 t.billing m.billing;
-        }) mail good;
+        }) mail (λ right. (
+          still_right orders orders_service old.purchasing new.purchasing (p.stays now.0) x right.0,
+          still_right stocks stocks_service old.warehouse new.warehouse (q.stays now.1) y right.1,
+          still_right accounts accounts_service old.billing new.billing (r.stays now.2) z right.2,
+        )) good;
         did = did;
         goes = λ now good t m. ∣ record {
           before = t;
@@ -77,7 +87,9 @@ module _ {KO KS KA : Type 0} (orders : KO → Seen OrderTables) (stocks : KS →
       (λ ok good. subst (λ b. Genuine ok new.purchasing b new.billing new.mail) (sym q)
       (subst (λ c. Genuine ok new.purchasing old.warehouse c new.mail) (sym r)
       (first_after ok old.purchasing new.purchasing old.warehouse old.billing old.mail new.mail new.purchasing.endpoint reads.answer
-      reads.after good))) did
+      reads.after good)))
+      (λ Is h. after_has Is (with_store new.purchasing.endpoint old.purchasing) old.mail new.purchasing new.mail reads.answer reads.after h)
+      (λ Is h. subst (LinesHave Is) (sym q) h) (λ Is h. subst (LinesHave Is) (sym r) h) did
 
   pub lift_stock_read : {A : Type 0} {gives : StockTables → A → Type 0} {result : Result A Outcome} (R : W → W → Type 0)
       (old new : W) → new.purchasing ≡ old.purchasing
@@ -90,7 +102,9 @@ module _ {KO KS KA : Type 0} (orders : KO → Seen OrderTables) (stocks : KS →
       (λ ok good. subst (λ a. Genuine ok a new.warehouse new.billing new.mail) (sym p)
       (subst (λ c. Genuine ok old.purchasing new.warehouse c new.mail) (sym r)
       (second_after ok old.purchasing old.warehouse old.billing new.warehouse old.mail new.mail new.warehouse.endpoint reads.answer
-      reads.after good))) did
+      reads.after good))) (λ Is h. subst (LinesHave Is) (sym p) h)
+      (λ Is h. after_has Is (with_store new.warehouse.endpoint old.warehouse) old.mail new.warehouse new.mail reads.answer reads.after h)
+      (λ Is h. subst (LinesHave Is) (sym r) h) did
 
   pub lift_account_read : {A : Type 0} {gives : AccountTables → A → Type 0} {result : Result A Outcome} (R : W → W → Type 0)
       (old new : W) → new.purchasing ≡ old.purchasing → new.warehouse ≡ old.warehouse
@@ -102,7 +116,8 @@ module _ {KO KS KA : Type 0} (orders : KO → Seen OrderTables) (stocks : KS →
       (λ ok good. subst (λ a. Genuine ok a new.warehouse new.billing new.mail) (sym p)
       (subst (λ b. Genuine ok old.purchasing b new.billing new.mail) (sym q)
       (third_after ok old.purchasing old.warehouse old.billing new.billing old.mail new.mail new.billing.endpoint reads.answer
-      reads.after good))) did
+      reads.after good))) (λ Is h. subst (LinesHave Is) (sym p) h) (λ Is h. subst (LinesHave Is) (sym q) h)
+      (λ Is h. after_has Is (with_store new.billing.endpoint old.billing) old.mail new.billing new.mail reads.answer reads.after h) did
 
   -- the row of an entity of that kind
   pub passes_row : (found kind : Kind) (e : Name) (result : Result (Vec ℕ) Outcome) (old new : W) → found ≡ kind
@@ -126,7 +141,7 @@ module _ {KO KS KA : Type 0} (orders : KO → Seen OrderTables) (stocks : KS →
   pub passes_line : (line : List ℕ) (o : Outcome) (w : W) → MayShow line o
       → Passes orders stocks accounts (ShowsLine line o) (Both (ShowsLine line o) Same) w w
   passes_line line o w may = lift_stays (ShowsLine line o) w w (same_store orders w.purchasing) (same_store stocks w.warehouse)
-      (same_store accounts w.billing) (λ ok good. good) (may, refl)
+      (same_store accounts w.billing) (λ ok good. good) (λ Is h. h) (λ Is h. h) (λ Is h. h) (may, refl)
 
   module _ (found kind : Kind) (same : found ≡ kind) (mark : Mark) (p : Pair) (Next : ℕ → Outcome → W → W → Type 0)
       (result : Result ℕ Outcome)

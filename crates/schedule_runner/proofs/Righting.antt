@@ -28,7 +28,8 @@ use Rattle.accord.proofs.Genuine.{orders_genuine, stocks_genuine, accounts_genui
 use Rattle.accord.proofs.Keeping.{good_later, genuine_later, good_agrees}
 use Rattle.genuine.specs.Three.{Genuine}
 use Rattle.genuine.proofs.Threes.{start_genuine, genuine_more, first_came, second_came, third_came, first_keeps, second_keeps, third_keeps}
-use Rattle.schedule_runner.specs.Good.{MailIs, IsGoodWorld, StaysGood, Agrees}
+use Rattle.sites.proofs.Cursors.{event_right, closed_right}
+use Rattle.schedule_runner.specs.Good.{MailIs, AllRight, IsGoodWorld, StaysGood, Agrees}
 use Rattle.schedule_runner.specs.Sight.{sight}
 use Rattle.schedule_runner.specs.declared.world.World.{World}
 use Rattle.schedule_runner.proofs.Founding.{site_founded}
@@ -69,9 +70,14 @@ module _ {KO KS KA : Type 0} (orders : KO → Seen OrderTables) (stocks : KS →
         let new = sight orders stocks accounts AfterPurchasing in record {
           services = good_later Old new good.services turns;
           mail = first_keeps (IsGenuine new) w.purchasing site w.warehouse w.billing w.mail mail orders whole orders_service e o
-              now.0 match.0 (λ x all. orders_genuine new x (matches now.0 match.0) all) did
+              now.0 match.0 good.right.0 (λ x all. orders_genuine new x (matches now.0 match.0) all) did
               (genuine_more (IsGenuine Old) (IsGenuine new) (genuine_later Old new good.services turns) w.purchasing w.warehouse
               w.billing w.mail good.mail);
+          right = (
+            event_right orders orders_service e o w.purchasing w.mail site mail now.0 match.0 did comes good.right.0,
+            good.right.1,
+            good.right.2,
+          );
         }
 
   -- ---- warehouse
@@ -105,9 +111,14 @@ module _ {KO KS KA : Type 0} (orders : KO → Seen OrderTables) (stocks : KS →
         let new = sight orders stocks accounts AfterWarehouse in record {
           services = good_later Old new good.services turns;
           mail = second_keeps (IsGenuine new) w.purchasing w.warehouse w.billing site w.mail mail stocks whole stocks_service e o
-              now.1 match.1 (λ x all. stocks_genuine new x (matches now.1 match.1) all) did
+              now.1 match.1 good.right.1 (λ x all. stocks_genuine new x (matches now.1 match.1) all) did
               (genuine_more (IsGenuine Old) (IsGenuine new) (genuine_later Old new good.services turns) w.purchasing w.warehouse
               w.billing w.mail good.mail);
+          right = (
+            good.right.0,
+            event_right stocks stocks_service e o w.warehouse w.mail site mail now.1 match.1 did comes good.right.1,
+            good.right.2,
+          );
         }
 
   -- ---- billing
@@ -141,9 +152,14 @@ module _ {KO KS KA : Type 0} (orders : KO → Seen OrderTables) (stocks : KS →
         let new = sight orders stocks accounts AfterBilling in record {
           services = good_later Old new good.services turns;
           mail = third_keeps (IsGenuine new) w.purchasing w.warehouse w.billing site w.mail mail accounts whole accounts_service e o
-              now.2 match.2 (λ x all. accounts_genuine new x (matches now.2 match.2) all) did
+              now.2 match.2 good.right.2 (λ x all. accounts_genuine new x (matches now.2 match.2) all) did
               (genuine_more (IsGenuine Old) (IsGenuine new) (genuine_later Old new good.services turns) w.purchasing w.warehouse
               w.billing w.mail good.mail);
+          right = (
+            good.right.0,
+            good.right.1,
+            event_right accounts accounts_service e o w.billing w.mail site mail now.2 match.2 did comes good.right.2,
+          );
         }
 
 -- ---- no table changes
@@ -156,15 +172,17 @@ module _ {KO KS KA : Type 0} (orders : KO → Seen OrderTables) (stocks : KS →
   stays_turn stays known y may = ∣ (y, stays y may, OfPurchasing (record { deed = Nothing; founded = tt; did = refl }) refl refl) ∣₁
 
   pub still_good : ((t : AllTables) → MayLeave (sight orders stocks accounts new) t → MayLeave (sight orders stocks accounts old) t)
-      → ((ok : Envelope → Type 0) → MailIs ok old → MailIs ok new) → IsGoodWorld orders stocks accounts old
+      → ((ok : Envelope → Type 0) → MailIs ok old → MailIs ok new)
+      → (AllRight orders stocks accounts old → AllRight orders stocks accounts new) → IsGoodWorld orders stocks accounts old
       → IsGoodWorld orders stocks accounts new
-  still_good stays mail good =
+  still_good stays mail right good =
       let was = sight orders stocks accounts old in
       let now = sight orders stocks accounts new in
       let turns = stays_turn stays (IsGenuine was) in record {
         services = good_later was now good.services turns;
         mail = genuine_more (IsGenuine was) (IsGenuine now) (genuine_later was now good.services turns) new.purchasing new.warehouse
             new.billing new.mail (mail (IsGenuine was) good.mail);
+        right = right good.right;
       }
 
   -- so its services agree
@@ -182,6 +200,11 @@ module _ {KO KS KA : Type 0} (orders : KO → Seen OrderTables) (stocks : KS →
     services = services;
     mail = subst (Genuine (IsGenuine (sight orders stocks accounts w)) w.purchasing w.warehouse w.billing) (sym mail)
         (start_genuine (IsGenuine (sight orders stocks accounts w)) w.purchasing w.warehouse w.billing a b c d e f);
+    right = (
+      closed_right orders orders_service w.purchasing a b,
+      closed_right stocks stocks_service w.warehouse c d,
+      closed_right accounts accounts_service w.billing e f,
+    );
   }
 
   -- and so are services that did nothing

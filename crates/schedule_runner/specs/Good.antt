@@ -3,7 +3,9 @@ use Rattle.envelope.specs.declared.message.Envelope.{Envelope}
 use Rattle.keep.specs.Seen.{Seen}
 use Rattle.accord.specs.Good.{IsGenuine, IsGood, AllAgree}
 use Rattle.accord.specs.Sight.{OrderTables, StockTables, AccountTables, AreClean, AreMatching}
+use Rattle.accord.specs.Sight.{orders_service, stocks_service, accounts_service}
 use Rattle.genuine.specs.Three.{Genuine}
+use Rattle.sites.specs.Cursors.{AreRight}
 use Rattle.schedule_runner.specs.Sight.{sight}
 use Rattle.schedule_runner.specs.declared.world.World.{World}
 
@@ -13,13 +15,19 @@ abbrev pub MailIs : {KO KS KA : Type 0} → (Envelope → Type 0) → World KO K
 MailIs ok w = Genuine ok w.purchasing w.warehouse w.billing w.mail
 
 module _ {KO KS KA : Type 0} (orders : KO → Seen OrderTables) (stocks : KS → Seen StockTables) (accounts : KA → Seen AccountTables) where
-  -- the services are good, and each envelope on its way is genuine
+  -- what each relay knows of its service's outbox is right
+  abbrev pub AllRight : World KO KS KA → Type 0
+  AllRight w = AreRight orders orders_service w.purchasing × AreRight stocks stocks_service w.warehouse
+      × AreRight accounts accounts_service w.billing
+
+  -- the services are good, each envelope on its way is genuine, and the relays leave out no row
   pub record IsGoodWorld (w : World KO KS KA) : Type 0 where
     pub services : IsGood (sight orders stocks accounts w)
     pub mail : MailIs (IsGenuine (sight orders stocks accounts w)) w
+    pub right : AllRight w
 
   module _ (old new : World KO KS KA) where
-    -- where it was good it is good
+    -- where no file is in doubt now, the tables matched and the world was good, it is good
     abbrev pub StaysGood : Type 0
     StaysGood = AreClean (sight orders stocks accounts new) → AreMatching (sight orders stocks accounts old)
         → IsGoodWorld old → IsGoodWorld new

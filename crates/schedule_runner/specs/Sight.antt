@@ -15,11 +15,11 @@ sight orders stocks accounts world = record {
 
 module _ {KO KS KA : Type 0} (orders : KO → Seen OrderTables) (stocks : KS → Seen StockTables) (accounts : KA → Seen AccountTables)
     (old new : World KO KS KA) where
-  -- doubt never falls
+  -- where no file is in doubt now, none was before
   abbrev pub StaysClean : Type 0
   StaysClean = AreClean (sight orders stocks accounts new) → AreClean (sight orders stocks accounts old)
 
-  -- where all match, all match again
+  -- where no file is in doubt now and all matched, all match
   abbrev pub StaysMatching : Type 0
   StaysMatching = AreClean (sight orders stocks accounts new) → AreMatching (sight orders stocks accounts old)
       → AreMatching (sight orders stocks accounts new)

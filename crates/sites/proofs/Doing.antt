@@ -1,17 +1,13 @@
 -- What was done to a service that a connection was taken out of, was done to the service.
-use Rattle.std.proofs.Common.{◌≡◌, ℕ, List, Option, Some, None, ◌∙◌, sym, subst, Result, Ok, Err}
+use Rattle.std.proofs.Common.{◌≡◌, ℕ, Option, Some, None, ◌∙◌, sym, subst, Result, Ok, Err}
 use Rattle.mail.specs.Offices.{Office}
 use Rattle.stomp_frame.specs.Frames.{Content}
 use Rattle.stomp_frame.specs.declared.fault.FrameFault.{FrameFault}
 use Rattle.activities.specs.Service.{Service}
 use Rattle.keep.specs.Seen.{Seen}
-use Rattle.keep.specs.Tables.{Tables, Messages}
-use Rattle.relay.specs.Calls.{Fills, Gives, StopsBehind}
-use Rattle.relay.specs.Filling.{Connection, unsent}
-use Rattle.relay.specs.declared.fault.RelayFault.{RelayFault}
+use Rattle.keep.specs.Tables.{Tables}
+use Rattle.relay.specs.Filling.{Connection}
 use Rattle.relay.specs.declared.fault.RelayFault.TheVariants as fault
-use Rattle.envelope.specs.declared.message.Letter.{Letter}
-use Rattle.keep.specs.declared.change.Place.{Place}
 use Rattle.schedules.specs.declared.event.ConnectionNumber.{ConnectionNumber}
 use Rattle.schedules.specs.declared.outcome.Outcome.{Outcome}
 use Rattle.sites.specs.Happenings.{Falls, SendsRows, TakesFrame, TakesWhat, TakesOne, DrainsOver, DrainsOne, over, with_store, waiting_of}
@@ -44,6 +40,7 @@ module _ {H K S C : Type 0} (number : ConnectionNumber) (k : Option Line) (l : L
       keeps = h.keeps;
       unused = h.unused;
       fills = h.fills;
+      knows = h.knows;
       rest = h.rest;
       tells = h.tells;
       meets = meets_again (fill_fate h.result) number h.later k (with_store t.endpoint s) from t to h.meets;
@@ -98,25 +95,3 @@ module _ {H K S C : Type 0} (seen : K → Seen (Tables S C)) (service : Service 
       subst (λ o. DrainsOne seen service number o outcome s from t to) (sym took.0)
       (drains_again number None l outcome s from t to seen service
       (subst (λ x. DrainsOver seen service number l outcome x from t to) took.1 d))
-
--- where more is known, the same rows are sent
-module _ (A B : Type 0) (more : B → A) where
-  stops_more : (messages : Messages) (after : Option Place) (letters : List Letter) (last : ℕ) (why : RelayFault)
-      → StopsBehind A messages after letters last why → StopsBehind B messages after letters last why
-  stops_more messages after letters last (fault.Endpoint cause) h = h
-  stops_more messages after letters last (fault.Client cause) h = (h.0, λ b. h.1 (more b))
-  stops_more messages after letters last (fault.Envelope cause) h = (h.0, λ b. h.1 (more b))
-
-  gives_more : (messages : Messages) (after : Option Place) (limit : ℕ) (letters : List Letter) (last : ℕ) (r : Result ℕ RelayFault)
-      → Gives A messages after limit letters last r → Gives B messages after limit letters last r
-  gives_more messages after limit letters last (Ok count) h = (h.0, λ b. h.1 (more b))
-  gives_more messages after limit letters last (Err why) h = (λ b. h.0 (more b), stops_more messages after letters last why h.1)
-
-  pub fills_more : (messages : Messages) (limit : ℕ) (old new : Connection) (r : Result ℕ RelayFault)
-      → Fills A messages limit old new r → Fills B messages limit old new r
-  fills_more messages limit old new r h = record {
-    letters = h.letters;
-    sends = h.sends;
-    within = h.within;
-    gives = gives_more (unsent old.marks messages) None limit h.letters new.client.receipts.last r h.gives;
-  }

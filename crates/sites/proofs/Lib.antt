@@ -1,3 +1,4 @@
+pub mod Cursors
 mod Doing
 mod Fates
 mod Going

@@ -1,5 +1,5 @@
 -- A filling over a connection that was taken out.
-use Rattle.std.proofs.Common.{◌≡◌, ℕ, false, refl, sym, ◌∙◌, ap, subst, length, take, Result}
+use Rattle.std.proofs.Common.{◌≡◌, ℕ, false, refl, sym, ◌∙◌, subst, take, Result}
 use Rattle.std.specs.Prelude.{⊤, IfSome}
 use Rattle.std.proofs.lemmas.Option.{IfSome_then}
 use Rattle.activities.specs.Service.{Service}
@@ -8,16 +8,12 @@ use Rattle.stomp_client.specs.declared.session.Stage.TheVariants.{Connected}
 use Rattle.keep.specs.Failing.{Failing, through}
 use Rattle.keep.specs.Law.{Reads}
 use Rattle.keep.specs.Seen.{Seen}
-use Rattle.keep.specs.Tables.{Tables, Messages}
+use Rattle.keep.specs.Tables.{Tables}
 use Rattle.endpoint.specs.Calls.{Stays}
-use Rattle.endpoint.specs.Matches.{AllMatch}
-use Rattle.outbox.specs.Rows.{unsettled_of}
-use Rattle.endpoint.specs.Deeds.{kept}
 use Rattle.mail.specs.Offices.{Office}
 use Rattle.relay.specs.Calls.{Fills, idle_answer, store_end}
 use Rattle.relay.specs.Filling.{connection}
-use Rattle.relay.specs.Marks.{mark_in}
-use Rattle.relay.specs.Knowing.{KnowsRows, KnowsAll}
+use Rattle.relay.specs.Knowing.{KnowsAll}
 use Rattle.relay.specs.declared.fault.RelayFault.{RelayFault}
 use Rattle.relay.specs.declared.relay.Relay.{Relay}
 use Rattle.schedules.specs.declared.event.ConnectionNumber.{ConnectionNumber}
@@ -28,51 +24,37 @@ use Rattle.sites.specs.Outcomes.{fill_told, fill_fate}
 use Rattle.sites.specs.declared.fate.Fate.{Fate}
 use Rattle.sites.specs.declared.line.Line.{Line}
 use Rattle.sites.specs.declared.site.Site.{Site}
-use Rattle.sites.proofs.Doing.{fills_more}
-
--- what a relay sent is told by its marks alone
-pub connection_same : (a b : Relay) (c : SeenClient ℕ) → a.marks ≡ b.marks → connection a c ≡ connection b c
-connection_same a b c same = ap (λ m. record { marks = λ p. mark_in m p; client = c.client }) same
 
 module _ {H K S C : Type 0} (seen : K → Seen (Tables S C)) (service : Service S C) (number : ConnectionNumber) (limit : ℕ) (l : Line)
     (outcome : Outcome) (s : Site H K S C) (from : Office) (t : Site H K S C) (to : Office) where
-  pub sends_on : (anew later : Relay) (client : SeenClient ℕ) (store : Failing K) (r : Result ℕ RelayFault) (fate : Fate)
-      → anew.marks ≡ l.relay.marks
+  pub sends_on : (later : Relay) (client : SeenClient ℕ) (store : Failing K) (r : Result ℕ RelayFault) (fate : Fate)
       → IfSome (idle_answer l.connection.client.client.stage)
-      (λ answer. (r ≡ answer) × (store ≡ s.endpoint) × (connection later client ≡ connection anew l.connection.client))
+      (λ answer. (r ≡ answer) × (store ≡ s.endpoint) × (connection later client ≡ sending l))
       → (l.connection.client.client.stage ≡ Connected → Reads (through seen) s.endpoint store (λ _ _. ⊤) (store_end r))
       → Stays (through seen) s.endpoint store
-      → ((through seen s.endpoint).usable ≡ false → connection later client ≡ connection anew l.connection.client)
+      → ((through seen s.endpoint).usable ≡ false → connection later client ≡ sending l)
       → (l.connection.client.client.stage ≡ Connected
-      → Fills (((seen store.keep).doubt ≡ 0) × KnowsAll service anew (seen s.endpoint.keep).may_leave)
-      (seen s.endpoint.keep).tables.unsettled limit (connection anew l.connection.client) (connection later client) r)
-      → ((rows : ℕ) (messages : Messages) → KnowsRows anew rows messages)
+      → Fills (((seen store.keep).doubt ≡ 0) × KnowsAll service l.relay (seen s.endpoint.keep).may_leave)
+      (seen s.endpoint.keep).tables.unsettled limit (sending l) (connection later client) r)
+      → ((seen store.keep).doubt ≡ 0 → KnowsAll service l.relay (seen s.endpoint.keep).may_leave
+      → KnowsAll service later (seen store.keep).may_leave)
       → outcome ≡ fill_told r → fate ≡ fill_fate r → t.endpoint ≡ store
       → Meets fate number (record l { connection = record l.connection { client = client }; relay = later }) (with_store store s) from t to
       → SendsRows seen service number limit l outcome s from t to
-  sends_on anew later client store r fate marks idle reads keeps unused fills knows told fated stored meets =
-      let same : connection anew l.connection.client ≡ sending l = connection_same anew l.relay l.connection.client marks in
+  sends_on later client store r fate idle reads keeps unused fills knows told fated stored meets =
       let last : Line = record l { connection = record l.connection { client = client }; relay = later } in
       record {
         result = r;
         later = last;
-        idle = IfSome_then (idle_answer l.connection.client.client.stage) idle (λ answer h. (h.0, stored ∙ h.1, h.2 ∙ same));
+        idle = IfSome_then (idle_answer l.connection.client.client.stage) idle (λ answer h. (h.0, stored ∙ h.1, h.2));
         reads = λ is. subst (λ e. Reads (through seen) s.endpoint e (λ _ _. ⊤) (store_end r)) (sym stored) (reads is);
         keeps = subst (λ e. Stays (through seen) s.endpoint e) (sym stored) keeps;
-        unused = λ down. unused down ∙ same;
-        fills = λ is. fills_more (((seen store.keep).doubt ≡ 0) × KnowsAll service anew (seen s.endpoint.keep).may_leave)
-            (((seen t.endpoint.keep).doubt ≡ 0) × AllMatch service (seen s.endpoint.keep).may_leave)
-            (λ b. (
-              subst (λ e. (seen e.keep).doubt ≡ 0) stored b.0,
-              (
-                b.1,
-                λ u may. knows (length (kept u).journal)
-                    (unsettled_of service.reactions (take anew.rows (kept u).journal) (kept u).settled),
-              ),
-            ))
-            (seen s.endpoint.keep).tables.unsettled limit (sending l) (sending last) r
-            (subst (λ o. Fills (((seen store.keep).doubt ≡ 0) × KnowsAll service anew (seen s.endpoint.keep).may_leave)
-            (seen s.endpoint.keep).tables.unsettled limit o (sending last) r) same (fills is));
+        unused = unused;
+        fills = λ is. subst (λ (e : Failing K). Fills (((seen e.keep).doubt ≡ 0)
+            × KnowsAll service l.relay (seen s.endpoint.keep).may_leave) (seen s.endpoint.keep).tables.unsettled limit (sending l)
+            (sending last) r) (sym stored) (fills is);
+        knows = subst (λ (e : Failing K). (seen e.keep).doubt ≡ 0 → KnowsAll service l.relay (seen s.endpoint.keep).may_leave
+            → KnowsAll service later (seen e.keep).may_leave) (sym stored) knows;
         rest = refl;
         tells = told;
         meets = subst (λ f. Meets f number last (with_store t.endpoint s) from t to) fated

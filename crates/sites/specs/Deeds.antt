@@ -47,7 +47,7 @@ module _ {S C : Type 0} (service : Service S C) where
   CommandMay row (Refused n) x d = (d ≡ Nothing) ⊎ ((n ≡ 63) × (d ≡ TakesIn row))
   CommandMay row _ x d = ⊥
 
-  -- a frame that came; where it was refused, for this fault
+  -- a frame that came; where it was refused, nothing was done, or what its fault allows
   abbrev pub FrameMay : (Content → Type 0) → Outcome → Kept C → Deed C → Type 0
   FrameMay Came (Handled position) x d = (f : Content) × Came f × TakeMay service f (Ok (taken.Handled position)) x d
   FrameMay Came Repeated x d = (f : Content) × (number : ℕ) × Came f × TakeMay service f (Ok (taken.Repeated number)) x d

@@ -17,10 +17,10 @@ use Rattle.keep.specs.declared.faulty.Leaves.{Leaves as LeftTables}
 use Rattle.keep.specs.declared.faulty.Leaves.TheVariants.{Old as OldTables, New as NewTables}
 use Rattle.endpoint.specs.Calls.{Commits, ComesBy, Stays, Finds}
 use Rattle.endpoint.specs.Faults.{end_of}
-use Rattle.endpoint.specs.Matches.{AllMatch}
 use Rattle.endpoint.specs.declared.answer.Committed.{Committed}
 use Rattle.endpoint.specs.declared.fault.EndFault.{EndFault}
 use Rattle.relay.specs.Calls.{Fills, idle_answer, store_end}
+use Rattle.relay.specs.Knowing.{KnowsAll}
 use Rattle.relay.specs.declared.fault.RelayFault.{RelayFault}
 use Rattle.relay.specs.declared.relay.Relay.{Relay}
 use Rattle.broker_core.specs.declared.fault.BrokerFault.{BrokerFault}
@@ -142,8 +142,8 @@ module _ {H K S C : Type 0} (seen : K → Seen (Tables S C)) (service : Service 
 
   -- ---- sending
 
-  -- The rows that are due are sent, up to the limit; before CONNECTED none, and the store isn't called. The relay looks from the first row
-  -- of the outbox on each time, so that it needn't know of any row before: where the tables match their journal it leaves none out.
+  -- The rows that are due are sent, up to the limit; before CONNECTED none, and the store isn't called. Where the tables match their
+  -- journal and the relay's cursor was right, none is left out, and it is right afterwards.
   pub record SendsRows (number : ConnectionNumber) (limit : ℕ) (l : Line) (outcome : Outcome) (s : Site H K S C) (from : Office)
       (t : Site H K S C) (to : Office) : Type 0 where
     pub result : Result ℕ RelayFault
@@ -155,8 +155,10 @@ module _ {H K S C : Type 0} (seen : K → Seen (Tables S C)) (service : Service 
     pub keeps : Stays (through seen) s.endpoint t.endpoint
     pub unused : (through seen s.endpoint).usable ≡ false → sending later ≡ sending l
     pub fills : l.connection.client.client.stage ≡ Connected
-        → Fills (((seen t.endpoint.keep).doubt ≡ 0) × AllMatch service (seen s.endpoint.keep).may_leave)
+        → Fills (((seen t.endpoint.keep).doubt ≡ 0) × KnowsAll service l.relay (seen s.endpoint.keep).may_leave)
         (seen s.endpoint.keep).tables.unsettled limit (sending l) (sending later) result
+    pub knows : (seen t.endpoint.keep).doubt ≡ 0 → KnowsAll service l.relay (seen s.endpoint.keep).may_leave
+        → KnowsAll service later.relay (seen t.endpoint.keep).may_leave
     pub rest : later.connection ≡ record l.connection { client = later.connection.client }
     pub tells : outcome ≡ fill_told result
     pub meets : Meets (fill_fate result) number later (with_store t.endpoint s) from t to

@@ -3,3 +3,4 @@ pub mod Lines
 pub mod Outcomes
 pub mod Happenings
 pub mod Deeds
+pub mod Cursors

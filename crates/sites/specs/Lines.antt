@@ -1,12 +1,14 @@
 -- The two connections of a service, and how they are cut.
-use Rattle.std.specs.Prelude.{◌≡◌, Option, Some, None, Result, Ok, Err}
+use Rattle.std.specs.Prelude.{◌≡◌, ℕ, Option, Some, None, Result, Ok, Err, ⊤}
 use Rattle.std.specs.declared.alloc.AllocError.{AllocError}
 use Rattle.base.specs.declared.pair.Pair.{Pair}
 use Rattle.endpoint.specs.declared.fault.EndFault.{EndFault}
 use Rattle.endpoint.specs.declared.fault.EndFault.TheVariants.{StoreFailed}
+use Rattle.keep.specs.Tables.{Messages}
 use Rattle.mail.specs.Connecting.{Cuts}
 use Rattle.mail.specs.Offices.{Office}
 use Rattle.relay.specs.Filling.{Connection, connection, marks_of}
+use Rattle.relay.specs.Knowing.{KnowsRows}
 use Rattle.relay.specs.declared.relay.Relay.{Relay}
 use Rattle.schedules.specs.declared.event.ConnectionNumber.{ConnectionNumber}
 use Rattle.schedules.specs.declared.event.ConnectionNumber.TheVariants.{Zero, One}
@@ -19,9 +21,10 @@ use Rattle.sites.specs.declared.site.Site.{Site}
 abbrev pub sending : Line → Connection
 sending l = connection l.relay l.connection.client
 
--- nothing counts as sent
-abbrev pub IsAllDue : Relay → Type 0
-IsAllDue relay = (p : Pair) → marks_of relay p ≡ 0
+-- nothing counts as sent, and the relay's cursor leaves out no row, whatever the outbox
+pub record IsAllDue (relay : Relay) : Type 0 where
+  pub marks : (p : Pair) → marks_of relay p ≡ 0
+  pub knows : (rows : ℕ) (messages : Messages) → KnowsRows relay rows messages
 
 -- what stands at number 0 behind a change of the one of this number, and at number 1
 abbrev pub at_zero : {A : Type 0} → ConnectionNumber → (new old : A) → A
@@ -37,6 +40,11 @@ abbrev pub at_number : {A : Type 0} → ConnectionNumber → (zero one : A) → 
 at_number Zero zero one = zero
 at_number One zero one = one
 
+-- the relay of a connection is so, where it is open
+abbrev pub LineHas : (Relay → Type 0) → Option Line → Type 0
+LineHas Is None = ⊤
+LineHas Is (Some l) = Is l.relay
+
 -- the mail behind the cut of a connection, where it was open; that memory was refused to the deals isn't told
 abbrev pub Leaves : Option Line → Office → Office → Type 0
 Leaves None from to = to ≡ from
@@ -50,6 +58,10 @@ module _ {H K S C : Type 0} where
   -- the site with this in its place
   abbrev pub with_line : ConnectionNumber → Option Line → Site H K S C → Site H K S C
   with_line number l s = record s { zero = at_zero number l s.zero; one = at_one number l s.one }
+
+  -- the relays of both connections are so, where they are open
+  abbrev pub LinesHave : (Relay → Type 0) → Site H K S C → Type 0
+  LinesHave Is s = LineHas Is s.zero × LineHas Is s.one
 
   -- a connection is taken out, where it is open
   abbrev pub TakesLine : ConnectionNumber → Site H K S C → Site H K S C → Option Line → Type 0

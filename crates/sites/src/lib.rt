@@ -22,6 +22,7 @@
 
 mod carrying;
 mod fate;
+mod laws;
 mod line;
 mod outcomes;
 mod receiving;
@@ -30,5 +31,6 @@ mod site;
 mod storing;
 
 pub use fate::Fate;
+pub use laws::cursors_stay_right;
 pub use line::Line;
 pub use site::Site;

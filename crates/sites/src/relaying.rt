@@ -36,7 +36,7 @@ where
         }
     }
 
-    /// Sends rows on a connection, which was taken out. The relay looks from the first row on each time.
+    /// Sends rows on a connection, which was taken out.
     fn fill_on(
         &mut self,
         mail: &mut Mail,
@@ -49,7 +49,6 @@ where
         ensures matches { Matches K.seen self.old self.new H.service }
         ensures stays { Stays (through K.seen) self.old.endpoint self.new.endpoint }
     {
-        line.relay.look_anew();
         let limit = limit as usize;
         let answer = line
             .relay
