@@ -40,8 +40,8 @@ IsHeldIn held (Settle pair count) = ⊥
 abbrev pub HoldsAuthentic : AllTables → Type 0
 HoldsAuthentic t = (kind : Kind) (e : Envelope) → IsHeldIn (held_by t kind) e → IsAuthentic (journals_of t) e
 
--- The envelope is true, whatever a stop leaves: a letter is what its sender's journal sends under that number, and a settle isn't ahead of
--- what its receiver's journal handled.
+-- The envelope is authentic, whatever a stop leaves: a letter is what its sender's journal sends under that number, and a settle isn't
+-- ahead of what its receiver's journal handled.
 abbrev pub IsGenuine : Sight → Envelope → Type 0
 IsGenuine s e = (t : AllTables) → MayLeave s t → IsAuthentic (journals_of t) e
 

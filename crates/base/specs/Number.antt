@@ -7,6 +7,6 @@ pub record IsNumber (n : ℕ) : Type 0 where
   pub positive : 0 < n
   pub small : n ≤ MAX_NUMBER
 
--- the same as a test
+-- whether it is from 1 to 2^40
 abbrev pub is_number : ℕ → Bool
 is_number n = nat_lt 0 n && nat_le n MAX_NUMBER

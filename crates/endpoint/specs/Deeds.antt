@@ -40,7 +40,7 @@ abbrev pub held_after : {C : Type 0} → Name → Input C → Messages → Messa
 held_after e (FromSeat seat command) held = held
 held_after e (FromEntity sender number message) held = set_message (pair_between sender e) number None held
 
--- the first of two messages, where there is one
+-- the first of two messages, or the second where there is no first
 abbrev pub or_else : Option Message → Option Message → Option Message
 or_else (Some m) other = Some m
 or_else None other = other

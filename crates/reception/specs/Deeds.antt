@@ -30,8 +30,8 @@ module _ {S C : Type 0} (service : Service S C) (f : Content) where
   abbrev pub MarkMay : Result ℕ EndFault → Kept C → Deed C → Type 0
   MarkMay r x d = (pair : Pair) × (number : ℕ) × (read_frame f ≡ Some (envelope.Settle pair number)) × SettleMay service pair number r x d
 
-  -- What is done with a frame. Where a letter comes again, it's told how far its pair was handled. What isn't a letter or a settle does
-  -- nothing to the store.
+  -- What is done with a frame. A letter that comes again tells up to where its pair is settled then. What isn't a letter or a settle
+  -- does nothing to the store.
   abbrev pub TakeMay : Result Taken ReceptionFault → Kept C → Deed C → Type 0
   TakeMay (Ok (Handled position)) x d = LetterMay (Ok (ingested.Handled position)) x d
   TakeMay (Ok (Repeated number)) x d = (l : Letter) × (read_frame f ≡ Some (envelope.Letter l))
