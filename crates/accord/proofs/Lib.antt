@@ -5,3 +5,4 @@ pub mod Keeping
 pub mod Writing
 pub mod Genuine
 pub mod Beginning
+mod Examples
