@@ -2,3 +2,4 @@ pub mod Resting
 pub mod Tallying
 pub mod Going
 pub mod Lawful
+mod Examples
