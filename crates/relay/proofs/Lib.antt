@@ -8,3 +8,4 @@ mod Passing
 mod Firsts
 mod Paging
 mod Beginning
+mod Examples
