@@ -10,3 +10,7 @@ pub mod Journaling
 pub mod Advancing
 mod Reading
 pub mod Asking
+mod ToldExamples
+mod RoundExamples
+mod LookExamples
+mod WorldExamples

@@ -4,3 +4,8 @@ mod Fates
 mod Going
 mod Sending
 mod Telling
+mod OutcomeExamples
+mod LineExamples
+mod HappeningExamples
+mod ConnectionExamples
+mod DeedExamples
