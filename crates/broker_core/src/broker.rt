@@ -17,10 +17,19 @@ use std::marker::Model;
 use stomp_session::Refused;
 
 /// A broker of which each queue holds at most `FULL` messages: contracts see its book, its sessions and the last number that one was given.
-#[derive(Drop)]
 pub struct Broker<const FULL: usize> {
     queues: Queues<FULL>,
     sessions: Sessions,
+}
+
+/// Written by hand, so that a crate that owns a broker cites this, and doesn't prove anew how each of its parts is dropped.
+impl<const FULL: usize> Drop for Broker<FULL> {
+    fn drop(self) {
+        let Broker {
+            queues: _queues,
+            sessions: _sessions,
+        } = self;
+    }
 }
 
 impl<const FULL: usize> Model for Broker<FULL> {

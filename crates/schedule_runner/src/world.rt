@@ -18,7 +18,6 @@ use std::alloc::Global;
 use warehouse::{Stock, Stocks};
 
 /// Purchasing, warehouse and billing, each with its connections, and the mail between them.
-#[derive(Drop)]
 pub struct World<KO, KS, KA>
 where
     KO: Keep<State = Option<Order>, Command = OrderCommand> + Drop,
@@ -34,6 +33,24 @@ where
     /// The broker, and all that was ever accepted.
     pub mail: Mail,
     pub(crate) alloc: Global,
+}
+
+/// Written by hand, so that a crate that owns a world doesn't prove anew how each of its parts is dropped.
+impl<KO, KS, KA> Drop for World<KO, KS, KA>
+where
+    KO: Keep<State = Option<Order>, Command = OrderCommand> + Drop,
+    KS: Keep<State = Stock, Command = StockCommand> + Drop,
+    KA: Keep<State = Account, Command = AccountCommand> + Drop,
+{
+    fn drop(self) {
+        let World {
+            purchasing: _purchasing,
+            warehouse: _warehouse,
+            billing: _billing,
+            mail: _mail,
+            alloc: _,
+        } = self;
+    }
 }
 
 impl<KO, KS, KA> World<KO, KS, KA>
