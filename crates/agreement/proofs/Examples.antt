@@ -21,7 +21,7 @@ use Rattle.agreement.specs.Agreement.{states_in, line_at, HasRefused, PartnersAg
 use Rattle.agreement.specs.Envelopes.{IsAuthentic, SettledAreHandled, Raises}
 use Rattle.agreement.specs.Growth.{IsFrom, AddsRow, AddsOrder, AddsStock, AddsAccount}
 use Rattle.agreement.specs.Journals.{Journals, HandlesPrefixes}
-use Rattle.agreement.specs.Steps.{start, Step, Writes, Sends, IsPath, IsGood}
+use Rattle.agreement.specs.Steps.{start, ConfigurationStep, Writes, Sends, IsConfigurationPath, IsGoodConfiguration}
 use Rattle.agreement.proofs.ConfirmedExamples.{order, stock, account, from_to, after_first, order_at}
 use Rattle.agreement.proofs.Machine.{ToStock, act, arrives, with_mark, mark_raises}
 
@@ -155,24 +155,29 @@ a_mark_is_raised = (
 )
 
 -- a command is a step from the beginning on; nothing is reached without one
-a_command_is_a_step : Step start (after_first 1) × (IsPath start [] (after_first 1) → ⊥) × IsPath start (after_first 1 ∷ []) (after_first 1)
+a_command_is_a_step : ConfigurationStep start (after_first 1) × (IsConfigurationPath start [] (after_first 1) → ⊥)
+    × IsConfigurationPath start (after_first 1 ∷ []) (after_first 1)
 a_command_is_a_step = (commanded, (λ h. let none : 1 ≡ 0 = ap (λ x. length x.journals.stocks) h in omega arith), (commanded, refl))
   where
-    commanded : Step start (after_first 1)
+    commanded : ConfigurationStep start (after_first 1)
     commanded = Writes (AddsStock _ (record { of_kind = refl; seated = omega arith; accepted = refl; next = tt }) tt refl) refl refl
 
 -- an order that was placed may ask, and nothing may be said in its name before
 only_the_authentic_is_sent :
-    Step (after_first 3) (after_first 4)
+    ConfigurationStep (after_first 3) (after_first 4)
     × (IsAuthentic (after_first 2).journals (letter order stock 1 (Request 3)) → ⊥)
 unfolding same_entity
 only_the_authentic_is_sent = (Sends (letter order stock 1 (Request 3)) refl refl, λ h. absurd (cc))
 
 -- a mark ahead of the handling isn't good, nor is an envelope that nobody sent, nor are journals that don't fit each other
 others_are_not_good :
-    (IsGood (record { journals = (after_first 1).journals; settled = λ pair. 1; sent = [] }) → ⊥)
-    × (IsGood (record { journals = (after_first 1).journals; settled = λ pair. 0; sent = letter order stock 1 (Request 3) ∷ [] }) → ⊥)
-    × (IsGood (record { journals = unasked; settled = λ pair. 0; sent = [] }) → ⊥)
+    (IsGoodConfiguration (record { journals = (after_first 1).journals; settled = λ pair. 1; sent = [] }) → ⊥)
+    × (IsGoodConfiguration (record {
+      journals = (after_first 1).journals;
+      settled = λ pair. 0;
+      sent = letter order stock 1 (Request 3) ∷ [];
+    }) → ⊥)
+    × (IsGoodConfiguration (record { journals = unasked; settled = λ pair. 0; sent = [] }) → ⊥)
 unfolding same_entity
 others_are_not_good = (
   λ h. let ahead = h.settled (from_to order stock) in omega arith,

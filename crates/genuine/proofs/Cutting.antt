@@ -8,23 +8,23 @@ use Rattle.mail.specs.Offices.{Office}
 use Rattle.passage.specs.Passing.{GoodOffice}
 use Rattle.schedules.specs.declared.event.ConnectionNumber.{ConnectionNumber}
 use Rattle.schedules.specs.declared.event.ConnectionNumber.TheVariants.{Zero, One}
-use Rattle.sites.specs.Lines.{line_of, with_line, Leaves, Same, CutsBoth, After, AfterFault, Meets, MeetsAlone}
+use Rattle.sites.specs.Channels.{channel_of, with_channel, Leaves, Same, CutsBoth, After, AfterFault, Meets, MeetsAlone}
 use Rattle.sites.specs.declared.fate.Fate.{Fate}
 use Rattle.sites.specs.declared.fate.Fate.TheVariants.{Stays, IsCut, BothAreCut}
-use Rattle.sites.specs.declared.line.Line.{Line}
+use Rattle.sites.specs.declared.channel.Channel.{Channel}
 use Rattle.sites.specs.declared.site.Site.{Site}
 use Rattle.genuine.specs.Sitting.{Sits, Passes}
 use Rattle.genuine.proofs.Sitting.{again, closed, cut_off, stayed}
 
 module _ {H K S C : Type 0} where
   -- what was put at a number is found there
-  pub found_with : (number : ConnectionNumber) (l : Option Line) (s : Site H K S C) → line_of number (with_line number l s) ≡ l
+  pub found_with : (number : ConnectionNumber) (l : Option Channel) (s : Site H K S C) → channel_of number (with_channel number l s) ≡ l
   found_with Zero l s = refl
   found_with One l s = refl
 
   -- the last of two changes counts
-  pub with_again : (number : ConnectionNumber) (l k : Option Line) (s : Site H K S C)
-      → with_line number l (with_line number k s) ≡ with_line number l s
+  pub with_again : (number : ConnectionNumber) (l k : Option Channel) (s : Site H K S C)
+      → with_channel number l (with_channel number k s) ≡ with_channel number l s
   with_again Zero l k s = refl
   with_again One l k s = refl
 
@@ -37,27 +37,27 @@ module _ {H K S C : Type 0} (ok : Envelope → Type 0) where
         (subst (λ o. Passes ok up down s from s o) (sym same.1) (stayed ok up down s from h office))
 
     -- a connection is cut, where it is open
-    leaves_of : (number : ConnectionNumber) (s : Site H K S C) (from to : Office) (o : Option Line) → line_of number s ≡ o
-        → Leaves o from to → Sits ok up down s from → GoodOffice ok up down from → Passes ok up down s from (with_line number None s) to
-    leaves_of number s from to None is leaves h office = subst (λ o. Passes ok up down s from (with_line number None s) o) (sym leaves)
+    leaves_of : (number : ConnectionNumber) (s : Site H K S C) (from to : Office) (o : Option Channel) → channel_of number s ≡ o
+        → Leaves o from to → Sits ok up down s from → GoodOffice ok up down from → Passes ok up down s from (with_channel number None s) to
+    leaves_of number s from to None is leaves h office = subst (λ o. Passes ok up down s from (with_channel number None s) o) (sym leaves)
         (closed ok up down number s from h office)
     leaves_of number s from to (Some l) is leaves h office =
         cut_off ok up down number s l is l.connection from to leaves.0 refl leaves.1 h office
 
   pub leaves_pass : (up down : ℕ → List ℕ) (number : ConnectionNumber) (s : Site H K S C) (from to : Office)
-      → Leaves (line_of number s) from to → Sits ok up down s from → GoodOffice ok up down from
-      → Passes ok up down s from (with_line number None s) to
-  leaves_pass up down number s from to leaves h office = leaves_of up down number s from to (line_of number s) refl leaves h office
+      → Leaves (channel_of number s) from to → Sits ok up down s from → GoodOffice ok up down from
+      → Passes ok up down s from (with_channel number None s) to
+  leaves_pass up down number s from to leaves h office = leaves_of up down number s from to (channel_of number s) refl leaves h office
 
   -- both are
   pub cuts_pass : (up down : ℕ → List ℕ) (s : Site H K S C) (from : Office) (t : Site H K S C) (to : Office) → CutsBoth s from t to
       → Sits ok up down s from → GoodOffice ok up down from → Passes ok up down s from t to
   cuts_pass up down s from t to cuts h office =
       let first = leaves_pass up down Zero s from cuts.between cuts.zero h office in
-      let mid : Site H K S C = with_line Zero None s in
+      let mid : Site H K S C = with_channel Zero None s in
       let second = leaves_pass first.rising first.falling One mid cuts.between to cuts.one first.sits first.office in
       subst (λ x. Passes ok up down s from x to) (sym cuts.site)
-      (again ok up down s mid (with_line One None mid) from cuts.between to first second)
+      (again ok up down s mid (with_channel One None mid) from cuts.between to first second)
 
   -- behind a fault of the endpoint
   fault_passes : (up down : ℕ → List ℕ) (fault : EndFault) (s : Site H K S C) (from : Office) (t : Site H K S C) (to : Office)
@@ -78,21 +78,22 @@ module _ {H K S C : Type 0} (ok : Envelope → Type 0) where
 
   -- ---- the fate of an open connection, which changed before
 
-  pub meets_pass : (up down : ℕ → List ℕ) (fate : Fate) (number : ConnectionNumber) (l : Line) (s : Site H K S C) (from between : Office)
-      (t : Site H K S C) (to : Office) → Meets fate number l s between t to → Passes ok up down s from (with_line number (Some l) s) between
+  pub meets_pass : (up down : ℕ → List ℕ) (fate : Fate) (number : ConnectionNumber) (l : Channel) (s : Site H K S C) (from between : Office)
+      (t : Site H K S C) (to : Office) → Meets fate number l s between t to
+      → Passes ok up down s from (with_channel number (Some l) s) between
       → Passes ok up down s from t to
   meets_pass up down Stays number l s from between t to meets p =
-      again ok up down s (with_line number (Some l) s) t from between to p
-      (same_passes p.rising p.falling (with_line number (Some l) s) between t to meets p.sits p.office)
+      again ok up down s (with_channel number (Some l) s) t from between to p
+      (same_passes p.rising p.falling (with_channel number (Some l) s) between t to meets p.sits p.office)
   meets_pass up down IsCut number l s from between t to meets p =
-      let mid : Site H K S C = with_line number (Some l) s in
+      let mid : Site H K S C = with_channel number (Some l) s in
       let cut = leaves_of p.rising p.falling number mid between to (Some l) (found_with number (Some l) s) meets.0 p.sits p.office in
       subst (λ x. Passes ok up down s from x to) (sym meets.1)
       (subst (λ x. Passes ok up down s from x to) (with_again number None (Some l) s)
-      (again ok up down s mid (with_line number None mid) from between to p cut))
+      (again ok up down s mid (with_channel number None mid) from between to p cut))
   meets_pass up down BothAreCut number l s from between t to meets p =
-      again ok up down s (with_line number (Some l) s) t from between to p
-      (cuts_pass p.rising p.falling (with_line number (Some l) s) between t to meets p.sits p.office)
+      again ok up down s (with_channel number (Some l) s) t from between to p
+      (cuts_pass p.rising p.falling (with_channel number (Some l) s) between t to meets p.sits p.office)
 
   -- and where it isn't open
   pub alone_passes : (up down : ℕ → List ℕ) (fate : Fate) (s : Site H K S C) (from : Office) (t : Site H K S C) (to : Office)

@@ -27,27 +27,27 @@ use Rattle.passage.proofs.Rising.{carried_up_opened, carried_down_opened}
 use Rattle.passage.proofs.Writing.{client_written_good, more_written}
 use Rattle.genuine.proofs.Replying.{WritesGood, all_fit, answers_good, waiting_good, writes_none}
 use Rattle.genuine.proofs.Rows.{rows_good}
-use Rattle.genuine.proofs.Sitting.{again, cut_off, linked, moved, opened_line, passes_any_store, sits_any_store}
+use Rattle.genuine.proofs.Sitting.{again, cut_off, linked, moved, opened_channel, passes_any_store, sits_any_store}
 use Rattle.genuine.proofs.Telling.{drains_good, settles_ok}
 use Rattle.sites.specs.Cursors.{AreRight}
-use Rattle.sites.specs.Happenings.{Adds, CarriesOn, DrainsOne, DrainsOver, Falls, Happens, IfOpen, OpensLine, Rises}
+use Rattle.sites.specs.Happenings.{Adds, CarriesOn, DrainsOne, DrainsOver, Falls, Happens, IfOpen, OpensChannel, Rises}
 use Rattle.sites.specs.Happenings.{SendsRows, TakesFrame, TakesOne, TakesWhat, leaves_of, over, waiting_of, with_store}
-use Rattle.sites.specs.Lines.{line_of, with_line, Leaves, Meets, Same}
+use Rattle.sites.specs.Channels.{channel_of, with_channel, Leaves, Meets, Same}
 use Rattle.sites.specs.Outcomes.{decoder_fate, drain_fate, fall_fate, fill_fate, taken_fate}
 use Rattle.sites.specs.SiteEvents.{SiteEvent}
 use Rattle.sites.specs.SiteEvents as event
 use Rattle.sites.specs.declared.fate.Fate.TheVariants.{Stays}
-use Rattle.sites.specs.declared.line.Line.{Line}
+use Rattle.sites.specs.declared.channel.Channel.{Channel}
 use Rattle.sites.specs.declared.site.Site.{Site}
 
 module _ {H K S C : Type 0} (ok : Envelope → Type 0) where
-  module _ (up down : ℕ → List ℕ) (number : ConnectionNumber) (s : Site H K S C) (l : Line) (is : line_of number s ≡ Some l) where
+  module _ (up down : ℕ → List ℕ) (number : ConnectionNumber) (s : Site H K S C) (l : Channel) (is : channel_of number s ≡ Some l) where
     -- ---- octets that wait to be carried up
 
     -- a client wrote good frames, or none; what waits is good
-    pub written : (o : Office) (k : Line) → k.connection.session ≡ l.connection.session → k.connection.decoder ≡ l.connection.decoder
+    pub written : (o : Office) (k : Channel) → k.connection.session ≡ l.connection.session → k.connection.decoder ≡ l.connection.decoder
         → GoodNext ok k.connection.waiting → WritesGood ok l.connection.client.client k.connection.client.client → Sits ok up down s o
-        → GoodOffice ok up down o → Passes ok up down s o (with_line number (Some k) s) o
+        → GoodOffice ok up down o → Passes ok up down s o (with_channel number (Some k) s) o
     written o k session decoder waits wrote h office =
         let here = linked ok up down number s l is o h in
         let was : HasWritten l.connection.client.client.out = here.good.wrote in
@@ -58,8 +58,8 @@ module _ {H K S C : Type 0} (ok : Envelope → Type 0) where
         here.texts office)
 
     -- nothing of the connection is another but what was sent on it
-    same_connection : (o : Office) (k : Line) → k.connection ≡ l.connection → Sits ok up down s o → GoodOffice ok up down o
-        → Passes ok up down s o (with_line number (Some k) s) o
+    same_connection : (o : Office) (k : Channel) → k.connection ≡ l.connection → Sits ok up down s o → GoodOffice ok up down o
+        → Passes ok up down s o (with_channel number (Some k) s) o
     same_connection o k same h office = written o k (ap (λ (c : Connection). c.session) same) (ap (λ (c : Connection). c.decoder) same)
         (subst (λ (c : Connection). GoodNext ok c.waiting) (sym same) (linked ok up down number s l is o h).good.waits)
         (writes_none ok l.connection.client.client k.connection.client.client (ap (λ (c : Connection). c.client.client.out) same)) h office
@@ -97,7 +97,7 @@ module _ {H K S C : Type 0} (ok : Envelope → Type 0) where
     module _ (later : Connection) (from : Office) (h : Sits ok up down s from) (office : GoodOffice ok up down from) where
       -- it leaves the decoder, or where it waited
       taken : GoodConnection ok later → later.session ≡ l.connection.session → GoodWith ok later up down from
-          → Passes ok up down s from (with_line number (Some (over l later)) s) from
+          → Passes ok up down s from (with_channel number (Some (over l later)) s) from
       taken good session texts = moved ok up down number s l is (over l later) from from session good refl h texts
 
       -- what came is no frame, or memory was refused
@@ -113,48 +113,51 @@ module _ {H K S C : Type 0} (ok : Envelope → Type 0) where
           (cut_off ok up down number s l is later from to meets.0.0 (next_session l.connection later (Err fault) next) meets.0.1 h office)
 
   -- a frame was taken, and a reply to it is written
-  replied : (up down : ℕ → List ℕ) (number : ConnectionNumber) (s : Site H K S C) (l : Line) → line_of number s ≡ Some l
-      → (later : Connection) (from : Office) → Sits ok up down s from → GoodOffice ok up down from → (k : Line) → GoodConnection ok later
+  replied : (up down : ℕ → List ℕ) (number : ConnectionNumber) (s : Site H K S C) (l : Channel) → channel_of number s ≡ Some l
+      → (later : Connection) (from : Office) → Sits ok up down s from → GoodOffice ok up down from → (k : Channel) → GoodConnection ok later
       → later.session ≡ l.connection.session → GoodWith ok later up down from → k.connection.session ≡ later.session
       → k.connection.decoder ≡ later.decoder → GoodNext ok k.connection.waiting
-      → WritesGood ok later.client.client k.connection.client.client → Passes ok up down s from (with_line number (Some k) s) from
+      → WritesGood ok later.client.client k.connection.client.client → Passes ok up down s from (with_channel number (Some k) s) from
   replied up down number s l is later from h office k good session texts same decoder waits wrote =
       let first = taken up down number s l is later from h office good session texts in
-      let mid : Site H K S C = with_line number (Some (over l later)) s in
+      let mid : Site H K S C = with_channel number (Some (over l later)) s in
       subst (λ x. Passes ok up down s from x from) (with_again number (Some k) (Some (over l later)) s)
-      (again ok up down s mid (with_line number (Some k) mid) from from from first
+      (again ok up down s mid (with_channel number (Some k) mid) from from from first
       (written first.rising first.falling number mid (over l later) (found_with number (Some (over l later)) s) from k same decoder waits
       wrote first.sits first.office))
 
   -- an event of a connection that isn't open does nothing
   if_open : (up down : ℕ → List ℕ) (outcome : Outcome) (s : Site H K S C) (from : Office) (t : Site H K S C) (to : Office)
-      (number : ConnectionNumber) (Does : Line → Type 0) (o : Option Line) → line_of number s ≡ o → IfOpen o outcome s from t to Does
+      (number : ConnectionNumber) (Does : Channel → Type 0) (o : Option Channel) → channel_of number s ≡ o
+      → IfOpen o outcome s from t to Does
       → Sits ok up down s from → GoodOffice ok up down from
-      → ((l : Line) → line_of number s ≡ Some l → Does l → Passes ok up down s from t to) → Passes ok up down s from t to
+      → ((l : Channel) → channel_of number s ≡ Some l → Does l → Passes ok up down s from t to) → Passes ok up down s from t to
   if_open up down outcome s from t to number Does None is does h office each = same_passes ok up down s from t to does.1 h office
   if_open up down outcome s from t to number Does (Some l) is does h office each = each l is does
 
   module _ (up down : ℕ → List ℕ) (outcome : Outcome) (s : Site H K S C) (from : Office) (t : Site H K S C) (to : Office)
       (h : Sits ok up down s from) (office : GoodOffice ok up down from) where
     -- a connection is opened
-    new_line : (number : ConnectionNumber) (r : Result Connection OpenFault) → Opens from to r → Adds number r s t
+    new_channel : (number : ConnectionNumber) (r : Result Connection OpenFault) → Opens from to r → Adds number r s t
         → Passes ok up down s from t to
-    new_line number (Ok c) opens adds = subst (λ x. Passes ok up down s from x to) (sym adds.2)
-        (opened_line ok up down s from to number c adds.0 opens h office)
-    new_line number (Err fault) opens adds =
+    new_channel number (Ok c) opens adds = subst (λ x. Passes ok up down s from x to) (sym adds.2)
+        (opened_channel ok up down s from to number c adds.0 opens h office)
+    new_channel number (Err fault) opens adds =
         same_passes ok up down s from t to (adds, unopened_same from to fault opens) h office
 
-    opens_pass : (number : ConnectionNumber) (o : Option Line) → OpensLine number o outcome s from t to → Passes ok up down s from t to
-    opens_pass number (Some l) opens = same_passes ok up down s from t to opens.1 h office
-    opens_pass number None opens = new_line number opens.0 opens.1 opens.3
-
-    cuts_line : (number : ConnectionNumber) (l : Line) → line_of number s ≡ Some l → Leaves (Some l) from to → t ≡ with_line number None s
+    opens_pass : (number : ConnectionNumber) (o : Option Channel) → OpensChannel number o outcome s from t to
         → Passes ok up down s from t to
-    cuts_line number l is leaves site = subst (λ x. Passes ok up down s from x to) (sym site)
+    opens_pass number (Some l) opens = same_passes ok up down s from t to opens.1 h office
+    opens_pass number None opens = new_channel number opens.0 opens.1 opens.3
+
+    cuts_channel : (number : ConnectionNumber) (l : Channel) → channel_of number s ≡ Some l → Leaves (Some l) from to
+        → t ≡ with_channel number None s
+        → Passes ok up down s from t to
+    cuts_channel number l is leaves site = subst (λ x. Passes ok up down s from x to) (sym site)
         (cut_off ok up down number s l is l.connection from to leaves.0 refl leaves.1 h office)
 
-    resends_pass : (number : ConnectionNumber) (l : Line) → line_of number s ≡ Some l → (k : Line) → k.connection ≡ l.connection
-        → Same (with_line number (Some k) s) from t to → Passes ok up down s from t to
+    resends_pass : (number : ConnectionNumber) (l : Channel) → channel_of number s ≡ Some l → (k : Channel) → k.connection ≡ l.connection
+        → Same (with_channel number (Some k) s) from t to → Passes ok up down s from t to
     resends_pass number l is k same meets = meets_pass ok up down Stays number k s from from t to meets
         (same_connection up down number s l is from k same h office)
 
@@ -172,13 +175,13 @@ module _ {H K S C : Type 0} (ok : Envelope → Type 0) where
     sits_then : Sits ok up down stored from
     sits_then = sits_any_store ok up down t.endpoint s from h
 
-    module _ (number : ConnectionNumber) (l : Line) (is : line_of number s ≡ Some l) where
+    module _ (number : ConnectionNumber) (l : Channel) (is : channel_of number s ≡ Some l) where
       fills_pass : (limit : ℕ) → SendsRows seen service number limit l outcome s from t to → Passes ok up down s from t to
       fills_pass limit r =
           let here = linked ok up down number s l is from h in
           let wrote = rows_good ok seen sound service s from t to clean match right true_ok number limit l is outcome r
           here.good.wrote in
-          let p : Passes ok up down stored from (with_line number (Some r.later) stored) from =
+          let p : Passes ok up down stored from (with_channel number (Some r.later) stored) from =
           written up down number stored l is from r.later
           (ap (λ (c : Connection). c.session) r.rest) (ap (λ (c : Connection). c.decoder) r.rest)
           (subst (λ (c : Connection). GoodNext ok c.waiting) (sym r.rest) here.good.waits) wrote sits_then office in
@@ -189,10 +192,10 @@ module _ {H K S C : Type 0} (ok : Envelope → Type 0) where
           → GoodWith ok later up down from → TakesFrame seen service number (over l later) f outcome s from t to
           → Passes ok up down s from t to
       frame_passes later f frame good session texts r =
-          let k : Line = over (over l later) (record later { client = r.client; waiting = waiting_of r.result f }) in
+          let k : Channel = over (over l later) (record later { client = r.client; waiting = waiting_of r.result f }) in
           let wrote = answers_good ok service.kind f later.client.client r.client.client r.result r.answers
           (settles_ok ok seen sound service s.endpoint t.endpoint clean match true_ok f r.result r.comes r.used) in
-          let p : Passes ok up down stored from (with_line number (Some k) stored) from =
+          let p : Passes ok up down stored from (with_channel number (Some k) stored) from =
           replied up down number stored l is later from sits_then office k good session texts refl refl
           (waiting_good ok f frame r.result) wrote in
           passes_any_store ok up down t.endpoint s t from to
@@ -216,15 +219,16 @@ module _ {H K S C : Type 0} (ok : Envelope → Type 0) where
 
       drains_over : DrainsOver seen service number l outcome s from t to → Passes ok up down s from t to
       drains_over r =
-          let k : Line = over l (record l.connection { client = r.client }) in
+          let k : Channel = over l (record l.connection { client = r.client }) in
           let wrote = drains_good ok seen sound service s.endpoint t.endpoint clean match true_ok r.result l.connection.client.client
           r.client.client r.wrote r.comes r.used in
-          let p : Passes ok up down stored from (with_line number (Some k) stored) from =
+          let p : Passes ok up down stored from (with_channel number (Some k) stored) from =
           written up down number stored l is from k refl refl (linked ok up down number s l is from h).good.waits wrote sits_then office in
           passes_any_store ok up down t.endpoint s t from to
           (meets_pass ok up down (drain_fate r.result) number k stored from from t to r.meets p)
 
-    drains_pass : (number : ConnectionNumber) (o : Option Line) → line_of number s ≡ o → DrainsOne seen service number o outcome s from t to
+    drains_pass : (number : ConnectionNumber) (o : Option Channel) → channel_of number s ≡ o
+        → DrainsOne seen service number o outcome s from t to
         → Passes ok up down s from t to
     drains_pass number None is r = passes_any_store ok up down t.endpoint s t from to
         (alone_passes ok up down (drain_fate r.result) stored from t to r.meets sits_then office)
@@ -233,18 +237,18 @@ module _ {H K S C : Type 0} (ok : Envelope → Type 0) where
     pub event_passes : (what : SiteEvent C) → Happens seen service what outcome s from t to → Passes ok up down s from t to
     event_passes (event.Commits asked) r = passes_any_store ok up down t.endpoint s t from to
         (after_passes ok up down r.result stored from t to r.after sits_then office)
-    event_passes (event.Opens number) r = opens_pass up down outcome s from t to h office number (line_of number s) r
-    event_passes (event.Cuts number) r = if_open up down outcome s from t to number _ (line_of number s) refl r h office
-        (λ l is does. cuts_line up down outcome s from t to h office number l is does.1 does.2)
-    event_passes (event.Fills number limit) r = if_open up down outcome s from t to number _ (line_of number s) refl r h office
+    event_passes (event.Opens number) r = opens_pass up down outcome s from t to h office number (channel_of number s) r
+    event_passes (event.Cuts number) r = if_open up down outcome s from t to number _ (channel_of number s) refl r h office
+        (λ l is does. cuts_channel up down outcome s from t to h office number l is does.1 does.2)
+    event_passes (event.Fills number limit) r = if_open up down outcome s from t to number _ (channel_of number s) refl r h office
         (λ l is does. fills_pass number l is limit does)
-    event_passes (event.Resends number) r = if_open up down outcome s from t to number _ (line_of number s) refl r h office
+    event_passes (event.Resends number) r = if_open up down outcome s from t to number _ (channel_of number s) refl r h office
         (λ l is does. resends_pass up down outcome s from t to h office number l is (record l { relay = does.1.0 }) refl does.1.2)
-    event_passes (event.Carries number way most) r = if_open up down outcome s from t to number _ (line_of number s) refl r h office
+    event_passes (event.Carries number way most) r = if_open up down outcome s from t to number _ (channel_of number s) refl r h office
         (λ l is does. carries_pass up down number s l is most outcome from t to h office way does)
-    event_passes (event.Takes number) r = if_open up down outcome s from t to number _ (line_of number s) refl r h office
+    event_passes (event.Takes number) r = if_open up down outcome s from t to number _ (channel_of number s) refl r h office
         (λ l is does. takes_pass number l is does)
-    event_passes (event.Drains number) r = drains_pass number (line_of number s) refl r
+    event_passes (event.Drains number) r = drains_pass number (channel_of number s) refl r
     event_passes (event.Arms n leaves) r =
         let armed : Failing K = record s.endpoint { armed = Some (record { calls = n; leaves = leaves_of leaves }) } in
         passes_any_store ok up down armed s t from to

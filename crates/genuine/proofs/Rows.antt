@@ -36,11 +36,11 @@ use Rattle.passage.proofs.Frames.{send_receipted_good}
 use Rattle.passage.proofs.Writing.{adds_written}
 use Rattle.genuine.proofs.Replying.{WritesGood, writes_none}
 use Rattle.genuine.proofs.Telling.{inner_usable}
-use Rattle.sites.proofs.Cursors.{line_has}
+use Rattle.sites.proofs.Cursors.{channel_has}
 use Rattle.sites.specs.Happenings.{SendsRows}
 use Rattle.sites.specs.Cursors.{AreRight, KnowsEach}
-use Rattle.sites.specs.Lines.{line_of, sending}
-use Rattle.sites.specs.declared.line.Line.{Line}
+use Rattle.sites.specs.Channels.{channel_of, sending}
+use Rattle.sites.specs.declared.channel.Channel.{Channel}
 use Rattle.sites.specs.declared.site.Site.{Site}
 
 -- ---- what stands in an outbox
@@ -110,7 +110,7 @@ module _ (ok : Envelope → Type 0) where
       (s : Site H K S C) (from : Office) (t : Site H K S C) (to : Office) (clean : (seen t.endpoint.keep).doubt ≡ 0)
       (match : AllMatch service (seen s.endpoint.keep).may_leave) (right : AreRight seen service s)
       (true_ok : (e : Envelope) → IsTrue service (seen t.endpoint.keep).may_leave e → ok e) where
-    module _ (number : ConnectionNumber) (limit : ℕ) (l : Line) (is : line_of number s ≡ Some l) (outcome : Outcome)
+    module _ (number : ConnectionNumber) (limit : ℕ) (l : Channel) (is : channel_of number s ≡ Some l) (outcome : Outcome)
         (sends : SendsRows seen service number limit l outcome s from t to) where
       -- a row that stands is true of each content
       row_ok : l.connection.client.client.stage ≡ stage.Connected → (through seen s.endpoint).usable ≡ true → (row : Letter)
@@ -132,7 +132,7 @@ module _ (ok : Envelope → Type 0) where
           (λ up. either (cases_Bool (through seen s.endpoint).usable)
           (λ usable. filled_good (((seen t.endpoint.keep).doubt ≡ 0) × KnowsAll service l.relay (seen s.endpoint.keep).may_leave)
           (seen s.endpoint.keep).tables.unsettled limit (sending l) (sending sends.later) sends.result (sends.fills up)
-          (clean, (match, line_has (KnowsEach service (seen s.endpoint.keep).may_leave) number s l is right))
+          (clean, (match, channel_has (KnowsEach service (seen s.endpoint.keep).may_leave) number s l is right))
           (row_ok up usable) written)
           (λ down. writes_none ok l.connection.client.client sends.later.connection.client.client
           (ap (λ (x : Connection). x.client.out) (sends.unused down))))

@@ -14,10 +14,10 @@ use Rattle.passage.proofs.Rising.{cut_opened, opened_number}
 use Rattle.relay.specs.declared.relay.Relay.{Relay}
 use Rattle.schedules.specs.declared.event.ConnectionNumber.{ConnectionNumber}
 use Rattle.schedules.specs.declared.event.ConnectionNumber.TheVariants.{Zero, One}
-use Rattle.genuine.specs.Sitting.{IsOf, HasSession, IsLinked, LineSits, Sits, Passes}
+use Rattle.genuine.specs.Sitting.{IsOf, HasSession, IsLinked, ChannelSits, Sits, Passes}
 use Rattle.sites.specs.Happenings.{with_store}
-use Rattle.sites.specs.Lines.{line_of, with_line}
-use Rattle.sites.specs.declared.line.Line.{Line}
+use Rattle.sites.specs.Channels.{channel_of, with_channel}
+use Rattle.sites.specs.declared.channel.Channel.{Channel}
 use Rattle.sites.specs.declared.site.Site.{Site}
 
 -- ---- the text at one number
@@ -32,10 +32,10 @@ at_other n m text on h = ap (λ b. if b then text else on m) (ne_eqb n m h)
 
 module _ (ok : Envelope → Type 0) (up down up' down' : ℕ → List ℕ) (from to : Office) (rise : from.broker.opened ≤ to.broker.opened) where
   -- a connection whose texts are the same
-  pub line_stays : (l : Option Line) → ((m : ℕ) → IsOf m l → (up' m ≡ up m) × (down' m ≡ down m)) → LineSits ok up down l from
-      → LineSits ok up' down' l to
-  line_stays None same h = tt
-  line_stays (Some l) same h =
+  pub channel_stays : (l : Option Channel) → ((m : ℕ) → IsOf m l → (up' m ≡ up m) × (down' m ≡ down m)) → ChannelSits ok up down l from
+      → ChannelSits ok up' down' l to
+  channel_stays None same h = tt
+  channel_stays (Some l) same h =
       let e = same l.connection.session refl in
       let known = h.opened in
       record { texts = (e.0 ∙ h.texts.0, e.1 ∙ h.texts.1); good = h.good; opened = omega (arith, known, rise) }
@@ -44,28 +44,29 @@ module _ (ok : Envelope → Type 0) (up down up' down' : ℕ → List ℕ) (from
   pub sits_stay : {H K S C : Type 0} (s : Site H K S C) → ((m : ℕ) → HasSession s m → (up' m ≡ up m) × (down' m ≡ down m))
       → Sits ok up down s from → Sits ok up' down' s to
   sits_stay s same h = record {
-    zero = line_stays s.zero (λ m is. same m (inl is)) h.zero;
-    one = line_stays s.one (λ m is. same m (inr is)) h.one;
+    zero = channel_stays s.zero (λ m is. same m (inl is)) h.zero;
+    one = channel_stays s.one (λ m is. same m (inr is)) h.one;
     apart = h.apart;
   }
 
 -- ---- one connection changes
 
 -- the connection of the other number
-abbrev pub other_line : {H K S C : Type 0} → ConnectionNumber → Site H K S C → Option Line
-other_line Zero s = s.one
-other_line One s = s.zero
+abbrev pub other_channel : {H K S C : Type 0} → ConnectionNumber → Site H K S C → Option Channel
+other_channel Zero s = s.one
+other_channel One s = s.zero
 
 module _ {H K S C : Type 0} (ok : Envelope → Type 0) (up down : ℕ → List ℕ) (s : Site H K S C) (from to : Office) (n : ℕ)
-    (going coming : List ℕ) (o : Option Line) (only : (m : ℕ) → IsOf m o → m ≡ n)
-    (new : LineSits ok (at n going up) (at n coming down) o to) (rise : from.broker.opened ≤ to.broker.opened) where
-  stays_beside : (l : Option Line) → (IsOf n l → ⊥) → LineSits ok up down l from → LineSits ok (at n going up) (at n coming down) l to
-  stays_beside l beside h = line_stays ok up down (at n going up) (at n coming down) from to rise l
+    (going coming : List ℕ) (o : Option Channel) (only : (m : ℕ) → IsOf m o → m ≡ n)
+    (new : ChannelSits ok (at n going up) (at n coming down) o to) (rise : from.broker.opened ≤ to.broker.opened) where
+  stays_beside : (l : Option Channel) → (IsOf n l → ⊥) → ChannelSits ok up down l from
+      → ChannelSits ok (at n going up) (at n coming down) l to
+  stays_beside l beside h = channel_stays ok up down (at n going up) (at n coming down) from to rise l
       (λ m is. let no : n ≡ m → ⊥ = λ e. beside (subst (λ i. IsOf i l) (sym e) is) in
       (at_other n m going up no, at_other n m coming down no)) h
 
-  replaced_sits : (number : ConnectionNumber) → (IsOf n (other_line number s) → ⊥) → Sits ok up down s from → Sits ok (at n going up)
-      (at n coming down) (with_line number o s) to
+  replaced_sits : (number : ConnectionNumber) → (IsOf n (other_channel number s) → ⊥) → Sits ok up down s from → Sits ok (at n going up)
+      (at n coming down) (with_channel number o s) to
   replaced_sits Zero beside h = record {
     zero = new;
     one = stays_beside s.one beside h.one;
@@ -77,7 +78,7 @@ module _ {H K S C : Type 0} (ok : Envelope → Type 0) (up down : ℕ → List �
     apart = λ m a b. beside (subst (λ i. IsOf i s.zero) (only m b) a);
   }
 
-  replaced_own : (number : ConnectionNumber) → HasSession s n ⊎ (from.broker.opened < n) → (m : ℕ) → HasSession (with_line number o s) m
+  replaced_own : (number : ConnectionNumber) → HasSession s n ⊎ (from.broker.opened < n) → (m : ℕ) → HasSession (with_channel number o s) m
       → HasSession s m ⊎ (from.broker.opened < m)
   replaced_own Zero mine m has = either has
       (λ is. subst (λ i. HasSession s i ⊎ (from.broker.opened < i)) (sym (only m is)) mine) (λ is. inl (inr is))
@@ -85,8 +86,8 @@ module _ {H K S C : Type 0} (ok : Envelope → Type 0) (up down : ℕ → List �
       (λ is. inl (inl is)) (λ is. subst (λ i. HasSession s i ⊎ (from.broker.opened < i)) (sym (only m is)) mine)
 
   -- one connection is another, or isn't open; its session was the service's own, or is a new one
-  pub replaced : (number : ConnectionNumber) → (IsOf n (other_line number s) → ⊥) → HasSession s n ⊎ (from.broker.opened < n)
-      → Sits ok up down s from → GoodOffice ok (at n going up) (at n coming down) to → Passes ok up down s from (with_line number o s) to
+  pub replaced : (number : ConnectionNumber) → (IsOf n (other_channel number s) → ⊥) → HasSession s n ⊎ (from.broker.opened < n)
+      → Sits ok up down s from → GoodOffice ok (at n going up) (at n coming down) to → Passes ok up down s from (with_channel number o s) to
   replaced number beside mine h office = record {
     rising = at n going up;
     falling = at n coming down;
@@ -99,31 +100,31 @@ module _ {H K S C : Type 0} (ok : Envelope → Type 0) (up down : ℕ → List �
     own = replaced_own number mine;
   }
 
-module _ {H K S C : Type 0} (ok : Envelope → Type 0) (up down : ℕ → List ℕ) (number : ConnectionNumber) (s : Site H K S C) (l : Line)
-    (is : line_of number s ≡ Some l) where
+module _ {H K S C : Type 0} (ok : Envelope → Type 0) (up down : ℕ → List ℕ) (number : ConnectionNumber) (s : Site H K S C) (l : Channel)
+    (is : channel_of number s ≡ Some l) where
   -- an open connection's session is its own
-  open_apart : (number : ConnectionNumber) → line_of number s ≡ Some l → (from : Office) → Sits ok up down s from → (n : ℕ)
-      → n ≡ l.connection.session → IsOf n (other_line number s) → ⊥
+  open_apart : (number : ConnectionNumber) → channel_of number s ≡ Some l → (from : Office) → Sits ok up down s from → (n : ℕ)
+      → n ≡ l.connection.session → IsOf n (other_channel number s) → ⊥
   open_apart Zero is from h n e other = h.apart n (subst (IsOf n) (sym is) (sym e)) other
   open_apart One is from h n e other = h.apart n other (subst (IsOf n) (sym is) (sym e))
 
-  open_own : (number : ConnectionNumber) → line_of number s ≡ Some l → (n : ℕ) → n ≡ l.connection.session → HasSession s n
+  open_own : (number : ConnectionNumber) → channel_of number s ≡ Some l → (n : ℕ) → n ≡ l.connection.session → HasSession s n
   open_own Zero is n e = inl (subst (IsOf n) (sym is) (sym e))
   open_own One is n e = inr (subst (IsOf n) (sym is) (sym e))
 
-  linked_at : (number : ConnectionNumber) → line_of number s ≡ Some l → (from : Office) → Sits ok up down s from
+  linked_at : (number : ConnectionNumber) → channel_of number s ≡ Some l → (from : Office) → Sits ok up down s from
       → IsLinked ok up down l.connection from
-  linked_at Zero is from h = subst (λ o. LineSits ok up down o from) is h.zero
-  linked_at One is from h = subst (λ o. LineSits ok up down o from) is h.one
+  linked_at Zero is from h = subst (λ o. ChannelSits ok up down o from) is h.zero
+  linked_at One is from h = subst (λ o. ChannelSits ok up down o from) is h.one
 
   -- what is known of an open connection
   pub linked : (from : Office) → Sits ok up down s from → IsLinked ok up down l.connection from
   linked from h = linked_at number is from h
 
   -- an open connection has other texts, and its session is the same
-  pub moved : (k : Line) (from to : Office) → k.connection.session ≡ l.connection.session → GoodConnection ok k.connection
+  pub moved : (k : Channel) (from to : Office) → k.connection.session ≡ l.connection.session → GoodConnection ok k.connection
       → to.broker.opened ≡ from.broker.opened → Sits ok up down s from → GoodWith ok k.connection up down to
-      → Passes ok up down s from (with_line number (Some k) s) to
+      → Passes ok up down s from (with_channel number (Some k) s) to
   moved k from to same good rise h office =
       let n : ℕ = k.connection.session in
       let known = (linked from h).opened in
@@ -137,25 +138,25 @@ module _ {H K S C : Type 0} (ok : Envelope → Type 0) (up down : ℕ → List �
 
   -- it is cut
   pub cut_off : {E : Type 0} (c : Connection) (from to : Office) (r : Result (Unit {0}) E) → c.session ≡ l.connection.session
-      → Cuts c from to r → Sits ok up down s from → GoodOffice ok up down from → Passes ok up down s from (with_line number None s) to
+      → Cuts c from to r → Sits ok up down s from → GoodOffice ok up down from → Passes ok up down s from (with_channel number None s) to
   cut_off c from to r same cuts h office =
       let rise = cut_opened c from to r cuts in
       replaced ok up down s from to c.session [] [] None (λ m e. absurd e) tt (omega (arith, rise)) number
       (open_apart number is from h c.session same) (inl (open_own number is c.session same)) h (cut_good ok up down c from to r cuts office)
 
 module _ {H K S C : Type 0} (ok : Envelope → Type 0) (up down : ℕ → List ℕ) (s : Site H K S C) (from to : Office) where
-  old_session : (l : Option Line) (n : ℕ) → LineSits ok up down l from → from.broker.opened < n → IsOf n l → ⊥
+  old_session : (l : Option Channel) (n : ℕ) → ChannelSits ok up down l from → from.broker.opened < n → IsOf n l → ⊥
   old_session None n h more is = is
   old_session (Some l) n h more is = let known = h.opened in omega (arith, known, more, is)
 
-  old_beside : (number : ConnectionNumber) (n : ℕ) → Sits ok up down s from → from.broker.opened < n → IsOf n (other_line number s) → ⊥
+  old_beside : (number : ConnectionNumber) (n : ℕ) → Sits ok up down s from → from.broker.opened < n → IsOf n (other_channel number s) → ⊥
   old_beside Zero n h more = old_session s.one n h.one more
   old_beside One n h more = old_session s.zero n h.zero more
 
   -- a connection is opened
-  pub opened_line : (number : ConnectionNumber) (c : Connection) (relay : Relay) → Opens from to (Ok c) → Sits ok up down s from
-      → GoodOffice ok up down from → Passes ok up down s from (with_line number (Some (record { connection = c; relay = relay })) s) to
-  opened_line number c relay opens h office =
+  pub opened_channel : (number : ConnectionNumber) (c : Connection) (relay : Relay) → Opens from to (Ok c) → Sits ok up down s from
+      → GoodOffice ok up down from → Passes ok up down s from (with_channel number (Some (record { connection = c; relay = relay })) s) to
+  opened_channel number c relay opens h office =
       let numbers = opened_number from c to opens in
       let number' : c.session ≡ from.broker.opened + 1 = numbers.0 in
       let risen : to.broker.opened ≡ from.broker.opened + 1 = numbers.1 in
@@ -185,7 +186,7 @@ module _ {H K S C : Type 0} (ok : Envelope → Type 0) (up down : ℕ → List �
 
   -- a connection that isn't open
   pub closed : (number : ConnectionNumber) (s : Site H K S C) (o : Office) → Sits ok up down s o → GoodOffice ok up down o
-      → Passes ok up down s o (with_line number None s) o
+      → Passes ok up down s o (with_channel number None s) o
   closed Zero s o h office = record {
     rising = up;
     falling = down;

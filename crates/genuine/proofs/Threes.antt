@@ -16,7 +16,7 @@ use Rattle.mail.specs.declared.repeat_fault.RepeatFault.{RepeatFault}
 use Rattle.passage.specs.Passing.{GoodFrame, GoodOffice}
 use Rattle.schedules.specs.declared.event.ConnectionNumber.{ConnectionNumber}
 use Rattle.schedules.specs.declared.outcome.Outcome.{Outcome}
-use Rattle.genuine.specs.Sitting.{IsOf, HasSession, AreApart, LineSits, Sits, Passes}
+use Rattle.genuine.specs.Sitting.{IsOf, HasSession, AreApart, ChannelSits, Sits, Passes}
 use Rattle.genuine.specs.Three.{Genuine}
 use Rattle.genuine.specs.Writing.{IsTrue}
 use Rattle.genuine.proofs.Cutting.{after_passes, cuts_pass}
@@ -28,23 +28,23 @@ use Rattle.passage.proofs.Repeating.{repeated_good}
 use Rattle.passage.proofs.Rising.{repeated_opened}
 use Rattle.genuine.proofs.Sitting.{linked, passes_any_store, sits_any_store, sits_stay}
 use Rattle.sites.specs.Cursors.{AreRight}
-use Rattle.sites.specs.Deeds.{CameOn, lines_of}
+use Rattle.sites.specs.Deeds.{CameOn, channels_of}
 use Rattle.sites.specs.Happenings.{Happens, with_store}
-use Rattle.sites.specs.Lines.{After, CutsBoth, line_of}
+use Rattle.sites.specs.Channels.{After, CutsBoth, channel_of}
 use Rattle.sites.specs.SiteEvents.{SiteEvent}
-use Rattle.sites.specs.declared.line.Line.{Line}
+use Rattle.sites.specs.declared.channel.Channel.{Channel}
 use Rattle.sites.specs.declared.site.Site.{Site}
 
 -- ---- one service beside others
 
 module _ {H K S C H' K' S' C' : Type 0} (ok : Envelope → Type 0) (up down : ℕ → List ℕ) (s t : Site H K S C) (x : Site H' K' S' C')
     (from to : Office) (p : Passes ok up down s from t to) (sits : Sits ok up down x from) where
-  line_known : (l : Option Line) (n : ℕ) → LineSits ok up down l from → IsOf n l → n ≤ from.broker.opened
-  line_known None n h is = absurd is
-  line_known (Some l) n h is = let known = h.opened in omega (arith, known, is)
+  channel_known : (l : Option Channel) (n : ℕ) → ChannelSits ok up down l from → IsOf n l → n ≤ from.broker.opened
+  channel_known None n h is = absurd is
+  channel_known (Some l) n h is = let known = h.opened in omega (arith, known, is)
 
   known : (n : ℕ) → HasSession x n → n ≤ from.broker.opened
-  known n has = either has (line_known x.zero n sits.zero) (line_known x.one n sits.one)
+  known n has = either has (channel_known x.zero n sits.zero) (channel_known x.one n sits.one)
 
   -- one that acts leaves another as it is
   other_sits : AreApart s x → Sits ok p.rising p.falling x to
@@ -61,31 +61,41 @@ apart_turned : {H K S C H' K' S' C' : Type 0} (s : Site H K S C) (x : Site H' K'
 apart_turned s x apart n a b = apart n b a
 
 -- a service of which both connections are closed
-closed_line : (l : Option Line) (n : ℕ) → l ≡ None → IsOf n l → ⊥
-closed_line l n none is = subst (IsOf n) none is
+closed_channel : (l : Option Channel) (n : ℕ) → l ≡ None → IsOf n l → ⊥
+closed_channel l n none is = subst (IsOf n) none is
 
 module _ {H K S C : Type 0} (s : Site H K S C) (zero : s.zero ≡ None) (one : s.one ≡ None) where
   closed_session : (n : ℕ) → HasSession s n → ⊥
-  closed_session n has = either has (closed_line s.zero n zero) (closed_line s.one n one)
+  closed_session n has = either has (closed_channel s.zero n zero) (closed_channel s.one n one)
 
   closed_sits : (ok : Envelope → Type 0) (up down : ℕ → List ℕ) (o : Office) → Sits ok up down s o
   closed_sits ok up down o = record {
-    zero = subst (λ l. LineSits ok up down l o) (sym zero) tt;
-    one = subst (λ l. LineSits ok up down l o) (sym one) tt;
-    apart = λ n a b. closed_line s.zero n zero a;
+    zero = subst (λ l. ChannelSits ok up down l o) (sym zero) tt;
+    one = subst (λ l. ChannelSits ok up down l o) (sym one) tt;
+    apart = λ n a b. closed_channel s.zero n zero a;
   }
 
 module _ (ok more : Envelope → Type 0) (grows : (e : Envelope) → ok e → more e) where
-  line_more : (up down : ℕ → List ℕ) (l : Option Line) (o : Office) → LineSits ok up down l o → LineSits more up down l o
-  line_more up down None o h = tt
-  line_more up down (Some l) o h = record { texts = h.texts; good = connection_more ok more grows l.connection h.good; opened = h.opened }
+  channel_more : (up down : ℕ → List ℕ) (l : Option Channel) (o : Office) → ChannelSits ok up down l o → ChannelSits more up down l o
+  channel_more up down None o h = tt
+  channel_more up down (Some l) o h = record {
+    texts = h.texts;
+    good = connection_more ok more grows l.connection h.good;
+    opened =
+        h.opened;
+  }
 
   sits_more : {H K S C : Type 0} (up down : ℕ → List ℕ) (s : Site H K S C) (o : Office) → Sits ok up down s o → Sits more up down s o
-  sits_more up down s o h = record { zero = line_more up down s.zero o h.zero; one = line_more up down s.one o h.one; apart = h.apart }
+  sits_more up down s o h = record {
+    zero = channel_more up down s.zero o h.zero;
+    one = channel_more up down s.one o h.one;
+    apart =
+        h.apart;
+  }
 
 -- what comes on a connection of a service is good
 came_good : {H K S C : Type 0} (ok : Envelope → Type 0) (up down : ℕ → List ℕ) (a : Site H K S C) (o : Office) → Sits ok up down a o
-    → GoodOffice ok up down o → (number : ConnectionNumber) (f : Content) (l : Option Line) → line_of number a ≡ l → CameOn l f
+    → GoodOffice ok up down o → (number : ConnectionNumber) (f : Content) (l : Option Channel) → channel_of number a ≡ l → CameOn l f
     → GoodFrame ok f
 came_good ok up down a o h office number f None is came = absurd came
 came_good ok up down a o h office number f (Some l) is came =
@@ -199,10 +209,10 @@ module _ {H K S C H' K' S' C' H'' K'' S'' C'' : Type 0} where
   -- ---- what is taken
 
   pub first_came : (ok : Envelope → Type 0) (a : Site H K S C) (b : Site H' K' S' C') (c : Site H'' K'' S'' C'') (o : Office)
-      → Genuine ok a b c o → (number : ConnectionNumber) (f : Content) → CameOn (lines_of a number) f → (e : Envelope)
+      → Genuine ok a b c o → (number : ConnectionNumber) (f : Content) → CameOn (channels_of a number) f → (e : Envelope)
       → read_frame f ≡ Some e → ok e
   first_came ok a b c o h number f came e read =
-      message_ok ok f e (came_good ok h.up h.down a o h.first h.office number f (line_of number a) refl came) read
+      message_ok ok f e (came_good ok h.up h.down a o h.first h.office number f (channel_of number a) refl came) read
 
 -- ---- the second and the third of three
 
@@ -245,11 +255,11 @@ module _ {H K S C H' K' S' C' H'' K'' S'' C'' : Type 0} (ok : Envelope → Type 
   third_cut t from to cuts h =
       rotated ok t a b to (first_cut ok c t a b from to cuts (rotated ok b c a from (rotated ok a b c from h)))
 
-  pub second_came : (o : Office) → Genuine ok a b c o → (number : ConnectionNumber) (f : Content) → CameOn (lines_of b number) f
+  pub second_came : (o : Office) → Genuine ok a b c o → (number : ConnectionNumber) (f : Content) → CameOn (channels_of b number) f
       → (e : Envelope) → read_frame f ≡ Some e → ok e
   second_came o h number f came e read = first_came ok b c a o (rotated ok a b c o h) number f came e read
 
-  pub third_came : (o : Office) → Genuine ok a b c o → (number : ConnectionNumber) (f : Content) → CameOn (lines_of c number) f
+  pub third_came : (o : Office) → Genuine ok a b c o → (number : ConnectionNumber) (f : Content) → CameOn (channels_of c number) f
       → (e : Envelope) → read_frame f ≡ Some e → ok e
   third_came o h number f came e read = first_came ok c a b o (rotated ok b c a o (rotated ok a b c o h)) number f came e read
 

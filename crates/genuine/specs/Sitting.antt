@@ -4,13 +4,13 @@ use Rattle.envelope.specs.declared.message.Envelope.{Envelope}
 use Rattle.mail.specs.Offices.{Office}
 use Rattle.mail.specs.declared.connection.Connection.{Connection}
 use Rattle.passage.specs.Passing.{AreOf, GoodConnection, GoodOffice}
-use Rattle.sites.specs.declared.line.Line.{Line}
+use Rattle.sites.specs.declared.channel.Channel.{Channel}
 use Rattle.sites.specs.declared.site.Site.{Site}
 
 -- ---- sessions
 
 -- the session of an open connection
-abbrev pub IsOf : ℕ → Option Line → Type 0
+abbrev pub IsOf : ℕ → Option Channel → Type 0
 IsOf n None = ⊥
 IsOf n (Some l) = l.connection.session ≡ n
 
@@ -32,14 +32,14 @@ module _ (ok : Envelope → Type 0) (up down : ℕ → List ℕ) where
     pub opened : c.session ≤ o.broker.opened
 
   -- the same of a connection where it is open
-  abbrev pub LineSits : Option Line → Office → Type 0
-  LineSits None o = ⊤
-  LineSits (Some l) o = IsLinked l.connection o
+  abbrev pub ChannelSits : Option Channel → Office → Type 0
+  ChannelSits None o = ⊤
+  ChannelSits (Some l) o = IsLinked l.connection o
 
   -- the same of both connections of a service, and they have no session in common
   pub record Sits {H K S C : Type 0} (s : Site H K S C) (o : Office) : Type 0 where
-    pub zero : LineSits s.zero o
-    pub one : LineSits s.one o
+    pub zero : ChannelSits s.zero o
+    pub one : ChannelSits s.one o
     pub apart : (n : ℕ) → IsOf n s.zero → IsOf n s.one → ⊥
 
 -- What an event of a service leaves: texts with which all is good again. Those of sessions that aren't the service's are as they were, and

@@ -9,7 +9,7 @@ ghost use Rattle.passage.specs.Passing.{passing};
 ghost use Rattle.genuine.specs.Laws.{EventPasses, FirstKeeps};
 ghost use Rattle.genuine.specs.Three.{Genuine};
 ghost use Rattle.schedules.specs.declared.event.ConnectionNumber.{ConnectionNumber};
-ghost use Rattle.sites.specs.Deeds.{CameOn, lines_of};
+ghost use Rattle.sites.specs.Deeds.{CameOn, channels_of};
 ghost use Rattle.sites.specs.declared.site.Site.{Site};
 
 use activities::Handler;
@@ -51,6 +51,6 @@ where
     M: Keep<State = J::State, Command = J::Command> + Drop,
     ensures { (test : Envelope → Bool) (a : Site H K H.State H.Command) (b : Site I L I.State I.Command)
         (c : Site J M J.State J.Command) (o : Office) → Genuine (passing test) a b c o
-        → (number : ConnectionNumber) (f : Content) → CameOn (lines_of a number) f
+        → (number : ConnectionNumber) (f : Content) → CameOn (channels_of a number) f
         → (e : Envelope) → read_frame f ≡ Some e → test e ≡ true }
 {}

@@ -25,14 +25,14 @@ module _ {E T : Type 0} (seen : E → Seen T) (old new : E) where
   HasFailed = ((seen old).usable ≡ true) × ((seen new).usable ≡ false) × MoreFailures (seen old).failures (seen new).failures
 
   -- the store wasn't usable, and is as it was
-  abbrev pub IsRefusedFailed : Type 0
-  IsRefusedFailed = ((seen old).usable ≡ false) × (new ≡ old)
+  abbrev pub IsRefusedUnusable : Type 0
+  IsRefusedUnusable = ((seen old).usable ≡ false) × (new ≡ old)
 
   -- what the cause tells for which a call wasn't done, whatever the disk did; `May` are the reasons that it may have
   abbrev pub IsCallCause : {F : Type 0} → (F → Type 0) → Cause F → Type 0
   IsCallCause May no_memory = IsServed
   IsCallCause May failed = HasFailed
-  IsCallCause May unusable = IsRefusedFailed
+  IsCallCause May unusable = IsRefusedUnusable
   IsCallCause May (refused fault) = IsServed × May fault
 
   -- what a call tells whatever the disk did

@@ -33,7 +33,7 @@ use keep::{Faulty, Keep, KeepFault, Leaves};
 use keep_plain::PlainKeep;
 use purchasing::Orders;
 use schedule_runner::World;
-use schedules::{ConnectionName, ConnectionNumber, Service};
+use schedules::{ConnectionName, ConnectionNumber, ServiceName};
 use std::alloc::Global;
 use std::error::Error;
 use std::fmt::Debug;
@@ -61,7 +61,7 @@ fn a_warehouse_stays_open(alloc: Global) -> bool {
     ));
     let mut world = World::open(alloc, purchasing, warehouse, billing);
     let connection = ConnectionName {
-        service: Service::Warehouse,
+        service: ServiceName::Warehouse,
         number: ConnectionNumber::Zero,
     };
     an_open_connection_stays_open(&mut world, connection)

@@ -45,7 +45,7 @@ module _ {KO KS KA : Type 0} (orders : KO → Seen OrderTables) (stocks : KS →
     count = refl;
     passes = record {
       clean = λ now. now;
-      sound = λ now good. good;
+      matching = λ now good. good;
       good = λ now match good. good;
       did = subst (λ es. IsPath (Makes H) es [] w w) (sym (none events)) refl;
       goes = goes_none orders stocks accounts (IsPath (Makes S) (take 0 events) [])

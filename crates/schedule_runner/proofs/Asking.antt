@@ -16,7 +16,7 @@ use Rattle.accord.specs.Sight.{AllTables, OrderTables, StockTables, AccountTable
 use Rattle.accord.proofs.Keeping.{good_agrees}
 use Rattle.audit.proofs.Lawful.{all_agree}
 use Rattle.schedules.specs.declared.outcome.Outcome.{Outcome}
-use Rattle.sites.specs.Lines.{After, LinesHave}
+use Rattle.sites.specs.Channels.{After, ChannelsHave}
 use Rattle.sites.proofs.Cursors.{RelaysRest, after_has}
 use Rattle.sites.specs.declared.site.Site.{Site}
 use Rattle.mail.specs.Offices.{Office}
@@ -131,17 +131,17 @@ module _ {KO KS KA : Type 0} (orders : KO → Seen OrderTables) (stocks : KS →
 
   purchasing_rest : (at : AuditFault) (a b : W) → AfterFault at a b → RelaysRest a.purchasing b.purchasing
   purchasing_rest (Purchasing fault) a b h Is s = after_has Is a.purchasing a.mail b.purchasing b.mail (told_fault fault) h.0 s
-  purchasing_rest (Warehouse fault) a b h Is s = subst (LinesHave Is) (sym h.1) s
-  purchasing_rest (Billing fault) a b h Is s = subst (LinesHave Is) (sym h.1) s
+  purchasing_rest (Warehouse fault) a b h Is s = subst (ChannelsHave Is) (sym h.1) s
+  purchasing_rest (Billing fault) a b h Is s = subst (ChannelsHave Is) (sym h.1) s
 
   warehouse_rest : (at : AuditFault) (a b : W) → AfterFault at a b → RelaysRest a.warehouse b.warehouse
-  warehouse_rest (Purchasing fault) a b h Is s = subst (LinesHave Is) (sym h.1) s
+  warehouse_rest (Purchasing fault) a b h Is s = subst (ChannelsHave Is) (sym h.1) s
   warehouse_rest (Warehouse fault) a b h Is s = after_has Is a.warehouse a.mail b.warehouse b.mail (told_fault fault) h.0 s
-  warehouse_rest (Billing fault) a b h Is s = subst (LinesHave Is) (sym h.2) s
+  warehouse_rest (Billing fault) a b h Is s = subst (ChannelsHave Is) (sym h.2) s
 
   billing_rest : (at : AuditFault) (a b : W) → AfterFault at a b → RelaysRest a.billing b.billing
-  billing_rest (Purchasing fault) a b h Is s = subst (LinesHave Is) (sym h.2) s
-  billing_rest (Warehouse fault) a b h Is s = subst (LinesHave Is) (sym h.2) s
+  billing_rest (Purchasing fault) a b h Is s = subst (ChannelsHave Is) (sym h.2) s
+  billing_rest (Warehouse fault) a b h Is s = subst (ChannelsHave Is) (sym h.2) s
   billing_rest (Billing fault) a b h Is s = after_has Is a.billing a.mail b.billing b.mail (told_fault fault) h.0 s
 
   pub passes_found : (result : Result Bool EndFault) (old new : W) → FindsAgreement orders stocks accounts result old new
@@ -151,9 +151,9 @@ module _ {KO KS KA : Type 0} (orders : KO → Seen OrderTables) (stocks : KS →
       let stay = all_stay (Ok agree) old new did.0 in
       lift_stays orders stocks accounts (FindsAgreement orders stocks accounts (Ok agree)) old new stay.0 stay.1 stay.2
       (λ ok good. subst (MailIs ok) (sym did.1) (mail_with_stores ok old new good))
-      (λ Is h. subst (λ (w : W). LinesHave Is w.purchasing) (sym did.1) h)
-      (λ Is h. subst (λ (w : W). LinesHave Is w.warehouse) (sym did.1) h)
-      (λ Is h. subst (λ (w : W). LinesHave Is w.billing) (sym did.1) h) did
+      (λ Is h. subst (λ (w : W). ChannelsHave Is w.purchasing) (sym did.1) h)
+      (λ Is h. subst (λ (w : W). ChannelsHave Is w.warehouse) (sym did.1) h)
+      (λ Is h. subst (λ (w : W). ChannelsHave Is w.billing) (sym did.1) h) did
   passes_found (Err fault) old new did =
       let stay = all_stay (Err did.0) old new did.1 in
       lift_stays orders stocks accounts (FindsAgreement orders stocks accounts (Err fault)) old new stay.0 stay.1 stay.2

@@ -54,7 +54,7 @@ module _ {KO KS KA : Type 0} (orders : KO → Seen OrderTables) (stocks : KS →
       → Passes orders stocks accounts D R old new → Passes orders stocks accounts E Q old new
   passes_map D E R Q old new whole map p = record {
     clean = p.clean;
-    sound = p.sound;
+    matching = p.matching;
     good = p.good;
     did = whole p.did;
     goes = goes_map R Q map old new p.goes;
@@ -65,10 +65,10 @@ module _ {KO KS KA : Type 0} (orders : KO → Seen OrderTables) (stocks : KS →
       → Passes orders stocks accounts D R old mid → Passes orders stocks accounts E Q mid new → Passes orders stocks accounts F P old new
   passes_then D E F R Q P old mid new whole join first next = record {
     clean = λ now. first.clean (next.clean now);
-    sound = λ now good. next.sound now (first.sound (next.clean now) good);
-    good = λ now match good. next.good now (first.sound (next.clean now) match) (first.good (next.clean now) match good);
+    matching = λ now good. next.matching now (first.matching (next.clean now) good);
+    good = λ now match good. next.good now (first.matching (next.clean now) match) (first.good (next.clean now) match good);
     did = whole first.did next.did;
-    goes = goes_then R Q P join old mid new next.clean first.sound first.goes next.goes;
+    goes = goes_then R Q P join old mid new next.clean first.matching first.goes next.goes;
   }
 
   -- ---- events, whatever their outcomes were
@@ -87,7 +87,7 @@ module _ {KO KS KA : Type 0} (orders : KO → Seen OrderTables) (stocks : KS →
   pub passes_nothing : (w : W) → PassesAll orders stocks accounts [] w w
   passes_nothing w = record {
     clean = λ now. now;
-    sound = λ now good. good;
+    matching = λ now good. good;
     good = λ now match good. good;
     did = leads_none H w;
     goes = goes_none (Leads S []) (leads_none S) w;

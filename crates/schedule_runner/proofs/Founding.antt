@@ -5,7 +5,7 @@ use Rattle.stomp_frame.specs.Frames.{Content}
 use Rattle.envelope.specs.Reading.{read_frame}
 use Rattle.envelope.specs.declared.message.Envelope.{Envelope}
 use Rattle.envelope.specs.declared.message.Envelope.TheVariants as envelope
-use Rattle.activities.specs.Service.{Service as ServiceOf}
+use Rattle.activities.specs.Service.{Service}
 use Rattle.activities.proofs.Sameness.{either}
 use Rattle.endpoint.specs.Deeds.{Kept, Deed}
 use Rattle.endpoint.specs.declared.answer.Ingested.TheVariants as ingested
@@ -21,13 +21,13 @@ use Rattle.schedules.specs.declared.event.ConnectionNumber.{ConnectionNumber}
 use Rattle.schedules.specs.declared.event.SeatCommand.{SeatCommand}
 use Rattle.schedules.specs.declared.outcome.Outcome.{Outcome}
 use Rattle.schedules.specs.declared.outcome.Outcome.TheVariants as outcome
-use Rattle.sites.specs.Deeds.{Lines, CameOn, CommandMay, FrameMay, HeldMay, SiteMay}
+use Rattle.sites.specs.Deeds.{Channels, CameOn, CommandMay, FrameMay, HeldMay, SiteMay}
 use Rattle.sites.specs.Happenings.{row_of}
 use Rattle.sites.specs.SiteEvents.{SiteEvent, Commits, Opens, Cuts, Fills, Resends, Carries, Takes, Drains, Arms, Reopens, Stops}
 use Rattle.accord.specs.Deeds.{DeedIs}
 use Rattle.accord.proofs.Founded.{HeldIs, nothing_is, command_is, ingest_is, settle_is, drain_is}
 
-module _ {S C : Type 0} (s : ServiceOf S C) (P : Envelope → Type 0) where
+module _ {S C : Type 0} (s : Service S C) (P : Envelope → Type 0) where
   -- what these frames carry has the property
   abbrev FramesAre : (Content → Type 0) → Type 0
   FramesAre Came = (f : Content) → Came f → (e : Envelope) → read_frame f ≡ Some e → P e
@@ -88,16 +88,17 @@ module _ {S C : Type 0} (s : ServiceOf S C) (P : Envelope → Type 0) where
   held_founded _ x d held may = absurd may
 
   -- where all that may come on the connections and all that is held has a property, what an event takes in has it
-  pub site_founded : (lines : Lines) → ((n : ConnectionNumber) → FramesAre (CameOn (lines n))) → (event : SiteEvent C) (o : Outcome)
-      (x : Kept C) (d : Deed C) → HeldIs s P x → SiteMay s lines event o x d → DeedIs P d
-  site_founded lines all (Commits asked) o x d held may = command_founded asked o x d may
-  site_founded lines all (Takes number) o x d held may = frame_founded (CameOn (lines number)) (all number) o x d may
-  site_founded lines all (Drains number) o x d held may = held_founded o x d held may
-  site_founded lines all (Opens number) o x d held may = nothing_is s P d may
-  site_founded lines all (Cuts number) o x d held may = nothing_is s P d may
-  site_founded lines all (Fills number limit) o x d held may = nothing_is s P d may
-  site_founded lines all (Resends number) o x d held may = nothing_is s P d may
-  site_founded lines all (Carries number way most) o x d held may = nothing_is s P d may
-  site_founded lines all (Arms n leaves) o x d held may = nothing_is s P d may
-  site_founded lines all Reopens o x d held may = nothing_is s P d may
-  site_founded lines all Stops o x d held may = nothing_is s P d may
+  pub site_founded : (channels : Channels) → ((n : ConnectionNumber) → FramesAre (CameOn (channels n)))
+      → (event : SiteEvent C) (o : Outcome)
+      (x : Kept C) (d : Deed C) → HeldIs s P x → SiteMay s channels event o x d → DeedIs P d
+  site_founded channels all (Commits asked) o x d held may = command_founded asked o x d may
+  site_founded channels all (Takes number) o x d held may = frame_founded (CameOn (channels number)) (all number) o x d may
+  site_founded channels all (Drains number) o x d held may = held_founded o x d held may
+  site_founded channels all (Opens number) o x d held may = nothing_is s P d may
+  site_founded channels all (Cuts number) o x d held may = nothing_is s P d may
+  site_founded channels all (Fills number limit) o x d held may = nothing_is s P d may
+  site_founded channels all (Resends number) o x d held may = nothing_is s P d may
+  site_founded channels all (Carries number way most) o x d held may = nothing_is s P d may
+  site_founded channels all (Arms n leaves) o x d held may = nothing_is s P d may
+  site_founded channels all Reopens o x d held may = nothing_is s P d may
+  site_founded channels all Stops o x d held may = nothing_is s P d may

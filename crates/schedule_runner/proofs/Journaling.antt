@@ -2,7 +2,7 @@
 use Rattle.std.proofs.Common.{◌≡◌, ℕ, zero, suc, Option, List, [], ◌∷◌, ◌++◌, Some, None, refl, ap, sym, ◌∙◌, subst, inl, inr, length}
 use Rattle.std.proofs.lemmas.List.{append-nil}
 use Rattle.activities.specs.declared.input.JournalRow.{JournalRow}
-use Rattle.activities.specs.Service.{Service as ServiceOf}
+use Rattle.activities.specs.Service.{Service}
 use Rattle.activities.proofs.Sameness.{either}
 use Rattle.endpoint.specs.Deeds.{Kept, kept, Deed, Nothing, TakesIn, Holds, Settles, Did}
 use Rattle.stomp_wire.specs.declared.wire.Way.{Way}
@@ -12,11 +12,11 @@ use Rattle.schedules.specs.declared.event.ConnectionNumber.TheVariants.{Zero, On
 use Rattle.schedules.specs.declared.event.Event.{Event}
 use Rattle.schedules.specs.declared.event.Event.TheVariants as event
 use Rattle.schedules.specs.declared.event.SeatCommand.{SeatCommand}
-use Rattle.schedules.specs.declared.event.Service.{Service}
-use Rattle.schedules.specs.declared.event.Service.TheVariants.{Purchasing, Warehouse, Billing}
+use Rattle.schedules.specs.declared.event.ServiceName.{ServiceName}
+use Rattle.schedules.specs.declared.event.ServiceName.TheVariants.{Purchasing, Warehouse, Billing}
 use Rattle.schedules.specs.declared.outcome.Outcome.{Outcome}
 use Rattle.schedules.specs.declared.outcome.Outcome.TheVariants as outcome
-use Rattle.sites.specs.Deeds.{Lines, SiteMay, lines_of, CameOn}
+use Rattle.sites.specs.Deeds.{Channels, SiteMay, channels_of, CameOn}
 use Rattle.sites.specs.Happenings.{row_of}
 use Rattle.sites.specs.SiteEvents.{Commits}
 use Rattle.keep.specs.Seen.{Seen}
@@ -45,7 +45,7 @@ same_journal x y e = ([], e ∙ sym (append-nil x), refl)
 
 -- ---- deeds
 
-no_command : {S C : Type 0} (s : ServiceOf S C) (x y : Kept C) (d : Deed C) → Did s x d y → IsNoCommand d → RecordsNone x.journal y.journal
+no_command : {S C : Type 0} (s : Service S C) (x y : Kept C) (d : Deed C) → Did s x d y → IsNoCommand d → RecordsNone x.journal y.journal
 no_command s x y Nothing did h = same_journal x.journal y.journal (ap (λ (k : Kept _). k.journal) did)
 no_command s x y (TakesIn row) did h = (
   row ∷ [],
@@ -56,60 +56,60 @@ no_command s x y (Holds l) did h = same_journal x.journal y.journal (ap (λ (k :
 no_command s x y (Settles p n) did h = same_journal x.journal y.journal (ap (λ (k : Kept _). k.journal) did.2)
 
 -- what the site's event does is no command
-rests : {S C : Type 0} (s : ServiceOf S C) (lines : Lines) (e : ServiceEvent) (o : Outcome) (x : Kept C) (d : Deed C)
-    → SiteMay s lines (asked_of e) o x d → IsNoCommand d
-rests s lines (Open c) o x d may = nothing_is d may
-rests s lines (Cut c) o x d may = nothing_is d may
-rests s lines (Fill c n) o x d may = nothing_is d may
-rests s lines (Resend c) o x d may = nothing_is d may
-rests s lines (Carry c way most) o x d may = nothing_is d may
-rests s lines (Fail n leaves) o x d may = nothing_is d may
-rests s lines Reopen o x d may = nothing_is d may
-rests s lines Stop o x d may = nothing_is d may
-rests s lines (Take c) o x d may = frame_rests s (CameOn (lines c)) o x d may
-rests s lines (Drain c) o x d may = held_rests s o x d may
+rests : {S C : Type 0} (s : Service S C) (channels : Channels) (e : ServiceEvent) (o : Outcome) (x : Kept C) (d : Deed C)
+    → SiteMay s channels (asked_of e) o x d → IsNoCommand d
+rests s channels (Open c) o x d may = nothing_is d may
+rests s channels (Cut c) o x d may = nothing_is d may
+rests s channels (Fill c n) o x d may = nothing_is d may
+rests s channels (Resend c) o x d may = nothing_is d may
+rests s channels (Carry c way most) o x d may = nothing_is d may
+rests s channels (Fail n leaves) o x d may = nothing_is d may
+rests s channels Reopen o x d may = nothing_is d may
+rests s channels Stop o x d may = nothing_is d may
+rests s channels (Take c) o x d may = frame_rests s (CameOn (channels c)) o x d may
+rests s channels (Drain c) o x d may = held_rests s o x d may
 
 -- a command: one that stands as it was told
-abbrev CommitTells : {S C : Type 0} (s : ServiceOf S C) → SeatCommand C → Outcome → (x y : Kept C) → Type 0
+abbrev CommitTells : {S C : Type 0} (s : Service S C) → SeatCommand C → Outcome → (x y : Kept C) → Type 0
 CommitTells {S} {C} s asked o x y = (more : List (JournalRow C)) × (y.journal ≡ x.journal ++ more)
     × TellsCommand (Some asked) o (commands_from (suc (length x.journal)) more)
 
-commit_tells : {S C : Type 0} (s : ServiceOf S C) (lines : Lines) (asked : SeatCommand C) (o : Outcome) (x y : Kept C) (d : Deed C)
-    → SiteMay s lines (Commits asked) o x d → Did s x d y → CommitTells s asked o x y
-commit_tells s lines asked (outcome.Committed pos) x y d may did =
+commit_tells : {S C : Type 0} (s : Service S C) (channels : Channels) (asked : SeatCommand C) (o : Outcome) (x y : Kept C) (d : Deed C)
+    → SiteMay s channels (Commits asked) o x d → Did s x d y → CommitTells s asked o x y
+commit_tells s channels asked (outcome.Committed pos) x y d may did =
     let h = subst (λ e. Did s x e y) may.0 did in
     (row_of asked ∷ [], h.0.appended, ap (λ (n : ℕ). (n, asked) ∷ []) (sym may.1))
-commit_tells s lines asked (outcome.NotDone refusal) x y d may did =
+commit_tells s channels asked (outcome.NotDone refusal) x y d may did =
     same_journal x.journal y.journal (ap (λ (k : Kept _). k.journal) (subst (λ e. Did s x e y) may.0 did))
-commit_tells s lines asked (outcome.Refused n) x y d may did = either may
+commit_tells s channels asked (outcome.Refused n) x y d may did = either may
     (λ e. let h = same_journal x.journal y.journal (ap (λ (k : Kept _). k.journal) (subst (λ e. Did s x e y) e did)) in
     (h.0, h.1, inl h.2))
     (λ e. let h = subst (λ e. Did s x e y) e.1 did in
     (row_of asked ∷ [], h.0.appended, inr (e.0, suc (length x.journal), refl)))
-commit_tells s lines asked outcome.Opened x y d may did = absurd may
-commit_tells s lines asked outcome.Already x y d may did = absurd may
-commit_tells s lines asked outcome.Closed x y d may did = absurd may
-commit_tells s lines asked outcome.Cut x y d may did = absurd may
-commit_tells s lines asked (outcome.Sent n) x y d may did = absurd may
-commit_tells s lines asked outcome.Due x y d may did = absurd may
-commit_tells s lines asked (outcome.Carried n) x y d may did = absurd may
-commit_tells s lines asked outcome.Connected x y d may did = absurd may
-commit_tells s lines asked (outcome.Receipt n) x y d may did = absurd may
-commit_tells s lines asked (outcome.Handled n) x y d may did = absurd may
-commit_tells s lines asked outcome.Repeated x y d may did = absurd may
-commit_tells s lines asked outcome.Held x y d may did = absurd may
-commit_tells s lines asked (outcome.Settled n) x y d may did = absurd may
-commit_tells s lines asked (outcome.Error text) x y d may did = absurd may
-commit_tells s lines asked outcome.Idle x y d may did = absurd may
-commit_tells s lines asked (outcome.Drained p n) x y d may did = absurd may
-commit_tells s lines asked (outcome.Again n) x y d may did = absurd may
-commit_tells s lines asked outcome.Absent x y d may did = absurd may
-commit_tells s lines asked outcome.Armed x y d may did = absurd may
-commit_tells s lines asked outcome.Reopened x y d may did = absurd may
-commit_tells s lines asked outcome.Stopped x y d may did = absurd may
-commit_tells s lines asked outcome.Pumped x y d may did = absurd may
-commit_tells s lines asked (outcome.Shown text) x y d may did = absurd may
-commit_tells s lines asked (outcome.Agreement agree) x y d may did = absurd may
+commit_tells s channels asked outcome.Opened x y d may did = absurd may
+commit_tells s channels asked outcome.Already x y d may did = absurd may
+commit_tells s channels asked outcome.Closed x y d may did = absurd may
+commit_tells s channels asked outcome.Cut x y d may did = absurd may
+commit_tells s channels asked (outcome.Sent n) x y d may did = absurd may
+commit_tells s channels asked outcome.Due x y d may did = absurd may
+commit_tells s channels asked (outcome.Carried n) x y d may did = absurd may
+commit_tells s channels asked outcome.Connected x y d may did = absurd may
+commit_tells s channels asked (outcome.Receipt n) x y d may did = absurd may
+commit_tells s channels asked (outcome.Handled n) x y d may did = absurd may
+commit_tells s channels asked outcome.Repeated x y d may did = absurd may
+commit_tells s channels asked outcome.Held x y d may did = absurd may
+commit_tells s channels asked (outcome.Settled n) x y d may did = absurd may
+commit_tells s channels asked (outcome.Error text) x y d may did = absurd may
+commit_tells s channels asked outcome.Idle x y d may did = absurd may
+commit_tells s channels asked (outcome.Drained p n) x y d may did = absurd may
+commit_tells s channels asked (outcome.Again n) x y d may did = absurd may
+commit_tells s channels asked outcome.Absent x y d may did = absurd may
+commit_tells s channels asked outcome.Armed x y d may did = absurd may
+commit_tells s channels asked outcome.Reopened x y d may did = absurd may
+commit_tells s channels asked outcome.Stopped x y d may did = absurd may
+commit_tells s channels asked outcome.Pumped x y d may did = absurd may
+commit_tells s channels asked (outcome.Shown text) x y d may did = absurd may
+commit_tells s channels asked (outcome.Agreement agree) x y d may did = absurd may
 
 -- ---- events
 
@@ -123,9 +123,9 @@ AllOne e o x y = RecordsOne asks_orders e o x.purchasing.journal y.purchasing.jo
     × RecordsOne asks_stocks e o x.warehouse.journal y.warehouse.journal
     × RecordsOne asks_accounts e o x.billing.journal y.billing.journal
 
-quiet_tables : {S C : Type 0} (s : ServiceOf S C) (lines : Lines) (e : ServiceEvent) (o : Outcome) (x y : Kept C) (d : Deed C)
-    → SiteMay s lines (asked_of e) o x d → Did s x d y → RecordsNone x.journal y.journal
-quiet_tables s lines e o x y d may did = no_command s x y d did (rests s lines e o x d may)
+quiet_tables : {S C : Type 0} (s : Service S C) (channels : Channels) (e : ServiceEvent) (o : Outcome) (x y : Kept C) (d : Deed C)
+    → SiteMay s channels (asked_of e) o x d → Did s x d y → RecordsNone x.journal y.journal
+quiet_tables s channels e o x y d may did = no_command s x y d did (rests s channels e o x d may)
 
 same_tables : (x y : AllTables) → y ≡ x → AllNone x y
 same_tables x y e = (
@@ -135,39 +135,41 @@ same_tables x y e = (
 )
 
 module _ {KO KS KA : Type 0} where
-  quiet : (service : Service) (e : ServiceEvent) (o : Outcome) (a b : Moment KO KS KA) → In service e o a b → AllNone a.tables b.tables
+  quiet : (service : ServiceName) (e : ServiceEvent) (o : Outcome) (a b : Moment KO KS KA) → In service e o a b → AllNone a.tables b.tables
   quiet Purchasing e o a b h = (
-    quiet_tables orders_service (lines_of a.world.purchasing) e o (kept a.tables.purchasing) (kept b.tables.purchasing) h.0.0 h.0.1 h.0.2,
+    quiet_tables orders_service (channels_of a.world.purchasing) e o (kept a.tables.purchasing)
+        (kept b.tables.purchasing) h.0.0 h.0.1 h.0.2,
     same_journal a.tables.warehouse.journal b.tables.warehouse.journal (ap (λ (t : Tables _ _). t.journal) h.1),
     same_journal a.tables.billing.journal b.tables.billing.journal (ap (λ (t : Tables _ _). t.journal) h.2),
   )
   quiet Warehouse e o a b h = (
     same_journal a.tables.purchasing.journal b.tables.purchasing.journal (ap (λ (t : Tables _ _). t.journal) h.1),
-    quiet_tables stocks_service (lines_of a.world.warehouse) e o (kept a.tables.warehouse) (kept b.tables.warehouse) h.0.0 h.0.1 h.0.2,
+    quiet_tables stocks_service (channels_of a.world.warehouse) e o (kept a.tables.warehouse) (kept b.tables.warehouse) h.0.0 h.0.1 h.0.2,
     same_journal a.tables.billing.journal b.tables.billing.journal (ap (λ (t : Tables _ _). t.journal) h.2),
   )
   quiet Billing e o a b h = (
     same_journal a.tables.purchasing.journal b.tables.purchasing.journal (ap (λ (t : Tables _ _). t.journal) h.1),
     same_journal a.tables.warehouse.journal b.tables.warehouse.journal (ap (λ (t : Tables _ _). t.journal) h.2),
-    quiet_tables accounts_service (lines_of a.world.billing) e o (kept a.tables.billing) (kept b.tables.billing) h.0.0 h.0.1 h.0.2,
+    quiet_tables accounts_service (channels_of a.world.billing) e o (kept a.tables.billing) (kept b.tables.billing) h.0.0 h.0.1 h.0.2,
   )
 
   turn_told : (e : Event) (o : Outcome) (a b : Moment KO KS KA) → Turn e o a b → AllOne e o a.tables b.tables
   turn_told (event.Order asked) o a b h = (
-    commit_tells orders_service (lines_of a.world.purchasing) asked o (kept a.tables.purchasing) (kept b.tables.purchasing) h.0.0 h.0.1
+    commit_tells orders_service (channels_of a.world.purchasing) asked o (kept a.tables.purchasing) (kept b.tables.purchasing) h.0.0 h.0.1
         h.0.2,
     same_journal a.tables.warehouse.journal b.tables.warehouse.journal (ap (λ (t : Tables _ _). t.journal) h.1),
     same_journal a.tables.billing.journal b.tables.billing.journal (ap (λ (t : Tables _ _). t.journal) h.2),
   )
   turn_told (event.Stock asked) o a b h = (
     same_journal a.tables.purchasing.journal b.tables.purchasing.journal (ap (λ (t : Tables _ _). t.journal) h.1),
-    commit_tells stocks_service (lines_of a.world.warehouse) asked o (kept a.tables.warehouse) (kept b.tables.warehouse) h.0.0 h.0.1 h.0.2,
+    commit_tells stocks_service (channels_of a.world.warehouse) asked o (kept a.tables.warehouse)
+        (kept b.tables.warehouse) h.0.0 h.0.1 h.0.2,
     same_journal a.tables.billing.journal b.tables.billing.journal (ap (λ (t : Tables _ _). t.journal) h.2),
   )
   turn_told (event.Account asked) o a b h = (
     same_journal a.tables.purchasing.journal b.tables.purchasing.journal (ap (λ (t : Tables _ _). t.journal) h.1),
     same_journal a.tables.warehouse.journal b.tables.warehouse.journal (ap (λ (t : Tables _ _). t.journal) h.2),
-    commit_tells accounts_service (lines_of a.world.billing) asked o (kept a.tables.billing) (kept b.tables.billing) h.0.0 h.0.1 h.0.2,
+    commit_tells accounts_service (channels_of a.world.billing) asked o (kept a.tables.billing) (kept b.tables.billing) h.0.0 h.0.1 h.0.2,
   )
   turn_told (event.Open c) o a b h = quiet c.service (Open c.number) o a b h
   turn_told (event.Cut c) o a b h = quiet c.service (Cut c.number) o a b h
@@ -200,7 +202,7 @@ module _ {C : Type 0} (asks : Event → Option (SeatCommand C)) (fill : (c : Con
   connection_nothing : (c : ConnectionName) → AskNothing asks (connection_events c)
   connection_nothing c = (fill c 64, (carry c Up 1048576, (carry c Down 1048576, takes_nothing 16 c)))
 
-  service_nothing : (service : Service) → AskNothing asks (service_events service)
+  service_nothing : (service : ServiceName) → AskNothing asks (service_events service)
   service_nothing service = nothing_append asks (connection_events (named service Zero) ++ connection_events (named service One))
       (event.Drain (named service Zero) ∷ [])
       (nothing_append asks (connection_events (named service Zero)) (connection_events (named service One))

@@ -18,9 +18,9 @@ use Rattle.billing.specs.declared.accounts.Accounts.{Accounts}
 use Rattle.schedules.specs.declared.outcome.Outcome.{Outcome}
 use Rattle.schedules.specs.declared.outcome.Outcome.TheVariants.{Stopped, Refused}
 use Rattle.sites.specs.declared.site.Site.{Site}
-use Rattle.sites.specs.Deeds.{DoubtStays, Matches, Goes, SiteMay, lines_of}
+use Rattle.sites.specs.Deeds.{DoubtStays, Matches, Goes, SiteMay, channels_of}
 use Rattle.sites.specs.Happenings.{Happens}
-use Rattle.sites.specs.Lines.{CutsBoth}
+use Rattle.sites.specs.Channels.{CutsBoth}
 use Rattle.sites.proofs.Cursors.{RelaysRest, cut_has, stored_right}
 use Rattle.genuine.specs.Three.{Genuine}
 use Rattle.sites.specs.SiteEvents.{SiteEvent}
@@ -38,14 +38,14 @@ module _ {KO KS KA : Type 0} (orders : KO → Seen OrderTables) (stocks : KS →
   pub lift_purchasing : ((k : KO) → IsSound (orders k)) → (e : SiteEvent OrderCommand) (o : Outcome)
       (site : Site Orders KO (Option OrderState) OrderCommand)
       → DoubtStays orders w.purchasing site → Matches orders w.purchasing site orders_service
-      → Goes orders w.purchasing site orders_service (SiteMay orders_service (lines_of w.purchasing) e o)
+      → Goes orders w.purchasing site orders_service (SiteMay orders_service (channels_of w.purchasing) e o)
       → Happens orders orders_service e o w.purchasing w.mail site mail
       → Passes orders stocks accounts (AtPurchasing orders stocks accounts e o)
       (Both (AtPurchasing orders stocks accounts e o) (InPurchasing e o)) w
       (record w { purchasing = site; mail = mail })
   lift_purchasing whole e o site doubt matches comes did = record {
     clean = λ now. let d = now.0 in (omega (arith, doubt, d), now.1, now.2);
-    sound = λ now good. (matches now.0 good.0, good.1, good.2);
+    matching = λ now good. (matches now.0 good.0, good.1, good.2);
     good = λ now match good. purchasing_good orders stocks accounts w mail whole e o site matches comes did now match good;
     did = (did, refl, refl);
     goes = λ now good t m. ∥∥₁_map (comes now.0 good.0 t.purchasing m.purchasing) (λ came. record {
@@ -58,14 +58,14 @@ module _ {KO KS KA : Type 0} (orders : KO → Seen OrderTables) (stocks : KS →
   pub lift_warehouse : ((k : KS) → IsSound (stocks k)) → (e : SiteEvent StockCommand) (o : Outcome)
       (site : Site Stocks KS StockState StockCommand)
       → DoubtStays stocks w.warehouse site → Matches stocks w.warehouse site stocks_service
-      → Goes stocks w.warehouse site stocks_service (SiteMay stocks_service (lines_of w.warehouse) e o)
+      → Goes stocks w.warehouse site stocks_service (SiteMay stocks_service (channels_of w.warehouse) e o)
       → Happens stocks stocks_service e o w.warehouse w.mail site mail
       → Passes orders stocks accounts (AtWarehouse orders stocks accounts e o)
       (Both (AtWarehouse orders stocks accounts e o) (InWarehouse e o)) w
       (record w { warehouse = site; mail = mail })
   lift_warehouse whole e o site doubt matches comes did = record {
     clean = λ now. let d = now.1 in (now.0, omega (arith, doubt, d), now.2);
-    sound = λ now good. (good.0, matches now.1 good.1, good.2);
+    matching = λ now good. (good.0, matches now.1 good.1, good.2);
     good = λ now match good. warehouse_good orders stocks accounts w mail whole e o site matches comes did now match good;
     did = (did, refl, refl);
     goes = λ now good t m. ∥∥₁_map (comes now.1 good.1 t.warehouse m.warehouse) (λ came. record {
@@ -78,13 +78,13 @@ module _ {KO KS KA : Type 0} (orders : KO → Seen OrderTables) (stocks : KS →
   pub lift_billing : ((k : KA) → IsSound (accounts k)) → (e : SiteEvent AccountCommand) (o : Outcome)
       (site : Site Accounts KA AccountState AccountCommand)
       → DoubtStays accounts w.billing site → Matches accounts w.billing site accounts_service
-      → Goes accounts w.billing site accounts_service (SiteMay accounts_service (lines_of w.billing) e o)
+      → Goes accounts w.billing site accounts_service (SiteMay accounts_service (channels_of w.billing) e o)
       → Happens accounts accounts_service e o w.billing w.mail site mail
       → Passes orders stocks accounts (AtBilling orders stocks accounts e o) (Both (AtBilling orders stocks accounts e o) (InBilling e o)) w
       (record w { billing = site; mail = mail })
   lift_billing whole e o site doubt matches comes did = record {
     clean = λ now. let d = now.2 in (now.0, now.1, omega (arith, doubt, d));
-    sound = λ now good. (good.0, good.1, matches now.2 good.2);
+    matching = λ now good. (good.0, good.1, matches now.2 good.2);
     good = λ now match good. billing_good orders stocks accounts w mail whole e o site matches comes did now match good;
     did = (did, refl, refl);
     goes = λ now good t m. ∥∥₁_map (comes now.2 good.2 t.billing m.billing) (λ came. record {
@@ -109,7 +109,7 @@ lift_same orders stocks accounts R old new p q r mail x y z did = record {
     subst (λ e. (through stocks e).doubt ≡ 0) q now.1,
     subst (λ e. (through accounts e).doubt ≡ 0) r now.2,
   );
-  sound = λ now good. (
+  matching = λ now good. (
     subst (λ e. AllMatch orders_service (through orders e).may_leave) (sym p) good.0,
     subst (λ e. AllMatch stocks_service (through stocks e).may_leave) (sym q) good.1,
     subst (λ e. AllMatch accounts_service (through accounts e).may_leave) (sym r) good.2,

@@ -10,7 +10,7 @@ use Rattle.keep.specs.Seen.{Seen}
 use Rattle.keep.specs.Tables.{Tables}
 use Rattle.schedules.specs.declared.outcome.Outcome.{Outcome}
 use Rattle.sites.specs.Happenings.{with_store}
-use Rattle.sites.specs.Lines.{LinesHave}
+use Rattle.sites.specs.Channels.{ChannelsHave}
 use Rattle.sites.specs.declared.site.Site.{Site}
 use Rattle.sites.proofs.Cursors.{RelaysRest, after_has, still_right}
 use Rattle.genuine.specs.Three.{Genuine}
@@ -50,7 +50,7 @@ module _ {KO KS KA : Type 0} (orders : KO → Seen OrderTables) (stocks : KS →
       let b = q.doubt in
       let c = r.doubt in record {
         clean = λ now. let d = now.0 in let e = now.1 in let f = now.2 in (omega (arith, a, d), omega (arith, b, e), omega (arith, c, f));
-        sound = λ now good. (
+        matching = λ now good. (
           λ t m. good.0 t (p.stays now.0 t m),
           λ t m. good.1 t (q.stays now.1 t m),
           λ t m. good.2 t (r.stays now.2 t m),
@@ -89,7 +89,7 @@ module _ {KO KS KA : Type 0} (orders : KO → Seen OrderTables) (stocks : KS →
       (first_after ok old.purchasing new.purchasing old.warehouse old.billing old.mail new.mail new.purchasing.endpoint reads.answer
       reads.after good)))
       (λ Is h. after_has Is (with_store new.purchasing.endpoint old.purchasing) old.mail new.purchasing new.mail reads.answer reads.after h)
-      (λ Is h. subst (LinesHave Is) (sym q) h) (λ Is h. subst (LinesHave Is) (sym r) h) did
+      (λ Is h. subst (ChannelsHave Is) (sym q) h) (λ Is h. subst (ChannelsHave Is) (sym r) h) did
 
   pub lift_stock_read : {A : Type 0} {gives : StockTables → A → Type 0} {result : Result A Outcome} (R : W → W → Type 0)
       (old new : W) → new.purchasing ≡ old.purchasing
@@ -102,9 +102,9 @@ module _ {KO KS KA : Type 0} (orders : KO → Seen OrderTables) (stocks : KS →
       (λ ok good. subst (λ a. Genuine ok a new.warehouse new.billing new.mail) (sym p)
       (subst (λ c. Genuine ok old.purchasing new.warehouse c new.mail) (sym r)
       (second_after ok old.purchasing old.warehouse old.billing new.warehouse old.mail new.mail new.warehouse.endpoint reads.answer
-      reads.after good))) (λ Is h. subst (LinesHave Is) (sym p) h)
+      reads.after good))) (λ Is h. subst (ChannelsHave Is) (sym p) h)
       (λ Is h. after_has Is (with_store new.warehouse.endpoint old.warehouse) old.mail new.warehouse new.mail reads.answer reads.after h)
-      (λ Is h. subst (LinesHave Is) (sym r) h) did
+      (λ Is h. subst (ChannelsHave Is) (sym r) h) did
 
   pub lift_account_read : {A : Type 0} {gives : AccountTables → A → Type 0} {result : Result A Outcome} (R : W → W → Type 0)
       (old new : W) → new.purchasing ≡ old.purchasing → new.warehouse ≡ old.warehouse
@@ -116,7 +116,7 @@ module _ {KO KS KA : Type 0} (orders : KO → Seen OrderTables) (stocks : KS →
       (λ ok good. subst (λ a. Genuine ok a new.warehouse new.billing new.mail) (sym p)
       (subst (λ b. Genuine ok old.purchasing b new.billing new.mail) (sym q)
       (third_after ok old.purchasing old.warehouse old.billing new.billing old.mail new.mail new.billing.endpoint reads.answer
-      reads.after good))) (λ Is h. subst (LinesHave Is) (sym p) h) (λ Is h. subst (LinesHave Is) (sym q) h)
+      reads.after good))) (λ Is h. subst (ChannelsHave Is) (sym p) h) (λ Is h. subst (ChannelsHave Is) (sym q) h)
       (λ Is h. after_has Is (with_store new.billing.endpoint old.billing) old.mail new.billing new.mail reads.answer reads.after h) did
 
   -- the row of an entity of that kind

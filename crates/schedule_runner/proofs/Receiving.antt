@@ -2,7 +2,7 @@
 use Rattle.std.proofs.Common.{Some}
 use Rattle.std.specs.Prelude.{Result, Ok, Err}
 use Rattle.stomp_frame.specs.Frames.{Content}
-use Rattle.activities.specs.Service.{Service as ServiceOf}
+use Rattle.activities.specs.Service.{Service}
 use Rattle.activities.proofs.Sameness.{either}
 use Rattle.endpoint.specs.Deeds.{Kept, Deed}
 use Rattle.endpoint.specs.declared.answer.Ingested.TheVariants as ingested
@@ -17,7 +17,7 @@ use Rattle.schedules.specs.declared.outcome.Outcome.TheVariants as outcome
 use Rattle.sites.specs.Deeds.{FrameMay, HeldMay}
 use Rattle.schedule_runner.proofs.Resting.{IsNoCommand, nothing_is, ingest_rests, settle_rests, drain_rests}
 
-module _ {S C : Type 0} (s : ServiceOf S C) where
+module _ {S C : Type 0} (s : Service S C) where
   reception_rests : (f : Content) (r : Result Taken ReceptionFault) (x : Kept C) (d : Deed C) → TakeMay s f r x d → IsNoCommand d
   reception_rests f (Ok (taken.Handled pos)) x d may = ingest_rests s may.0 (Ok (ingested.Handled pos)) x d may.2
   reception_rests f (Ok (taken.Repeated n)) x d may = ingest_rests s may.0 (Ok ingested.Repeated) x d may.2

@@ -3,7 +3,7 @@ use Rattle.std.proofs.Common.{◌≡◌, ℕ, Option, Some, None, refl, sym, sub
 use Rattle.std.specs.Prelude.{Result, Ok, Err, ⊤}
 use Rattle.base.specs.declared.pair.Pair.{Pair}
 use Rattle.envelope.specs.declared.message.Letter.{Letter}
-use Rattle.activities.specs.Service.{Service as ServiceOf}
+use Rattle.activities.specs.Service.{Service}
 use Rattle.activities.proofs.Sameness.{either}
 use Rattle.endpoint.specs.Arrivals.{IngestMay, DrainMay, SettleMay, TakesHeld, row_of_letter, next_letter}
 use Rattle.endpoint.specs.Deeds.{Kept, Deed, Nothing, TakesIn, Holds, Settles}
@@ -25,10 +25,10 @@ nothing_is d e = subst IsNoCommand (sym e) tt
 letter_is : {C : Type 0} (l : Letter) (d : Deed C) → d ≡ TakesIn (row_of_letter l) → IsNoCommand d
 letter_is l d e = subst IsNoCommand (sym e) (l, refl)
 
-held_is : {S C : Type 0} (s : ServiceOf S C) (p : Pair) (x : Kept C) (d : Deed C) → TakesHeld s p x d → IsNoCommand d
+held_is : {S C : Type 0} (s : Service S C) (p : Pair) (x : Kept C) (d : Deed C) → TakesHeld s p x d → IsNoCommand d
 held_is s p x d h = letter_is (next_letter x p h.0) d h.2
 
-pub ingest_rests : {S C : Type 0} (s : ServiceOf S C) (l : Letter) (r : Result Ingested EndFault) (x : Kept C) (d : Deed C)
+pub ingest_rests : {S C : Type 0} (s : Service S C) (l : Letter) (r : Result Ingested EndFault) (x : Kept C) (d : Deed C)
     → IngestMay s l r x d → IsNoCommand d
 ingest_rests s l (Ok (ingested.Handled pos)) x d may = letter_is l d may.0
 ingest_rests s l (Ok ingested.Repeated) x d may = nothing_is d may.0
@@ -43,7 +43,7 @@ ingest_rests s l (Err fault.Unusable) x d may = nothing_is d may
 ingest_rests s l (Err (fault.Business r)) x d may = absurd may
 ingest_rests s l (Err fault.NotSent) x d may = absurd may
 
-pub settle_rests : {S C : Type 0} (s : ServiceOf S C) (p : Pair) (n : ℕ) (r : Result ℕ EndFault) (x : Kept C) (d : Deed C)
+pub settle_rests : {S C : Type 0} (s : Service S C) (p : Pair) (n : ℕ) (r : Result ℕ EndFault) (x : Kept C) (d : Deed C)
     → SettleMay s p n r x d → IsNoCommand d
 settle_rests s p n (Ok mark) x d may = subst IsNoCommand (sym may.0) tt
 settle_rests s p n (Err fault.NotSent) x d may = nothing_is d may.0
@@ -55,7 +55,7 @@ settle_rests s p n (Err (fault.Business r)) x d may = absurd may
 settle_rests s p n (Err fault.TooEarly) x d may = absurd may
 settle_rests s p n (Err fault.NumberLimit) x d may = absurd may
 
-pub drain_rests : {S C : Type 0} (s : ServiceOf S C) (p : Pair) (r : Result (Option ℕ) EndFault) (x : Kept C) (d : Deed C)
+pub drain_rests : {S C : Type 0} (s : Service S C) (p : Pair) (r : Result (Option ℕ) EndFault) (x : Kept C) (d : Deed C)
     → DrainMay s p r x d → IsNoCommand d
 drain_rests s p (Ok (Some n)) x d may = held_is s p x d may.1
 drain_rests s p (Ok None) x d may = nothing_is d may.0

@@ -16,7 +16,7 @@ use Rattle.endpoint.specs.Deeds.{kept, Nothing}
 use Rattle.mail.specs.Offices.{Office, new_office}
 use Rattle.schedules.specs.declared.outcome.Outcome.{Outcome}
 use Rattle.sites.specs.declared.site.Site.{Site}
-use Rattle.sites.specs.Deeds.{Matches, Goes, SiteMay, lines_of}
+use Rattle.sites.specs.Deeds.{Matches, Goes, SiteMay, channels_of}
 use Rattle.sites.specs.Happenings.{Happens}
 use Rattle.sites.specs.SiteEvents.{SiteEvent}
 use Rattle.accord.specs.Deeds.{Turns, OfPurchasing, OfWarehouse, OfBilling, ComesOf}
@@ -44,7 +44,7 @@ module _ {KO KS KA : Type 0} (orders : KO → Seen OrderTables) (stocks : KS →
   module _ (whole : (k : KO) → IsSound (orders k)) (e : SiteEvent OrderCommand) (o : Outcome)
       (site : Site Orders KO (Option OrderState) OrderCommand)
       (matches : Matches orders w.purchasing site orders_service) (comes : Goes orders w.purchasing site orders_service
-      (SiteMay orders_service (lines_of w.purchasing) e o))
+      (SiteMay orders_service (channels_of w.purchasing) e o))
       (did : Happens orders orders_service e o w.purchasing w.mail site mail) where
     abbrev AfterPurchasing : World KO KS KA
     AfterPurchasing = record w { purchasing = site; mail = mail }
@@ -57,7 +57,7 @@ module _ {KO KS KA : Type 0} (orders : KO → Seen OrderTables) (stocks : KS →
       record { purchasing = came.was; warehouse = may.warehouse; billing = may.billing },
       OfPurchasing (record {
         deed = came.deed;
-        founded = site_founded orders_service (λ x. IsGenuine Old x ⊎ IsHeldIn came.before.held x) (lines_of w.purchasing)
+        founded = site_founded orders_service (λ x. IsGenuine Old x ⊎ IsHeldIn came.before.held x) (channels_of w.purchasing)
             (λ n f c x r. inl (first_came (IsGenuine Old) w.purchasing w.warehouse w.billing w.mail good n f c x r)) e o (kept came.before)
             came.deed (λ x h. inr h) came.may;
         did = came.did;
@@ -85,7 +85,7 @@ module _ {KO KS KA : Type 0} (orders : KO → Seen OrderTables) (stocks : KS →
   module _ (whole : (k : KS) → IsSound (stocks k)) (e : SiteEvent StockCommand) (o : Outcome)
       (site : Site Stocks KS StockState StockCommand)
       (matches : Matches stocks w.warehouse site stocks_service) (comes : Goes stocks w.warehouse site stocks_service
-      (SiteMay stocks_service (lines_of w.warehouse) e o))
+      (SiteMay stocks_service (channels_of w.warehouse) e o))
       (did : Happens stocks stocks_service e o w.warehouse w.mail site mail) where
     abbrev AfterWarehouse : World KO KS KA
     AfterWarehouse = record w { warehouse = site; mail = mail }
@@ -98,7 +98,7 @@ module _ {KO KS KA : Type 0} (orders : KO → Seen OrderTables) (stocks : KS →
       record { purchasing = may.purchasing; warehouse = came.was; billing = may.billing },
       OfWarehouse (record {
         deed = came.deed;
-        founded = site_founded stocks_service (λ x. IsGenuine Old x ⊎ IsHeldIn came.before.held x) (lines_of w.warehouse)
+        founded = site_founded stocks_service (λ x. IsGenuine Old x ⊎ IsHeldIn came.before.held x) (channels_of w.warehouse)
             (λ n f c x r. inl (second_came (IsGenuine Old) w.purchasing w.warehouse w.billing w.mail good n f c x r)) e o (kept came.before)
             came.deed (λ x h. inr h) came.may;
         did = came.did;
@@ -126,7 +126,7 @@ module _ {KO KS KA : Type 0} (orders : KO → Seen OrderTables) (stocks : KS →
   module _ (whole : (k : KA) → IsSound (accounts k)) (e : SiteEvent AccountCommand) (o : Outcome)
       (site : Site Accounts KA AccountState AccountCommand)
       (matches : Matches accounts w.billing site accounts_service) (comes : Goes accounts w.billing site accounts_service
-      (SiteMay accounts_service (lines_of w.billing) e o))
+      (SiteMay accounts_service (channels_of w.billing) e o))
       (did : Happens accounts accounts_service e o w.billing w.mail site mail) where
     abbrev AfterBilling : World KO KS KA
     AfterBilling = record w { billing = site; mail = mail }
@@ -139,7 +139,7 @@ module _ {KO KS KA : Type 0} (orders : KO → Seen OrderTables) (stocks : KS →
       record { purchasing = may.purchasing; warehouse = may.warehouse; billing = came.was },
       OfBilling (record {
         deed = came.deed;
-        founded = site_founded accounts_service (λ x. IsGenuine Old x ⊎ IsHeldIn came.before.held x) (lines_of w.billing)
+        founded = site_founded accounts_service (λ x. IsGenuine Old x ⊎ IsHeldIn came.before.held x) (channels_of w.billing)
             (λ n f c x r. inl (third_came (IsGenuine Old) w.purchasing w.warehouse w.billing w.mail good n f c x r)) e o (kept came.before)
             came.deed (λ x h. inr h) came.may;
         did = came.did;

@@ -6,7 +6,7 @@ use Rattle.schedules.specs.declared.event.ConnectionName.{ConnectionName}
 use Rattle.schedules.specs.declared.event.ConnectionNumber.TheVariants.{Zero, One}
 use Rattle.schedules.specs.declared.event.Event.{Event}
 use Rattle.schedules.specs.declared.event.Event.TheVariants as event
-use Rattle.schedules.specs.declared.event.Service.TheVariants.{Purchasing, Warehouse, Billing}
+use Rattle.schedules.specs.declared.event.ServiceName.TheVariants.{Purchasing, Warehouse, Billing}
 use Rattle.schedules.specs.declared.event.FailureLeaves.TheVariants.{New}
 use Rattle.schedules.specs.declared.outcome.Outcome.{Outcome}
 use Rattle.schedules.specs.declared.outcome.Outcome.TheVariants.{Idle, Held, Pumped}

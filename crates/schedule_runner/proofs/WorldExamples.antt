@@ -14,7 +14,7 @@ use Rattle.mail.specs.Offices.{Office, new_office}
 use Rattle.mail.specs.declared.repeat_fault.RepeatFault.TheVariants as repeat
 use Rattle.schedules.specs.declared.event.Event.TheVariants as event
 use Rattle.schedules.specs.declared.event.ConnectionNumber.TheVariants.{Zero}
-use Rattle.schedules.specs.declared.event.Service.TheVariants.{Warehouse, Billing}
+use Rattle.schedules.specs.declared.event.ServiceName.TheVariants.{Warehouse, Billing}
 use Rattle.schedules.specs.declared.outcome.Outcome.TheVariants as told
 use Rattle.sites.specs.SiteEvents.{Cuts}
 use Rattle.schedule_runner.specs.declared.acting.ServiceEvent.TheVariants.{Cut}

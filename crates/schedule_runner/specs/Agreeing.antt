@@ -11,7 +11,7 @@ use Rattle.audit.specs.declared.fault.AuditFault.TheVariants.{Purchasing, Wareho
 use Rattle.accord.specs.Sight.{OrderTables, StockTables, AccountTables, AreClean, AreMatching}
 use Rattle.schedules.specs.declared.outcome.Outcome.{Outcome}
 use Rattle.schedules.specs.declared.outcome.Outcome.TheVariants.{Agreement, Refused}
-use Rattle.sites.specs.Lines.{After}
+use Rattle.sites.specs.Channels.{After}
 use Rattle.schedule_runner.specs.declared.world.World.{World}
 use Rattle.schedule_runner.specs.Good.{IsGoodWorld}
 use Rattle.schedule_runner.specs.Sight.{sight}

@@ -1,6 +1,6 @@
 -- What an event does to the tables of the three services, by its outcome.
 use Rattle.std.specs.Prelude.{◌≡◌, List}
-use Rattle.activities.specs.Service.{Service as ServiceOf}
+use Rattle.activities.specs.Service.{Service}
 use Rattle.activities.specs.declared.commands.OrderCommand.{OrderCommand}
 use Rattle.activities.specs.declared.commands.StockCommand.{StockCommand}
 use Rattle.activities.specs.declared.commands.AccountCommand.{AccountCommand}
@@ -9,10 +9,10 @@ use Rattle.keep.specs.Tables.{Tables}
 use Rattle.endpoint.specs.Deeds.{kept, Deed, Did}
 use Rattle.schedules.specs.declared.event.Event.{Event}
 use Rattle.schedules.specs.declared.event.Event.TheVariants as event
-use Rattle.schedules.specs.declared.event.Service.{Service}
-use Rattle.schedules.specs.declared.event.Service.TheVariants.{Purchasing, Warehouse, Billing}
+use Rattle.schedules.specs.declared.event.ServiceName.{ServiceName}
+use Rattle.schedules.specs.declared.event.ServiceName.TheVariants.{Purchasing, Warehouse, Billing}
 use Rattle.schedules.specs.declared.outcome.Outcome.{Outcome}
-use Rattle.sites.specs.Deeds.{Lines, SiteMay, lines_of}
+use Rattle.sites.specs.Deeds.{Channels, SiteMay, channels_of}
 use Rattle.sites.specs.SiteEvents.{SiteEvent, Commits}
 use Rattle.schedule_runner.specs.declared.acting.ServiceEvent.{ServiceEvent}
 use Rattle.schedule_runner.specs.declared.acting.ServiceEvent.TheVariants.{Open, Cut, Fill, Resend, Carry, Take, Drain, Fail, Reopen, Stop}
@@ -34,25 +34,25 @@ abbrev pub moment : {KO KS KA : Type 0} → World KO KS KA → AllTables → Mom
 moment w t = record { world = w; tables = t }
 
 -- a deed that this event and its outcome allow leads from tables to these
-abbrev pub Moves : {S C : Type 0} → ServiceOf S C → Lines → SiteEvent C → Outcome → Tables S C → Tables S C → Type 0
-Moves {S} {C} service lines e o x y = (d : Deed C) × SiteMay service lines e o (kept x) d × Did service (kept x) d (kept y)
+abbrev pub Moves : {S C : Type 0} → Service S C → Channels → SiteEvent C → Outcome → Tables S C → Tables S C → Type 0
+Moves {S} {C} service channels e o x y = (d : Deed C) × SiteMay service channels e o (kept x) d × Did service (kept x) d (kept y)
 
 module _ {KO KS KA : Type 0} where
   -- one service moves, and the tables of the others stay as they are
   abbrev pub InPurchasing : SiteEvent OrderCommand → Outcome → (a b : Moment KO KS KA) → Type 0
-  InPurchasing e o a b = Moves orders_service (lines_of a.world.purchasing) e o a.tables.purchasing b.tables.purchasing
+  InPurchasing e o a b = Moves orders_service (channels_of a.world.purchasing) e o a.tables.purchasing b.tables.purchasing
       × (b.tables.warehouse ≡ a.tables.warehouse) × (b.tables.billing ≡ a.tables.billing)
 
   abbrev pub InWarehouse : SiteEvent StockCommand → Outcome → (a b : Moment KO KS KA) → Type 0
-  InWarehouse e o a b = Moves stocks_service (lines_of a.world.warehouse) e o a.tables.warehouse b.tables.warehouse
+  InWarehouse e o a b = Moves stocks_service (channels_of a.world.warehouse) e o a.tables.warehouse b.tables.warehouse
       × (b.tables.purchasing ≡ a.tables.purchasing) × (b.tables.billing ≡ a.tables.billing)
 
   abbrev pub InBilling : SiteEvent AccountCommand → Outcome → (a b : Moment KO KS KA) → Type 0
-  InBilling e o a b = Moves accounts_service (lines_of a.world.billing) e o a.tables.billing b.tables.billing
+  InBilling e o a b = Moves accounts_service (channels_of a.world.billing) e o a.tables.billing b.tables.billing
       × (b.tables.purchasing ≡ a.tables.purchasing) × (b.tables.warehouse ≡ a.tables.warehouse)
 
   -- an event of this service, which isn't a command
-  abbrev pub In : Service → ServiceEvent → Outcome → (a b : Moment KO KS KA) → Type 0
+  abbrev pub In : ServiceName → ServiceEvent → Outcome → (a b : Moment KO KS KA) → Type 0
   In Purchasing e o = InPurchasing (asked_of e) o
   In Warehouse e o = InWarehouse (asked_of e) o
   In Billing e o = InBilling (asked_of e) o

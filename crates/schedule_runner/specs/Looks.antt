@@ -17,7 +17,7 @@ use Rattle.schedules.specs.declared.outcome.Outcome.{Outcome}
 use Rattle.schedules.specs.declared.outcome.Outcome.TheVariants.{Shown}
 use Rattle.showing.specs.Printed.{show_line, frame_lines, journal_lines}
 use Rattle.sites.specs.Deeds.{DoubtStays}
-use Rattle.sites.specs.Lines.{After}
+use Rattle.sites.specs.Channels.{After}
 use Rattle.sites.specs.Outcomes.{fault_told}
 use Rattle.sites.specs.declared.site.Site.{Site}
 use Rattle.schedule_runner.specs.declared.looking.Listing.{Listing}

@@ -20,7 +20,7 @@ module _ {KO KS KA : Type 0} (orders : KO → Seen OrderTables) (stocks : KS →
   pub record Passes (Whole : (a b : World KO KS KA) → Type 0) (Leading : (a b : Moment KO KS KA) → Type 0) (old new : World KO KS KA)
       : Type 0 where
     pub clean : StaysClean orders stocks accounts old new
-    pub sound : StaysMatching orders stocks accounts old new
+    pub matching : StaysMatching orders stocks accounts old new
     pub good : StaysGood orders stocks accounts old new
     pub did : Whole old new
     pub goes : GoesBy orders stocks accounts Leading old new

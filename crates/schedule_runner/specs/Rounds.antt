@@ -6,8 +6,8 @@ use Rattle.schedules.specs.declared.event.ConnectionNumber.{ConnectionNumber}
 use Rattle.schedules.specs.declared.event.ConnectionNumber.TheVariants.{Zero, One}
 use Rattle.schedules.specs.declared.event.Event.{Event}
 use Rattle.schedules.specs.declared.event.Event.TheVariants.{Fill, Carry, Take, Drain}
-use Rattle.schedules.specs.declared.event.Service.{Service}
-use Rattle.schedules.specs.declared.event.Service.TheVariants.{Purchasing, Warehouse, Billing}
+use Rattle.schedules.specs.declared.event.ServiceName.{ServiceName}
+use Rattle.schedules.specs.declared.event.ServiceName.TheVariants.{Purchasing, Warehouse, Billing}
 
 -- so many frames are taken
 abbrev pub takes : ℕ → ConnectionName → List Event
@@ -18,11 +18,11 @@ takes (suc n) c = takes n c ++ Take c ∷ []
 abbrev pub connection_events : ConnectionName → List Event
 connection_events c = (Fill c 64 ∷ Carry c Up 1048576 ∷ Carry c Down 1048576 ∷ []) ++ takes 16 c
 
-abbrev pub named : Service → ConnectionNumber → ConnectionName
+abbrev pub named : ServiceName → ConnectionNumber → ConnectionName
 named service number = record { service = service; number = number }
 
 -- one service: its two connections, and then a held letter is handled
-abbrev pub service_events : Service → List Event
+abbrev pub service_events : ServiceName → List Event
 service_events service = connection_events (named service Zero) ++ connection_events (named service One)
     ++ Drain (named service Zero) ∷ []
 

@@ -6,8 +6,8 @@ use Rattle.base.specs.declared.entity.Kind.{Kind}
 use Rattle.base.specs.declared.entity.Kind.TheVariants.{Order, Stock, Account}
 use Rattle.base.specs.declared.pair.Pair.{Pair}
 use Rattle.keep.specs.Seen.{Seen}
-use Rattle.schedules.specs.declared.event.Service.{Service}
-use Rattle.schedules.specs.declared.event.Service.TheVariants.{Purchasing, Warehouse, Billing}
+use Rattle.schedules.specs.declared.event.ServiceName.{ServiceName}
+use Rattle.schedules.specs.declared.event.ServiceName.TheVariants.{Purchasing, Warehouse, Billing}
 use Rattle.schedules.specs.declared.outcome.Outcome.{Outcome}
 use Rattle.schedules.specs.declared.outcome.Outcome.TheVariants.{Shown, Refused}
 use Rattle.showing.specs.Printed.{shown_or_none, shown_order, shown_stock, shown_account, pair_line}
@@ -59,7 +59,7 @@ module _ {KO KS KA : Type 0} (orders : KO → Seen OrderTables) (stocks : KS →
   RowOf Account e = ReadsBilling (λ t lines. IsRow shown_account e t lines.items)
 
   -- the frames that a service is to send, or its journal
-  abbrev pub ListOf : Service → Listing → Result (Vec ℕ) Outcome → (a b : World KO KS KA) → Type 0
+  abbrev pub ListOf : ServiceName → Listing → Result (Vec ℕ) Outcome → (a b : World KO KS KA) → Type 0
   ListOf Purchasing listing = ReadsPurchasing (λ t lines. AreListed shown_order_command listing t lines.items)
   ListOf Warehouse listing = ReadsWarehouse (λ t lines. AreListed shown_stock_command listing t lines.items)
   ListOf Billing listing = ReadsBilling (λ t lines. AreListed shown_account_command listing t lines.items)

@@ -7,12 +7,12 @@ use Rattle.mail.specs.declared.repeat_fault.RepeatFault.{RepeatFault}
 use Rattle.mail.specs.Repeating.{Repeats}
 use Rattle.schedules.specs.declared.event.Event.{Event}
 use Rattle.schedules.specs.declared.event.Event.TheVariants as event
-use Rattle.schedules.specs.declared.event.Service.{Service}
-use Rattle.schedules.specs.declared.event.Service.TheVariants.{Purchasing, Warehouse, Billing}
+use Rattle.schedules.specs.declared.event.ServiceName.{ServiceName}
+use Rattle.schedules.specs.declared.event.ServiceName.TheVariants.{Purchasing, Warehouse, Billing}
 use Rattle.schedules.specs.declared.outcome.Outcome.{Outcome}
 use Rattle.schedules.specs.declared.outcome.Outcome.TheVariants.{Again, Absent, Stopped, Refused}
 use Rattle.sites.specs.Happenings.{Happens}
-use Rattle.sites.specs.Lines.{CutsBoth}
+use Rattle.sites.specs.Channels.{CutsBoth}
 use Rattle.sites.specs.SiteEvents.{SiteEvent, Commits}
 use Rattle.activities.specs.declared.commands.OrderCommand.{OrderCommand}
 use Rattle.activities.specs.declared.commands.StockCommand.{StockCommand}
@@ -67,7 +67,7 @@ module _ {KO KS KA : Type 0} (orders : KO → Seen OrderTables) (stocks : KS →
       × (b.purchasing ≡ a.purchasing) × (b.warehouse ≡ a.warehouse)
 
   -- an event of this service, which isn't a command
-  abbrev pub At : Service → ServiceEvent → Outcome → (a b : World KO KS KA) → Type 0
+  abbrev pub At : ServiceName → ServiceEvent → Outcome → (a b : World KO KS KA) → Type 0
   At Purchasing e o = AtPurchasing (asked_of e) o
   At Warehouse e o = AtWarehouse (asked_of e) o
   At Billing e o = AtBilling (asked_of e) o

@@ -2,7 +2,7 @@
 
 ghost use Rattle.mail.specs.Offices.{Office};
 ghost use Rattle.schedule_runner.specs.Events.{asked_of};
-ghost use Rattle.sites.specs.Deeds.{DoubtStays, Matches, Goes, SiteMay, lines_of};
+ghost use Rattle.sites.specs.Deeds.{DoubtStays, Matches, Goes, SiteMay, channels_of};
 ghost use Rattle.sites.specs.Happenings.{Happens};
 
 use activities::Handler;
@@ -51,7 +51,7 @@ where
     ensures did { Happens K.seen H.service (asked_of event) result site.old mail.old site.new mail.new }
     ensures doubt { DoubtStays K.seen site.old site.new }
     ensures matches { Matches K.seen site.old site.new H.service }
-    ensures comes { Goes K.seen site.old site.new H.service (SiteMay H.service (lines_of site.old) (asked_of event) result) }
+    ensures comes { Goes K.seen site.old site.new H.service (SiteMay H.service (channels_of site.old) (asked_of event) result) }
 {
     match event {
         ServiceEvent::Open(number) => site.open(alloc, mail, number),

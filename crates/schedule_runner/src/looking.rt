@@ -5,7 +5,7 @@ ghost use Rattle.keep.specs.Law.{Reads};
 ghost use Rattle.keep.specs.Listing.{AreFirst};
 ghost use Rattle.endpoint.specs.Calls.{Stays};
 ghost use Rattle.endpoint.specs.Faults.{end_of};
-ghost use Rattle.sites.specs.Lines.{After};
+ghost use Rattle.sites.specs.Channels.{After};
 ghost use Rattle.schedule_runner.specs.Looks.{most, IsRow, AreListed, mark_of, read_told, shown_told, ReadsSite, StoreStays};
 
 use activities::Handler;

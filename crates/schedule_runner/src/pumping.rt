@@ -9,7 +9,7 @@ use activities::{AccountCommand, OrderCommand, StockCommand};
 use billing::Account;
 use keep::Keep;
 use purchasing::Order;
-use schedules::{ConnectionName, ConnectionNumber, Rounds, Service};
+use schedules::{ConnectionName, ConnectionNumber, Rounds, ServiceName};
 use stomp_wire::Way;
 use warehouse::Stock;
 
@@ -38,7 +38,7 @@ where
     }
 
     /// What a round does at one service.
-    fn pump_service(&mut self, service: Service)
+    fn pump_service(&mut self, service: ServiceName)
         ensures { PassesAll KO.seen KS.seen KA.seen (service_events service) self.old self.new }
     {
         let zero = ConnectionName {
@@ -58,9 +58,9 @@ where
     fn round(&mut self)
         ensures { PassesAll KO.seen KS.seen KA.seen round_events self.old self.new }
     {
-        self.pump_service(Service::Purchasing);
-        self.pump_service(Service::Warehouse);
-        self.pump_service(Service::Billing);
+        self.pump_service(ServiceName::Purchasing);
+        self.pump_service(ServiceName::Warehouse);
+        self.pump_service(ServiceName::Billing);
     }
 
     /// So many rounds.

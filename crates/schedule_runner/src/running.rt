@@ -28,7 +28,7 @@ where
     #[tactic(auto, using(crate::proofs::Righting::good_agree))]
     pub fn step(&mut self, event: &Event) -> Outcome
         ensures clean { StaysClean KO.seen KS.seen KA.seen self.old self.new }
-        ensures sound { StaysMatching KO.seen KS.seen KA.seen self.old self.new }
+        ensures matching { StaysMatching KO.seen KS.seen KA.seen self.old self.new }
         ensures good { StaysGood KO.seen KS.seen KA.seen self.old self.new }
         ensures agree { Agrees KO.seen KS.seen KA.seen self.old self.new }
         ensures did { Makes (Happened KO.seen KS.seen KA.seen) event.now result self.old self.new }
@@ -44,7 +44,7 @@ where
     #[tactic(auto, using(crate::proofs::Righting::good_agree))]
     pub fn run(&mut self, events: &[Event], outcomes: &mut Vec<Outcome>) -> Result<(), AllocError>
         ensures clean { StaysClean KO.seen KS.seen KA.seen self.old self.new }
-        ensures sound { StaysMatching KO.seen KS.seen KA.seen self.old self.new }
+        ensures matching { StaysMatching KO.seen KS.seen KA.seen self.old self.new }
         ensures good { StaysGood KO.seen KS.seen KA.seen self.old self.new }
         ensures agree { Agrees KO.seen KS.seen KA.seen self.old self.new }
         ensures did { Ran (λ es os. IsPath (Makes (Happened KO.seen KS.seen KA.seen)) es os self.old self.new)

@@ -13,7 +13,7 @@ use base::{Entity, Kind, Pair};
 use billing::{Account, Accounts};
 use keep::Keep;
 use purchasing::{Order, Orders};
-use schedules::{Outcome, Service};
+use schedules::{Outcome, ServiceName};
 use showing::show_marks;
 use std::alloc::Global;
 use warehouse::{Stock, Stocks};
@@ -62,24 +62,24 @@ where
     }
 
     /// Reads a list in a service.
-    fn list(&mut self, service: Service, listing: Listing) -> Result<Vec<u8>, Outcome>
+    fn list(&mut self, service: ServiceName, listing: Listing) -> Result<Vec<u8>, Outcome>
         ensures { Passes KO.seen KS.seen KA.seen (ListOf KO.seen KS.seen KA.seen service listing result)
             (Both (ListOf KO.seen KS.seen KA.seen service listing result) Same) self.old self.new }
     {
         match service {
-            Service::Purchasing => look_at_list::<Orders, KO>(
+            ServiceName::Purchasing => look_at_list::<Orders, KO>(
                 self.alloc,
                 &mut self.purchasing,
                 &mut self.mail,
                 listing,
             ),
-            Service::Warehouse => look_at_list::<Stocks, KS>(
+            ServiceName::Warehouse => look_at_list::<Stocks, KS>(
                 self.alloc,
                 &mut self.warehouse,
                 &mut self.mail,
                 listing,
             ),
-            Service::Billing => look_at_list::<Accounts, KA>(
+            ServiceName::Billing => look_at_list::<Accounts, KA>(
                 self.alloc,
                 &mut self.billing,
                 &mut self.mail,
@@ -160,7 +160,7 @@ where
     }
 
     /// The frames that a service is to send.
-    pub(crate) fn frames(&mut self, service: Service) -> Outcome
+    pub(crate) fn frames(&mut self, service: ServiceName) -> Outcome
         ensures { Passes KO.seen KS.seen KA.seen (Tells (ListOf KO.seen KS.seen KA.seen service Listing.Frames) result)
             (Both (Tells (ListOf KO.seen KS.seen KA.seen service Listing.Frames) result) Same) self.old self.new }
     {
@@ -168,7 +168,7 @@ where
     }
 
     /// The journal of a service.
-    pub(crate) fn journal(&mut self, service: Service) -> Outcome
+    pub(crate) fn journal(&mut self, service: ServiceName) -> Outcome
         ensures { Passes KO.seen KS.seen KA.seen (Tells (ListOf KO.seen KS.seen KA.seen service Listing.Journal) result)
             (Both (Tells (ListOf KO.seen KS.seen KA.seen service Listing.Journal) result) Same) self.old self.new }
     {

@@ -12,7 +12,7 @@ use activities::{AccountCommand, OrderCommand, StockCommand};
 use billing::{Account, Accounts};
 use keep::Keep;
 use purchasing::{Order, Orders};
-use schedules::{Event, Ordinal, Outcome, SeatCommand, Service};
+use schedules::{Event, Ordinal, Outcome, SeatCommand, ServiceName};
 use warehouse::{Stock, Stocks};
 
 impl<KO, KS, KA> World<KO, KS, KA>
@@ -49,18 +49,18 @@ where
     }
 
     /// What a service does but for commands.
-    pub(crate) fn at(&mut self, service: Service, event: ServiceEvent) -> Outcome
+    pub(crate) fn at(&mut self, service: ServiceName, event: ServiceEvent) -> Outcome
         ensures { Passes KO.seen KS.seen KA.seen (At KO.seen KS.seen KA.seen service event result)
             (Both (At KO.seen KS.seen KA.seen service event result) (In service event result)) self.old self.new }
     {
         match service {
-            Service::Purchasing => {
+            ServiceName::Purchasing => {
                 act::<Orders, KO>(self.alloc, &mut self.purchasing, &mut self.mail, event)
             }
-            Service::Warehouse => {
+            ServiceName::Warehouse => {
                 act::<Stocks, KS>(self.alloc, &mut self.warehouse, &mut self.mail, event)
             }
-            Service::Billing => {
+            ServiceName::Billing => {
                 act::<Accounts, KA>(self.alloc, &mut self.billing, &mut self.mail, event)
             }
         }

@@ -8,7 +8,7 @@ use Rattle.base.specs.Entity.{order_of}
 use Rattle.activities.specs.declared.commands.OrderCommand.TheVariants.{CancelOrder}
 use Rattle.schedules.specs.declared.event.Event.{Event}
 use Rattle.schedules.specs.declared.event.Event.TheVariants.{Order, Journal}
-use Rattle.schedules.specs.declared.event.Service.TheVariants.{Purchasing}
+use Rattle.schedules.specs.declared.event.ServiceName.TheVariants.{Purchasing}
 use Rattle.schedules.specs.declared.fault.ScheduleFault.TheVariants.{BadEvent, Memory}
 use Rattle.schedules.specs.Cuts.{Lacks, IsCut, IsRest}
 use Rattle.schedules.specs.Escapes.{IsUnescaped}

@@ -15,7 +15,7 @@ use Rattle.schedules.specs.declared.event.ConnectionName.{ConnectionName}
 use Rattle.schedules.specs.declared.event.ConnectionNumber.TheVariants.{Zero, One}
 use Rattle.stomp_wire.specs.declared.wire.Way.TheVariants.{Up, Down}
 use Rattle.schedules.specs.declared.event.FailureLeaves.TheVariants.{Old, New}
-use Rattle.schedules.specs.declared.event.Service.TheVariants.{Purchasing, Warehouse, Billing}
+use Rattle.schedules.specs.declared.event.ServiceName.TheVariants.{Purchasing, Warehouse, Billing}
 use Rattle.schedules.specs.Events.{event_of, events_of}
 use Rattle.schedules.specs.Schedules.{found_in, found_on, is_faulty, events_on}
 use Rattle.schedules.specs.Lines.{lines_of, ended}

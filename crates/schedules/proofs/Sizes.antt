@@ -26,8 +26,8 @@ use Rattle.schedules.specs.declared.event.ConnectionNumber.{ConnectionNumber}
 use Rattle.schedules.specs.declared.event.ConnectionNumber.TheVariants.{Zero, One}
 use Rattle.schedules.specs.declared.event.FailureLeaves.{FailureLeaves}
 use Rattle.schedules.specs.declared.event.FailureLeaves.TheVariants.{Old, New}
-use Rattle.schedules.specs.declared.event.Service.{Service}
-use Rattle.schedules.specs.declared.event.Service.TheVariants.{Purchasing, Warehouse, Billing}
+use Rattle.schedules.specs.declared.event.ServiceName.{ServiceName}
+use Rattle.schedules.specs.declared.event.ServiceName.TheVariants.{Purchasing, Warehouse, Billing}
 use Rattle.stomp_wire.specs.declared.wire.Way.{Way}
 use Rattle.stomp_wire.specs.declared.wire.Way.TheVariants.{Up, Down}
 use Rattle.schedules.specs.declared.verb.Verb.{Verb}
@@ -261,7 +261,7 @@ of_three_words false true c x y z v e = inr (inl refl)
 of_three_words false false true x y z v e = inr (inr refl)
 of_three_words false false false x y z v e = absurd cc
 
-service_size : (word : List ℕ) (service : Service) → service_of word ≡ Some service → length word ≤ 10
+service_size : (word : List ℕ) (service : ServiceName) → service_of word ≡ Some service → length word ≤ 10
 service_size word service e =
     elim (of_three_words (bytes_eq word (codes "purchasing")) (bytes_eq word (codes "warehouse")) (bytes_eq word (codes "billing"))
     Purchasing Warehouse Billing service e) [
@@ -299,7 +299,7 @@ rounds_size : (word : List ℕ) (rounds : ℕ) → rounds_of word ≡ Some round
 rounds_size word rounds e =
     let number = bound (numeral_value word) rounds_number rounds e in omega (arith, number_size word number.0 number.1)
 
-any_service_size : (word : List ℕ) (service : Service) → service_of word ≡ Some service → length word ≤ 72
+any_service_size : (word : List ℕ) (service : ServiceName) → service_of word ≡ Some service → length word ≤ 72
 any_service_size word service e = omega (arith, service_size word service e)
 
 stopped_size : (word : List ℕ) (it : Event) → stopped_of word ≡ Some it → length word ≤ 72

@@ -5,8 +5,8 @@ use Rattle.std.specs.Option.{option_map}
 use Rattle.std.specs.Str.{bytes_eq}
 use Rattle.base.specs.Entity.{Name, order_of, stock_of, account_of, is_key, prefix_of}
 use Rattle.base.specs.declared.entity.Kind.TheVariants.{Order, Stock, Account}
-use Rattle.schedules.specs.declared.event.Service.{Service}
-use Rattle.schedules.specs.declared.event.Service.TheVariants.{Purchasing, Warehouse, Billing}
+use Rattle.schedules.specs.declared.event.ServiceName.{ServiceName}
+use Rattle.schedules.specs.declared.event.ServiceName.TheVariants.{Purchasing, Warehouse, Billing}
 use Rattle.schedules.specs.declared.event.ConnectionNumber.{ConnectionNumber}
 use Rattle.schedules.specs.declared.event.ConnectionNumber.TheVariants.{Zero, One}
 use Rattle.schedules.specs.declared.event.FailureLeaves.{FailureLeaves}
@@ -44,7 +44,7 @@ entity_of word =
     if starts_with nat_eq word (prefix_of Account) then named account_of (prefix_of Account) word else None
 
 -- the service that a word is
-abbrev pub service_of : List ℕ → Option Service
+abbrev pub service_of : List ℕ → Option ServiceName
 service_of word =
     if bytes_eq word (codes "purchasing") then Some Purchasing else
     if bytes_eq word (codes "warehouse") then Some Warehouse else

@@ -7,7 +7,7 @@ ghost use Rattle.schedules.specs.Numbers.{numeral_value};
 ghost use Rattle.schedules.specs.Reading.{Reads};
 
 use crate::bounded::{Ordinal, Rounds, SeatNumber};
-use crate::event::{ConnectionNumber, FailureLeaves, Service};
+use crate::event::{ConnectionNumber, FailureLeaves, ServiceName};
 use crate::fault::LineFault;
 use crate::numbers::read_number;
 use crate::words::Word;
@@ -64,13 +64,13 @@ pub(crate) fn entity_at(alloc: Global, word: &Word) -> Result<Entity, LineFault>
     }
 }
 
-pub(crate) fn service_at(word: &Word) -> Result<Service, LineFault>
+pub(crate) fn service_at(word: &Word) -> Result<ServiceName, LineFault>
     ensures { Reads (λ service. service) result (service_of word.now) }
 {
     match word.as_str() {
-        "purchasing" => Ok(Service::Purchasing),
-        "warehouse" => Ok(Service::Warehouse),
-        "billing" => Ok(Service::Billing),
+        "purchasing" => Ok(ServiceName::Purchasing),
+        "warehouse" => Ok(ServiceName::Warehouse),
+        "billing" => Ok(ServiceName::Billing),
         _ => Err(LineFault::Bad),
     }
 }

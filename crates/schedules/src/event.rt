@@ -7,7 +7,7 @@ use stomp_wire::Way;
 
 /// A service of the world that a schedule runs.
 #[derive(Clone, Copy, Debug, PartialEq, Eq)]
-pub enum Service {
+pub enum ServiceName {
     /// The service that has the orders.
     Purchasing,
     /// The service that has the stocks.
@@ -29,7 +29,7 @@ pub enum ConnectionNumber {
 #[derive(Clone, Copy, Debug, PartialEq, Eq)]
 pub struct ConnectionName {
     /// Whose it is.
-    pub service: Service,
+    pub service: ServiceName,
     /// Which of the two.
     pub number: ConnectionNumber,
 }
@@ -80,11 +80,11 @@ pub enum Event {
     /// Sends again what was accepted at this place, counted over all brokers.
     Repeat(Ordinal),
     /// Lets the read or transaction at this place from now on fail, once.
-    Fail(Service, Ordinal, FailureLeaves),
+    Fail(ServiceName, Ordinal, FailureLeaves),
     /// Opens the store of a service anew.
-    Reopen(Service),
+    Reopen(ServiceName),
     /// Stops a service and starts it again.
-    Stop(Service),
+    Stop(ServiceName),
     /// Stops the broker and starts it again: all messages are lost.
     StopBroker,
     /// Runs so many rounds, in which each service sends, takes and drains.
@@ -94,9 +94,9 @@ pub enum Event {
     /// Shows the marks of a pair.
     Pair(Pair),
     /// Shows the frames that a service is to send.
-    Frames(Service),
+    Frames(ServiceName),
     /// Shows a service's journal.
-    Journal(Service),
+    Journal(ServiceName),
     /// Shows whether the partners of each order agree.
     Agreement,
 }

@@ -27,7 +27,7 @@ mod verb;
 mod words;
 
 pub use bounded::{Ordinal, Rounds, SeatNumber};
-pub use event::{ConnectionName, ConnectionNumber, Event, FailureLeaves, SeatCommand, Service};
+pub use event::{ConnectionName, ConnectionNumber, Event, FailureLeaves, SeatCommand, ServiceName};
 pub use fault::ScheduleFault;
 pub use laws::{
     a_number_has_one_word, a_printed_word_is_read_again, an_event_has_few_words,

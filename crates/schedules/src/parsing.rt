@@ -12,7 +12,7 @@ use crate::arguments::{
 };
 use crate::bounded::{Ordinal, Rounds};
 use crate::commands::{read_cancel, read_limit, read_place, read_receive};
-use crate::event::{ConnectionName, Event, Service};
+use crate::event::{ConnectionName, Event, ServiceName};
 use crate::fault::LineFault;
 use crate::verb::Verb;
 use crate::words::Word;
@@ -20,7 +20,7 @@ use base::{Entity, Pair};
 use std::alloc::Global;
 
 /// `SERVICE`.
-fn read_service(words: &[Word]) -> Result<Service, LineFault>
+fn read_service(words: &[Word]) -> Result<ServiceName, LineFault>
     ensures { Reads (λ service. service) result (alone service_of words.now) }
 {
     let [service] = words else {

@@ -19,10 +19,10 @@ use Rattle.reception.specs.declared.fault.ReceptionFault.TheVariants as fault
 use Rattle.schedules.specs.declared.event.ConnectionNumber.TheVariants.{Zero, One}
 use Rattle.schedules.specs.declared.outcome.Outcome.TheVariants as told
 use Rattle.sites.specs.SiteEvents as event
-use Rattle.sites.specs.Happenings.{over, IfOpen, Adds, OpensLine, CutsLine, Resends, Rises, Falls, CarriesOn, SendsRows, TakesFrame}
+use Rattle.sites.specs.Happenings.{over, IfOpen, Adds, OpensChannel, CutsChannel, Resends, Rises, Falls, CarriesOn, SendsRows, TakesFrame}
 use Rattle.sites.specs.Happenings.{TakesWhat, TakesOne, DrainsOver, DrainsOne, Happens}
-use Rattle.sites.specs.Lines.{IsAllDue}
-use Rattle.sites.specs.declared.line.Line.{Line}
+use Rattle.sites.specs.Channels.{IsAllDue}
+use Rattle.sites.specs.declared.channel.Channel.{Channel}
 use Rattle.sites.proofs.HappeningExamples.{seen, site, opened, not_fall, not_filling, not_rise, not_drain, not_taken}
 
 -- a connection, on which nothing was sent, and a frame
@@ -37,32 +37,32 @@ module _ (c : Connection) (relay : Relay) (nothing : (p : Pair) → marks_of rel
   abbrev fresh : Connection
   fresh = record c { client = record c.client { client = new_client }; decoder = nothing_held; waiting = None }
 
-  abbrev line : Line
-  line = record { connection = fresh; relay = due }
+  abbrev channel : Channel
+  channel = record { connection = fresh; relay = due }
 
-  abbrev waits : Line
-  waits = over line (record fresh { waiting = Some f })
+  abbrev waits : Channel
+  waits = over channel (record fresh { waiting = Some f })
 
-  -- with another connection a line has the same relay, and not the connection that it had
-  lines_go_over : ((over line c).relay ≡ due) × ((over line c).connection ≡ c) × (waits ≡ line → ⊥)
-  lines_go_over = (refl, refl, λ h. let none : Some f ≡ None = ap (λ (l : Line). l.connection.waiting) h in absurd (cc))
+  -- with another connection a channel has the same relay, and not the connection that it had
+  channels_go_over : ((over channel c).relay ≡ due) × ((over channel c).connection ≡ c) × (waits ≡ channel → ⊥)
+  channels_go_over = (refl, refl, λ h. let none : Some f ≡ None = ap (λ (l : Channel). l.connection.waiting) h in absurd (cc))
 
   -- an event of a connection that isn't open does nothing, and tells that
-  abbrev Never : Line → Type 0
+  abbrev Never : Channel → Type 0
   Never l = ⊥
 
-  events_ask_for_a_line : IfOpen None told.Closed (site true None) new_office (site true None) new_office Never
-      × IfOpen (Some line) told.Closed (site true None) new_office (site true None) new_office (λ l. l ≡ line)
-      × (IfOpen None told.Cut (site true None) new_office (site true None) new_office (λ l. l ≡ line) → ⊥)
-      × (IfOpen (Some line) told.Closed (site true None) new_office (site true None) new_office Never → ⊥)
-  events_ask_for_a_line = ((refl, (refl, refl)), refl, λ h. let told = h.0 in absurd (cc), λ h. h)
+  events_ask_for_a_channel : IfOpen None told.Closed (site true None) new_office (site true None) new_office Never
+      × IfOpen (Some channel) told.Closed (site true None) new_office (site true None) new_office (λ l. l ≡ channel)
+      × (IfOpen None told.Cut (site true None) new_office (site true None) new_office (λ l. l ≡ channel) → ⊥)
+      × (IfOpen (Some channel) told.Closed (site true None) new_office (site true None) new_office Never → ⊥)
+  events_ask_for_a_channel = ((refl, (refl, refl)), refl, λ h. let told = h.0 in absurd (cc), λ h. h)
 
   -- a new connection is put in its place with a relay on which nothing counts as sent, and a fault puts none there
-  lines_are_added : Adds Zero (Ok fresh) (site true None) (site true (Some line))
+  channels_are_added : Adds Zero (Ok fresh) (site true None) (site true (Some channel))
       × Adds Zero (Err (open_fault.Client client.Memory)) (site true None) (site true None)
       × (Adds Zero (Ok fresh) (site true None) (site true None) → ⊥)
-      × (Adds Zero (Err (open_fault.Client client.Memory)) (site true None) (site true (Some line)) → ⊥)
-  lines_are_added = (
+      × (Adds Zero (Err (open_fault.Client client.Memory)) (site true None) (site true (Some channel)) → ⊥)
+  channels_are_added = (
     (due, all_due, refl),
     refl,
     λ h. let none : 0 ≡ 1 = ap opened h.2 in omega (arith, none),
@@ -70,29 +70,30 @@ module _ (c : Connection) (relay : Relay) (nothing : (p : Pair) → marks_of rel
   )
 
   -- one that is open isn't opened anew; one that isn't may be refused for want of memory, and then nothing changes
-  lines_are_opened : OpensLine Zero (Some line) told.Already (site true (Some line)) new_office (site true (Some line)) new_office
-      × OpensLine Zero None (told.Refused 44) (site true None) new_office (site true None) new_office
-      × (OpensLine Zero (Some line) told.Opened (site true (Some line)) new_office (site true (Some line)) new_office → ⊥)
-  lines_are_opened = (
+  channels_are_opened : OpensChannel Zero (Some channel) told.Already (site true (Some channel)) new_office (site true
+      (Some channel)) new_office
+      × OpensChannel Zero None (told.Refused 44) (site true None) new_office (site true None) new_office
+      × (OpensChannel Zero (Some channel) told.Opened (site true (Some channel)) new_office (site true (Some channel)) new_office → ⊥)
+  channels_are_opened = (
     (refl, (refl, refl)),
     (Err (open_fault.Client client.Memory), (refl, refl), refl, refl),
     λ h. let told = h.0 in absurd (cc),
   )
 
   -- a connection that was cut isn't there any more
-  lines_are_cut : CutsLine Zero line told.Cut (site true (Some line)) new_office (site true None) new_office
-      × (CutsLine Zero line told.Cut (site true (Some line)) new_office (site true (Some line)) new_office → ⊥)
-      × (CutsLine Zero line told.Closed (site true (Some line)) new_office (site true None) new_office → ⊥)
-  lines_are_cut = (
+  channels_are_cut : CutsChannel Zero channel told.Cut (site true (Some channel)) new_office (site true None) new_office
+      × (CutsChannel Zero channel told.Cut (site true (Some channel)) new_office (site true (Some channel)) new_office → ⊥)
+      × (CutsChannel Zero channel told.Closed (site true (Some channel)) new_office (site true None) new_office → ⊥)
+  channels_are_cut = (
     (refl, (Ok tt, record { deals = (record { handed = []; deals = refl; taken = refl }, refl); earlier = refl }), refl),
     λ h. let still : 1 ≡ 0 = ap opened h.2 in omega (arith, still),
     λ h. let told = h.0 in absurd (cc),
   )
 
   -- all is due again on a connection, which stays
-  rows_are_due_again : Resends Zero line told.Due (site true (Some line)) new_office (site true (Some line)) new_office
-      × (Resends Zero line told.Due (site true (Some line)) new_office (site true None) new_office → ⊥)
-      × (Resends Zero line (told.Sent 0) (site true (Some line)) new_office (site true (Some line)) new_office → ⊥)
+  rows_are_due_again : Resends Zero channel told.Due (site true (Some channel)) new_office (site true (Some channel)) new_office
+      × (Resends Zero channel told.Due (site true (Some channel)) new_office (site true None) new_office → ⊥)
+      × (Resends Zero channel (told.Sent 0) (site true (Some channel)) new_office (site true (Some channel)) new_office → ⊥)
   rows_are_due_again = (
     (refl, (due, all_due, (refl, refl))),
     λ h. let gone : 0 ≡ 1 = ap opened h.1.2.0 in omega (arith, gone),
@@ -100,22 +101,22 @@ module _ (c : Connection) (relay : Relay) (nothing : (p : Pair) → marks_of rel
   )
 
   -- where the broker has no session nothing goes up; no octets open a connection
-  octets_go_up : Rises Zero 5 line (told.Refused 37) (site true (Some line)) new_office (site true (Some line)) new_office
-      × (Rises Zero 5 line told.Opened (site true (Some line)) new_office (site true (Some line)) new_office → ⊥)
-      × CarriesOn Up Zero 5 line (told.Refused 37) (site true (Some line)) new_office (site true (Some line)) new_office
-      × (CarriesOn Up Zero 5 line told.Opened (site true (Some line)) new_office (site true (Some line)) new_office → ⊥)
+  octets_go_up : Rises Zero 5 channel (told.Refused 37) (site true (Some channel)) new_office (site true (Some channel)) new_office
+      × (Rises Zero 5 channel told.Opened (site true (Some channel)) new_office (site true (Some channel)) new_office → ⊥)
+      × CarriesOn Up Zero 5 channel (told.Refused 37) (site true (Some channel)) new_office (site true (Some channel)) new_office
+      × (CarriesOn Up Zero 5 channel told.Opened (site true (Some channel)) new_office (site true (Some channel)) new_office → ⊥)
   octets_go_up = (goes, λ h. not_rise h.result h.tells, goes, λ h. not_rise h.result h.tells)
     where
-      goes : Rises Zero 5 line (told.Refused 37) (site true (Some line)) new_office (site true (Some line)) new_office
+      goes : Rises Zero 5 channel (told.Refused 37) (site true (Some channel)) new_office (site true (Some channel)) new_office
       goes = record { result = Err broker.NoSession; later = fresh; carries = ((refl, refl), refl, refl); tells = refl; site = refl }
 
   -- where none wait none goes down, and the connection stays
-  octets_go_down : Falls Zero 5 line (told.Carried 0) (site true (Some line)) new_office (site true (Some line)) new_office
-      × (Falls Zero 5 line told.Opened (site true (Some line)) new_office (site true (Some line)) new_office → ⊥)
-      × CarriesOn Down Zero 5 line (told.Carried 0) (site true (Some line)) new_office (site true (Some line)) new_office
+  octets_go_down : Falls Zero 5 channel (told.Carried 0) (site true (Some channel)) new_office (site true (Some channel)) new_office
+      × (Falls Zero 5 channel told.Opened (site true (Some channel)) new_office (site true (Some channel)) new_office → ⊥)
+      × CarriesOn Down Zero 5 channel (told.Carried 0) (site true (Some channel)) new_office (site true (Some channel)) new_office
   octets_go_down = (goes, λ h. not_fall h.result h.tells, goes)
     where
-      goes : Falls Zero 5 line (told.Carried 0) (site true (Some line)) new_office (site true (Some line)) new_office
+      goes : Falls Zero 5 channel (told.Carried 0) (site true (Some channel)) new_office (site true (Some channel)) new_office
       goes = record {
         result = Ok 0;
         later = fresh;
@@ -126,12 +127,13 @@ module _ (c : Connection) (relay : Relay) (nothing : (p : Pair) → marks_of rel
       }
 
   -- before CONNECTED no row is sent; none opens a connection
-  no_row_is_sent : SendsRows seen orders Zero 64 line (told.Sent 0) (site true (Some line)) new_office (site true (Some line)) new_office
-      × (SendsRows seen orders Zero 64 line told.Opened (site true (Some line)) new_office (site true (Some line)) new_office → ⊥)
+  no_row_is_sent : SendsRows seen orders Zero 64 channel (told.Sent 0) (site true (Some channel)) new_office (site true
+      (Some channel)) new_office
+      × (SendsRows seen orders Zero 64 channel told.Opened (site true (Some channel)) new_office (site true (Some channel)) new_office → ⊥)
   no_row_is_sent = (
     record {
       result = Ok 0;
-      later = line;
+      later = channel;
       idle = (refl, refl, refl);
       reads = λ connected. absurd (cc);
       keeps = λ clean t left. left;
@@ -146,9 +148,9 @@ module _ (c : Connection) (relay : Relay) (nothing : (p : Pair) → marks_of rel
   )
 
   -- for want of memory a frame isn't taken, and waits; no frame opens a connection
-  frames_are_taken : TakesFrame seen orders Zero line f (told.Refused 44) (site true (Some line)) new_office
+  frames_are_taken : TakesFrame seen orders Zero channel f (told.Refused 44) (site true (Some channel)) new_office
       (site true (Some waits)) new_office
-      × (TakesFrame seen orders Zero line f told.Opened (site true (Some line)) new_office (site true (Some line)) new_office → ⊥)
+      × (TakesFrame seen orders Zero channel f told.Opened (site true (Some channel)) new_office (site true (Some channel)) new_office → ⊥)
   frames_are_taken = (
     record {
       result = Err (fault.Client client.Memory);
@@ -163,11 +165,13 @@ module _ (c : Connection) (relay : Relay) (nothing : (p : Pair) → marks_of rel
   )
 
   -- no whole frame is nothing to do, and a decoder without memory is told; the frame that waits is the one that is taken
-  frames_come : TakesWhat seen orders (Ok None) Zero line told.Idle (site true (Some line)) new_office (site true (Some line)) new_office
-      × TakesWhat seen orders (Err frame.Memory) Zero line (told.Refused 44) (site true (Some line)) new_office
-      (site true (Some line)) new_office
+  frames_come : TakesWhat seen orders (Ok None) Zero channel told.Idle (site true (Some channel)) new_office (site true
+      (Some channel)) new_office
+      × TakesWhat seen orders (Err frame.Memory) Zero channel (told.Refused 44) (site true (Some channel)) new_office
+      (site true (Some channel)) new_office
       × TakesOne seen orders Zero waits (told.Refused 44) (site true (Some waits)) new_office (site true (Some waits)) new_office
-      × (TakesWhat seen orders (Ok None) Zero line told.Held (site true (Some line)) new_office (site true (Some line)) new_office → ⊥)
+      × (TakesWhat seen orders (Ok None) Zero channel told.Held (site true (Some channel)) new_office (site true
+      (Some channel)) new_office → ⊥)
       × (TakesOne seen orders Zero waits told.Opened (site true (Some waits)) new_office (site true (Some waits)) new_office → ⊥)
   frames_come = (
     (refl, (refl, refl)),
@@ -177,7 +181,7 @@ module _ (c : Connection) (relay : Relay) (nothing : (p : Pair) → marks_of rel
     no_opened,
   )
     where
-      taken_again : TakesFrame seen orders Zero line f (told.Refused 44) (site true (Some waits)) new_office
+      taken_again : TakesFrame seen orders Zero channel f (told.Refused 44) (site true (Some waits)) new_office
           (site true (Some waits)) new_office
       taken_again = record {
         result = Err (fault.Client client.Memory);
@@ -195,15 +199,16 @@ module _ (c : Connection) (relay : Relay) (nothing : (p : Pair) → marks_of rel
       no_opened (Ok (Some g), later, next, what) = not_taken what.result what.tells
 
   -- a held letter isn't handled for want of memory; where the connection isn't open it is asked for alone
-  letters_are_drained_over : DrainsOver seen orders Zero line (told.Refused 44) (site true (Some line)) new_office
-      (site true (Some line)) new_office
-      × (DrainsOver seen orders Zero line told.Opened (site true (Some line)) new_office (site true (Some line)) new_office → ⊥)
-      × DrainsOne seen orders Zero (Some line) (told.Refused 44) (site true (Some line)) new_office (site true (Some line)) new_office
+  letters_are_drained_over : DrainsOver seen orders Zero channel (told.Refused 44) (site true (Some channel)) new_office
+      (site true (Some channel)) new_office
+      × (DrainsOver seen orders Zero channel told.Opened (site true (Some channel)) new_office (site true (Some channel)) new_office → ⊥)
+      × DrainsOne seen orders Zero (Some channel) (told.Refused 44) (site true (Some channel)) new_office (site true
+      (Some channel)) new_office
       × (DrainsOne seen orders Zero None told.Opened (site true None) new_office (site true None) new_office → ⊥)
   letters_are_drained_over = (drained, λ h. not_drain h.result h.tells, drained, λ h. not_drain h.result h.tells)
     where
-      drained : DrainsOver seen orders Zero line (told.Refused 44) (site true (Some line)) new_office
-          (site true (Some line)) new_office
+      drained : DrainsOver seen orders Zero channel (told.Refused 44) (site true (Some channel)) new_office
+          (site true (Some channel)) new_office
       drained = record {
         result = Err (fault.Client client.Memory);
         client = fresh.client;
@@ -215,14 +220,14 @@ module _ (c : Connection) (relay : Relay) (nothing : (p : Pair) → marks_of rel
       }
 
   -- each event is that of its name: one of a connection that isn't open tells `Closed`, and an open one isn't opened anew
-  events_happen : Happens seen orders (event.Fills One 64) told.Closed (site true (Some line)) new_office
-      (site true (Some line)) new_office
-      × Happens seen orders (event.Opens Zero) told.Already (site true (Some line)) new_office (site true (Some line)) new_office
+  events_happen : Happens seen orders (event.Fills One 64) told.Closed (site true (Some channel)) new_office
+      (site true (Some channel)) new_office
+      × Happens seen orders (event.Opens Zero) told.Already (site true (Some channel)) new_office (site true (Some channel)) new_office
       × Happens seen orders (event.Takes Zero) (told.Refused 44) (site true (Some waits)) new_office (site true (Some waits)) new_office
-      × (Happens seen orders (event.Fills One 64) (told.Sent 0) (site true (Some line)) new_office
-      (site true (Some line)) new_office → ⊥)
-      × (Happens seen orders (event.Opens One) told.Already (site true (Some line)) new_office
-      (site true (Some line)) new_office → ⊥)
+      × (Happens seen orders (event.Fills One 64) (told.Sent 0) (site true (Some channel)) new_office
+      (site true (Some channel)) new_office → ⊥)
+      × (Happens seen orders (event.Opens One) told.Already (site true (Some channel)) new_office
+      (site true (Some channel)) new_office → ⊥)
   events_happen = (
     (refl, (refl, refl)),
     (refl, (refl, refl)),
@@ -231,7 +236,7 @@ module _ (c : Connection) (relay : Relay) (nothing : (p : Pair) → marks_of rel
     no_opening,
   )
     where
-      no_opening : Happens seen orders (event.Opens One) told.Already (site true (Some line)) new_office
-          (site true (Some line)) new_office → ⊥
+      no_opening : Happens seen orders (event.Opens One) told.Already (site true (Some channel)) new_office
+          (site true (Some channel)) new_office → ⊥
       no_opening (Ok d, opens, tells, adds) = absurd (cc)
       no_opening (Err cause, opens, tells, adds) = absurd (cc)

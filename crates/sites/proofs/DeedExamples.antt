@@ -28,10 +28,10 @@ use Rattle.schedules.specs.declared.event.ConnectionNumber.TheVariants.{Zero, On
 use Rattle.schedules.specs.declared.outcome.Outcome.{Outcome}
 use Rattle.schedules.specs.declared.outcome.Outcome.TheVariants as told
 use Rattle.sites.specs.Cursors.{KnowsEach, AreRight, KeepsRight}
-use Rattle.sites.specs.Deeds.{lines_of, CameOn, CommandMay, FrameMay, HeldMay, SiteMay, DoubtStays, Matches, Goes}
+use Rattle.sites.specs.Deeds.{channels_of, CameOn, CommandMay, FrameMay, HeldMay, SiteMay, DoubtStays, Matches, Goes}
 use Rattle.sites.specs.SiteEvents as event
 use Rattle.sites.specs.SiteEvents.{SiteEvent}
-use Rattle.sites.specs.declared.line.Line.{Line}
+use Rattle.sites.specs.declared.channel.Channel.{Channel}
 use Rattle.sites.specs.declared.site.Site.{Site}
 use Rattle.sites.proofs.HappeningExamples.{asked}
 
@@ -132,37 +132,37 @@ abbrev lost_state : OrderTables
 lost_state = record empty { journal = placing ∷ [] }
 
 module _ (c : Connection) (relay : Relay) (f : Content) where
-  -- a line with a cursor of so many rows, on which a frame waits
+  -- a channel with a cursor of so many rows, on which a frame waits
   abbrev cursor : ℕ → Relay
   cursor rows = record relay { behind = None; rows = rows }
 
   abbrev waiting : Option Content → Connection
   waiting frame = record c { waiting = frame }
 
-  abbrev line : ℕ → Line
-  line rows = record { connection = waiting (Some f); relay = cursor rows }
+  abbrev channel : ℕ → Channel
+  channel rows = record { connection = waiting (Some f); relay = cursor rows }
 
   abbrev Service : Type 0
   Service = Site ℕ Store (Option OrderState) OrderCommand
 
-  abbrev site : Failing Store → Option Line → Service
+  abbrev site : Failing Store → Option Channel → Service
   site e l = record { endpoint = e; zero = l; one = None }
 
-  -- each number has its own line
-  lines_are_of_a_site : (lines_of (site (store 0 before) (Some (line 0))) Zero ≡ Some (line 0))
-      × (lines_of (site (store 0 before) (Some (line 0))) One ≡ None)
-      × (lines_of (site (store 0 before) (Some (line 0))) One ≡ Some (line 0) → ⊥)
-  lines_are_of_a_site = (refl, refl, λ h. absurd (cc))
+  -- each number has its own channel
+  channels_are_of_a_site : (channels_of (site (store 0 before) (Some (channel 0))) Zero ≡ Some (channel 0))
+      × (channels_of (site (store 0 before) (Some (channel 0))) One ≡ None)
+      × (channels_of (site (store 0 before) (Some (channel 0))) One ≡ Some (channel 0) → ⊥)
+  channels_are_of_a_site = (refl, refl, λ h. absurd (cc))
 
   -- the frame that waits came, and no longer one; on no connection none did
-  frames_came : CameOn (Some (line 0)) f × (CameOn None f → ⊥) × (CameOn (Some (line 0)) (record f { body = 65 ∷ f.body }) → ⊥)
+  frames_came : CameOn (Some (channel 0)) f × (CameOn None f → ⊥) × (CameOn (Some (channel 0)) (record f { body = 65 ∷ f.body }) → ⊥)
   frames_came = ((waiting None, (refl, refl)), λ h. h, longer)
     where
       body_of : Option Content → ℕ
       body_of None = 0
       body_of (Some g) = length g.body
 
-      longer : CameOn (Some (line 0)) (record f { body = 65 ∷ f.body }) → ⊥
+      longer : CameOn (Some (channel 0)) (record f { body = 65 ∷ f.body }) → ⊥
       longer h = let same : Some (record f { body = 65 ∷ f.body }) ≡ Some f = let frame = h.1.0 in cc in
           let more : suc (length f.body) ≡ length f.body = ap body_of same in omega (arith, more)
 
@@ -202,8 +202,8 @@ module _ (c : Connection) (relay : Relay) (f : Content) where
   relays_know_each = (λ t left. (omega arith, λ x upto some. absurd upto), λ h. let rows = (h before refl).0 in omega (arith, rows))
 
   -- so are those of open connections; where none is open there is nothing to be right
-  cursors_are_right : AreRight seen orders (site (store 0 before) (Some (line 0))) × AreRight seen orders (site (store 0 before) None)
-      × (AreRight seen orders (site (store 0 before) (Some (line 1))) → ⊥)
+  cursors_are_right : AreRight seen orders (site (store 0 before) (Some (channel 0))) × AreRight seen orders (site (store 0 before) None)
+      × (AreRight seen orders (site (store 0 before) (Some (channel 1))) → ⊥)
   cursors_are_right = ((relays_know_each.0, tt), (tt, tt), λ h. relays_know_each.1 h.0)
 
   -- where no connection is open behind an event, all cursors stay right

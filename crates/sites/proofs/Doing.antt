@@ -11,15 +11,16 @@ use Rattle.relay.specs.declared.fault.RelayFault.TheVariants as fault
 use Rattle.schedules.specs.declared.event.ConnectionNumber.{ConnectionNumber}
 use Rattle.schedules.specs.declared.outcome.Outcome.{Outcome}
 use Rattle.sites.specs.Happenings.{Falls, SendsRows, TakesFrame, TakesWhat, TakesOne, DrainsOver, DrainsOne, over, with_store, waiting_of}
-use Rattle.sites.specs.Lines.{line_of, with_line, TakesLine}
+use Rattle.sites.specs.Channels.{channel_of, with_channel, TakesChannel}
 use Rattle.sites.specs.Outcomes.{decoder_fate, fall_fate, fill_fate, taken_fate, drain_fate}
-use Rattle.sites.specs.declared.line.Line.{Line}
+use Rattle.sites.specs.declared.channel.Channel.{Channel}
 use Rattle.sites.specs.declared.site.Site.{Site}
 use Rattle.sites.proofs.Fates.{with_again, meets_again, took_open}
 
-module _ {H K S C : Type 0} (number : ConnectionNumber) (k : Option Line) (l : Line) (outcome : Outcome) (s : Site H K S C) (from : Office)
+module _ {H K S C : Type 0} (number : ConnectionNumber) (k : Option Channel) (l : Channel) (outcome : Outcome) (s : Site H K S C)
+    (from : Office)
     (t : Site H K S C) (to : Office) where
-  pub falls_again : (most : ℕ) → Falls number most l outcome (with_line number k s) from t to → Falls number most l outcome s from t to
+  pub falls_again : (most : ℕ) → Falls number most l outcome (with_channel number k s) from t to → Falls number most l outcome s from t to
   falls_again most h = record {
     result = h.result;
     later = h.later;
@@ -30,7 +31,7 @@ module _ {H K S C : Type 0} (number : ConnectionNumber) (k : Option Line) (l : L
   }
 
   module _ (seen : K → Seen (Tables S C)) (service : Service S C) where
-    pub sends_again : (limit : ℕ) → SendsRows seen service number limit l outcome (with_line number k s) from t to
+    pub sends_again : (limit : ℕ) → SendsRows seen service number limit l outcome (with_channel number k s) from t to
         → SendsRows seen service number limit l outcome s from t to
     sends_again limit h = record {
       result = h.result;
@@ -46,7 +47,7 @@ module _ {H K S C : Type 0} (number : ConnectionNumber) (k : Option Line) (l : L
       meets = meets_again (fill_fate h.result) number h.later k (with_store t.endpoint s) from t to h.meets;
     }
 
-    pub frame_again : (f : Content) → TakesFrame seen service number l f outcome (with_line number k s) from t to
+    pub frame_again : (f : Content) → TakesFrame seen service number l f outcome (with_channel number k s) from t to
         → TakesFrame seen service number l f outcome s from t to
     frame_again f h = record {
       result = h.result;
@@ -59,7 +60,7 @@ module _ {H K S C : Type 0} (number : ConnectionNumber) (k : Option Line) (l : L
           (over l (record l.connection { client = h.client; waiting = waiting_of h.result f })) k (with_store t.endpoint s) from t to h.meets;
     }
 
-    pub drains_again : DrainsOver seen service number l outcome (with_line number k s) from t to
+    pub drains_again : DrainsOver seen service number l outcome (with_channel number k s) from t to
         → DrainsOver seen service number l outcome s from t to
     drains_again h = record {
       result = h.result;
@@ -72,24 +73,26 @@ module _ {H K S C : Type 0} (number : ConnectionNumber) (k : Option Line) (l : L
           from t to h.meets;
     }
 
-    pub what_again : (came : Result (Option Content) FrameFault) → TakesWhat seen service came number l outcome (with_line number k s) from t to
+    pub what_again : (came : Result (Option Content) FrameFault)
+        → TakesWhat seen service came number l outcome (with_channel number k s) from t to
         → TakesWhat seen service came number l outcome s from t to
     what_again (Ok None) h = (h.0, (h.1.0 ∙ with_again number (Some l) k s, h.1.1))
     what_again (Ok (Some f)) h = frame_again f h
     what_again (Err fault) h = (h.0, meets_again (decoder_fate fault) number l k s from t to h.1)
 
-module _ {H K S C : Type 0} (seen : K → Seen (Tables S C)) (service : Service S C) (number : ConnectionNumber) (k : Option Line) (l : Line)
+module _ {H K S C : Type 0} (seen : K → Seen (Tables S C)) (service : Service S C) (number : ConnectionNumber) (k : Option Channel)
+    (l : Channel)
     (outcome : Outcome) (s : Site H K S C) (from : Office) (t : Site H K S C) (to : Office) where
-  pub takes_again : TakesOne seen service number l outcome (with_line number k s) from t to
+  pub takes_again : TakesOne seen service number l outcome (with_channel number k s) from t to
       → TakesOne seen service number l outcome s from t to
   takes_again h = (h.0, h.1, h.2, what_again number k (over l h.1) outcome s from t to seen service h.0 h.3)
 
-module _ {H K S C : Type 0} (seen : K → Seen (Tables S C)) (service : Service S C) (number : ConnectionNumber) (l : Line)
+module _ {H K S C : Type 0} (seen : K → Seen (Tables S C)) (service : Service S C) (number : ConnectionNumber) (l : Channel)
     (outcome : Outcome) (s : Site H K S C) (from : Office) (t : Site H K S C) (to : Office) where
   -- a held letter was handled over a connection that was open
-  pub drains_open : (between : Site H K S C) (r : Option Line) → r ≡ Some l → TakesLine number s between r
+  pub drains_open : (between : Site H K S C) (r : Option Channel) → r ≡ Some l → TakesChannel number s between r
       → DrainsOver seen service number l outcome between from t to
-      → DrainsOne seen service number (line_of number s) outcome s from t to
+      → DrainsOne seen service number (channel_of number s) outcome s from t to
   drains_open between r is takes d =
       let took = took_open number s between r l is takes in
       subst (λ o. DrainsOne seen service number o outcome s from t to) (sym took.0)

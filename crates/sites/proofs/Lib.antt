@@ -5,7 +5,7 @@ mod Going
 mod Sending
 mod Telling
 mod OutcomeExamples
-mod LineExamples
+mod ChannelExamples
 mod HappeningExamples
 mod ConnectionExamples
 mod DeedExamples

@@ -19,13 +19,13 @@ use Rattle.relay.specs.declared.relay.Relay.{Relay}
 use Rattle.schedules.specs.declared.event.ConnectionNumber.{ConnectionNumber}
 use Rattle.schedules.specs.declared.outcome.Outcome.{Outcome}
 use Rattle.sites.specs.Happenings.{SendsRows, with_store}
-use Rattle.sites.specs.Lines.{Meets, sending}
+use Rattle.sites.specs.Channels.{Meets, sending}
 use Rattle.sites.specs.Outcomes.{fill_told, fill_fate}
 use Rattle.sites.specs.declared.fate.Fate.{Fate}
-use Rattle.sites.specs.declared.line.Line.{Line}
+use Rattle.sites.specs.declared.channel.Channel.{Channel}
 use Rattle.sites.specs.declared.site.Site.{Site}
 
-module _ {H K S C : Type 0} (seen : K → Seen (Tables S C)) (service : Service S C) (number : ConnectionNumber) (limit : ℕ) (l : Line)
+module _ {H K S C : Type 0} (seen : K → Seen (Tables S C)) (service : Service S C) (number : ConnectionNumber) (limit : ℕ) (l : Channel)
     (outcome : Outcome) (s : Site H K S C) (from : Office) (t : Site H K S C) (to : Office) where
   pub sends_on : (later : Relay) (client : SeenClient ℕ) (store : Failing K) (r : Result ℕ RelayFault) (fate : Fate)
       → IfSome (idle_answer l.connection.client.client.stage)
@@ -42,7 +42,7 @@ module _ {H K S C : Type 0} (seen : K → Seen (Tables S C)) (service : Service 
       → Meets fate number (record l { connection = record l.connection { client = client }; relay = later }) (with_store store s) from t to
       → SendsRows seen service number limit l outcome s from t to
   sends_on later client store r fate idle reads keeps unused fills knows told fated stored meets =
-      let last : Line = record l { connection = record l.connection { client = client }; relay = later } in
+      let last : Channel = record l { connection = record l.connection { client = client }; relay = later } in
       record {
         result = r;
         later = last;

@@ -7,11 +7,11 @@ use Rattle.endpoint.specs.Deeds.{kept}
 use Rattle.endpoint.specs.Matches.{AllMatch}
 use Rattle.relay.specs.Knowing.{Knows}
 use Rattle.relay.specs.declared.relay.Relay.{Relay}
-use Rattle.sites.specs.Deeds.{Goes, SiteMay, lines_of}
+use Rattle.sites.specs.Deeds.{Goes, SiteMay, channels_of}
 use Rattle.mail.specs.Offices.{Office}
 use Rattle.schedules.specs.declared.outcome.Outcome.{Outcome}
 use Rattle.sites.specs.Happenings.{Happens}
-use Rattle.sites.specs.Lines.{LinesHave}
+use Rattle.sites.specs.Channels.{ChannelsHave}
 use Rattle.sites.specs.SiteEvents.{SiteEvent}
 use Rattle.sites.specs.declared.site.Site.{Site}
 
@@ -21,11 +21,11 @@ KnowsEach {S} {C} service may_leave r = (t : Tables S C) → may_leave t → Kno
 
 -- the cursors of a service's open connections are right of each content that a stop may leave of its store
 abbrev pub AreRight : {H K S C : Type 0} → (K → Seen (Tables S C)) → Service S C → Site H K S C → Type 0
-AreRight seen service s = LinesHave (KnowsEach service (seen s.endpoint.keep).may_leave) s
+AreRight seen service s = ChannelsHave (KnowsEach service (seen s.endpoint.keep).may_leave) s
 
 -- where they were right they are so behind an event, if no file is in doubt
 abbrev pub KeepsRight : {H K S C : Type 0} → (K → Seen (Tables S C)) → Service S C → SiteEvent C → Outcome → Site H K S C → Office
     → Site H K S C → Office → Type 0
 KeepsRight seen service e outcome s from t to = (seen t.endpoint.keep).doubt ≡ 0 → AllMatch service (seen s.endpoint.keep).may_leave
-    → Happens seen service e outcome s from t to → Goes seen s t service (SiteMay service (lines_of s) e outcome)
+    → Happens seen service e outcome s from t to → Goes seen s t service (SiteMay service (channels_of s) e outcome)
     → AreRight seen service s → AreRight seen service t

@@ -22,20 +22,20 @@ use Rattle.schedules.specs.declared.event.ConnectionNumber.{ConnectionNumber}
 use Rattle.schedules.specs.declared.outcome.Outcome.{Outcome}
 use Rattle.schedules.specs.declared.outcome.Outcome.TheVariants.{Committed, Handled, Repeated, Held, Settled, Idle, Drained, Refused, NotDone}
 use Rattle.sites.specs.Happenings.{row_of}
-use Rattle.sites.specs.Lines.{line_of}
+use Rattle.sites.specs.Channels.{channel_of}
 use Rattle.sites.specs.SiteEvents.{SiteEvent, Commits, Takes, Drains}
-use Rattle.sites.specs.declared.line.Line.{Line}
+use Rattle.sites.specs.declared.channel.Channel.{Channel}
 use Rattle.sites.specs.declared.site.Site.{Site}
 
 -- the connections of a service by number, where they are open
-abbrev pub Lines : Type 0
-Lines = ConnectionNumber → Option Line
+abbrev pub Channels : Type 0
+Channels = ConnectionNumber → Option Channel
 
-abbrev pub lines_of : {H K S C : Type 0} → Site H K S C → Lines
-lines_of s number = line_of number s
+abbrev pub channels_of : {H K S C : Type 0} → Site H K S C → Channels
+channels_of s number = channel_of number s
 
 -- this frame is the next one that came on a connection
-abbrev pub CameOn : Option Line → Content → Type 0
+abbrev pub CameOn : Option Channel → Content → Type 0
 CameOn None f = ⊥
 CameOn (Some l) f = (later : Connection) × TakesNext l.connection later (Ok (Some f))
 
@@ -68,11 +68,11 @@ module _ {S C : Type 0} (service : Service S C) where
   HeldMay _ x d = ⊥
 
   -- each event: what isn't named here does nothing to the tables
-  abbrev pub SiteMay : Lines → SiteEvent C → Outcome → Kept C → Deed C → Type 0
-  SiteMay lines (Commits asked) outcome x d = CommandMay (row_of asked) outcome x d
-  SiteMay lines (Takes number) outcome x d = FrameMay (CameOn (lines number)) outcome x d
-  SiteMay lines (Drains number) outcome x d = HeldMay outcome x d
-  SiteMay lines _ outcome x d = d ≡ Nothing
+  abbrev pub SiteMay : Channels → SiteEvent C → Outcome → Kept C → Deed C → Type 0
+  SiteMay channels (Commits asked) outcome x d = CommandMay (row_of asked) outcome x d
+  SiteMay channels (Takes number) outcome x d = FrameMay (CameOn (channels number)) outcome x d
+  SiteMay channels (Drains number) outcome x d = HeldMay outcome x d
+  SiteMay channels _ outcome x d = d ≡ Nothing
 
 module _ {H K S C : Type 0} (seen : K → Seen (Tables S C)) (s t : Site H K S C) where
   -- doubt never falls

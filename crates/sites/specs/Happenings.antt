@@ -43,10 +43,10 @@ use Rattle.schedules.specs.declared.outcome.Outcome.{Outcome}
 use Rattle.schedules.specs.declared.outcome.Outcome.TheVariants as told
 use Rattle.sites.specs.SiteEvents.{SiteEvent}
 use Rattle.sites.specs.SiteEvents as event
-use Rattle.sites.specs.Lines.{sending, IsAllDue, Leaves, line_of, with_line, Same, CutsBoth, After, Meets, MeetsAlone}
+use Rattle.sites.specs.Channels.{sending, IsAllDue, Leaves, channel_of, with_channel, Same, CutsBoth, After, Meets, MeetsAlone}
 use Rattle.sites.specs.Outcomes.{commit_told, open_told, fill_told, fill_fate, rise_told, decoder_told, decoder_fate, fall_told, fall_fate}
 use Rattle.sites.specs.Outcomes.{taken_told, taken_fate, drain_told, drain_fate, end_told}
-use Rattle.sites.specs.declared.line.Line.{Line}
+use Rattle.sites.specs.declared.channel.Channel.{Channel}
 use Rattle.sites.specs.declared.site.Site.{Site}
 
 -- the journal's row of a seat's command
@@ -58,8 +58,8 @@ abbrev pub leaves_of : FailureLeaves → LeftTables
 leaves_of failure.Old = OldTables
 leaves_of failure.New = NewTables
 
--- the line with this connection
-abbrev pub over : Line → Connection → Line
+-- the channel with this connection
+abbrev pub over : Channel → Connection → Channel
 over l c = record l { connection = c }
 
 -- the frame that waits behind an answer: that which wasn't taken
@@ -69,7 +69,8 @@ waiting_of (Err fault) f = waiting_after fault f
 
 module _ {H K S C : Type 0} where
   -- an event of a connection that isn't open does nothing; of one that is, this
-  abbrev pub IfOpen : Option Line → Outcome → (s : Site H K S C) (from : Office) (t : Site H K S C) (to : Office) → (Line → Type 0) → Type 0
+  abbrev pub IfOpen : Option Channel → Outcome → (s : Site H K S C) (from : Office) (t : Site H K S C) (to : Office) → (Channel
+      → Type 0) → Type 0
   IfOpen None outcome s from t to Does = (outcome ≡ told.Closed) × Same s from t to
   IfOpen (Some l) outcome s from t to Does = Does l
 
@@ -82,35 +83,35 @@ module _ {H K S C : Type 0} where
   -- a new connection, on which nothing counts as sent; or why there is none
   abbrev pub Adds : ConnectionNumber → Result Connection OpenFault → (s t : Site H K S C) → Type 0
   Adds number (Ok c) s t = (relay : Relay) × IsAllDue relay
-      × (t ≡ with_line number (Some (record { connection = c; relay = relay })) s)
+      × (t ≡ with_channel number (Some (record { connection = c; relay = relay })) s)
   Adds number (Err fault) s t = t ≡ s
 
-  abbrev pub OpensLine : ConnectionNumber → Option Line → Outcome → Site H K S C → Office → Site H K S C → Office → Type 0
-  OpensLine number (Some l) outcome s from t to = (outcome ≡ told.Already) × Same s from t to
-  OpensLine number None outcome s from t to =
+  abbrev pub OpensChannel : ConnectionNumber → Option Channel → Outcome → Site H K S C → Office → Site H K S C → Office → Type 0
+  OpensChannel number (Some l) outcome s from t to = (outcome ≡ told.Already) × Same s from t to
+  OpensChannel number None outcome s from t to =
       (r : Result Connection OpenFault) × Opens from to r × (outcome ≡ open_told r) × Adds number r s t
 
-  abbrev pub CutsLine : ConnectionNumber → Line → Outcome → Site H K S C → Office → Site H K S C → Office → Type 0
-  CutsLine number l outcome s from t to =
-      (outcome ≡ told.Cut) × Leaves (Some l) from to × (t ≡ with_line number None s)
+  abbrev pub CutsChannel : ConnectionNumber → Channel → Outcome → Site H K S C → Office → Site H K S C → Office → Type 0
+  CutsChannel number l outcome s from t to =
+      (outcome ≡ told.Cut) × Leaves (Some l) from to × (t ≡ with_channel number None s)
 
   -- all rows are due again
-  abbrev pub Resends : ConnectionNumber → Line → Outcome → Site H K S C → Office → Site H K S C → Office → Type 0
+  abbrev pub Resends : ConnectionNumber → Channel → Outcome → Site H K S C → Office → Site H K S C → Office → Type 0
   Resends number l outcome s from t to = (outcome ≡ told.Due)
-      × ((relay : Relay) × IsAllDue relay × Same (with_line number (Some (record l { relay = relay })) s) from t to)
+      × ((relay : Relay) × IsAllDue relay × Same (with_channel number (Some (record l { relay = relay })) s) from t to)
 
   -- ---- octets
 
   -- the first octets that wait went over
-  pub record Rises (number : ConnectionNumber) (most : ℕ) (l : Line) (outcome : Outcome) (s : Site H K S C) (from : Office)
+  pub record Rises (number : ConnectionNumber) (most : ℕ) (l : Channel) (outcome : Outcome) (s : Site H K S C) (from : Office)
       (t : Site H K S C) (to : Office) : Type 0 where
     pub result : Result ℕ BrokerFault
     pub later : Connection
     pub carries : CarriesUp most l.connection from later to result
     pub tells : outcome ≡ rise_told result
-    pub site : t ≡ with_line number (Some (over l later)) s
+    pub site : t ≡ with_channel number (Some (over l later)) s
 
-  pub record Falls (number : ConnectionNumber) (most : ℕ) (l : Line) (outcome : Outcome) (s : Site H K S C) (from : Office)
+  pub record Falls (number : ConnectionNumber) (most : ℕ) (l : Channel) (outcome : Outcome) (s : Site H K S C) (from : Office)
       (t : Site H K S C) (to : Office) : Type 0 where
     pub result : Result ℕ FrameFault
     pub later : Connection
@@ -119,7 +120,7 @@ module _ {H K S C : Type 0} where
     pub tells : outcome ≡ fall_told result
     pub meets : Meets (fall_fate result) number (over l later) s between t to
 
-  abbrev pub CarriesOn : Way → ConnectionNumber → ℕ → Line → Outcome → Site H K S C → Office → Site H K S C → Office → Type 0
+  abbrev pub CarriesOn : Way → ConnectionNumber → ℕ → Channel → Outcome → Site H K S C → Office → Site H K S C → Office → Type 0
   CarriesOn Up number most l outcome s from t to = Rises number most l outcome s from t to
   CarriesOn Down number most l outcome s from t to = Falls number most l outcome s from t to
 
@@ -144,10 +145,10 @@ module _ {H K S C : Type 0} (seen : K → Seen (Tables S C)) (service : Service 
 
   -- The rows that are due are sent, up to the limit; before CONNECTED none, and the store isn't called. Where the tables match their
   -- journal and the relay's cursor was right, none is left out, and it is right afterwards.
-  pub record SendsRows (number : ConnectionNumber) (limit : ℕ) (l : Line) (outcome : Outcome) (s : Site H K S C) (from : Office)
+  pub record SendsRows (number : ConnectionNumber) (limit : ℕ) (l : Channel) (outcome : Outcome) (s : Site H K S C) (from : Office)
       (t : Site H K S C) (to : Office) : Type 0 where
     pub result : Result ℕ RelayFault
-    pub later : Line
+    pub later : Channel
     pub idle : IfSome (idle_answer l.connection.client.client.stage)
         (λ answer. (result ≡ answer) × (t.endpoint ≡ s.endpoint) × (sending later ≡ sending l))
     pub reads : l.connection.client.client.stage ≡ Connected
@@ -166,7 +167,7 @@ module _ {H K S C : Type 0} (seen : K → Seen (Tables S C)) (service : Service 
   -- ---- receiving
 
   -- a frame is taken, from a connection that is this behind it
-  pub record TakesFrame (number : ConnectionNumber) (l : Line) (f : Content) (outcome : Outcome) (s : Site H K S C) (from : Office)
+  pub record TakesFrame (number : ConnectionNumber) (l : Channel) (f : Content) (outcome : Outcome) (s : Site H K S C) (from : Office)
       (t : Site H K S C) (to : Office) : Type 0 where
     pub result : Result Taken ReceptionFault
     pub client : SeenClient ℕ
@@ -178,20 +179,20 @@ module _ {H K S C : Type 0} (seen : K → Seen (Tables S C)) (service : Service 
         (over l (record l.connection { client = client; waiting = waiting_of result f })) (with_store t.endpoint s) from t to
 
   -- what came: no whole frame, and nothing is done; a frame; or a fault of the octets
-  abbrev pub TakesWhat : Result (Option Content) FrameFault → ConnectionNumber → Line → Outcome → Site H K S C → Office → Site H K S C
+  abbrev pub TakesWhat : Result (Option Content) FrameFault → ConnectionNumber → Channel → Outcome → Site H K S C → Office → Site H K S C
       → Office → Type 0
-  TakesWhat (Ok None) number l outcome s from t to = (outcome ≡ told.Idle) × Same (with_line number (Some l) s) from t to
+  TakesWhat (Ok None) number l outcome s from t to = (outcome ≡ told.Idle) × Same (with_channel number (Some l) s) from t to
   TakesWhat (Ok (Some f)) number l outcome s from t to = TakesFrame number l f outcome s from t to
   TakesWhat (Err fault) number l outcome s from t to = (outcome ≡ decoder_told fault) × Meets (decoder_fate fault) number l s from t to
 
-  abbrev pub TakesOne : ConnectionNumber → Line → Outcome → Site H K S C → Office → Site H K S C → Office → Type 0
+  abbrev pub TakesOne : ConnectionNumber → Channel → Outcome → Site H K S C → Office → Site H K S C → Office → Type 0
   TakesOne number l outcome s from t to = (came : Result (Option Content) FrameFault) × (later : Connection)
       × TakesNext l.connection later came × TakesWhat came number (over l later) outcome s from t to
 
   -- ---- held letters
 
   -- the first held letter that is next is handled; a connected client settles it
-  pub record DrainsOver (number : ConnectionNumber) (l : Line) (outcome : Outcome) (s : Site H K S C) (from : Office) (t : Site H K S C)
+  pub record DrainsOver (number : ConnectionNumber) (l : Channel) (outcome : Outcome) (s : Site H K S C) (from : Office) (t : Site H K S C)
       (to : Office) : Type 0 where
     pub result : Result (Option Drained) ReceptionFault
     pub client : SeenClient ℕ
@@ -209,7 +210,7 @@ module _ {H K S C : Type 0} (seen : K → Seen (Tables S C)) (service : Service 
     pub tells : outcome ≡ drain_told result
     pub meets : MeetsAlone (drain_fate result) (with_store t.endpoint s) from t to
 
-  abbrev pub DrainsOne : ConnectionNumber → Option Line → Outcome → Site H K S C → Office → Site H K S C → Office → Type 0
+  abbrev pub DrainsOne : ConnectionNumber → Option Channel → Outcome → Site H K S C → Office → Site H K S C → Office → Type 0
   DrainsOne number None outcome s from t to = DrainsAlone outcome s from t to
   DrainsOne number (Some l) outcome s from t to = DrainsOver number l outcome s from t to
 
@@ -236,18 +237,18 @@ module _ {H K S C : Type 0} (seen : K → Seen (Tables S C)) (service : Service 
 
   abbrev pub Happens : SiteEvent C → Outcome → Site H K S C → Office → Site H K S C → Office → Type 0
   Happens (event.Commits asked) outcome s from t to = TakesCommand asked outcome s from t to
-  Happens (event.Opens number) outcome s from t to = OpensLine number (line_of number s) outcome s from t to
+  Happens (event.Opens number) outcome s from t to = OpensChannel number (channel_of number s) outcome s from t to
   Happens (event.Cuts number) outcome s from t to =
-      IfOpen (line_of number s) outcome s from t to (λ l. CutsLine number l outcome s from t to)
+      IfOpen (channel_of number s) outcome s from t to (λ l. CutsChannel number l outcome s from t to)
   Happens (event.Fills number limit) outcome s from t to =
-      IfOpen (line_of number s) outcome s from t to (λ l. SendsRows number limit l outcome s from t to)
+      IfOpen (channel_of number s) outcome s from t to (λ l. SendsRows number limit l outcome s from t to)
   Happens (event.Resends number) outcome s from t to =
-      IfOpen (line_of number s) outcome s from t to (λ l. Resends number l outcome s from t to)
+      IfOpen (channel_of number s) outcome s from t to (λ l. Resends number l outcome s from t to)
   Happens (event.Carries number way most) outcome s from t to =
-      IfOpen (line_of number s) outcome s from t to (λ l. CarriesOn way number most l outcome s from t to)
+      IfOpen (channel_of number s) outcome s from t to (λ l. CarriesOn way number most l outcome s from t to)
   Happens (event.Takes number) outcome s from t to =
-      IfOpen (line_of number s) outcome s from t to (λ l. TakesOne number l outcome s from t to)
-  Happens (event.Drains number) outcome s from t to = DrainsOne number (line_of number s) outcome s from t to
+      IfOpen (channel_of number s) outcome s from t to (λ l. TakesOne number l outcome s from t to)
+  Happens (event.Drains number) outcome s from t to = DrainsOne number (channel_of number s) outcome s from t to
   Happens (event.Arms n leaves) outcome s from t to = ArmsStore n leaves outcome s from t to
   Happens event.Reopens outcome s from t to = ReopensStore outcome s from t to
   Happens event.Stops outcome s from t to = StopsSite outcome s from t to

@@ -1,5 +1,5 @@
 pub mod SiteEvents
-pub mod Lines
+pub mod Channels
 pub mod Outcomes
 pub mod Happenings
 pub mod Deeds

@@ -1,13 +1,13 @@
 //! Octets on their way.
 
 ghost use Rattle.std.specs.Prelude.{◌≡◌};
-ghost use Rattle.sites.specs.Deeds.{DoubtStays, Matches, Goes, SiteMay, lines_of};
+ghost use Rattle.sites.specs.Deeds.{DoubtStays, Matches, Goes, SiteMay, channels_of};
 ghost use Rattle.sites.specs.Happenings.{Happens, Falls};
 ghost use Rattle.sites.specs.SiteEvents.{Carries};
 ghost use Rattle.stomp_wire.specs.declared.wire.Way.TheVariants.{Up, Down};
 
 use crate::outcomes::{fall_fate, fall_told, rise_told};
-use crate::{Line, Site};
+use crate::{Channel, Site};
 use activities::Handler;
 use keep::Keep;
 use mail::Mail;
@@ -35,7 +35,8 @@ where
         ensures did { Happens K.seen H.service (Carries number way most) result self.old mail.old self.new mail.new }
         ensures doubt { DoubtStays K.seen self.old self.new }
         ensures matches { Matches K.seen self.old self.new H.service }
-        ensures comes { Goes K.seen self.old self.new H.service (SiteMay H.service (lines_of self.old) (Carries number way most) result) }
+        ensures comes { Goes K.seen self.old self.new H.service (SiteMay H.service (channels_of self.old)
+            (Carries number way most) result) }
     {
         match way {
             Way::Up => self.carry_up(mail, number, most),
@@ -48,11 +49,11 @@ where
         ensures did { Happens K.seen H.service (Carries number Up most) result self.old mail.old self.new mail.new }
         ensures store { self.new.endpoint ≡ self.old.endpoint }
     {
-        let Some(mut line) = self.take_line(number) else {
+        let Some(mut channel) = self.take_channel(number) else {
             return Outcome::Closed;
         };
-        let answer = line.connection.carry_up(mail, most);
-        self.put_line(number, line);
+        let answer = channel.connection.carry_up(mail, most);
+        self.put_channel(number, channel);
         rise_told(answer)
     }
 
@@ -61,8 +62,8 @@ where
         ensures did { Happens K.seen H.service (Carries number Down most) result self.old mail.old self.new mail.new }
         ensures store { self.new.endpoint ≡ self.old.endpoint }
     {
-        match self.take_line(number) {
-            Some(line) => self.carry_down_on(mail, number, line, most),
+        match self.take_channel(number) {
+            Some(channel) => self.carry_down_on(mail, number, channel, most),
             None => Outcome::Closed,
         }
     }
@@ -72,14 +73,14 @@ where
         &mut self,
         mail: &mut Mail,
         number: ConnectionNumber,
-        mut line: Line,
+        mut channel: Channel,
         most: u64,
     ) -> Outcome
-        ensures did { Falls number most line result self.old mail.old self.new mail.new }
+        ensures did { Falls number most channel result self.old mail.old self.new mail.new }
         ensures store { self.new.endpoint ≡ self.old.endpoint }
     {
-        let answer = line.connection.carry_down(mail, most);
-        self.meet(mail, fall_fate(&answer), number, line);
+        let answer = channel.connection.carry_down(mail, most);
+        self.meet(mail, fall_fate(&answer), number, channel);
         fall_told(answer)
     }
 }

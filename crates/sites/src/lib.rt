@@ -21,16 +21,16 @@
 #![tactic(auto)]
 
 mod carrying;
+mod channel;
 mod fate;
 mod laws;
-mod line;
 mod outcomes;
 mod receiving;
 mod relaying;
 mod site;
 mod storing;
 
+pub use channel::Channel;
 pub use fate::Fate;
 pub use laws::cursors_stay_right;
-pub use line::Line;
 pub use site::Site;

@@ -5,12 +5,12 @@ ghost use Rattle.endpoint.specs.Calls.{ComesBy, StillMatches};
 ghost use Rattle.keep.specs.Failing.{through};
 ghost use Rattle.reception.specs.Answers.{Answers};
 ghost use Rattle.reception.specs.Deeds.{TakeMay, TellsOfUse};
-ghost use Rattle.sites.specs.Deeds.{DoubtStays, Matches, Goes, SiteMay, FrameMay, HeldMay, CameOn, lines_of};
+ghost use Rattle.sites.specs.Deeds.{DoubtStays, Matches, Goes, SiteMay, FrameMay, HeldMay, CameOn, channels_of};
 ghost use Rattle.sites.specs.Happenings.{Happens, DrainsAlone, DrainsOver, TakesFrame, TakesOne, waiting_of};
 ghost use Rattle.sites.specs.SiteEvents.{Takes, Drains};
 
 use crate::outcomes::{decoder_fate, decoder_told, drain_fate, drain_told, taken_fate, taken_told};
-use crate::{Line, Site};
+use crate::{Channel, Site};
 use activities::Handler;
 use endpoint::Endpoint;
 use keep::Keep;
@@ -66,10 +66,10 @@ where
         ensures did { Happens K.seen H.service (Takes number) result self.old mail.old self.new mail.new }
         ensures doubt { DoubtStays K.seen self.old self.new }
         ensures matches { Matches K.seen self.old self.new H.service }
-        ensures comes { Goes K.seen self.old self.new H.service (SiteMay H.service (lines_of self.old) (Takes number) result) }
+        ensures comes { Goes K.seen self.old self.new H.service (SiteMay H.service (channels_of self.old) (Takes number) result) }
     {
-        match self.take_line(number) {
-            Some(line) => self.take_on(alloc, mail, number, line),
+        match self.take_channel(number) {
+            Some(channel) => self.take_on(alloc, mail, number, channel),
             None => Outcome::Closed,
         }
     }
@@ -80,22 +80,22 @@ where
         alloc: Global,
         mail: &mut Mail,
         number: ConnectionNumber,
-        mut line: Line,
+        mut channel: Channel,
     ) -> Outcome
-        ensures did { TakesOne K.seen H.service number line result self.old mail.old self.new mail.new }
+        ensures did { TakesOne K.seen H.service number channel result self.old mail.old self.new mail.new }
         ensures doubt { DoubtStays K.seen self.old self.new }
         ensures matches { Matches K.seen self.old self.new H.service }
         ensures comes { ComesBy (through K.seen) self.old.endpoint self.new.endpoint H.service
-            (FrameMay H.service (CameOn (Some line)) result) }
+            (FrameMay H.service (CameOn (Some channel)) result) }
     {
-        match line.connection.next() {
+        match channel.connection.next() {
             Ok(None) => {
-                self.put_line(number, line);
+                self.put_channel(number, channel);
                 Outcome::Idle
             }
-            Ok(Some(frame)) => self.take_frame(alloc, mail, number, line, frame),
+            Ok(Some(frame)) => self.take_frame(alloc, mail, number, channel, frame),
             Err(fault) => {
-                self.meet(mail, decoder_fate(fault), number, line);
+                self.meet(mail, decoder_fate(fault), number, channel);
                 decoder_told(fault)
             }
         }
@@ -107,17 +107,17 @@ where
         alloc: Global,
         mail: &mut Mail,
         number: ConnectionNumber,
-        mut line: Line,
+        mut channel: Channel,
         frame: Frame,
     ) -> Outcome
-        ensures did { TakesFrame K.seen H.service number line frame result self.old mail.old self.new mail.new }
+        ensures did { TakesFrame K.seen H.service number channel frame result self.old mail.old self.new mail.new }
         ensures doubt { DoubtStays K.seen self.old self.new }
         ensures matches { Matches K.seen self.old self.new H.service }
         ensures comes { ComesBy (through K.seen) self.old.endpoint self.new.endpoint H.service
             (FrameMay H.service (λ f. f ≡ frame) result) }
     {
-        let answer = receive(alloc, &mut self.endpoint, &mut line.connection, frame);
-        self.meet(mail, taken_fate(&answer), number, line);
+        let answer = receive(alloc, &mut self.endpoint, &mut channel.connection, frame);
+        self.meet(mail, taken_fate(&answer), number, channel);
         taken_told(answer)
     }
 
@@ -130,10 +130,10 @@ where
         ensures did { Happens K.seen H.service (Drains number) result self.old mail.old self.new mail.new }
         ensures doubt { DoubtStays K.seen self.old self.new }
         ensures matches { Matches K.seen self.old self.new H.service }
-        ensures comes { Goes K.seen self.old self.new H.service (SiteMay H.service (lines_of self.old) (Drains number) result) }
+        ensures comes { Goes K.seen self.old self.new H.service (SiteMay H.service (channels_of self.old) (Drains number) result) }
     {
-        match self.take_line(number) {
-            Some(line) => self.drain_over(alloc, mail, number, line),
+        match self.take_channel(number) {
+            Some(channel) => self.drain_over(alloc, mail, number, channel),
             None => self.drain_alone(alloc, mail),
         }
     }
@@ -144,15 +144,15 @@ where
         alloc: Global,
         mail: &mut Mail,
         number: ConnectionNumber,
-        mut line: Line,
+        mut channel: Channel,
     ) -> Outcome
-        ensures did { DrainsOver K.seen H.service number line result self.old mail.old self.new mail.new }
+        ensures did { DrainsOver K.seen H.service number channel result self.old mail.old self.new mail.new }
         ensures doubt { DoubtStays K.seen self.old self.new }
         ensures matches { Matches K.seen self.old self.new H.service }
         ensures comes { ComesBy (through K.seen) self.old.endpoint self.new.endpoint H.service (HeldMay H.service result) }
     {
-        let answer = reception::drain(alloc, &mut self.endpoint, &mut line.connection.client);
-        self.meet(mail, drain_fate(&answer), number, line);
+        let answer = reception::drain(alloc, &mut self.endpoint, &mut channel.connection.client);
+        self.meet(mail, drain_fate(&answer), number, channel);
         drain_told(answer)
     }
 

@@ -3,12 +3,12 @@
 ghost use Rattle.endpoint.specs.Calls.{Stays};
 ghost use Rattle.keep.specs.Failing.{through};
 ghost use Rattle.mail.specs.Offices.{Office};
-ghost use Rattle.sites.specs.Deeds.{DoubtStays, Matches, Goes, SiteMay, lines_of};
+ghost use Rattle.sites.specs.Deeds.{DoubtStays, Matches, Goes, SiteMay, channels_of};
 ghost use Rattle.sites.specs.Happenings.{Happens, SendsRows};
 ghost use Rattle.sites.specs.SiteEvents.{Fills, Resends};
 
 use crate::outcomes::{fill_fate, fill_told};
-use crate::{Line, Site};
+use crate::{Channel, Site};
 use activities::Handler;
 use keep::Keep;
 use mail::Mail;
@@ -28,10 +28,10 @@ where
         ensures did { Happens K.seen H.service (Fills number limit) result self.old mail.old self.new mail.new }
         ensures doubt { DoubtStays K.seen self.old self.new }
         ensures matches { Matches K.seen self.old self.new H.service }
-        ensures comes { Goes K.seen self.old self.new H.service (SiteMay H.service (lines_of self.old) (Fills number limit) result) }
+        ensures comes { Goes K.seen self.old self.new H.service (SiteMay H.service (channels_of self.old) (Fills number limit) result) }
     {
-        match self.take_line(number) {
-            Some(line) => self.fill_on(mail, number, line, limit),
+        match self.take_channel(number) {
+            Some(channel) => self.fill_on(mail, number, channel, limit),
             None => Outcome::Closed,
         }
     }
@@ -41,19 +41,19 @@ where
         &mut self,
         mail: &mut Mail,
         number: ConnectionNumber,
-        mut line: Line,
+        mut channel: Channel,
         limit: u64,
     ) -> Outcome
-        ensures did { SendsRows K.seen H.service number limit line result self.old mail.old self.new mail.new }
+        ensures did { SendsRows K.seen H.service number limit channel result self.old mail.old self.new mail.new }
         ensures doubt { DoubtStays K.seen self.old self.new }
         ensures matches { Matches K.seen self.old self.new H.service }
         ensures stays { Stays (through K.seen) self.old.endpoint self.new.endpoint }
     {
         let limit = limit as usize;
-        let answer = line
+        let answer = channel
             .relay
-            .fill(&mut line.connection.client, &mut self.endpoint, limit);
-        self.meet(mail, fill_fate(&answer), number, line);
+            .fill(&mut channel.connection.client, &mut self.endpoint, limit);
+        self.meet(mail, fill_fate(&answer), number, channel);
         fill_told(answer)
     }
 
@@ -64,13 +64,13 @@ where
         ensures did { (mail : Office) → Happens K.seen H.service (Resends number) result self.old mail self.new mail }
         ensures doubt { DoubtStays K.seen self.old self.new }
         ensures matches { Matches K.seen self.old self.new H.service }
-        ensures comes { Goes K.seen self.old self.new H.service (SiteMay H.service (lines_of self.old) (Resends number) result) }
+        ensures comes { Goes K.seen self.old self.new H.service (SiteMay H.service (channels_of self.old) (Resends number) result) }
     {
-        let Some(mut line) = self.take_line(number) else {
+        let Some(mut channel) = self.take_channel(number) else {
             return Outcome::Closed;
         };
-        line.relay.forget();
-        self.put_line(number, line);
+        channel.relay.forget();
+        self.put_channel(number, channel);
         Outcome::Due
     }
 }

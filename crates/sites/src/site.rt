@@ -1,15 +1,15 @@
 //! One service, and its connections.
 
 ghost use Rattle.std.specs.Prelude.{◌≡◌, Some, None};
-ghost use Rattle.sites.specs.Deeds.{DoubtStays, Matches, Goes, SiteMay, lines_of};
+ghost use Rattle.sites.specs.Deeds.{DoubtStays, Matches, Goes, SiteMay, channels_of};
 ghost use Rattle.sites.specs.Happenings.{Happens};
-ghost use Rattle.sites.specs.Lines.{AfterFault, CutsBoth, Meets, MeetsAlone, TakesLine, with_line};
+ghost use Rattle.sites.specs.Channels.{AfterFault, CutsBoth, Meets, MeetsAlone, TakesChannel, with_channel};
 ghost use Rattle.sites.specs.Outcomes.{fault_told};
 ghost use Rattle.sites.specs.SiteEvents.{Opens, Cuts, Resends};
 
-use crate::line::hang_up;
+use crate::channel::hang_up;
 use crate::outcomes::fault_told;
-use crate::{Fate, Line};
+use crate::{Channel, Fate};
 use activities::Handler;
 use endpoint::{EndFault, Endpoint};
 use keep::{Faulty, Keep};
@@ -28,9 +28,9 @@ where
     /// The endpoint.
     pub endpoint: Endpoint<H, Faulty<K>>,
     /// The connection of number 0.
-    pub zero: Option<Line>,
+    pub zero: Option<Channel>,
     /// The connection of number 1.
-    pub one: Option<Line>,
+    pub one: Option<Channel>,
 }
 
 impl<H, K> Site<H, K>
@@ -72,8 +72,8 @@ where
     }
 
     /// Takes a connection out, where it is open.
-    pub(crate) fn take_line(&mut self, number: ConnectionNumber) -> Option<Line>
-        ensures takes { TakesLine number self.old self.new result }
+    pub(crate) fn take_channel(&mut self, number: ConnectionNumber) -> Option<Channel>
+        ensures takes { TakesChannel number self.old self.new result }
         ensures store { self.new.endpoint ≡ self.old.endpoint }
     {
         match number {
@@ -83,18 +83,18 @@ where
     }
 
     /// Puts an open connection in.
-    pub(crate) fn put_line(&mut self, number: ConnectionNumber, line: Line)
-        ensures { self.new ≡ with_line number (Some line) self.old }
+    pub(crate) fn put_channel(&mut self, number: ConnectionNumber, channel: Channel)
+        ensures { self.new ≡ with_channel number (Some channel) self.old }
     {
         match number {
-            ConnectionNumber::Zero => self.zero = Some(line),
-            ConnectionNumber::One => self.one = Some(line),
+            ConnectionNumber::Zero => self.zero = Some(channel),
+            ConnectionNumber::One => self.one = Some(channel),
         }
     }
 
     /// No connection has this number.
-    fn clear_line(&mut self, number: ConnectionNumber)
-        ensures { self.new ≡ with_line number None self.old }
+    fn clear_channel(&mut self, number: ConnectionNumber)
+        ensures { self.new ≡ with_channel number None self.old }
     {
         match number {
             ConnectionNumber::Zero => self.zero = None,
@@ -103,18 +103,24 @@ where
     }
 
     /// Gives a connection that was taken out its fate.
-    pub(crate) fn meet(&mut self, mail: &mut Mail, fate: Fate, number: ConnectionNumber, line: Line)
-        ensures meets { Meets fate number line self.old mail.old self.new mail.new }
+    pub(crate) fn meet(
+        &mut self,
+        mail: &mut Mail,
+        fate: Fate,
+        number: ConnectionNumber,
+        channel: Channel,
+    )
+        ensures meets { Meets fate number channel self.old mail.old self.new mail.new }
         ensures store { self.new.endpoint ≡ self.old.endpoint }
     {
         match fate {
-            Fate::Stays => self.put_line(number, line),
+            Fate::Stays => self.put_channel(number, channel),
             Fate::IsCut => {
-                self.clear_line(number);
-                hang_up(Some(line), mail);
+                self.clear_channel(number);
+                hang_up(Some(channel), mail);
             }
             Fate::BothAreCut => {
-                self.put_line(number, line);
+                self.put_channel(number, channel);
                 self.disconnect(mail);
             }
         }
@@ -139,16 +145,16 @@ where
         ensures did { Happens K.seen H.service (Opens number) result self.old mail.old self.new mail.new }
         ensures doubt { DoubtStays K.seen self.old self.new }
         ensures matches { Matches K.seen self.old self.new H.service }
-        ensures comes { Goes K.seen self.old self.new H.service (SiteMay H.service (lines_of self.old) (Opens number) result) }
+        ensures comes { Goes K.seen self.old self.new H.service (SiteMay H.service (channels_of self.old) (Opens number) result) }
     {
-        if let Some(line) = self.take_line(number) {
-            self.put_line(number, line);
+        if let Some(channel) = self.take_channel(number) {
+            self.put_channel(number, channel);
             return Outcome::Already;
         }
         match Connection::open(alloc, mail) {
             Ok(connection) => {
                 let relay = Relay::new(alloc);
-                self.put_line(number, Line { connection, relay });
+                self.put_channel(number, Channel { connection, relay });
                 Outcome::Opened
             }
             Err(fault) => Outcome::Refused(fault.number()),
@@ -162,12 +168,12 @@ where
         ensures did { Happens K.seen H.service (Cuts number) result self.old mail.old self.new mail.new }
         ensures doubt { DoubtStays K.seen self.old self.new }
         ensures matches { Matches K.seen self.old self.new H.service }
-        ensures comes { Goes K.seen self.old self.new H.service (SiteMay H.service (lines_of self.old) (Cuts number) result) }
+        ensures comes { Goes K.seen self.old self.new H.service (SiteMay H.service (channels_of self.old) (Cuts number) result) }
     {
-        let Some(line) = self.take_line(number) else {
+        let Some(channel) = self.take_channel(number) else {
             return Outcome::Closed;
         };
-        hang_up(Some(line), mail);
+        hang_up(Some(channel), mail);
         Outcome::Cut
     }
 }

@@ -4,7 +4,7 @@ ghost use Rattle.std.specs.Prelude.{◌≡◌, ◌≤◌};
 ghost use Rattle.endpoint.specs.Calls.{Commits, ComesBy, StillMatches};
 ghost use Rattle.endpoint.specs.Deeds.{CommitMay};
 ghost use Rattle.mail.specs.Offices.{Office};
-ghost use Rattle.sites.specs.Deeds.{DoubtStays, Matches, Goes, SiteMay, lines_of};
+ghost use Rattle.sites.specs.Deeds.{DoubtStays, Matches, Goes, SiteMay, channels_of};
 ghost use Rattle.sites.specs.Happenings.{Happens, leaves_of, row_of};
 ghost use Rattle.sites.specs.SiteEvents.{Commits as CommitsCommand, Arms, Reopens, Stops};
 
@@ -68,7 +68,8 @@ where
         ensures did { Happens K.seen H.service (CommitsCommand asked.now) result self.old mail.old self.new mail.new }
         ensures doubt { DoubtStays K.seen self.old self.new }
         ensures matches { Matches K.seen self.old self.new H.service }
-        ensures comes { Goes K.seen self.old self.new H.service (SiteMay H.service (lines_of self.old) (CommitsCommand asked.now) result) }
+        ensures comes { Goes K.seen self.old self.new H.service (SiteMay H.service (channels_of self.old)
+            (CommitsCommand asked.now) result) }
     {
         match commit_copy(alloc, &mut self.endpoint, asked) {
             Ok(committed) => Outcome::Committed(committed.pos),
@@ -83,7 +84,7 @@ where
         ensures did { (mail : Office) → Happens K.seen H.service (Arms n leaves) result self.old mail self.new mail }
         ensures doubt { DoubtStays K.seen self.old self.new }
         ensures matches { Matches K.seen self.old self.new H.service }
-        ensures comes { Goes K.seen self.old self.new H.service (SiteMay H.service (lines_of self.old) (Arms n leaves) result) }
+        ensures comes { Goes K.seen self.old self.new H.service (SiteMay H.service (channels_of self.old) (Arms n leaves) result) }
     {
         self.endpoint.arm(n.get(), leaves_of(leaves));
         Outcome::Armed
@@ -97,7 +98,7 @@ where
         ensures did { Happens K.seen H.service Reopens result self.old mail.old self.new mail.new }
         ensures doubt { DoubtStays K.seen self.old self.new }
         ensures matches { Matches K.seen self.old self.new H.service }
-        ensures comes { Goes K.seen self.old self.new H.service (SiteMay H.service (lines_of self.old) Reopens result) }
+        ensures comes { Goes K.seen self.old self.new H.service (SiteMay H.service (channels_of self.old) Reopens result) }
     {
         match self.endpoint.reopen(alloc) {
             Ok(()) => Outcome::Reopened,
@@ -112,7 +113,7 @@ where
         ensures did { Happens K.seen H.service Stops result self.old mail.old self.new mail.new }
         ensures doubt { DoubtStays K.seen self.old self.new }
         ensures matches { Matches K.seen self.old self.new H.service }
-        ensures comes { Goes K.seen self.old self.new H.service (SiteMay H.service (lines_of self.old) Stops result) }
+        ensures comes { Goes K.seen self.old self.new H.service (SiteMay H.service (channels_of self.old) Stops result) }
     {
         let answer = self.endpoint.reopen(alloc);
         self.endpoint.disarm();

@@ -12,7 +12,7 @@ returns-clause-begun c =
     let old = c.args.outcomes.now.items in
     let new = c.run.new.outcomes.items in
     has_begun c.args.events.now new first last c.open_world-world.ensures
-    (c.empty_tables_match.ensures, c.empty_tables_match-2.ensures, c.empty_tables_match-3.ensures) c.run.ensures.sound
+    (c.empty_tables_match.ensures, c.empty_tables_match-2.ensures, c.empty_tables_match-3.ensures) c.run.ensures.matching
     (all_appended (λ es os. IsPath (Makes (Happened plain plain plain)) es os first last) c.args.events.now old new c.run.result c.requires
     c.run.ensures.did)
     (all_appended (λ es os. Told plain plain plain es os first last) c.args.events.now old new c.run.result c.requires c.run.ensures.told)

@@ -4,7 +4,7 @@ use Rattle.endpoint.specs.Calls.{Finds}
 use Rattle.endpoint.specs.Deeds.{Nothing}
 use Rattle.schedules.specs.declared.outcome.Outcome.TheVariants.{Stopped}
 use Rattle.sites.specs.Happenings.{with_store}
-use Rattle.sites.specs.Lines.{CutsBoth}
+use Rattle.sites.specs.Channels.{CutsBoth}
 use Rattle.sites.proofs.Going.{finds_goes, told_refused}
 use Rattle.sites.proofs.site.Site.stop.Goals as goal
 

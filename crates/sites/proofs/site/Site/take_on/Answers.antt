@@ -11,10 +11,10 @@ returns-in-Ok-Some-clause-comes g c =
     let service = g.H.Handler.service in
     let frame = c.in-Ok-Some.frame in
     let was : c.next.result ≡ Ok (Some frame) = cc (c.in-Ok-Some.is, c.in-Ok-Some.field-0-is) in
-    let came : CameOn (Some c.args.line) frame =
-    (c.next.new.self, subst (TakesNext c.args.line.connection c.next.new.self) was c.next.ensures) in
+    let came : CameOn (Some c.args.channel) frame =
+    (c.next.new.self, subst (TakesNext c.args.channel.connection c.next.new.self) was c.next.ensures) in
     comes_more g.K.Keep.seen c.args.self.now.endpoint c.take_frame.new.self.endpoint c.take_frame.new.self.endpoint service
     c.take_frame.result (FrameMay service (λ f. f ≡ frame) c.take_frame.result)
-    (FrameMay service (CameOn (Some c.args.line)) c.take_frame.result)
-    (frame_more service (λ f. f ≡ frame) (CameOn (Some c.args.line)) (λ f e. subst (CameOn (Some c.args.line)) (sym e) came)
+    (FrameMay service (CameOn (Some c.args.channel)) c.take_frame.result)
+    (frame_more service (λ f. f ≡ frame) (CameOn (Some c.args.channel)) (λ f e. subst (CameOn (Some c.args.channel)) (sym e) came)
     c.take_frame.result) refl c.take_frame.ensures.comes

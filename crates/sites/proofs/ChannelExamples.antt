@@ -8,11 +8,12 @@ use Rattle.mail.specs.Offices.{Office, new_office}
 use Rattle.relay.specs.Filling.{Connection, marks_of}
 use Rattle.relay.specs.declared.relay.Relay.{Relay}
 use Rattle.schedules.specs.declared.event.ConnectionNumber.TheVariants.{Zero, One}
-use Rattle.sites.specs.Lines.{sending, IsAllDue, at_zero, at_one, at_number, LineHas, Leaves, line_of, with_line, LinesHave, TakesLine}
-use Rattle.sites.specs.Lines.{Same}
-use Rattle.sites.specs.Lines.{CutsBoth, AfterFault, After, Meets, MeetsAlone}
+use Rattle.sites.specs.Channels.{sending, IsAllDue, at_zero, at_one, at_number, ChannelHas, Leaves, channel_of, with_channel}
+use Rattle.sites.specs.Channels.{ChannelsHave, TakesChannel}
+use Rattle.sites.specs.Channels.{Same}
+use Rattle.sites.specs.Channels.{CutsBoth, AfterFault, After, Meets, MeetsAlone}
 use Rattle.sites.specs.declared.fate.Fate.TheVariants.{Stays, IsCut, BothAreCut}
-use Rattle.sites.specs.declared.line.Line.{Line}
+use Rattle.sites.specs.declared.channel.Channel.{Channel}
 use Rattle.sites.specs.declared.site.Site.{Site}
 
 -- ---- by number
@@ -24,25 +25,25 @@ numbers_are_told_apart : (at_zero {A = ℕ} Zero 7 1 ≡ 7) × (at_zero {A = ℕ
     × (at_zero {A = ℕ} One 7 1 ≡ 7 → ⊥) × (at_one {A = ℕ} Zero 7 2 ≡ 7 → ⊥) × (at_number {A = ℕ} One 1 2 ≡ 1 → ⊥)
 numbers_are_told_apart = (refl, refl, refl, refl, refl, refl, λ h. omega (arith, h), λ h. omega (arith, h), λ h. omega (arith, h))
 
--- ---- lines
+-- ---- channels
 
 -- a connection on which nothing was sent, and a mail that accepted a SEND
-module _ (l : Line) (nothing : (p : Pair) → marks_of l.relay p ≡ 0) (later : Office) (more : later.earlier ≡ [] → ⊥) where
+module _ (l : Channel) (nothing : (p : Pair) → marks_of l.relay p ≡ 0) (later : Office) (more : later.earlier ≡ [] → ⊥) where
   -- its relay with a cursor of so many rows, and its client with octets to be sent
-  abbrev with_rows : ℕ → Line
+  abbrev with_rows : ℕ → Channel
   with_rows rows = record l { relay = record l.relay { behind = None; rows = rows } }
 
-  abbrev with_octet : Line
+  abbrev with_octet : Channel
   with_octet = record l {
     connection = record l.connection {
       client = record l.connection.client { client = record l.connection.client.client { out = 65 ∷ l.connection.client.client.out } };
     };
   }
 
-  -- what was sent on a line is what its relay marked and its client wrote
-  lines_are_sent_on : ((sending l).marks ≡ marks_of l.relay) × ((sending l).client ≡ l.connection.client.client)
+  -- what was sent on a channel is what its relay marked and its client wrote
+  channels_are_sent_on : ((sending l).marks ≡ marks_of l.relay) × ((sending l).client ≡ l.connection.client.client)
       × (sending (with_rows 3) ≡ sending l) × (sending with_octet ≡ sending l → ⊥)
-  lines_are_sent_on = (
+  channels_are_sent_on = (
     refl,
     refl,
     refl,
@@ -61,8 +62,9 @@ module _ (l : Line) (nothing : (p : Pair) → marks_of l.relay p ≡ 0) (later :
   abbrev Tells : ℕ → Relay → Type 0
   Tells rows r = r.rows ≡ rows
 
-  open_lines_have_it : LineHas (Tells 3) (Some (with_rows 3)) × LineHas (Tells 3) None × (LineHas (Tells 3) (Some (with_rows 4)) → ⊥)
-  open_lines_have_it = (refl, tt, λ h. omega (arith, h))
+  open_channels_have_it : ChannelHas (Tells 3) (Some (with_rows 3)) × ChannelHas (Tells 3) None
+      × (ChannelHas (Tells 3) (Some (with_rows 4)) → ⊥)
+  open_channels_have_it = (refl, tt, λ h. omega (arith, h))
 
   -- the mail stays where there was no connection; where one was cut that had no session nothing is dealt, and what was accepted stays
   cuts_leave_the_mail : Leaves None new_office new_office × Leaves (Some l) new_office new_office
@@ -78,11 +80,11 @@ module _ (l : Line) (nothing : (p : Pair) → marks_of l.relay p ≡ 0) (later :
 
   module _ (store : Failing ℕ) where
     -- with these connections
-    abbrev site : Option Line → Option Line → Site ℕ ℕ ℕ ℕ
+    abbrev site : Option Channel → Option Channel → Site ℕ ℕ ℕ ℕ
     site zero one = record { endpoint = store; zero = zero; one = one }
 
     -- how many connections are open
-    abbrev is_open : Option Line → ℕ
+    abbrev is_open : Option Channel → ℕ
     is_open None = 0
     is_open (Some l) = 1
 
@@ -92,12 +94,12 @@ module _ (l : Line) (nothing : (p : Pair) → marks_of l.relay p ≡ 0) (later :
     abbrev opened_one : Site ℕ ℕ ℕ ℕ → ℕ
     opened_one s = is_open s.one
 
-    -- each number has its line, and the other one stays where it is put
-    lines_have_numbers : (line_of Zero (site (Some l) None) ≡ Some l) × (line_of One (site (Some l) None) ≡ None)
-        × (with_line One (Some l) (site None None) ≡ site None (Some l))
-        × (with_line Zero None (site (Some l) (Some l)) ≡ site None (Some l))
-        × (line_of One (site (Some l) None) ≡ Some l → ⊥) × (with_line One (Some l) (site None None) ≡ site (Some l) None → ⊥)
-    lines_have_numbers = (
+    -- each number has its channel, and the other one stays where it is put
+    channels_have_numbers : (channel_of Zero (site (Some l) None) ≡ Some l) × (channel_of One (site (Some l) None) ≡ None)
+        × (with_channel One (Some l) (site None None) ≡ site None (Some l))
+        × (with_channel Zero None (site (Some l) (Some l)) ≡ site None (Some l))
+        × (channel_of One (site (Some l) None) ≡ Some l → ⊥) × (with_channel One (Some l) (site None None) ≡ site (Some l) None → ⊥)
+    channels_have_numbers = (
       refl,
       refl,
       refl,
@@ -107,19 +109,27 @@ module _ (l : Line) (nothing : (p : Pair) → marks_of l.relay p ≡ 0) (later :
     )
 
     -- both relays have it, or not
-    both_lines_have_it : LinesHave (Tells 3) (site (Some (with_rows 3)) None)
-        × LinesHave (Tells 3) (site (Some (with_rows 3)) (Some (with_rows 3)))
-        × (LinesHave (Tells 3) (site (Some (with_rows 4)) None) → ⊥)
-        × (LinesHave (Tells 3) (site (Some (with_rows 3)) (Some (with_rows 4))) → ⊥)
-    both_lines_have_it = ((refl, tt), (refl, refl), λ h. let rows = h.0 in omega (arith, rows), λ h. let rows = h.1 in omega (arith, rows))
+    both_channels_have_it : ChannelsHave (Tells 3) (site (Some (with_rows 3)) None)
+        × ChannelsHave (Tells 3) (site (Some (with_rows 3)) (Some (with_rows 3)))
+        × (ChannelsHave (Tells 3) (site (Some (with_rows 4)) None) → ⊥)
+        × (ChannelsHave (Tells 3) (site (Some (with_rows 3)) (Some (with_rows 4))) → ⊥)
+    both_channels_have_it = (
+      (refl, tt),
+      (refl, refl),
+      λ h. let rows = h.0 in omega (arith, rows),
+      λ h. let rows = h.1 in omega (
+        arith,
+        rows,
+      ),
+    )
 
     -- a connection is taken out, and isn't there then; where there is none nothing changes
-    lines_are_taken : TakesLine Zero (site (Some l) None) (site None None) (Some l)
-        × TakesLine One (site (Some l) None) (site (Some l) None) None
-        × (TakesLine One (site (Some l) None) (site (Some l) None) (Some l) → ⊥)
-        × (TakesLine Zero (site (Some l) None) (site (Some l) None) (Some l) → ⊥)
-        × (TakesLine One (site (Some l) None) (site None None) None → ⊥)
-    lines_are_taken = (
+    channels_are_taken : TakesChannel Zero (site (Some l) None) (site None None) (Some l)
+        × TakesChannel One (site (Some l) None) (site (Some l) None) None
+        × (TakesChannel One (site (Some l) None) (site (Some l) None) (Some l) → ⊥)
+        × (TakesChannel Zero (site (Some l) None) (site (Some l) None) (Some l) → ⊥)
+        × (TakesChannel One (site (Some l) None) (site None None) None → ⊥)
+    channels_are_taken = (
       (refl, refl),
       (refl, refl),
       λ h. let there = h.0 in absurd (cc),
@@ -166,13 +176,13 @@ module _ (l : Line) (nothing : (p : Pair) → marks_of l.relay p ≡ 0) (later :
     answers_cut_or_not = ((refl, refl), cuts_of_one, λ h. let gone : 0 ≡ 1 = ap opened h.0 in omega (arith, gone), no_cut)
 
     -- one that stays open is put in its place, one that is cut isn't there, and where both are cut neither is
-    lines_meet_their_fate : Meets Stays Zero l (site None None) later (site (Some l) None) later
+    channels_meet_their_fate : Meets Stays Zero l (site None None) later (site (Some l) None) later
         × Meets IsCut Zero l (site (Some l) (Some l)) new_office (site None (Some l)) new_office
         × Meets BothAreCut Zero l (site None None) new_office (site None None) new_office
         × (Meets Stays Zero l (site None None) later (site None None) later → ⊥)
         × (Meets IsCut Zero l (site (Some l) (Some l)) new_office (site None None) new_office → ⊥)
         × (Meets BothAreCut One l (site None None) new_office (site None (Some l)) new_office → ⊥)
-    lines_meet_their_fate = (
+    channels_meet_their_fate = (
       (refl, refl),
       (cuts_leave_the_mail.1, refl),
       cuts_of_one,
@@ -182,13 +192,13 @@ module _ (l : Line) (nothing : (p : Pair) → marks_of l.relay p ≡ 0) (later :
     )
 
     -- where the connection isn't open, only the fate of both changes the other one
-    no_line_meets_a_fate : MeetsAlone Stays (site None (Some l)) later (site None (Some l)) later
+    no_channel_meets_a_fate : MeetsAlone Stays (site None (Some l)) later (site None (Some l)) later
         × MeetsAlone IsCut (site None (Some l)) later (site None (Some l)) later
         × MeetsAlone BothAreCut (site (Some l) None) new_office (site None None) new_office
         × (MeetsAlone Stays (site None (Some l)) new_office (site None None) new_office → ⊥)
         × (MeetsAlone IsCut (site None (Some l)) new_office (site None None) new_office → ⊥)
         × (MeetsAlone BothAreCut (site None (Some l)) new_office (site None (Some l)) new_office → ⊥)
-    no_line_meets_a_fate = (
+    no_channel_meets_a_fate = (
       (refl, refl),
       (refl, refl),
       cuts_of_one,

@@ -14,11 +14,11 @@ use Rattle.schedules.specs.declared.event.ConnectionNumber.{ConnectionNumber}
 use Rattle.schedules.specs.declared.event.ConnectionNumber.TheVariants.{Zero, One}
 use Rattle.sites.specs.declared.fate.Fate.{Fate}
 use Rattle.sites.specs.declared.fate.Fate.TheVariants.{Stays, IsCut, BothAreCut}
-use Rattle.sites.specs.declared.line.Line.{Line}
+use Rattle.sites.specs.declared.channel.Channel.{Channel}
 use Rattle.sites.specs.declared.site.Site.{Site}
 
--- what was sent on a line, and its client
-abbrev pub sending : Line → Connection
+-- what was sent on a channel, and its client
+abbrev pub sending : Channel → Connection
 sending l = connection l.relay l.connection.client
 
 -- nothing counts as sent, and the relay's cursor leaves out no row, whatever the outbox
@@ -41,32 +41,32 @@ at_number Zero zero one = zero
 at_number One zero one = one
 
 -- the relay of a connection is so, where it is open
-abbrev pub LineHas : (Relay → Type 0) → Option Line → Type 0
-LineHas Is None = ⊤
-LineHas Is (Some l) = Is l.relay
+abbrev pub ChannelHas : (Relay → Type 0) → Option Channel → Type 0
+ChannelHas Is None = ⊤
+ChannelHas Is (Some l) = Is l.relay
 
 -- the mail behind the cut of a connection, where it was open; that memory was refused to the deals isn't told
-abbrev pub Leaves : Option Line → Office → Office → Type 0
+abbrev pub Leaves : Option Channel → Office → Office → Type 0
 Leaves None from to = to ≡ from
 Leaves (Some l) from to = (r : Result (Unit {0}) AllocError) × Cuts l.connection from to r
 
 module _ {H K S C : Type 0} where
   -- the connection of a number, where it is open
-  abbrev pub line_of : ConnectionNumber → Site H K S C → Option Line
-  line_of number s = at_number number s.zero s.one
+  abbrev pub channel_of : ConnectionNumber → Site H K S C → Option Channel
+  channel_of number s = at_number number s.zero s.one
 
   -- the site with this in its place
-  abbrev pub with_line : ConnectionNumber → Option Line → Site H K S C → Site H K S C
-  with_line number l s = record s { zero = at_zero number l s.zero; one = at_one number l s.one }
+  abbrev pub with_channel : ConnectionNumber → Option Channel → Site H K S C → Site H K S C
+  with_channel number l s = record s { zero = at_zero number l s.zero; one = at_one number l s.one }
 
   -- the relays of both connections are so, where they are open
-  abbrev pub LinesHave : (Relay → Type 0) → Site H K S C → Type 0
-  LinesHave Is s = LineHas Is s.zero × LineHas Is s.one
+  abbrev pub ChannelsHave : (Relay → Type 0) → Site H K S C → Type 0
+  ChannelsHave Is s = ChannelHas Is s.zero × ChannelHas Is s.one
 
   -- a connection is taken out, where it is open
-  abbrev pub TakesLine : ConnectionNumber → Site H K S C → Site H K S C → Option Line → Type 0
-  TakesLine number s t (Some l) = (line_of number s ≡ Some l) × (t ≡ with_line number None s)
-  TakesLine number s t None = (line_of number s ≡ None) × (t ≡ s)
+  abbrev pub TakesChannel : ConnectionNumber → Site H K S C → Site H K S C → Option Channel → Type 0
+  TakesChannel number s t (Some l) = (channel_of number s ≡ Some l) × (t ≡ with_channel number None s)
+  TakesChannel number s t None = (channel_of number s ≡ None) × (t ≡ s)
 
   -- nothing has changed
   abbrev pub Same : Site H K S C → Office → Site H K S C → Office → Type 0
@@ -90,10 +90,10 @@ module _ {H K S C : Type 0} where
   After (Err fault) s from t to = AfterFault fault s from t to
 
   -- an open connection, which is this now, has this fate
-  abbrev pub Meets : Fate → ConnectionNumber → Line → Site H K S C → Office → Site H K S C → Office → Type 0
-  Meets Stays number l s from t to = Same (with_line number (Some l) s) from t to
-  Meets IsCut number l s from t to = Leaves (Some l) from to × (t ≡ with_line number None s)
-  Meets BothAreCut number l s from t to = CutsBoth (with_line number (Some l) s) from t to
+  abbrev pub Meets : Fate → ConnectionNumber → Channel → Site H K S C → Office → Site H K S C → Office → Type 0
+  Meets Stays number l s from t to = Same (with_channel number (Some l) s) from t to
+  Meets IsCut number l s from t to = Leaves (Some l) from to × (t ≡ with_channel number None s)
+  Meets BothAreCut number l s from t to = CutsBoth (with_channel number (Some l) s) from t to
 
   -- and where it isn't open
   abbrev pub MeetsAlone : Fate → Site H K S C → Office → Site H K S C → Office → Type 0

@@ -1,13 +1,13 @@
 //! An open connection of a service.
 
-ghost use Rattle.sites.specs.Lines.{Leaves};
+ghost use Rattle.sites.specs.Channels.{Leaves};
 
 use mail::{Connection, Mail};
 use relay::Relay;
 
 /// An open connection of a service, and what was sent on it.
 #[derive(Drop)]
-pub struct Line {
+pub struct Channel {
     /// The connection.
     pub connection: Connection,
     /// What was sent on it.
@@ -16,10 +16,10 @@ pub struct Line {
 
 /// Cuts a connection, where it is open: all octets on the way are lost, and the broker deals what was out to it to others. That memory was
 /// refused to the deals isn't told: the next call of the broker goes on with them.
-pub(crate) fn hang_up(line: Option<Line>, mail: &mut Mail)
-    ensures { Leaves line mail.old mail.new }
+pub(crate) fn hang_up(channel: Option<Channel>, mail: &mut Mail)
+    ensures { Leaves channel mail.old mail.new }
 {
-    if let Some(line) = line {
-        let _ = line.connection.cut(mail);
+    if let Some(channel) = channel {
+        let _ = channel.connection.cut(mail);
     }
 }
