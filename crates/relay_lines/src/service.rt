@@ -3,12 +3,12 @@
 use crate::counting::{Counting, Sending};
 use crate::fault::LineFault;
 use base::{Entity, Number, Pair};
-use endpoint::{Endpoint, Ingested};
+use endpoint::{Committed, EndFault, Endpoint, Ingested};
 use envelope::{Letter, Message};
 use keep::{Faulty, Leaves};
 use keep_plain::PlainKeep;
 use line_script::{first_word, natural, size};
-use std::alloc::Global;
+use std::alloc::{AllocError, Global};
 
 /// A service of counting orders, over tables in memory that fail where they are told to.
 pub type Service = Endpoint<Counting, Faulty<PlainKeep<Counting>>>;
@@ -18,15 +18,28 @@ pub fn new_service(alloc: Global) -> Service {
     Endpoint::new(Faulty::new(PlainKeep::new(alloc)))
 }
 
+/// The pair of two entities.
+fn pair_of(alloc: Global, from: &str, to: &str) -> Result<Pair, LineFault> {
+    let from = Entity::read(alloc, from)?;
+    let to = Entity::read(alloc, to)?;
+    Ok(Pair { from, to })
+}
+
 /// A pair and a number: `FROM TO N`.
 fn numbered(alloc: Global, text: &str) -> Result<(Pair, u64), LineFault> {
     let (from, rest) = first_word(text);
     let (to, number) = first_word(rest);
-    let pair = Pair {
-        from: Entity::read(alloc, from)?,
-        to: Entity::read(alloc, to)?,
-    };
+    let pair = pair_of(alloc, from, to)?;
     Ok((pair, natural(number)?))
+}
+
+/// Appends where the row stands that was committed.
+fn push_committed(
+    out: &mut String,
+    committed: Result<Committed, EndFault>,
+) -> Result<(), LineFault> {
+    let pos = committed?.pos;
+    write!(out, "committed {pos}").map_err(LineFault::from)
 }
 
 /// An order sends an entity letters.
@@ -41,8 +54,27 @@ fn commit(
         receiver: pair.to,
         count,
     };
-    let committed = service.commit(alloc, 0, &pair.from, sending)?;
-    write!(out, "committed {}", committed.pos).map_err(LineFault::from)
+    push_committed(out, service.commit(alloc, 0, &pair.from, sending))
+}
+
+/// A letter of a pair and a number.
+fn letter(alloc: Global, text: &str) -> Result<Letter, LineFault> {
+    let (pair, number) = numbered(alloc, text)?;
+    let number = Number::new(number).ok_or(LineFault::Unknown)?;
+    Ok(Letter {
+        pair,
+        number,
+        message: Message::Tentative,
+    })
+}
+
+/// Appends what became of a letter.
+fn push_ingested(out: &mut String, ingested: Result<Ingested, EndFault>) -> Result<(), LineFault> {
+    match ingested? {
+        Ingested::Handled(pos) => write!(out, "handled {pos}").map_err(LineFault::from),
+        Ingested::Repeated => out.push_str("repeated").map_err(LineFault::from),
+        Ingested::Held => out.push_str("held").map_err(LineFault::from),
+    }
 }
 
 /// A letter comes from an entity.
@@ -52,17 +84,14 @@ fn ingest(
     out: &mut String,
     text: &str,
 ) -> Result<(), LineFault> {
-    let (pair, number) = numbered(alloc, text)?;
-    let letter = Letter {
-        pair,
-        number: Number::new(number).ok_or(LineFault::Unknown)?,
-        message: Message::Tentative,
-    };
-    match service.ingest(alloc, &letter)? {
-        Ingested::Handled(pos) => write!(out, "handled {pos}").map_err(LineFault::from),
-        Ingested::Repeated => write!(out, "repeated").map_err(LineFault::from),
-        Ingested::Held => write!(out, "held").map_err(LineFault::from),
-    }
+    let letter = letter(alloc, text)?;
+    push_ingested(out, service.ingest(alloc, &letter))
+}
+
+/// Appends up to which number letters are settled.
+fn push_settled(out: &mut String, settled: Result<u64, EndFault>) -> Result<(), LineFault> {
+    let mark = settled?;
+    write!(out, "settled {mark}").map_err(LineFault::from)
 }
 
 /// Letters are settled.
@@ -73,8 +102,29 @@ fn settle(
     text: &str,
 ) -> Result<(), LineFault> {
     let (pair, number) = numbered(alloc, text)?;
-    let mark = service.settle(alloc, &pair, number)?;
-    write!(out, "settled {mark}").map_err(LineFault::from)
+    push_settled(out, service.settle(alloc, &pair, number))
+}
+
+/// Appends a pair.
+fn push_pair(out: &mut String, pair: &Pair) -> Result<(), AllocError> {
+    out.push_str(pair.from.text())?;
+    out.push(' ')?;
+    out.push_str(pair.to.text())
+}
+
+/// Appends who sent a letter, to whom, and its number.
+fn push_place(out: &mut String, letter: &Letter) -> Result<(), LineFault> {
+    let number = letter.number.get();
+    push_pair(out, &letter.pair)?;
+    write!(out, " {number}; ").map_err(LineFault::from)
+}
+
+/// Appends the places of letters.
+fn push_places(out: &mut String, letters: &[Letter]) -> Result<(), LineFault> {
+    for letter in letters {
+        push_place(out, letter)?;
+    }
+    Ok(())
 }
 
 /// The first letters of the outbox.
@@ -85,30 +135,21 @@ fn outbox(
     text: &str,
 ) -> Result<(), LineFault> {
     let letters = service.unsettled(alloc, &None, size(text)?)?;
-    for letter in letters.iter() {
-        push_place(out, letter)?;
-    }
-    Ok(())
+    push_places(out, &letters)
 }
 
 /// The first pair of which the next letter is held.
 fn drainable(service: &mut Service, alloc: Global, out: &mut String) -> Result<(), LineFault> {
     match service.drainable(alloc)? {
-        Some(pair) => {
-            let from = pair.from.text();
-            let to = pair.to.text();
-            write!(out, "{from} {to}").map_err(LineFault::from)
-        }
-        None => write!(out, "none").map_err(LineFault::from),
+        Some(pair) => push_pair(out, &pair).map_err(LineFault::from),
+        None => out.push_str("none").map_err(LineFault::from),
     }
 }
 
-/// Appends who sent a letter, to whom, and its number.
-fn push_place(out: &mut String, letter: &Letter) -> Result<(), LineFault> {
-    let from = letter.pair.from.text();
-    let to = letter.pair.to.text();
-    let number = letter.number.get();
-    write!(out, "{from} {to} {number}; ").map_err(LineFault::from)
+/// A call of the store is to fail.
+fn arm(service: &mut Service, text: &str) -> Result<(), LineFault> {
+    service.arm(natural(text)?, Leaves::Old);
+    Ok(())
 }
 
 /// The answer to a call of the service; one that gives nothing appends nothing.
@@ -125,14 +166,8 @@ pub fn call_service(
         "settle" => settle(service, alloc, out, rest),
         "outbox" => outbox(service, alloc, out, rest),
         "drainable" => drainable(service, alloc, out),
-        "arm" => {
-            service.arm(natural(rest)?, Leaves::Old);
-            Ok(())
-        }
-        "disarm" => {
-            service.disarm();
-            Ok(())
-        }
+        "arm" => arm(service, rest),
+        "disarm" => Ok(service.disarm()),
         "reopen" => service.reopen(alloc).map_err(LineFault::from),
         _ => Err(LineFault::Unknown),
     }

@@ -2,14 +2,14 @@
 
 use crate::fault::LineFault;
 use crate::service::{Service, call_service, new_service};
-use crate::show::{fault_of, push_event, push_sent};
-use line_script::{Script, first_word, natural, push_octets, read_octets, size};
+use crate::show::{fault_named, push_event, push_sent};
+use line_script::{Script, first_word, push_octets, read_octets, size};
 use relay::Relay;
 use std::alloc::Global;
 use std::io;
 use std::io::Write;
 use stomp_client::ClientSession;
-use stomp_frame::Decoder;
+use stomp_frame::{Decoder, Frame};
 
 /// A service, a client's session, and the relay between them.
 #[derive(Drop)]
@@ -17,6 +17,19 @@ pub struct Session {
     service: Service,
     client: ClientSession<u64>,
     relay: Relay,
+}
+
+/// The next frame of a decoder that is fed octets.
+fn next_frame(decoder: &mut Decoder, octets: &[u8]) -> Result<Frame, LineFault> {
+    decoder.feed(octets)?;
+    decoder.next()?.ok_or(LineFault::Unknown)
+}
+
+/// The frame that a text spells.
+fn read_frame(alloc: Global, text: &str) -> Result<Frame, LineFault> {
+    let octets = read_octets(alloc, text)?;
+    let mut decoder = Decoder::new(alloc);
+    next_frame(&mut decoder, &octets)
 }
 
 impl Session {
@@ -37,10 +50,7 @@ impl Session {
 
     /// What a server's frame tells.
     fn accept(&mut self, alloc: Global, out: &mut String, text: &str) -> Result<(), LineFault> {
-        let mut decoder = Decoder::new(alloc);
-        decoder.feed(&read_octets(alloc, text)?)?;
-        let frame = decoder.next()?.ok_or(LineFault::Unknown)?;
-        let event = self.client.accept(frame)?;
+        let event = self.client.accept(read_frame(alloc, text)?)?;
         push_event(out, &event)
     }
 
@@ -63,16 +73,10 @@ impl Session {
             "connect" => self.connect(alloc),
             "accept" => self.accept(alloc, out, rest),
             "fill" => self.fill(out, rest),
-            "forget" => {
-                self.relay.forget();
-                Ok(())
-            }
+            "forget" => Ok(self.relay.forget()),
             "out" => push_octets(out, self.client.out()).map_err(LineFault::from),
             "sent" => push_sent(alloc, out, &mut self.client),
-            "fault" => {
-                let (whose, number) = first_word(rest);
-                Err(fault_of(whose, natural(number)?))
-            }
+            "fault" => Err(fault_named(rest)),
             _ => call_service(&mut self.service, alloc, out, word, rest),
         }
     }

@@ -2,17 +2,46 @@
 
 use crate::fault::LineFault;
 use endpoint::EndFault;
+use line_script::{first_word, natural};
 use relay::RelayFault;
-use std::alloc::Global;
+use std::alloc::{AllocError, Global};
 use stomp_client::{ClientFault, ClientSession, Event};
 use stomp_frame::{Decoder, Frame};
 
 /// Appends a header's value, and a space.
-fn push_value(out: &mut String, frame: &Frame, name: &str) -> Result<(), LineFault> {
-    if let Some(value) = frame.get(name) {
-        write!(out, "{value} ")?;
+fn push_value(out: &mut String, frame: &Frame, name: &str) -> Result<(), AllocError> {
+    match frame.get(name) {
+        Some(value) => write!(out, "{value} "),
+        None => Ok(()),
+    }
+}
+
+/// Appends the letter of a frame, and the number of its receipt.
+fn push_letter(out: &mut String, frame: &Frame) -> Result<(), AllocError> {
+    push_value(out, frame, "from")?;
+    push_value(out, frame, "to")?;
+    push_value(out, frame, "number")?;
+    out.push_str("receipt ")?;
+    push_value(out, frame, "receipt")?;
+    out.push_str("; ")
+}
+
+/// Appends the letters of the frames that a decoder has.
+fn push_letters(out: &mut String, decoder: &mut Decoder) -> Result<(), LineFault> {
+    for _frame in 0..u64::MAX {
+        match decoder.next()? {
+            Some(frame) => push_letter(out, &frame)?,
+            None => break,
+        }
     }
     Ok(())
+}
+
+/// Appends the letters of octets.
+fn push_decoded(alloc: Global, out: &mut String, octets: &[u8]) -> Result<(), LineFault> {
+    let mut decoder = Decoder::new(alloc);
+    decoder.feed(octets)?;
+    push_letters(out, &mut decoder)
 }
 
 /// Appends the letters of the frames that are to be sent, and takes them away.
@@ -21,20 +50,8 @@ pub fn push_sent(
     out: &mut String,
     client: &mut ClientSession<u64>,
 ) -> Result<(), LineFault> {
-    let mut decoder = Decoder::new(alloc);
-    decoder.feed(client.out())?;
-    for _frame in 0..u64::MAX {
-        let Some(frame) = decoder.next()? else {
-            client.taken(client.out().len());
-            return Ok(());
-        };
-        push_value(out, &frame, "from")?;
-        push_value(out, &frame, "to")?;
-        push_value(out, &frame, "number")?;
-        write!(out, "receipt ")?;
-        push_value(out, &frame, "receipt")?;
-        out.push_str("; ")?;
-    }
+    push_decoded(alloc, out, client.out())?;
+    client.taken(client.out().len());
     Ok(())
 }
 
@@ -51,10 +68,19 @@ pub fn push_event(out: &mut String, event: &Event<u64>) -> Result<(), LineFault>
 }
 
 /// The fault of a client, or of an endpoint, with this number, as a relay tells it.
-pub fn fault_of(whose: &str, number: u64) -> LineFault {
+fn fault_of(whose: &str, number: u64) -> LineFault {
     match (whose, number) {
         ("client", 45) => LineFault::Relay(RelayFault::Client(ClientFault::NumbersUsed)),
         ("end", 64) => LineFault::Relay(RelayFault::Endpoint(EndFault::Memory)),
         _ => LineFault::Unknown,
+    }
+}
+
+/// The fault that a text names: whose it is, and its number.
+pub fn fault_named(text: &str) -> LineFault {
+    let (whose, number) = first_word(text);
+    match natural(number) {
+        Ok(number) => fault_of(whose, number),
+        Err(fault) => LineFault::from(fault),
     }
 }
