@@ -62,14 +62,30 @@ fn difference(
 fn decode(alloc: Global, every: usize, word: &str) -> Result<String, LineFault> {
     let text = octets(alloc, word)?;
     let steps = by_octets(alloc, &text)?;
+    decode_cut(alloc, &steps, &text, every)
+}
+
+/// The same, of a text that gives these steps octet by octet.
+fn decode_cut(
+    alloc: Global,
+    steps: &[Step],
+    text: &[u8],
+    every: usize,
+) -> Result<String, LineFault> {
     for cut in 0..=text.len() {
         if cut.is_multiple_of(every) || cut.saturating_add(1) >= text.len() {
-            if let Some(found) = difference(alloc, &steps, &text, cut)? {
+            if let Some(found) = difference(alloc, steps, text, cut)? {
                 return Ok(format!(in alloc; "cut at {cut}: {found}")?);
             }
         }
     }
-    Ok(steps_text(alloc, &steps)?)
+    Ok(steps_text(alloc, steps)?)
+}
+
+/// The same by words: `N TEXT`.
+fn decode_every(alloc: Global, every: &str, word: &str) -> Result<String, LineFault> {
+    let every = size(every)?;
+    decode(alloc, every, word)
 }
 
 /// What a decoder gives of some pieces.
@@ -82,11 +98,22 @@ fn round(alloc: Global, reading: &mut Reading, words: &[&str]) -> Result<String,
 }
 
 /// One decoder is fed the same pieces again and again: what it gives each time, or the first time that is otherwise.
-fn rounds(alloc: Global, count: usize, words: &[&str]) -> Result<String, LineFault> {
+fn rounds(alloc: Global, count: &str, words: &[&str]) -> Result<String, LineFault> {
+    let count = size(count)?;
     let mut reading = Reading::new(alloc);
-    let first = round(alloc, &mut reading, words)?;
+    go_round(alloc, &mut reading, count, words)
+}
+
+/// The same with a decoder that was fed nothing yet.
+fn go_round(
+    alloc: Global,
+    reading: &mut Reading,
+    count: usize,
+    words: &[&str],
+) -> Result<String, LineFault> {
+    let first = round(alloc, reading, words)?;
     for number in 1..count {
-        let text = round(alloc, &mut reading, words)?;
+        let text = round(alloc, reading, words)?;
         if text != first {
             return Ok(format!(in alloc; "round {number}: {text}")?);
         }
@@ -98,8 +125,8 @@ fn rounds(alloc: Global, count: usize, words: &[&str]) -> Result<String, LineFau
 pub fn answer_decode(alloc: Global, words: &[&str]) -> Result<String, LineFault> {
     match words {
         [word] => decode(alloc, 1, word),
-        ["every", every, word] => decode(alloc, size(every)?, word),
-        ["rounds", count, words @ ..] => rounds(alloc, size(count)?, words),
+        ["every", every, word] => decode_every(alloc, every, word),
+        ["rounds", count, words @ ..] => rounds(alloc, count, words),
         _ => Err(LineFault::Unknown),
     }
 }

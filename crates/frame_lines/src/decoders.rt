@@ -7,6 +7,29 @@ use crate::octets::octets;
 use std::alloc::Global;
 use stomp_frame::Decoder;
 
+/// The answer where there is nothing to tell.
+fn done(alloc: Global) -> Result<String, LineFault> {
+    Ok(String::from_str(alloc, "done")?)
+}
+
+/// A new decoder stands in this one's place.
+fn start_anew(alloc: Global, decoder: &mut Decoder) -> Result<String, LineFault> {
+    *decoder = Decoder::new(alloc);
+    done(alloc)
+}
+
+/// A text is fed.
+fn fed(alloc: Global, decoder: &mut Decoder, word: &str) -> Result<String, LineFault> {
+    feed(decoder, &octets(alloc, word)?)?;
+    done(alloc)
+}
+
+/// What the decoder gives next.
+fn given(alloc: Global, decoder: &mut Decoder) -> Result<String, LineFault> {
+    let found = next(decoder)?;
+    Ok(found_text(alloc, &found)?)
+}
+
 /// The answer to a line that begins with `decoder`.
 pub fn answer_decoder(
     alloc: Global,
@@ -14,10 +37,9 @@ pub fn answer_decoder(
     words: &[&str],
 ) -> Result<String, LineFault> {
     match words {
-        ["new"] => *decoder = Decoder::new(alloc),
-        ["feed", word] => feed(decoder, &octets(alloc, word)?)?,
-        ["next"] => return Ok(found_text(alloc, &next(decoder)?)?),
-        _ => return Err(LineFault::Unknown),
+        ["new"] => start_anew(alloc, decoder),
+        ["feed", word] => fed(alloc, decoder, word),
+        ["next"] => given(alloc, decoder),
+        _ => Err(LineFault::Unknown),
     }
-    Ok(String::from_str(alloc, "done")?)
 }

@@ -30,6 +30,12 @@ fn entity_text(alloc: Global, entity: &Entity) -> Result<String, LineFault> {
     Ok(format!(in alloc; "{kind:?} {key} {queue} {text}")?)
 }
 
+/// An entity, as it is read.
+fn entity_read(alloc: Global, word: &str) -> Result<String, LineFault> {
+    let found = entity(alloc, word)?;
+    entity_text(alloc, &found)
+}
+
 /// An entity's copy.
 fn entity_copy(alloc: Global, word: &str) -> Result<String, LineFault> {
     let copy = entity(alloc, word)?.copy(alloc)?;
@@ -53,7 +59,7 @@ fn compare_entities(alloc: Global, one: &str, other: &str) -> Result<String, Lin
 /// The answer to a line that begins with `entity`.
 pub fn answer_entity(alloc: Global, words: &[&str]) -> Result<String, LineFault> {
     match words {
-        ["read", word] => entity_text(alloc, &entity(alloc, word)?),
+        ["read", word] => entity_read(alloc, word),
         ["copy", word] => entity_copy(alloc, word),
         ["make", word, name] => made(alloc, word, name),
         ["compare", one, other] => compare_entities(alloc, one, other),
@@ -65,6 +71,12 @@ pub fn answer_entity(alloc: Global, words: &[&str]) -> Result<String, LineFault>
 fn key(alloc: Global, word: &str) -> Result<Key, LineFault> {
     let text = text(alloc, word)?;
     Ok(Key::read(alloc, &text)?)
+}
+
+/// A key, as it is read.
+fn key_read(alloc: Global, word: &str) -> Result<String, LineFault> {
+    let found = key(alloc, word)?;
+    Ok(shown(alloc, found.as_str().as_bytes())?)
 }
 
 /// A key's copy.
@@ -83,7 +95,7 @@ fn key_test(alloc: Global, word: &str) -> Result<String, LineFault> {
 pub fn answer_key(alloc: Global, words: &[&str]) -> Result<String, LineFault> {
     match words {
         ["is", word] => key_test(alloc, word),
-        ["read", word] => Ok(shown(alloc, key(alloc, word)?.as_str().as_bytes())?),
+        ["read", word] => key_read(alloc, word),
         ["copy", word] => key_copy(alloc, word),
         _ => Err(LineFault::Unknown),
     }
@@ -97,9 +109,19 @@ fn pair_text(alloc: Global, pair: &Pair) -> Result<String, AllocError> {
 /// A pair's copy, and how it compares with the pair.
 fn pair_copy(alloc: Global, from: &str, to: &str) -> Result<String, LineFault> {
     let pair = pair(alloc, from, to)?;
+    copied_pair(alloc, &pair)
+}
+
+/// The same of a pair.
+fn copied_pair(alloc: Global, pair: &Pair) -> Result<String, LineFault> {
     let copy = pair.copy(alloc)?;
-    let mut text = pair_text(alloc, &copy)?;
-    text.push_str(&compared(alloc, &copy, &pair)?)?;
+    Ok(told_copy(alloc, &copy, pair)?)
+}
+
+/// A copy, and how it compares with the pair.
+fn told_copy(alloc: Global, copy: &Pair, pair: &Pair) -> Result<String, AllocError> {
+    let mut text = pair_text(alloc, copy)?;
+    text.push_str(&compared(alloc, copy, pair)?)?;
     Ok(text)
 }
 
@@ -135,12 +157,25 @@ fn number_text(alloc: Global, value: u64) -> Result<String, LineFault> {
     }
 }
 
+/// How two numbers compare.
+fn compare_numbers(alloc: Global, one: &str, other: &str) -> Result<String, LineFault> {
+    let one = number(one)?;
+    let other = number(other)?;
+    Ok(compared(alloc, &one, &other)?)
+}
+
+/// What a number is as a number of a letter.
+fn number_read(alloc: Global, word: &str) -> Result<String, LineFault> {
+    let value = natural(word)?;
+    number_text(alloc, value)
+}
+
 /// The answer to a line that begins with `number`.
 pub fn answer_number(alloc: Global, words: &[&str]) -> Result<String, LineFault> {
     match words {
         ["first"] => number_text(alloc, Number::FIRST.get()),
-        ["compare", one, other] => Ok(compared(alloc, &number(one)?, &number(other)?)?),
-        [word] => number_text(alloc, natural(word)?),
+        ["compare", one, other] => compare_numbers(alloc, one, other),
+        [word] => number_read(alloc, word),
         _ => Err(LineFault::Unknown),
     }
 }

@@ -31,7 +31,8 @@ fn copy(alloc: Global, letter: &Letter) -> Result<Letter, AllocError> {
 }
 
 /// A message as JSON.
-fn body(alloc: Global, message: Message) -> Result<String, LineFault> {
+fn body(alloc: Global, said: &[&str]) -> Result<String, LineFault> {
+    let message = message(said)?;
     let body = match message.body(alloc) {
         Ok(body) => body,
         Err(_) => message.body(alloc)?,
@@ -74,7 +75,8 @@ fn send_copy(alloc: Global, words: &[&str]) -> Result<String, LineFault> {
 }
 
 /// Those of a settle.
-fn send_settle(alloc: Global, from: &str, to: &str, number: u64) -> Result<String, LineFault> {
+fn send_settle(alloc: Global, from: &str, to: &str, word: &str) -> Result<String, LineFault> {
+    let number = natural(word)?;
     let pair = pair(alloc, from, to)?;
     sent_text(alloc, &Envelope::Settle(pair, number))
 }
@@ -82,10 +84,10 @@ fn send_settle(alloc: Global, from: &str, to: &str, number: u64) -> Result<Strin
 /// The answer to a line of messages, letters and settles.
 pub fn answer_envelope(alloc: Global, words: &[&str]) -> Result<String, LineFault> {
     match words {
-        ["body", said @ ..] => body(alloc, message(said)?),
+        ["body", said @ ..] => body(alloc, said),
         ["letter", words @ ..] => send_letter(alloc, words),
         ["letter-copy", words @ ..] => send_copy(alloc, words),
-        ["settle", from, to, number] => send_settle(alloc, from, to, natural(number)?),
+        ["settle", from, to, number] => send_settle(alloc, from, to, number),
         _ => Err(LineFault::Unknown),
     }
 }

@@ -78,6 +78,12 @@ fn refusal(alloc: Global, place: usize) -> Result<String, LineFault> {
     Ok(format!(in alloc; "{}; {refusal}; {fault}", refusal.number())?)
 }
 
+/// The fault of a handler that wants memory: its text.
+fn handler_fault(alloc: Global) -> Result<String, LineFault> {
+    let fault = HandlerFault::from(AllocError);
+    Ok(format!(in alloc; "{fault}")?)
+}
+
 /// The answer to a line that begins with `fault`: whose it is, and which of them in the order of their numbers, from 1 on.
 pub fn answer_fault(alloc: Global, words: &[&str]) -> Result<String, LineFault> {
     let [whose, which] = words else {
@@ -90,7 +96,7 @@ pub fn answer_fault(alloc: Global, words: &[&str]) -> Result<String, LineFault> 
         "frame" => frame_fault(alloc, place),
         "envelope" => envelope_fault(alloc, place),
         "refusal" => refusal(alloc, place),
-        "handler" => Ok(format!(in alloc; "{}", HandlerFault::from(AllocError))?),
+        "handler" => handler_fault(alloc),
         _ => Err(LineFault::Unknown),
     }
 }

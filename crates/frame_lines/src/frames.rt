@@ -98,8 +98,22 @@ fn make(
     }
 }
 
+/// A new frame of a command stands in this one's place.
+fn start_anew(alloc: Global, frame: &mut Frame, word: &str) -> Result<String, LineFault> {
+    let command = command(word)?;
+    *frame = Frame::new(alloc, command);
+    Ok(frame_text(alloc, frame)?)
+}
+
+/// The frame is looked at, and shown.
+fn show(alloc: Global, frame: &Frame) -> Result<String, LineFault> {
+    frame.holds();
+    Ok(frame_text(alloc, frame)?)
+}
+
 /// A frame is taken apart, and its parts are to make one of another command.
-fn change_command(alloc: Global, frame: &mut Frame, command: Command) -> Result<String, LineFault> {
+fn change_command(alloc: Global, frame: &mut Frame, word: &str) -> Result<String, LineFault> {
+    let command = command(word)?;
     let old = mem::replace(frame, Frame::new(alloc, Command::Send));
     let (_, headers, body) = old.into_parts();
     make(alloc, frame, command, headers, body)
@@ -123,10 +137,11 @@ fn headers(alloc: Global, words: &[&str]) -> Result<Vec<Header>, LineFault> {
 fn make_of(
     alloc: Global,
     frame: &mut Frame,
-    command: Command,
+    word: &str,
     body: &str,
     words: &[&str],
 ) -> Result<String, LineFault> {
+    let command = command(word)?;
     let body = octets(alloc, body)?;
     let headers = headers(alloc, words)?;
     make(alloc, frame, command, headers, body)
@@ -141,18 +156,17 @@ fn copy_text(alloc: Global, frame: &Frame) -> Result<String, LineFault> {
 /// The answer to a line that begins with `frame`.
 pub fn answer_frame(alloc: Global, frame: &mut Frame, words: &[&str]) -> Result<String, LineFault> {
     match words {
-        ["new", word] => *frame = Frame::new(alloc, command(word)?),
-        ["header", name, value] => return header(alloc, frame, name, value),
-        ["body", word] => return body(alloc, frame, word),
-        ["get", name] => return value(alloc, frame, name),
-        ["copy"] => return copy_text(alloc, frame),
-        ["encode", before] => return spelled(alloc, frame, before),
-        ["under", word] => return change_command(alloc, frame, command(word)?),
-        ["of", word, body, words @ ..] => return make_of(alloc, frame, command(word)?, body, words),
-        ["show"] => frame.holds(),
-        _ => return Err(LineFault::Unknown),
+        ["new", word] => start_anew(alloc, frame, word),
+        ["header", name, value] => header(alloc, frame, name, value),
+        ["body", word] => body(alloc, frame, word),
+        ["get", name] => value(alloc, frame, name),
+        ["copy"] => copy_text(alloc, frame),
+        ["encode", before] => spelled(alloc, frame, before),
+        ["under", word] => change_command(alloc, frame, word),
+        ["of", word, body, words @ ..] => make_of(alloc, frame, word, body, words),
+        ["show"] => show(alloc, frame),
+        _ => Err(LineFault::Unknown),
     }
-    Ok(frame_text(alloc, frame)?)
 }
 
 /// The answer to a line of a command: its word, whether it may have a body, whether nothing is escaped.

@@ -30,16 +30,50 @@ fn trickle(alloc: Global, text: &str, most: &str, fails: &[&str]) -> Result<Tric
     }
 }
 
+/// A link over nothing that never fails.
+fn start_anew(alloc: Global, link: &mut FailingLink) -> Result<bool, LineFault> {
+    *link = StreamLink::new(Trickle::empty(alloc), Trickle::empty(alloc));
+    Ok(true)
+}
+
+/// Another reader.
+fn set_reader(
+    alloc: Global,
+    link: &mut FailingLink,
+    text: &str,
+    most: &str,
+    fails: &[&str],
+) -> Result<bool, LineFault> {
+    link.reader = trickle(alloc, text, most, fails)?;
+    Ok(true)
+}
+
+/// Another writer.
+fn set_writer(
+    alloc: Global,
+    link: &mut FailingLink,
+    most: &str,
+    fails: &[&str],
+) -> Result<bool, LineFault> {
+    link.writer = trickle(alloc, "|", most, fails)?;
+    Ok(true)
+}
+
+/// So many failures.
+fn set_failures(link: &mut FailingLink, count: &str) -> Result<bool, LineFault> {
+    link.failures = natural(count)?;
+    Ok(true)
+}
+
 /// Changes the link, where a line asks for it.
 fn prepare(alloc: Global, link: &mut FailingLink, words: &[&str]) -> Result<bool, LineFault> {
     match words {
-        ["new"] => *link = StreamLink::new(Trickle::empty(alloc), Trickle::empty(alloc)),
-        ["reader", text, most, fails @ ..] => link.reader = trickle(alloc, text, most, fails)?,
-        ["writer", most, fails @ ..] => link.writer = trickle(alloc, "|", most, fails)?,
-        ["failed", count] => link.failures = natural(count)?,
-        _ => return Ok(false),
+        ["new"] => start_anew(alloc, link),
+        ["reader", text, most, fails @ ..] => set_reader(alloc, link, text, most, fails),
+        ["writer", most, fails @ ..] => set_writer(alloc, link, most, fails),
+        ["failed", count] => set_failures(link, count),
+        _ => Ok(false),
     }
-    Ok(true)
 }
 
 /// How often a reader or a writer was called, and its octets.

@@ -28,17 +28,38 @@ fn outs_text(alloc: Global, outs: &Outs) -> Result<String, AllocError> {
     Ok(text)
 }
 
+/// No messages.
+fn start_anew(alloc: Global, outs: &mut Outs) -> Result<(), LineFault> {
+    *outs = Outs::new(alloc);
+    Ok(())
+}
+
+/// A message is sent.
+fn send(alloc: Global, outs: &mut Outs, receiver: &str, said: &[&str]) -> Result<(), LineFault> {
+    let message = message(said)?;
+    let receiver = entity(alloc, receiver)?;
+    Ok(outs.send(receiver, message)?)
+}
+
+/// All but the first messages are gone.
+fn truncate(outs: &mut Outs, count: &str) -> Result<(), LineFault> {
+    outs.truncate(size(count)?);
+    Ok(())
+}
+
+/// What a line asks of messages.
+fn ask_outs(alloc: Global, outs: &mut Outs, words: &[&str]) -> Result<(), LineFault> {
+    match words {
+        ["new"] => start_anew(alloc, outs),
+        ["send", receiver, said @ ..] => send(alloc, outs, receiver, said),
+        ["truncate", count] => truncate(outs, count),
+        _ => Err(LineFault::Unknown),
+    }
+}
+
 /// The answer to a line that begins with `outs`.
 pub fn answer_outs(alloc: Global, outs: &mut Outs, words: &[&str]) -> Result<String, LineFault> {
-    match words {
-        ["new"] => *outs = Outs::new(alloc),
-        ["send", receiver, said @ ..] => {
-            let message = message(said)?;
-            outs.send(entity(alloc, receiver)?, message)?;
-        }
-        ["truncate", count] => outs.truncate(size(count)?),
-        _ => return Err(LineFault::Unknown),
-    }
+    ask_outs(alloc, outs, words)?;
     Ok(outs_text(alloc, outs)?)
 }
 
@@ -81,6 +102,42 @@ fn take(alloc: Global, state: &mut bool, outs: &mut Outs, words: &[&str]) -> Res
     Ok(Switch::apply(alloc, state, &input, outs)?)
 }
 
+/// A switch as it is at first.
+fn open(alloc: Global, state: &mut bool) -> Result<(), LineFault> {
+    *state = Switch::opening(alloc)?;
+    Ok(())
+}
+
+/// A switch that took nothing in takes a seat's command in.
+fn command(
+    alloc: Global,
+    state: &mut bool,
+    outs: &mut Outs,
+    seat: &str,
+    word: &str,
+) -> Result<(), LineFault> {
+    let Ok(seat) = seat.parse::<u8>() else {
+        return Err(LineFault::Unknown);
+    };
+    *state = applied::<Switch>(alloc, seat, &is_on(word)?, outs)?;
+    Ok(())
+}
+
+/// What a line asks of a switch.
+fn ask_switch(
+    alloc: Global,
+    state: &mut bool,
+    outs: &mut Outs,
+    words: &[&str],
+) -> Result<(), LineFault> {
+    match words {
+        ["opening"] => open(alloc, state),
+        ["seat", seat, word] => command(alloc, state, outs, seat, word),
+        ["from", words @ ..] => take(alloc, state, outs, words),
+        _ => Err(LineFault::Unknown),
+    }
+}
+
 /// The answer to a line that begins with `switch`: the kind, whether no row stands for the switch, and all that was sent.
 pub fn answer_switch(
     alloc: Global,
@@ -88,17 +145,7 @@ pub fn answer_switch(
     outs: &mut Outs,
     words: &[&str],
 ) -> Result<String, LineFault> {
-    match words {
-        ["opening"] => *state = Switch::opening(alloc)?,
-        ["seat", seat, word] => {
-            let Ok(seat) = seat.parse::<u8>() else {
-                return Err(LineFault::Unknown);
-            };
-            *state = applied::<Switch>(alloc, seat, &is_on(word)?, outs)?;
-        }
-        ["from", words @ ..] => take(alloc, state, outs, words)?,
-        _ => return Err(LineFault::Unknown),
-    }
+    ask_switch(alloc, state, outs, words)?;
     let text = state_text::<Switch>(alloc, state)?;
     let outs = outs_text(alloc, outs)?;
     Ok(format!(in alloc; "{text}; {outs}")?)

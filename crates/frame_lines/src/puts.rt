@@ -54,8 +54,9 @@ fn pump_on<L: Link>(
     alloc: Global,
     link: &mut L,
     word: &str,
-    gone: usize,
+    gone: &str,
 ) -> Result<String, LineFault> {
+    let gone = size(gone)?;
     let octets = octets(alloc, word)?;
     if gone > octets.len() {
         return Err(LineFault::Unknown);
@@ -67,9 +68,10 @@ fn pump_on<L: Link>(
 fn take_behind<L: Link>(
     alloc: Global,
     link: &mut L,
-    most: usize,
+    most: &str,
     before: &str,
 ) -> Result<String, LineFault> {
+    let most = size(most)?;
     let mut into = octets(alloc, before)?;
     let answer = take(link, &mut into, most);
     let mut text = count_text(alloc, answer)?;
@@ -96,14 +98,38 @@ pub fn take_many<L: Link>(
     Ok(text)
 }
 
+/// The same by words: `TIMES MOST`.
+fn take_times<L: Link>(
+    alloc: Global,
+    link: &mut L,
+    times: &str,
+    most: &str,
+) -> Result<String, LineFault> {
+    let times = size(times)?;
+    let most = size(most)?;
+    take_many(alloc, link, times, most)
+}
+
+/// Puts a text once.
+fn put_text<L: Link>(alloc: Global, link: &mut L, word: &str) -> Result<String, LineFault> {
+    let octets = octets(alloc, word)?;
+    count_text(alloc, put(link, &octets))
+}
+
+/// Puts a text, as often as the link takes some.
+fn pump_text<L: Link>(alloc: Global, link: &mut L, word: &str) -> Result<String, LineFault> {
+    let octets = octets(alloc, word)?;
+    gone_text(alloc, pump(link, &octets))
+}
+
 /// What a line asks of a link.
 pub fn ask_link<L: Link>(alloc: Global, link: &mut L, words: &[&str]) -> Result<String, LineFault> {
     match words {
-        ["put", text] => count_text(alloc, put(link, &octets(alloc, text)?)),
-        ["pump", text] => gone_text(alloc, pump(link, &octets(alloc, text)?)),
-        ["pump-rest", gone, text] => pump_on(alloc, link, text, size(gone)?),
-        ["take", most, before] => take_behind(alloc, link, size(most)?, before),
-        ["take-many", times, most] => take_many(alloc, link, size(times)?, size(most)?),
+        ["put", text] => put_text(alloc, link, text),
+        ["pump", text] => pump_text(alloc, link, text),
+        ["pump-rest", gone, text] => pump_on(alloc, link, text, gone),
+        ["take", most, before] => take_behind(alloc, link, most, before),
+        ["take-many", times, most] => take_times(alloc, link, times, most),
         _ => Err(LineFault::Unknown),
     }
 }

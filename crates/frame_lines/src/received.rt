@@ -62,12 +62,24 @@ fn envelope_text(alloc: Global, envelope: &Envelope) -> Result<String, AllocErro
 
 /// The envelope that the first frame of a text carries.
 fn receive(alloc: Global, word: &str) -> Result<String, LineFault> {
+    let octets = octets(alloc, word)?;
     let mut decoder = Decoder::new(alloc);
-    feed(&mut decoder, &octets(alloc, word)?)?;
-    match next(&mut decoder)? {
-        Some(frame) => Ok(envelope_text(alloc, &carried(alloc, &frame)?)?),
+    receive_first(alloc, &mut decoder, &octets)
+}
+
+/// The same of a decoder that was fed nothing yet.
+fn receive_first(alloc: Global, decoder: &mut Decoder, octets: &[u8]) -> Result<String, LineFault> {
+    feed(decoder, octets)?;
+    match next(decoder)? {
+        Some(frame) => received(alloc, &frame),
         None => Ok(String::from_str(alloc, "none")?),
     }
+}
+
+/// The envelope that a frame carries, as a text.
+fn received(alloc: Global, frame: &Frame) -> Result<String, LineFault> {
+    let envelope = carried(alloc, frame)?;
+    Ok(envelope_text(alloc, &envelope)?)
 }
 
 /// The message whose body a text is.

@@ -65,21 +65,32 @@ impl Session {
 
     /// The answer to the words of a line.
     fn answer_words(&mut self, rt: &HostRuntime, words: &[&str]) -> Result<String, LineFault> {
-        let alloc = rt.alloc();
         let [first, rest @ ..] = words else {
             return Err(LineFault::Unknown);
         };
         match *first {
-            "entity" => answer_entity(alloc, rest),
-            "key" => answer_key(alloc, rest),
-            "pair" => answer_pair(alloc, rest),
-            "number" => answer_number(alloc, rest),
-            "decode" => answer_decode(alloc, rest),
-            "fault" => answer_fault(alloc, rest),
-            "envelope" => answer_received(alloc, rest),
-            "body" | "letter" | "letter-copy" | "settle" => answer_envelope(alloc, words),
+            "body" | "letter" | "letter-copy" | "settle" => answer_envelope(rt.alloc(), words),
             "kind" | "command" | "header" | "file" | "laws" => answer_short(rt, words),
-            _ => self.answer_own(alloc, first, rest),
+            _ => self.answer_first(rt.alloc(), first, rest),
+        }
+    }
+
+    /// The answer to a line of values, which begins so, or to one that changes what stands here.
+    fn answer_first(
+        &mut self,
+        alloc: Global,
+        first: &str,
+        words: &[&str],
+    ) -> Result<String, LineFault> {
+        match first {
+            "entity" => answer_entity(alloc, words),
+            "key" => answer_key(alloc, words),
+            "pair" => answer_pair(alloc, words),
+            "number" => answer_number(alloc, words),
+            "decode" => answer_decode(alloc, words),
+            "fault" => answer_fault(alloc, words),
+            "envelope" => answer_received(alloc, words),
+            _ => self.answer_own(alloc, first, words),
         }
     }
 }

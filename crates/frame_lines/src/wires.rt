@@ -17,7 +17,8 @@ fn carry(wire: &mut MemoryWire, way: Way, most: usize) -> Result<usize, LinkFaul
 }
 
 /// Takes octets away that were looked at in place.
-fn taken(alloc: Global, link: &mut MemoryLink, count: usize) -> Result<String, LineFault> {
+fn taken(alloc: Global, link: &mut MemoryLink, word: &str) -> Result<String, LineFault> {
+    let count = size(word)?;
     if count > link.carried().len() {
         return Err(LineFault::Unknown);
     }
@@ -26,7 +27,8 @@ fn taken(alloc: Global, link: &mut MemoryLink, count: usize) -> Result<String, L
 }
 
 /// Takes octets away that went out from where they stood.
-fn sent(alloc: Global, link: &mut MemoryLink, count: usize) -> Result<String, LineFault> {
+fn sent(alloc: Global, link: &mut MemoryLink, word: &str) -> Result<String, LineFault> {
+    let count = size(word)?;
     if count > link.waiting().len() {
         return Err(LineFault::Unknown);
     }
@@ -37,8 +39,8 @@ fn sent(alloc: Global, link: &mut MemoryLink, count: usize) -> Result<String, Li
 /// What a line asks of an end.
 fn ask_end(alloc: Global, link: &mut MemoryLink, words: &[&str]) -> Result<String, LineFault> {
     match words {
-        ["taken", count] => taken(alloc, link, size(count)?),
-        ["sent", count] => sent(alloc, link, size(count)?),
+        ["taken", count] => taken(alloc, link, count),
+        ["sent", count] => sent(alloc, link, count),
         _ => ask_link(alloc, link, words),
     }
 }
@@ -110,13 +112,31 @@ fn travel_by(alloc: Global, wire: &mut MemoryWire, words: &[&str]) -> Result<Str
     travel(alloc, wire, way(word)?, pace, &octets(alloc, text)?)
 }
 
+/// Carries octets on a way: how many.
+fn carried(
+    alloc: Global,
+    wire: &mut MemoryWire,
+    word: &str,
+    most: &str,
+) -> Result<String, LineFault> {
+    let way = way(word)?;
+    let most = size(most)?;
+    count_text(alloc, carry(wire, way, most))
+}
+
+/// Carries octets from the near end to the far one: how many.
+fn handed_over(alloc: Global, wire: &mut MemoryWire, most: &str) -> Result<String, LineFault> {
+    let most = size(most)?;
+    count_text(alloc, wire.near.carry_to(&mut wire.far, most))
+}
+
 /// What a line asks of a wire.
 fn ask(alloc: Global, wire: &mut MemoryWire, words: &[&str]) -> Result<String, LineFault> {
     match words {
         ["near", words @ ..] => ask_end(alloc, &mut wire.near, words),
         ["far", words @ ..] => ask_end(alloc, &mut wire.far, words),
-        ["carry", word, most] => count_text(alloc, carry(wire, way(word)?, size(most)?)),
-        ["hand-over", most] => count_text(alloc, wire.near.carry_to(&mut wire.far, size(most)?)),
+        ["carry", word, most] => carried(alloc, wire, word, most),
+        ["hand-over", most] => handed_over(alloc, wire, most),
         ["travel", words @ ..] => travel_by(alloc, wire, words),
         _ => Err(LineFault::Unknown),
     }
