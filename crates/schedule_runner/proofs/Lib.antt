@@ -14,3 +14,6 @@ mod ToldExamples
 mod RoundExamples
 mod LookExamples
 mod WorldExamples
+mod PathExamples
+mod ShowExamples
+mod GoodExamples
