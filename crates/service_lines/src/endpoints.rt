@@ -49,9 +49,10 @@ fn ingest<S: Shown>(
     service: &mut Service<S>,
     alloc: Global,
     out: &mut String,
-    letter: &Letter,
+    said: &[&str],
 ) -> Result<(), LineFault> {
-    match service.ingest(alloc, letter)? {
+    let letter = letter(alloc, said)?;
+    match service.ingest(alloc, &letter)? {
         Ingested::Handled(pos) => write!(out, "handled {pos}")?,
         Ingested::Repeated => write!(out, "repeated")?,
         Ingested::Held => write!(out, "held")?,
@@ -115,6 +116,11 @@ fn letter(alloc: Global, words: &[&str]) -> Result<Letter, LineFault> {
     })
 }
 
+/// The store is opened again.
+fn reopen<S: Shown>(service: &mut Service<S>, alloc: Global) -> Result<(), LineFault> {
+    Ok(service.reopen(alloc)?)
+}
+
 /// The answer to a call of an endpoint.
 pub fn call<S: Shown>(
     service: &mut Service<S>,
@@ -125,11 +131,11 @@ pub fn call<S: Shown>(
     match words {
         ["commit", by, entity, asked] => commit(service, alloc, out, [by, entity, asked]),
         ["view", entity] => view(service, alloc, out, entity),
-        ["ingest", said @ ..] => ingest(service, alloc, out, &letter(alloc, said)?),
+        ["ingest", said @ ..] => ingest(service, alloc, out, said),
         ["drain", from, to] => drain(service, alloc, out, from, to),
         ["settle", from, to, number] => settle(service, alloc, out, [from, to, number]),
         ["outbox"] => outbox(service, alloc, out),
-        ["reopen"] => Ok(service.reopen(alloc)?),
+        ["reopen"] => reopen(service, alloc),
         _ => Err(LineFault::Unknown),
     }
 }

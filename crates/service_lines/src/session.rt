@@ -29,6 +29,41 @@ fn empty<S: Shown>(alloc: Global) -> Service<S> {
     Endpoint::new(Faulty::new(PlainKeep::new(alloc)))
 }
 
+/// The state is as it is at first.
+fn open<S: Shown>(alloc: Global, state: &mut S::State) -> Result<(), LineFault> {
+    *state = S::opening(alloc)?;
+    Ok(())
+}
+
+/// The state is another.
+fn set<S: Shown>(alloc: Global, state: &mut S::State, words: &[&str]) -> Result<(), LineFault> {
+    *state = S::state(alloc, words)?;
+    Ok(())
+}
+
+/// A copy of the state takes an input in.
+fn take_copy<S: Shown>(
+    alloc: Global,
+    out: &mut String,
+    state: &S::State,
+    words: &[&str],
+) -> Result<(), LineFault> {
+    let mut copy = S::copy_state(alloc, state)?;
+    take::<S>(alloc, out, &mut copy, words)
+}
+
+/// The endpoint has empty tables.
+fn clear<S: Shown>(alloc: Global, service: &mut Service<S>) -> Result<(), LineFault> {
+    *service = empty(alloc);
+    Ok(())
+}
+
+/// A call of the endpoint's store is to fail.
+fn arm<S: Shown>(service: &mut Service<S>, calls: &str, word: &str) -> Result<(), LineFault> {
+    service.arm(natural(calls)?, leaves(word)?);
+    Ok(())
+}
+
 /// The answer to a line, of a state and an endpoint.
 fn answer<S: Shown>(
     alloc: Global,
@@ -38,18 +73,14 @@ fn answer<S: Shown>(
     words: &[&str],
 ) -> Result<(), LineFault> {
     match words {
-        ["opening"] => *state = S::opening(alloc)?,
-        ["is", words @ ..] => *state = S::state(alloc, words)?,
-        ["take", words @ ..] => return take::<S>(alloc, out, state, words),
-        ["try", words @ ..] => {
-            let mut copy = S::copy_state(alloc, state)?;
-            return take::<S>(alloc, out, &mut copy, words);
-        }
-        ["new"] => *service = empty(alloc),
-        ["arm", calls, word] => service.arm(natural(calls)?, leaves(word)?),
-        _ => return call(service, alloc, out, words),
+        ["opening"] => open::<S>(alloc, state),
+        ["is", words @ ..] => set::<S>(alloc, state, words),
+        ["take", words @ ..] => take::<S>(alloc, out, state, words),
+        ["try", words @ ..] => take_copy::<S>(alloc, out, state, words),
+        ["new"] => clear(alloc, service),
+        ["arm", calls, word] => arm(service, calls, word),
+        _ => call(service, alloc, out, words),
     }
-    Ok(())
 }
 
 impl Session {
@@ -62,6 +93,24 @@ impl Session {
             billing: empty(alloc),
         }
     }
+
+    /// The answer to a line, of the service that it begins with.
+    fn answer_words(
+        &mut self,
+        alloc: Global,
+        out: &mut String,
+        words: &[&str],
+    ) -> Result<(), LineFault> {
+        match words {
+            ["stock", words @ ..] => {
+                answer::<Stocks>(alloc, out, &mut self.stock, &mut self.warehouse, words)
+            }
+            ["account", words @ ..] => {
+                answer::<Accounts>(alloc, out, &mut self.account, &mut self.billing, words)
+            }
+            _ => Err(LineFault::Unknown),
+        }
+    }
 }
 
 impl Script for Session {
@@ -72,15 +121,7 @@ impl Script for Session {
     fn answer(&mut self, alloc: Global, line: &str) -> Result<String, LineFault> {
         let words: Vec<&str> = line.split_whitespace().collect(alloc)?;
         let mut out = String::new(alloc);
-        match words.as_slice() {
-            ["stock", words @ ..] => {
-                answer::<Stocks>(alloc, &mut out, &mut self.stock, &mut self.warehouse, words)?;
-            }
-            ["account", words @ ..] => {
-                answer::<Accounts>(alloc, &mut out, &mut self.account, &mut self.billing, words)?;
-            }
-            _ => return Err(LineFault::Unknown),
-        }
+        self.answer_words(alloc, &mut out, words.as_slice())?;
         if out.is_empty() {
             out.push_str("done")?;
         }

@@ -18,15 +18,30 @@ pub fn push_message(out: &mut String, message: Message) -> Result<(), LineFault>
     Ok(())
 }
 
+/// A seat's command: `N NUMBER`.
+fn from_seat<S: Shown>(by: &str, asked: &str) -> Result<Input<S::Command>, LineFault> {
+    let seat = seat(by)?;
+    let asked = natural(asked)?;
+    Ok(Input::FromSeat(seat, S::command(asked)))
+}
+
+/// A message of an entity: `ENTITY N MESSAGE`.
+fn from_entity<S: Shown>(
+    alloc: Global,
+    sender: &str,
+    numbered: &str,
+    said: &[&str],
+) -> Result<Input<S::Command>, LineFault> {
+    let number = number(numbered)?;
+    let message = message(said)?;
+    Ok(Input::FromEntity(Entity::read(alloc, sender)?, number, message))
+}
+
 /// An input: `seat N NUMBER`, or `from ENTITY N MESSAGE`.
 fn input<S: Shown>(alloc: Global, words: &[&str]) -> Result<Input<S::Command>, LineFault> {
     match words {
-        ["seat", by, asked] => Ok(Input::FromSeat(seat(by)?, S::command(natural(asked)?))),
-        ["from", sender, numbered, said @ ..] => {
-            let number = number(numbered)?;
-            let message = message(said)?;
-            Ok(Input::FromEntity(Entity::read(alloc, sender)?, number, message))
-        }
+        ["seat", by, asked] => from_seat::<S>(by, asked),
+        ["from", sender, numbered, said @ ..] => from_entity::<S>(alloc, sender, numbered, said),
         _ => Err(LineFault::Unknown),
     }
 }
