@@ -1,7 +1,7 @@
 //! What stands between two lines, and whom a line asks.
 
 use crate::fault::LineFault;
-use crate::fault_texts::fault_of;
+use crate::fault_texts::fault_named;
 use crate::frames::{delivered, frame, plain_send, short, whole_text};
 use crate::show::show_answer;
 use line_script::{Fault, Script, first_word, natural, size};
@@ -9,7 +9,7 @@ use receipts::Receipts;
 use std::alloc::Global;
 use std::io;
 use std::io::Write;
-use stomp_client::{ClientSession, Event, Stage};
+use stomp_client::{ClientFault, ClientSession, Event, Stage};
 use stomp_frame::{Decoder, Frame};
 
 /// What a call gives. It is printed without memory, since the call is done then.
@@ -42,6 +42,30 @@ pub struct Session {
     decoder: Decoder,
 }
 
+/// The answer of a call that gives nothing.
+fn done(called: Result<(), ClientFault>) -> Result<Answer, LineFault> {
+    match called {
+        Ok(()) => Ok(Answer::Done),
+        Err(fault) => Err(LineFault::Client(fault)),
+    }
+}
+
+/// The answer of a call that gives a number.
+fn numbered(called: Result<u64, ClientFault>) -> Result<Answer, LineFault> {
+    match called {
+        Ok(number) => Ok(Answer::Number(number)),
+        Err(fault) => Err(LineFault::Client(fault)),
+    }
+}
+
+/// The transaction in which a MESSAGE is answered: that of this number where the word is `ack-in` or `nack-in`, else none.
+fn transaction(word: &str, number: &str) -> Result<Option<u64>, LineFault> {
+    match word {
+        "ack" | "nack" => Ok(None),
+        _ => Ok(Some(natural(number)?)),
+    }
+}
+
 impl Session {
     /// Nothing was opened, written or read.
     pub fn new(alloc: Global) -> Session {
@@ -53,66 +77,101 @@ impl Session {
         }
     }
 
+    /// No receipt was opened.
+    fn renew_receipts(&mut self, alloc: Global) -> Answer {
+        self.receipts = Receipts::new(alloc);
+        Answer::Done
+    }
+
+    /// A receipt is opened.
+    fn open(&mut self, alloc: Global, tag: &str) -> Result<Answer, LineFault> {
+        let tag = String::from_str(alloc, tag)?;
+        Ok(Answer::Number(self.receipts.open(tag)?))
+    }
+
+    /// The receipt of a number is closed.
+    fn close(&mut self, number: &str) -> Result<Answer, LineFault> {
+        Ok(Answer::Tag(self.receipts.close(natural(number)?)))
+    }
+
     /// A call of the receipts.
     fn ask_receipts(&mut self, alloc: Global, text: &str) -> Result<Answer, LineFault> {
         match first_word(text) {
-            ("new", _) => {
-                self.receipts = Receipts::new(alloc);
-                Ok(Answer::Done)
-            }
-            ("open", tag) => {
-                let tag = String::from_str(alloc, tag)?;
-                Ok(Answer::Number(self.receipts.open(tag)?))
-            }
-            ("close", number) => Ok(Answer::Tag(self.receipts.close(natural(number)?))),
+            ("new", _) => Ok(self.renew_receipts(alloc)),
+            ("open", tag) => self.open(alloc, tag),
+            ("close", number) => self.close(number),
             ("last", _) => Ok(Answer::Number(self.receipts.last())),
             _ => Err(LineFault::Unknown),
         }
     }
 
+    /// The messages of a destination are asked for.
+    fn subscribe(&mut self, destination: &str) -> Result<Answer, LineFault> {
+        done(self.client.subscribe(short(destination)?))
+    }
+
+    /// A transaction ends as it was meant to.
+    fn commit(&mut self, number: &str) -> Result<Answer, LineFault> {
+        done(self.client.commit(natural(number)?))
+    }
+
+    /// A transaction ends as if it had never begun.
+    fn abort(&mut self, number: &str) -> Result<Answer, LineFault> {
+        done(self.client.abort(natural(number)?))
+    }
+
     /// A call of the client that writes a frame of its own.
     fn write(&mut self, word: &str, text: &str) -> Result<Answer, LineFault> {
         match word {
-            "connect" => self.client.connect()?,
-            "subscribe" => self.client.subscribe(short(text)?)?,
-            "begin" => return Ok(Answer::Number(self.client.begin()?)),
-            "commit" => self.client.commit(natural(text)?)?,
-            "abort" => self.client.abort(natural(text)?)?,
-            "disconnect" => self.client.disconnect()?,
-            _ => return Err(LineFault::Unknown),
+            "connect" => done(self.client.connect()),
+            "subscribe" => self.subscribe(text),
+            "begin" => numbered(self.client.begin()),
+            "commit" => self.commit(text),
+            "abort" => self.abort(text),
+            "disconnect" => done(self.client.disconnect()),
+            _ => Err(LineFault::Unknown),
         }
-        Ok(Answer::Done)
+    }
+
+    /// A message is sent.
+    fn send_plain(&mut self, alloc: Global, text: &str) -> Result<Answer, LineFault> {
+        done(self.client.send(plain_send(alloc, text)?, None))
+    }
+
+    /// A message is sent in a transaction.
+    fn send_in(&mut self, alloc: Global, text: &str) -> Result<Answer, LineFault> {
+        let (number, text) = first_word(text);
+        let transaction = natural(number)?;
+        done(
+            self.client
+                .send(plain_send(alloc, text)?, Some(transaction)),
+        )
+    }
+
+    /// A message is sent, and a receipt for it asked for.
+    fn send_with_receipt(&mut self, alloc: Global, text: &str) -> Result<Answer, LineFault> {
+        let (tag, text) = first_word(text);
+        let tag = String::from_str(alloc, tag)?;
+        numbered(self.client.send_with_receipt(plain_send(alloc, text)?, tag))
     }
 
     /// A call of the client that sends a message.
     fn send(&mut self, alloc: Global, word: &str, text: &str) -> Result<Answer, LineFault> {
-        let (first, rest) = first_word(text);
         match word {
-            "send" => self.client.send(plain_send(alloc, text)?, None)?,
-            "send-in" => {
-                let transaction = natural(first)?;
-                self.client
-                    .send(plain_send(alloc, rest)?, Some(transaction))?;
-            }
-            _ => {
-                let tag = String::from_str(alloc, first)?;
-                let message = plain_send(alloc, rest)?;
-                return Ok(Answer::Number(self.client.send_with_receipt(message, tag)?));
-            }
+            "send" => self.send_plain(alloc, text),
+            "send-in" => self.send_in(alloc, text),
+            _ => self.send_with_receipt(alloc, text),
         }
-        Ok(Answer::Done)
     }
 
     /// The last MESSAGE is answered.
     fn reply(&mut self, word: &str, text: &str) -> Result<Answer, LineFault> {
         let message = delivered(&self.message)?;
+        let transaction = transaction(word, text)?;
         match word {
-            "ack" => self.client.ack(message, None)?,
-            "nack" => self.client.nack(message, None)?,
-            "ack-in" => self.client.ack(message, Some(natural(text)?))?,
-            _ => self.client.nack(message, Some(natural(text)?))?,
+            "ack" | "ack-in" => done(self.client.ack(message, transaction)),
+            _ => done(self.client.nack(message, transaction)),
         }
-        Ok(Answer::Done)
     }
 
     /// A server's frame is accepted.
@@ -128,7 +187,8 @@ impl Session {
     }
 
     /// The first octets were sent.
-    fn take(&mut self, octets: usize) -> Result<Answer, LineFault> {
+    fn take(&mut self, octets: &str) -> Result<Answer, LineFault> {
+        let octets = size(octets)?;
         if octets > self.client.out().len() {
             return Err(LineFault::Unknown);
         }
@@ -136,54 +196,71 @@ impl Session {
         Ok(Answer::Done)
     }
 
-    /// A call of the client that asks for room, or appends what was made before.
-    fn append(&mut self, alloc: Global, word: &str, text: &str) -> Result<Answer, LineFault> {
-        match word {
-            "room" => self.client.room(size(text)?)?,
-            "append" => self.client.append(&whole_text(alloc, text)?)?,
-            _ => {
-                if self.client.transactions() == u64::MAX {
-                    return Err(LineFault::Unknown);
-                }
-                self.client.count_transaction();
-            }
+    /// Room for so many octets is asked for.
+    fn room(&mut self, octets: &str) -> Result<Answer, LineFault> {
+        done(self.client.room(size(octets)?))
+    }
+
+    /// A frame that was made before is appended.
+    fn append(&mut self, alloc: Global, text: &str) -> Result<Answer, LineFault> {
+        done(self.client.append(&whole_text(alloc, text)?))
+    }
+
+    /// The transaction of a frame that was appended is counted.
+    fn count(&mut self) -> Result<Answer, LineFault> {
+        if self.client.transactions() == u64::MAX {
+            return Err(LineFault::Unknown);
         }
+        self.client.count_transaction();
         Ok(Answer::Done)
+    }
+
+    /// A client that wrote nothing, whose other end read nothing.
+    fn renew_client(&mut self, alloc: Global) -> Answer {
+        self.client = ClientSession::new(alloc);
+        self.message = None;
+        self.decoder = Decoder::new(alloc);
+        Answer::Done
     }
 
     /// A call of the client.
     fn ask_client(&mut self, alloc: Global, text: &str) -> Result<Answer, LineFault> {
         let (word, rest) = first_word(text);
         match word {
-            "new" => {
-                self.client = ClientSession::new(alloc);
-                self.message = None;
-                self.decoder = Decoder::new(alloc);
-                Ok(Answer::Done)
-            }
+            "new" => Ok(self.renew_client(alloc)),
             "out" => Ok(Answer::Out),
             "stage" => Ok(Answer::Stage(self.client.stage())),
             "receipts" => Ok(Answer::Number(self.client.receipts())),
             "transactions" => Ok(Answer::Number(self.client.transactions())),
-            "taken" => self.take(size(rest)?),
+            "taken" => self.take(rest),
             "accept" => self.accept(alloc, rest),
+            "room" => self.room(rest),
+            "append" => self.append(alloc, rest),
+            "count" => self.count(),
             "ack" | "nack" | "ack-in" | "nack-in" => self.reply(word, rest),
             "send" | "send-in" | "send-with-receipt" => self.send(alloc, word, rest),
-            "room" | "append" | "count" => self.append(alloc, word, rest),
             _ => self.write(word, rest),
         }
+    }
+
+    /// The first octets that the client has to send reach the other end.
+    fn carry(&mut self, octets: &str) -> Result<Answer, LineFault> {
+        let octets = size(octets)?.min(self.client.out().len());
+        self.decoder.feed(&self.client.out()[..octets])?;
+        self.client.taken(octets);
+        Ok(Answer::Done)
+    }
+
+    /// The decoder's next frame.
+    fn read(&mut self) -> Result<Answer, LineFault> {
+        Ok(Answer::Frame(self.decoder.next()?))
     }
 
     /// What the decoder at the other end does.
     fn ask_server(&mut self, text: &str) -> Result<Answer, LineFault> {
         match first_word(text) {
-            ("carry", octets) => {
-                let octets = size(octets)?.min(self.client.out().len());
-                self.decoder.feed(&self.client.out()[..octets])?;
-                self.client.taken(octets);
-                Ok(Answer::Done)
-            }
-            ("read", _) => Ok(Answer::Frame(self.decoder.next()?)),
+            ("carry", octets) => self.carry(octets),
+            ("read", _) => self.read(),
             _ => Err(LineFault::Unknown),
         }
     }
@@ -195,10 +272,7 @@ impl Session {
             "receipts" => self.ask_receipts(alloc, text),
             "client" => self.ask_client(alloc, text),
             "server" => self.ask_server(text),
-            "fault" => {
-                let (whose, number) = first_word(text);
-                Err(fault_of(whose, natural(number)?))
-            }
+            "fault" => Err(fault_named(text)),
             _ => Err(LineFault::Unknown),
         }
     }

@@ -6,15 +6,23 @@ use std::io::Write;
 use stomp_client::Event;
 use stomp_frame::Frame;
 
+/// The escape of an octet, where it is a backslash and a letter.
+fn escape(octet: u8) -> Option<&'static str> {
+    match octet {
+        b'\n' => Some("\\n"),
+        b'\r' => Some("\\r"),
+        0 => Some("\\0"),
+        b'\\' => Some("\\\\"),
+        _ => None,
+    }
+}
+
 /// An octet, as texts in lines have it; those that are no ASCII are printed by their number.
 fn show_octet<W: Write>(out: &mut W, octet: u8) -> io::Result<()> {
-    match octet {
-        b'\n' => write!(out, "\\n"),
-        b'\r' => write!(out, "\\r"),
-        0 => write!(out, "\\0"),
-        b'\\' => write!(out, "\\\\"),
-        32..=126 => out.write_all(&[octet]),
-        _ => write!(out, "\\x{octet:02x}"),
+    match (escape(octet), octet) {
+        (Some(text), _) => out.write_all(text.as_bytes()),
+        (None, 32..=126) => out.write_all(&[octet]),
+        (None, _) => write!(out, "\\x{octet:02x}"),
     }
 }
 
