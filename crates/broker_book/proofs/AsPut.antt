@@ -5,9 +5,9 @@ use Rattle.std.specs.Prelude.{filter, if◌then◌else◌}
 use Rattle.std.specs.List.{AllByRecursion}
 use Rattle.broker_book.specs.declared.parts.Accepted.{Accepted}
 use Rattle.broker_book.specs.declared.parts.Subscription.{Subscription}
-use Rattle.broker_book.specs.Books.{Book, Message, Fate, Ready, empty_book, out_to, out_of}
+use Rattle.broker_book.specs.Books.{Book, QueuedMessage, Fate, Ready, empty_book, out_to, out_of}
 use Rattle.broker_book.specs.Steps.{Handed, Deal, left_of, acked, nacked, holder, covered, ready_if}
-use Rattle.broker_book.specs.Runs.{Event, Puts, Hands, Acks, Nacks, Subscribes, Releases, Ends, Takes, Happens, Run, put_by, put_in}
+use Rattle.broker_book.specs.Runs.{BookEvent, Puts, Hands, Acks, Nacks, Subscribes, Releases, Ends, Takes, Happens, Run, put_by, put_in}
 use Rattle.broker_book.specs.Runs.{handed_by, handed_in}
 use Rattle.broker_book.specs.Laws.{numbered, AllPass, as_accepted}
 use Rattle.broker_book.proofs.Numbers.{put_is, numbered-append, event_counts}
@@ -26,31 +26,31 @@ module _ (P : Accepted → Type 0) where
   pass_split (x ∷ xs) ys h = let k = pass_split xs ys h.1 in ((h.0, k.0), k.1)
 
   -- the living messages pass
-  abbrev Pass : List Message → Type 0
+  abbrev Pass : List QueuedMessage → Type 0
   Pass ms = Each (map as_accepted ms)
 
-  living-append : (xs ys : List Message) → Pass xs → Pass ys → Pass (xs ++ ys)
+  living-append : (xs ys : List QueuedMessage) → Pass xs → Pass ys → Pass (xs ++ ys)
   living-append [] ys h k = k
   living-append (x ∷ xs) ys h k = (h.0, living-append xs ys h.1 k)
 
-  filter_pass : (b : Bool) (m : Message) (rest : List Message) → P (as_accepted m) → Pass rest → Pass (cond b (m ∷ rest) rest)
+  filter_pass : (b : Bool) (m : QueuedMessage) (rest : List QueuedMessage) → P (as_accepted m) → Pass rest → Pass (cond b (m ∷ rest) rest)
   filter_pass true m rest h k = (h, k)
   filter_pass false m rest h k = k
 
-  living-filter : (q : Message → Bool) (ms : List Message) → Pass ms → Pass (filter q ms)
+  living-filter : (q : QueuedMessage → Bool) (ms : List QueuedMessage) → Pass ms → Pass (filter q ms)
   living-filter q [] h = h
   living-filter q (m ∷ ms) h = filter_pass (q m) m (filter q ms) h.0 (living-filter q ms h.1)
 
-  ready_pass : (b : Bool) (m : Message) → P (as_accepted m) → P (as_accepted (if b then record m { fate = Ready } else m))
+  ready_pass : (b : Bool) (m : QueuedMessage) → P (as_accepted m) → P (as_accepted (if b then record m { fate = Ready } else m))
   ready_pass true m h = h
   ready_pass false m h = h
 
-  living-ready : (test : Fate → Bool) (ms : List Message) → Pass ms → Pass (map (ready_if test) ms)
+  living-ready : (test : Fate → Bool) (ms : List QueuedMessage) → Pass ms → Pass (map (ready_if test) ms)
   living-ready test [] h = h
   living-ready test (m ∷ ms) h = (ready_pass (test m.fate) m h.0, living-ready test ms h.1)
 
   -- a message that goes out passes, and so do those that are left
-  living_dealt : (front back : List Message) (m : Message) (s : Subscription) (ack : Option ℕ) → Pass (front ++ m ∷ back)
+  living_dealt : (front back : List QueuedMessage) (m : QueuedMessage) (s : Subscription) (ack : Option ℕ) → Pass (front ++ m ∷ back)
       → P (as_accepted m) × Pass (front ++ (left_of m s ack ++ back))
   living_dealt [] back m s None h = h
   living_dealt [] back m s (Some n) h = (h.0, h)
@@ -59,7 +59,7 @@ module _ (P : Accepted → Type 0) where
   ack_passes : (old new : Book) (number : ℕ) (o : Option Subscription) → acked old number o ≡ Ok new → Pass old.living → Pass new.living
   ack_passes old new number None h k = absurd cc
   ack_passes old new number (Some s) h k =
-      let left = λ (m : Message). not (covered s number m.fate) in
+      let left = λ (m : QueuedMessage). not (covered s number m.fate) in
       let e : record old { living = filter left old.living } ≡ new = cc in
       rw (← e) (living-filter left old.living k)
 
@@ -77,7 +77,7 @@ module _ (P : Accepted → Type 0) where
       = sym (λ i. record { number = h.number i; sent = h.sent i }) in
       (rw h.changed dealt.1, (subst (λ a. P a) same dealt.0, tt))
 
-  event_passes : (old new : Book) (e : Event) → Happens old e new → Pass old.living → Each (numbered old.last (put_by e))
+  event_passes : (old new : Book) (e : BookEvent) → Happens old e new → Pass old.living → Each (numbered old.last (put_by e))
       → Pass new.living × Each (handed_by e)
   event_passes old new (Puts full sent) h k now = rw (put_is full old sent new h) (living-append old.living _ k now, tt)
   event_passes old new (Hands d) h k now = deal_passes old new d h k
@@ -88,7 +88,7 @@ module _ (P : Accepted → Type 0) where
   event_passes old new (Ends session) h k now = (rw h (living-ready (out_of session) old.living k), tt)
   event_passes old new (Takes accepted) h k now = (rw h.1 k, tt)
 
-  pub run_passes : (events : List Event) (old new : Book) → Run old events new → Pass old.living
+  pub run_passes : (events : List BookEvent) (old new : Book) → Run old events new → Pass old.living
       → Each (numbered old.last (put_in events)) → Pass new.living × Each (handed_in events)
   run_passes [] old new h k now = (rw h k, tt)
   run_passes (e ∷ events) old new h k now =
@@ -99,6 +99,6 @@ module _ (P : Accepted → Type 0) where
       let rest = run_passes events h.0 new h.2 first.0 (rw last split.1) in
       (rest.0, pass-append (handed_by e) (handed_in events) first.1 rest.1)
 
-pub each_as_put : (p : Accepted → Bool) (events : List Event) (b : Book) → Run empty_book events b
+pub each_as_put : (p : Accepted → Bool) (events : List BookEvent) (b : Book) → Run empty_book events b
     → AllPass p (numbered 0 (put_in events)) → AllPass p (map as_accepted b.living) × AllPass p (handed_in events)
 each_as_put p events b h now = run_passes (λ a. p a ≡ true) events empty_book b h tt now

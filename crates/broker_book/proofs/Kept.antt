@@ -6,16 +6,16 @@ use Rattle.std.proofs.lemmas.Bool.Decides.{nat_tests}
 use Rattle.std.specs.Prelude.{count_by, filter, ◌==◌, nat_le, nat_lt, ◌&&◌, if◌then◌else◌}
 use Rattle.std.specs.List.{list_any}
 use Rattle.broker_book.specs.declared.parts.Subscription.{Subscription}
-use Rattle.broker_book.specs.Books.{Book, Message, Fate, Ready, Out, empty_book, out_to, out_of, is_auto}
+use Rattle.broker_book.specs.Books.{Book, QueuedMessage, Fate, Ready, Out, empty_book, out_to, out_of, is_auto}
 use Rattle.broker_book.specs.Steps.{Handed, Deal, left_of, acked, nacked, holder, covered, ready_if, subscribed, released, ended}
-use Rattle.broker_book.specs.Runs.{Event, Puts, Hands, Acks, Nacks, Subscribes, Releases, Ends, Takes, Happens, Run, ended_by, ended_in}
+use Rattle.broker_book.specs.Runs.{BookEvent, Puts, Hands, Acks, Nacks, Subscribes, Releases, Ends, Takes, Happens, Run, ended_by, ended_in}
 use Rattle.broker_book.specs.Runs.{numbers_covered}
 use Rattle.broker_book.specs.Laws.{is_numbered, IsKept}
 use Rattle.broker_book.proofs.Counts.{count-cons, count-append, count-parts, count-map, any-count}
 use Rattle.broker_book.proofs.Numbers.{put_is}
 
 -- the living messages of a number
-abbrev here : ℕ → List Message → ℕ
+abbrev here : ℕ → List QueuedMessage → ℕ
 here n ms = count_by (is_numbered n) ms
 
 -- how often a number was ended
@@ -39,15 +39,15 @@ same_living : (old new : Book) → ((n : ℕ) → here n new.living ≡ here n o
 same_living old new h l n =
     let e : due n new.last ≡ due n old.last = ap (λ (k : ℕ). due n k) l in omega (arith, h n)
 
-ready_number : (b : Bool) (m : Message) → (if b then record m { fate = Ready } else m).number ≡ m.number
+ready_number : (b : Bool) (m : QueuedMessage) → (if b then record m { fate = Ready } else m).number ≡ m.number
 ready_number true m = refl
 ready_number false m = refl
 
-ready_here : (test : Fate → Bool) (n : ℕ) (ms : List Message) → here n (map (ready_if test) ms) ≡ here n ms
+ready_here : (test : Fate → Bool) (n : ℕ) (ms : List QueuedMessage) → here n (map (ready_if test) ms) ≡ here n ms
 ready_here test n ms =
-    count-map (is_numbered n) (ready_if test) ms ∙ (λ i. count_by (λ (m : Message). ready_number (test m.fate) m i == n) ms)
+    count-map (is_numbered n) (ready_if test) ms ∙ (λ i. count_by (λ (m : QueuedMessage). ready_number (test m.fate) m i == n) ms)
 
-put_balances : (old : Book) (m : Message) (n : ℕ) → m.number ≡ old.last + 1
+put_balances : (old : Book) (m : QueuedMessage) (n : ℕ) → m.number ≡ old.last + 1
     → here n (old.living ++ m ∷ []) + gone n [] + due n old.last ≡ here n old.living + due n (old.last + 1)
 put_balances old m n e =
     let c = count-cons (is_numbered n) m [] in
@@ -56,7 +56,7 @@ put_balances old m n e =
     omega arith
 
 -- a message that goes out is still there, or ended
-deal_here : (n : ℕ) (front back : List Message) (m : Message) (s : Subscription) (number given : ℕ) (b : Bool) (ack : Option ℕ)
+deal_here : (n : ℕ) (front back : List QueuedMessage) (m : QueuedMessage) (s : Subscription) (number given : ℕ) (b : Bool) (ack : Option ℕ)
     → number ≡ m.number → ack ≡ (if b then None else Some given)
     → here n (front ++ (left_of m s ack ++ back)) + gone n (if b then number ∷ [] else []) ≡ here n (front ++ m ∷ back)
 deal_here n front back m s number given true ack e a = rw (e, a) (
@@ -75,18 +75,18 @@ deal_here n front back m s number given false ack e a = rw a (
 deal_balances : (old new : Book) (d : Handed) → Deal old d new → Balances old new (ended_by (Hands d))
 deal_balances old new d h n = rw h.changed (
     let here_is = deal_here n h.front h.back h.message d.to d.number (old.given + 1) (is_auto d.to.mode) d.ack h.number h.ack in
-    let found : here n old.living ≡ here n (h.front ++ h.message ∷ h.back) = ap (λ (l : List Message). here n l) h.found in
+    let found : here n old.living ≡ here n (h.front ++ h.message ∷ h.back) = ap (λ (l : List QueuedMessage). here n l) h.found in
     omega (arith, here_is, found))
 
 ack_balances : (old new : Book) (number : ℕ) (o : Option Subscription) → acked old number o ≡ Ok new
     → Balances old new (numbers_covered old number o)
 ack_balances old new number None h n = absurd cc
 ack_balances old new number (Some s) h n =
-    let e : record old { living = filter (λ (m : Message). not (covered s number m.fate)) old.living } ≡ new = cc in
+    let e : record old { living = filter (λ (m : QueuedMessage). not (covered s number m.fate)) old.living } ≡ new = cc in
     rw (← e) (
-    let parts = count-parts (is_numbered n) (λ (m : Message). covered s number m.fate) old.living in
-    let reached = filter (λ (m : Message). covered s number m.fate) old.living in
-    let answered = count-map (λ (k : ℕ). k == n) (λ (m : Message). m.number) reached in
+    let parts = count-parts (is_numbered n) (λ (m : QueuedMessage). covered s number m.fate) old.living in
+    let reached = filter (λ (m : QueuedMessage). covered s number m.fate) old.living in
+    let answered = count-map (λ (k : ℕ). k == n) (λ (m : QueuedMessage). m.number) reached in
     omega (arith, parts, answered))
 
 nack_balances : (old new : Book) (number : ℕ) (o : Option Subscription) → nacked old number o ≡ Ok new → Balances old new []
@@ -96,7 +96,7 @@ nack_balances old new number (Some s) h n =
     rw (← e) (same_living old (record old { living = map (ready_if (covered s number)) old.living })
     (λ k. ready_here (covered s number) k old.living) refl n)
 
-event_balances : (old new : Book) (e : Event) → Happens old e new → Balances old new (ended_by e)
+event_balances : (old new : Book) (e : BookEvent) → Happens old e new → Balances old new (ended_by e)
 event_balances old new (Puts full sent) h = rw (put_is full old sent new h)
     (λ n. put_balances old (record { number = old.last + 1; sent = sent; fate = Ready }) n refl)
 event_balances old new (Hands d) h = deal_balances old new d h
@@ -114,7 +114,7 @@ event_balances old new (Takes accepted) h = rw h.1 (same_living old (record old 
 kept_more : (old new : Book) (before now : List ℕ) → Balances old new now → IsKept old before → IsKept new (before ++ now)
 kept_more old new before now h k n = omega (arith, h n, k n, count-append (λ (e : ℕ). e == n) before now)
 
-run_kept : (events : List Event) (old new : Book) (before : List ℕ) → Run old events new → IsKept old before
+run_kept : (events : List BookEvent) (old new : Book) (before : List ℕ) → Run old events new → IsKept old before
     → IsKept new (before ++ ended_in events)
 run_kept [] old new before h k = rw h (subst (λ l. IsKept old l) (sym (append-nil before)) k)
 run_kept (e ∷ events) old new before h k =
@@ -125,7 +125,7 @@ run_kept (e ∷ events) old new before h k =
 start_kept : IsKept empty_book []
 start_kept n = grind (arith, nat_tests)
 
-pub messages_kept : (events : List Event) (b : Book) → Run empty_book events b → IsKept b (ended_in events)
+pub messages_kept : (events : List BookEvent) (b : Book) → Run empty_book events b → IsKept b (ended_in events)
 messages_kept events b h = run_kept events empty_book b [] h start_kept
 
 -- ---- in plain words
@@ -133,7 +133,7 @@ messages_kept events b h = run_kept events empty_book b [] h start_kept
 either_one : (a b n last : ℕ) → 1 ≤ n → n ≤ last → a + b ≡ due n last → nat_lt 0 a ≡ not (nat_lt 0 b)
 either_one a b n last low high h = grind (arith, nat_tests)
 
-pub nothing_lost : (events : List Event) (b : Book) → Run empty_book events b → (n : ℕ) → 1 ≤ n → n ≤ b.last
+pub nothing_lost : (events : List BookEvent) (b : Book) → Run empty_book events b → (n : ℕ) → 1 ≤ n → n ≤ b.last
     → list_any (is_numbered n) b.living ≡ not (list_any (λ e. e == n) (ended_in events))
 nothing_lost events b h n low high =
     any-count (is_numbered n) b.living

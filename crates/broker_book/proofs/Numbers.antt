@@ -8,9 +8,9 @@ use Rattle.broker_book.specs.declared.fault.QueueFault.TheVariants.{QueueFull, T
 use Rattle.broker_book.specs.declared.parts.Sent.{Sent}
 use Rattle.broker_book.specs.declared.parts.Subscription.{Subscription}
 use Rattle.broker_book.specs.declared.parts.Accepted.{Accepted}
-use Rattle.broker_book.specs.Books.{Book, Message, empty_book}
+use Rattle.broker_book.specs.Books.{Book, QueuedMessage, empty_book}
 use Rattle.broker_book.specs.Steps.{put_of, with_message, acked, nacked, holder, covered, ready_if}
-use Rattle.broker_book.specs.Runs.{Event, Puts, Hands, Acks, Nacks, Subscribes, Releases, Ends, Takes, Happens, Run, put_by, put_in}
+use Rattle.broker_book.specs.Runs.{BookEvent, Puts, Hands, Acks, Nacks, Subscribes, Releases, Ends, Takes, Happens, Run, put_by, put_in}
 use Rattle.broker_book.specs.Runs.{taken_by, taken_in}
 use Rattle.broker_book.specs.Laws.{numbered}
 
@@ -31,7 +31,7 @@ pub acked_is : (old : Book) (number : ℕ) (o : Option Subscription) (new : Book
     → new ≡ record old { living = new.living }
 acked_is old number None new h = absurd cc
 acked_is old number (Some s) new h =
-    let e : record old { living = filter (λ (m : Message). not (covered s number m.fate)) old.living } ≡ new = cc in
+    let e : record old { living = filter (λ (m : QueuedMessage). not (covered s number m.fate)) old.living } ≡ new = cc in
     rw (← e) refl
 
 -- and so does a NACK
@@ -51,14 +51,14 @@ numbered-append last (x ∷ xs) ys =
     rw e (ap (λ (l : List Accepted). record { number = last + 1; sent = x } ∷ l) (numbered-append (last + 1) xs ys))
 
 -- what an event took and left is what was there and what it put
-abbrev pub Counts : Book → Event → Book → Type 0
+abbrev pub Counts : Book → BookEvent → Book → Type 0
 Counts old e new = (taken_by e ++ new.accepted ≡ old.accepted ++ numbered old.last (put_by e)) × (new.last ≡ old.last + length (put_by e))
 
 unchanged : (old new : Book) → new.accepted ≡ old.accepted → new.last ≡ old.last
     → (new.accepted ≡ old.accepted ++ []) × (new.last ≡ old.last + 0)
 unchanged old new a l = (a ∙ sym (append-nil old.accepted), omega arith)
 
-pub event_counts : (old new : Book) (e : Event) → Happens old e new → Counts old e new
+pub event_counts : (old new : Book) (e : BookEvent) → Happens old e new → Counts old e new
 event_counts old new (Puts full sent) h = rw (put_is full old sent new h) (refl, refl)
 event_counts old new (Hands d) h = unchanged old new (ap (λ (b : Book). b.accepted) h.changed) (ap (λ (b : Book). b.last) h.changed)
 event_counts old new (Acks session number numbers) h =
@@ -75,7 +75,7 @@ event_counts old new (Takes accepted) h =
 
 -- ---- runs
 
-run_counts : (events : List Event) (old new : Book) → Run old events new
+run_counts : (events : List BookEvent) (old new : Book) → Run old events new
     → (taken_in events ++ new.accepted ≡ old.accepted ++ numbered old.last (put_in events))
     × (new.last ≡ old.last + length (put_in events))
 run_counts [] old new h = unchanged old new (ap (λ (b : Book). b.accepted) h) (ap (λ (b : Book). b.last) h)
@@ -95,7 +95,7 @@ run_counts (e ∷ events) old new h =
       rest.1 ∙ last,
     )
 
-pub each_accepted_once : (events : List Event) (b : Book) → Run empty_book events b
+pub each_accepted_once : (events : List BookEvent) (b : Book) → Run empty_book events b
     → (taken_in events ++ b.accepted ≡ numbered 0 (put_in events)) × (b.last ≡ length (put_in events))
 each_accepted_once events b h =
     let all = run_counts events empty_book b h in (all.0, omega (arith, all.1))

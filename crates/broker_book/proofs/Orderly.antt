@@ -9,45 +9,45 @@ use Rattle.std.specs.List.{list_any, AllByRecursion}
 use Rattle.std.specs.Str.{bytes_eq}
 use Rattle.broker_book.specs.declared.parts.Accepted.{Accepted}
 use Rattle.broker_book.specs.declared.parts.Subscription.{Subscription}
-use Rattle.broker_book.specs.Books.{Book, Message, Fate, Ready, Out, empty_book, is_named, is_auto, out_to, out_of, may_take}
+use Rattle.broker_book.specs.Books.{Book, QueuedMessage, Fate, Ready, Out, empty_book, is_named, is_auto, out_to, out_of, may_take}
 use Rattle.broker_book.specs.Steps.{Handed, Deal, left_of, last_given, acked, nacked, holder, covered, ready_if}
 use Rattle.broker_book.specs.Steps.{subscribed}
-use Rattle.broker_book.specs.Runs.{Event, Puts, Hands, Acks, Nacks, Subscribes, Releases, Ends, Takes, Happens, Run}
+use Rattle.broker_book.specs.Runs.{BookEvent, Puts, Hands, Acks, Nacks, Subscribes, Releases, Ends, Takes, Happens, Run}
 use Rattle.broker_book.specs.Laws.{RiseTo, is_delivery, deliveries, is_at, IsOrderly}
 use Rattle.broker_book.proofs.Counts.{count-cons, count-append, count-filter, count-map, count-less, no-count}
 use Rattle.broker_book.proofs.Numbers.{put_is}
 
 -- ---- numbers rise
 
-rise-weak : (low lower last : ℕ) (ms : List Message) → lower ≤ low → RiseTo low last ms → RiseTo lower last ms
+rise-weak : (low lower last : ℕ) (ms : List QueuedMessage) → lower ≤ low → RiseTo low last ms → RiseTo lower last ms
 rise-weak low lower last [] e h = omega arith
 rise-weak low lower last (m ∷ ms) e h = let first = h.0 in (omega arith, h.1)
 
-rise_push : (low last : ℕ) (ms : List Message) (m : Message) → m.number ≡ last + 1 → RiseTo low last ms
+rise_push : (low last : ℕ) (ms : List QueuedMessage) (m : QueuedMessage) → m.number ≡ last + 1 → RiseTo low last ms
     → RiseTo low (last + 1) (ms ++ m ∷ [])
 rise_push low last [] m e h = (omega arith, omega arith)
 rise_push low last (x ∷ ms) m e h = (h.0, rise_push x.number last ms m e h.1)
 
-filter_rises : (b : Bool) (low last : ℕ) (m : Message) (rest : List Message) → low < m.number → RiseTo m.number last rest
+filter_rises : (b : Bool) (low last : ℕ) (m : QueuedMessage) (rest : List QueuedMessage) → low < m.number → RiseTo m.number last rest
     → RiseTo low last (cond b (m ∷ rest) rest)
 filter_rises true low last m rest l r = (l, r)
 filter_rises false low last m rest l r = rise-weak m.number low last rest (omega arith) r
 
-rise-filter : (p : Message → Bool) (low last : ℕ) (ms : List Message) → RiseTo low last ms → RiseTo low last (filter p ms)
+rise-filter : (p : QueuedMessage → Bool) (low last : ℕ) (ms : List QueuedMessage) → RiseTo low last ms → RiseTo low last (filter p ms)
 rise-filter p low last [] h = h
 rise-filter p low last (m ∷ ms) h = filter_rises (p m) low last m (filter p ms) h.0 (rise-filter p m.number last ms h.1)
 
-ready_rises : (b : Bool) (low last : ℕ) (m : Message) (rest : List Message) → low < m.number → RiseTo m.number last rest
+ready_rises : (b : Bool) (low last : ℕ) (m : QueuedMessage) (rest : List QueuedMessage) → low < m.number → RiseTo m.number last rest
     → RiseTo low last ((if b then record m { fate = Ready } else m) ∷ rest)
 ready_rises true low last m rest l r = (l, r)
 ready_rises false low last m rest l r = (l, r)
 
-rise-ready : (test : Fate → Bool) (low last : ℕ) (ms : List Message) → RiseTo low last ms → RiseTo low last (map (ready_if test) ms)
+rise-ready : (test : Fate → Bool) (low last : ℕ) (ms : List QueuedMessage) → RiseTo low last ms → RiseTo low last (map (ready_if test) ms)
 rise-ready test low last [] h = h
 rise-ready test low last (m ∷ ms) h =
     ready_rises (test m.fate) low last m (map (ready_if test) ms) h.0 (rise-ready test m.number last ms h.1)
 
-rise_dealt : (low last : ℕ) (front back : List Message) (m : Message) (s : Subscription) (ack : Option ℕ)
+rise_dealt : (low last : ℕ) (front back : List QueuedMessage) (m : QueuedMessage) (s : Subscription) (ack : Option ℕ)
     → RiseTo low last (front ++ m ∷ back) → RiseTo low last (front ++ (left_of m s ack ++ back))
 rise_dealt low last [] back m s None h = let first = h.0 in rise-weak m.number low last back (omega arith) h.1
 rise_dealt low last [] back m s (Some n) h = h
@@ -56,42 +56,42 @@ rise_dealt low last (x ∷ front) back m s ack h = (h.0, rise_dealt x.number las
 -- ---- what is out is out to a subscription that is there
 
 -- each of these messages is ready, or out to one of the subscriptions
-abbrev AreAt : List Subscription → List Message → Type 0
-AreAt subscriptions ms = AllByRecursion (λ (m : Message). is_at subscriptions m.fate ≡ true) ms
+abbrev AreAt : List Subscription → List QueuedMessage → Type 0
+AreAt subscriptions ms = AllByRecursion (λ (m : QueuedMessage). is_at subscriptions m.fate ≡ true) ms
 
-at-append : (s : List Subscription) (xs ys : List Message) → AreAt s xs → AreAt s ys → AreAt s (xs ++ ys)
+at-append : (s : List Subscription) (xs ys : List QueuedMessage) → AreAt s xs → AreAt s ys → AreAt s (xs ++ ys)
 at-append s [] ys h k = k
 at-append s (x ∷ xs) ys h k = (h.0, at-append s xs ys h.1 k)
 
-at_split : (s : List Subscription) (xs ys : List Message) → AreAt s (xs ++ ys) → AreAt s xs × AreAt s ys
+at_split : (s : List Subscription) (xs ys : List QueuedMessage) → AreAt s (xs ++ ys) → AreAt s xs × AreAt s ys
 at_split s [] ys h = (tt, h)
 at_split s (x ∷ xs) ys h = let k = at_split s xs ys h.1 in ((h.0, k.0), k.1)
 
-filter_at : (b : Bool) (s : List Subscription) (m : Message) (rest : List Message) → is_at s m.fate ≡ true → AreAt s rest
+filter_at : (b : Bool) (s : List Subscription) (m : QueuedMessage) (rest : List QueuedMessage) → is_at s m.fate ≡ true → AreAt s rest
     → AreAt s (cond b (m ∷ rest) rest)
 filter_at true s m rest h k = (h, k)
 filter_at false s m rest h k = k
 
-at-filter : (p : Message → Bool) (s : List Subscription) (ms : List Message) → AreAt s ms → AreAt s (filter p ms)
+at-filter : (p : QueuedMessage → Bool) (s : List Subscription) (ms : List QueuedMessage) → AreAt s ms → AreAt s (filter p ms)
 at-filter p s [] h = h
 at-filter p s (m ∷ ms) h = filter_at (p m) s m (filter p ms) h.0 (at-filter p s ms h.1)
 
-at-more : (s t : List Subscription) (ms : List Message) → ((f : Fate) → is_at s f ≡ true → is_at t f ≡ true) → AreAt s ms → AreAt t ms
+at-more : (s t : List Subscription) (ms : List QueuedMessage) → ((f : Fate) → is_at s f ≡ true → is_at t f ≡ true) → AreAt s ms → AreAt t ms
 at-more s t [] all h = h
 at-more s t (m ∷ ms) all h = (all m.fate h.0, at-more s t ms all h.1)
 
-ready_at : (b : Bool) (t : List Subscription) (m : Message) → (b ≡ false → is_at t m.fate ≡ true)
+ready_at : (b : Bool) (t : List Subscription) (m : QueuedMessage) → (b ≡ false → is_at t m.fate ≡ true)
     → is_at t (if b then record m { fate = Ready } else m).fate ≡ true
 ready_at true t m h = refl
 ready_at false t m h = h refl
 
-at-ready : (test : Fate → Bool) (s t : List Subscription) (ms : List Message)
+at-ready : (test : Fate → Bool) (s t : List Subscription) (ms : List QueuedMessage)
     → ((f : Fate) → test f ≡ false → is_at s f ≡ true → is_at t f ≡ true) → AreAt s ms → AreAt t (map (ready_if test) ms)
 at-ready test s t [] all h = h
 at-ready test s t (m ∷ ms) all h =
     (ready_at (test m.fate) t m (λ e. all m.fate e h.0), at-ready test s t ms all h.1)
 
-left_at : (s : List Subscription) (m : Message) (to : Subscription) (ack : Option ℕ) → list_any (is_named to.session to.id) s ≡ true
+left_at : (s : List Subscription) (m : QueuedMessage) (to : Subscription) (ack : Option ℕ) → list_any (is_named to.session to.id) s ≡ true
     → AreAt s (left_of m to ack)
 left_at s m to None h = tt
 left_at s m to (Some n) h = (h, tt)
@@ -190,31 +190,31 @@ named_once subscriptions s session id h k =
 
 -- ---- delivery numbers
 
-ready_out : (b : Bool) (n : ℕ) (m : Message) → is_delivery n (if b then record m { fate = Ready } else m).fate ≡ true
+ready_out : (b : Bool) (n : ℕ) (m : QueuedMessage) → is_delivery n (if b then record m { fate = Ready } else m).fate ≡ true
     → is_delivery n m.fate ≡ true
 ready_out true n m h = absurd cc
 ready_out false n m h = h
 
-fewer-ready : (test : Fate → Bool) (n : ℕ) (ms : List Message) → deliveries n (map (ready_if test) ms) ≤ deliveries n ms
+fewer-ready : (test : Fate → Bool) (n : ℕ) (ms : List QueuedMessage) → deliveries n (map (ready_if test) ms) ≤ deliveries n ms
 fewer-ready test n ms =
-    let e = count-map (λ (m : Message). is_delivery n m.fate) (ready_if test) ms in
-    let l = count-less (λ (m : Message). is_delivery n (ready_if test m).fate) (λ (m : Message). is_delivery n m.fate) ms
+    let e = count-map (λ (m : QueuedMessage). is_delivery n m.fate) (ready_if test) ms in
+    let l = count-less (λ (m : QueuedMessage). is_delivery n (ready_if test m).fate) (λ (m : QueuedMessage). is_delivery n m.fate) ms
     (λ m. ready_out (test m.fate) n m) in
     omega arith
 
-fewer-filter : (p : Message → Bool) (n : ℕ) (ms : List Message) → deliveries n (filter p ms) ≤ deliveries n ms
-fewer-filter p n ms = count-filter (λ (m : Message). is_delivery n m.fate) p ms
+fewer-filter : (p : QueuedMessage → Bool) (n : ℕ) (ms : List QueuedMessage) → deliveries n (filter p ms) ≤ deliveries n ms
+fewer-filter p n ms = count-filter (λ (m : QueuedMessage). is_delivery n m.fate) p ms
 
 -- a message that goes out: with a number, or for good
-fewer-none : (n : ℕ) (front back : List Message) (m : Message) → deliveries n (front ++ back) ≤ deliveries n (front ++ m ∷ back)
+fewer-none : (n : ℕ) (front back : List QueuedMessage) (m : QueuedMessage) → deliveries n (front ++ back) ≤ deliveries n (front ++ m ∷ back)
 fewer-none n front back m =
-    let p = λ (x : Message). is_delivery n x.fate in
+    let p = λ (x : QueuedMessage). is_delivery n x.fate in
     let a = count-append p front back in let b = count-append p front (m ∷ back) in let c = count-cons p m back in omega arith
 
-one_out : (n k : ℕ) (front back : List Message) (m out : Message) → is_delivery n out.fate ≡ (k == n)
+one_out : (n k : ℕ) (front back : List QueuedMessage) (m out : QueuedMessage) → is_delivery n out.fate ≡ (k == n)
     → deliveries n (front ++ out ∷ back) ≤ deliveries n (front ++ m ∷ back) + cond (k == n) 1 0
 one_out n k front back m out e =
-    let p = λ (x : Message). is_delivery n x.fate in
+    let p = λ (x : QueuedMessage). is_delivery n x.fate in
     let a = count-append p front (out ∷ back) in let b = count-append p front (m ∷ back) in
     let c = count-cons p m back in let d = count-cons p out back in
     let f : cond {A = ℕ} (is_delivery n out.fate) 1 0 ≡ cond (k == n) 1 0 = ap (λ (t : Bool). cond {A = ℕ} t 1 0) e in
@@ -227,15 +227,15 @@ over_once : (given n old new : ℕ) → (given < n → old ≡ 0) → old ≤ 1 
 over_once given n old new g o l = grind (arith, nat_tests)
 
 -- no number above this one is out, and none twice
-abbrev AreGiven : ℕ → List Message → Type 0
+abbrev AreGiven : ℕ → List QueuedMessage → Type 0
 AreGiven given ms = ((n : ℕ) → given < n → deliveries n ms ≡ 0) × ((n : ℕ) → deliveries n ms ≤ 1)
 
-given_fewer : (given : ℕ) (old new : List Message) → ((n : ℕ) → deliveries n new ≤ deliveries n old) → AreGiven given old
+given_fewer : (given : ℕ) (old new : List QueuedMessage) → ((n : ℕ) → deliveries n new ≤ deliveries n old) → AreGiven given old
     → AreGiven given new
 given_fewer given old new h g =
     (λ n l. let a = h n in let b = g.0 n l in omega arith, λ n. let a = h n in let b = g.1 n in omega arith)
 
-given_dealt : (given : ℕ) (front back : List Message) (m : Message) (s : Subscription) (b : Bool) (ack : Option ℕ)
+given_dealt : (given : ℕ) (front back : List QueuedMessage) (m : QueuedMessage) (s : Subscription) (b : Bool) (ack : Option ℕ)
     → ack ≡ (if b then None else Some (given + 1)) → AreGiven given (front ++ m ∷ back)
     → AreGiven (last_given given ack) (front ++ (left_of m s ack ++ back))
 given_dealt given front back m s true ack e g =
@@ -251,7 +251,7 @@ given_dealt given front back m s false ack e g = rw e (
 
 -- ---- one event
 
-put_orderly : (old : Book) (m : Message) (accepted : List Accepted) → m.number ≡ old.last + 1 → m.fate ≡ Ready → IsOrderly old
+put_orderly : (old : Book) (m : QueuedMessage) (accepted : List Accepted) → m.number ≡ old.last + 1 → m.fate ≡ Ready → IsOrderly old
     → IsOrderly (record old { living = old.living ++ m ∷ []; last = old.last + 1; accepted = accepted })
 put_orderly old m accepted e r o = record {
   rising = rise_push 0 old.last old.living m e o.rising;
@@ -263,7 +263,7 @@ put_orderly old m accepted e r o = record {
   where
     more : (n : ℕ) → deliveries n (old.living ++ m ∷ []) ≤ deliveries n old.living
     more n =
-        let p = λ (x : Message). is_delivery n x.fate in
+        let p = λ (x : QueuedMessage). is_delivery n x.fate in
         let a = count-append p old.living (m ∷ []) in let c = count-cons p m [] in
         let f : cond {A = ℕ} (is_delivery n m.fate) 1 0 ≡ 0 = ap (λ (x : Fate). cond {A = ℕ} (is_delivery n x) 1 0) r in
         omega arith
@@ -306,7 +306,7 @@ ready_orderly old test subscriptions stay named o =
 ack_orderly : (old new : Book) (number : ℕ) (o : Option Subscription) → acked old number o ≡ Ok new → IsOrderly old → IsOrderly new
 ack_orderly old new number None h o = absurd cc
 ack_orderly old new number (Some s) h o =
-    let left = λ (m : Message). not (covered s number m.fate) in
+    let left = λ (m : QueuedMessage). not (covered s number m.fate) in
     let e : record old { living = filter left old.living } ≡ new = cc in
     let given = given_fewer old.given old.living (filter left old.living) (λ n. fewer-filter left n old.living) (o.given, o.once) in
     rw (← e) (record {
@@ -338,7 +338,7 @@ fewer_named : (q : Subscription → Bool) (old : Book) → IsOrderly old → (se
 fewer_named q old o session id =
     let a = count-filter (is_named session id) q old.subscriptions in let b = o.named session id in omega arith
 
-event_orderly : (old new : Book) (e : Event) → Happens old e new → IsOrderly old → IsOrderly new
+event_orderly : (old new : Book) (e : BookEvent) → Happens old e new → IsOrderly old → IsOrderly new
 event_orderly old new (Puts full sent) h o = rw (put_is full old sent new h)
     (put_orderly old (record { number = old.last + 1; sent = sent; fate = Ready }) _ refl refl o)
 event_orderly old new (Hands d) h o = deal_orderly old new d h o
@@ -361,7 +361,7 @@ event_orderly old new (Takes accepted) h o = rw h.1 (record {
 
 -- ---- runs
 
-run_orderly : (events : List Event) (old new : Book) → Run old events new → IsOrderly old → IsOrderly new
+run_orderly : (events : List BookEvent) (old new : Book) → Run old events new → IsOrderly old → IsOrderly new
 run_orderly [] old new h o = rw h o
 run_orderly (e ∷ events) old new h o = run_orderly events h.0 new h.2 (event_orderly old h.0 e h.1 o)
 
@@ -374,5 +374,5 @@ start_orderly = record {
   named = λ session id. omega arith;
 }
 
-pub books_orderly : (events : List Event) (b : Book) → Run empty_book events b → IsOrderly b
+pub books_orderly : (events : List BookEvent) (b : Book) → Run empty_book events b → IsOrderly b
 books_orderly events b h = run_orderly events empty_book b h start_orderly

@@ -5,9 +5,9 @@ use Rattle.broker_book.specs.declared.parts.Accepted.{Accepted}
 use Rattle.broker_book.specs.declared.parts.Mode.TheVariants.{Auto, Client, Individual}
 use Rattle.broker_book.specs.declared.parts.Sent.{Sent}
 use Rattle.broker_book.specs.declared.parts.Subscription.{Subscription}
-use Rattle.broker_book.specs.Books.{Book, Message, Fate, Ready, Out, empty_book}
+use Rattle.broker_book.specs.Books.{Book, QueuedMessage, Fate, Ready, Out, empty_book}
 use Rattle.broker_book.specs.Steps.{Handed, Deal, holder, released, subscribed, with_message}
-use Rattle.broker_book.specs.Runs.{Event, Puts, Hands, Acks, Subscribes, Releases, Takes, Happens, Run, ended_by}
+use Rattle.broker_book.specs.Runs.{BookEvent, Puts, Hands, Acks, Subscribes, Releases, Takes, Happens, Run, ended_by}
 use Rattle.broker_book.specs.Runs.{ended_in, put_in, taken_in, handed_in, numbers_covered}
 use Rattle.broker_book.specs.Laws.{IsKept, IsOrderly, numbered}
 
@@ -19,7 +19,7 @@ letter body = record { destination = codes "/queue/a"; headers = []; body = body
 abbrev listener : Subscription
 listener = record { session = 1; id = codes "0"; destination = codes "/queue/a"; mode = Individual }
 
-abbrev message : ℕ → List ℕ → Fate → Message
+abbrev message : ℕ → List ℕ → Fate → QueuedMessage
 message number body fate = record { number = number; sent = letter body; fate = fate }
 
 abbrev handed : ℕ → List ℕ → Handed
@@ -49,7 +49,7 @@ one_left = record both_out { living = message 2 (codes "b") (Out 1 (codes "0") 2
 abbrev last_book : Book
 last_book = record { living = message 2 (codes "b") Ready ∷ []; last = 2; given = 2; subscriptions = []; accepted = [] }
 
-abbrev events : List Event
+abbrev events : List BookEvent
 events = Subscribes listener ∷ Puts 8 (letter (codes "a")) ∷ Puts 8 (letter (codes "b")) ∷ Hands (handed 1 (codes "a"))
     ∷ Hands (handed 2 (codes "b")) ∷ Acks 1 1 (1 ∷ []) ∷ Releases 1 (codes "0") ∷ Takes accepted ∷ []
 

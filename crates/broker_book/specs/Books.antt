@@ -17,7 +17,7 @@ pub data Fate : Type 0 where
   Out : (session : ℕ) → (id : List ℕ) → (number : ℕ) → Fate
 
 -- a message that isn't gone
-pub record Message : Type 0 where
+pub record QueuedMessage : Type 0 where
   pub number : ℕ
   pub sent : Sent
   pub fate : Fate
@@ -25,7 +25,7 @@ pub record Message : Type 0 where
 -- the messages that are ready or out, in order of their numbers; the last numbers that were given to a message and to a delivery; the
 -- subscriptions, the oldest first; the SENDs accepted since they were last taken
 pub record Book : Type 0 where
-  pub living : List Message
+  pub living : List QueuedMessage
   pub last : ℕ
   pub given : ℕ
   pub subscriptions : List Subscription
@@ -41,7 +41,7 @@ is_ready_fate Ready = true
 is_ready_fate (Out session id number) = false
 
 -- whether a message is ready
-abbrev pub is_ready : Message → Bool
+abbrev pub is_ready : QueuedMessage → Bool
 is_ready m = is_ready_fate m.fate
 
 -- whether a fate is out to a session's subscription
@@ -60,7 +60,7 @@ out_of session Ready = false
 out_of session (Out s i n) = s == session
 
 -- whether a message goes to a destination
-abbrev pub is_for : List ℕ → Message → Bool
+abbrev pub is_for : List ℕ → QueuedMessage → Bool
 is_for destination m = bytes_eq m.sent.destination destination
 
 -- ---- subscriptions
@@ -92,11 +92,11 @@ has_credit b s = is_auto s.mode || (nat_lt (unanswered b s) MAX_UNANSWERED && na
 -- ---- what can be dealt
 
 -- whether a message can go out to a subscription
-abbrev pub may_take : Book → Message → Subscription → Bool
+abbrev pub may_take : Book → QueuedMessage → Subscription → Bool
 may_take b m s = bytes_eq s.destination m.sent.destination && has_credit b s
 
 -- whether a message is ready, and can go out to one
-abbrev pub is_due : Book → Message → Bool
+abbrev pub is_due : Book → QueuedMessage → Bool
 is_due b m = is_ready m && list_any (may_take b m) b.subscriptions
 
 -- no message can go out

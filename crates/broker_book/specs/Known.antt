@@ -1,11 +1,11 @@
 -- Each message that is handed out was put in.
 use Rattle.std.specs.Prelude.{◌≡◌, Bool, true, List, [], ◌∷◌}
 use Rattle.broker_book.specs.declared.parts.Sent.{Sent}
-use Rattle.broker_book.specs.Books.{Book, Message}
+use Rattle.broker_book.specs.Books.{Book, QueuedMessage}
 use Rattle.broker_book.specs.Steps.{Handed, Deals}
 
 -- what these messages' SENDs brought passes a test
-abbrev pub IsKnown : (Sent → Bool) → List Message → Type 0
+abbrev pub IsKnown : (Sent → Bool) → List QueuedMessage → Type 0
 IsKnown p [] = Unit {0}
 IsKnown p (m ∷ ms) = (p m.sent ≡ true) × IsKnown p ms
 

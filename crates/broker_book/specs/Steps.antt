@@ -9,7 +9,8 @@ use Rattle.broker_book.specs.declared.parts.Sent.{Sent}
 use Rattle.broker_book.specs.declared.parts.Subscription.{Subscription}
 use Rattle.broker_book.specs.declared.parts.Action.{Action}
 use Rattle.broker_book.specs.declared.parts.Action.TheVariants.{Put, Ack, Nack}
-use Rattle.broker_book.specs.Books.{Book, Message, Fate, Ready, Out, out_as, out_to, out_of, is_for, is_named, is_auto, reaches, is_ready}
+use Rattle.broker_book.specs.Books.{Book, QueuedMessage, Fate, Ready, Out, out_as, out_to, out_of, is_for, is_named, is_auto, reaches}
+use Rattle.broker_book.specs.Books.{is_ready}
 use Rattle.broker_book.specs.Books.{may_take, is_due, IsQuiet}
 
 -- ---- deals
@@ -22,7 +23,7 @@ pub record Handed : Type 0 where
   pub ack : Option ℕ
 
 -- what is left of a message that goes out
-abbrev pub left_of : Message → Subscription → Option ℕ → List Message
+abbrev pub left_of : QueuedMessage → Subscription → Option ℕ → List QueuedMessage
 left_of m to None = []
 left_of m to (Some n) = record m { fate = Out to.session to.id n } ∷ []
 
@@ -37,9 +38,9 @@ next_ack b s = if is_auto s.mode then None else Some (b.given + 1)
 
 -- The first message that is due goes out to the oldest subscription that may take it.
 pub record Deal (old : Book) (d : Handed) (new : Book) : Type 0 where
-  pub message : Message
-  pub front : List Message
-  pub back : List Message
+  pub message : QueuedMessage
+  pub front : List QueuedMessage
+  pub back : List QueuedMessage
   pub found : old.living ≡ front ++ message ∷ back
   pub first : list_any (is_due old) front ≡ false
   pub ready : is_ready message ≡ true
@@ -87,7 +88,7 @@ covered s answered Ready = false
 covered s answered (Out x i n) = x == s.session && bytes_eq i s.id && reaches s.mode answered n
 
 -- a message that is ready again if its fate passes a test
-abbrev pub ready_if : (Fate → Bool) → Message → Message
+abbrev pub ready_if : (Fate → Bool) → QueuedMessage → QueuedMessage
 ready_if test m = if test m.fate then record m { fate = Ready } else m
 
 -- the messages for which an ACK counts are gone

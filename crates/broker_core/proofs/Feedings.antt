@@ -7,7 +7,7 @@ use Rattle.base.specs.declared.limits.TheConstants.{MAX_BODY}
 use Rattle.stomp_frame.specs.Frames.{Content}
 use Rattle.stomp_frame.specs.Spelling.{IsGap, SpellsAfterGap}
 use Rattle.stomp_frame.proofs.Streaming.{gap_both, gap_spelled}
-use Rattle.broker_core.specs.Feeding.{TakesFrame, waited, read, HasNone, MeetsFault, now, before, Takes, HandlesAll, Ends}
+use Rattle.broker_core.specs.Feeding.{DecidesNext, waited, read, HasNone, MeetsFault, now, before, TakesDecided, HandlesAll, Ends}
 use Rattle.broker_core.specs.Feeding.{closed, awaits, faulty}
 use Rattle.broker_core.specs.Feeding.{Stops, at_frame, in_step, in_deals, at_fault, at_end, Dealing, IsOpen, answer_of}
 use Rattle.broker_core.specs.Feeding.{fed, taking}
@@ -15,7 +15,7 @@ use Rattle.broker_core.specs.Feeding.{with_incoming, with_waiting}
 use Rattle.broker_core.specs.Serving.{Decided, Server, session_of, roster_of, step, changing, with_fault, part, refused, nothing_incoming}
 use Rattle.broker_core.specs.Streams.{SpellsEach, SpellsFirst, connected_after, Fed, Took, whole, part as in_part, Untouched, FedInTurn}
 use Rattle.broker_core.specs.Streams.{AreFirst, HandledAreFirst, stopped_frames}
-use Rattle.broker_core.specs.declared.fault.Refusal.TheVariants.{BadFrame}
+use Rattle.broker_core.specs.declared.fault.FrameRefusal.TheVariants.{BadFrame}
 use Rattle.broker_core.specs.declared.incoming.Incoming.{Incoming}
 use Rattle.broker_core.specs.declared.session.Session.{Session}
 use Rattle.broker_core.proofs.Left.{Seen, seen_in, seen_taken, seen_some, find_with}
@@ -51,7 +51,7 @@ pub record TookOne (c : Bool) (d : Decided) (rest : List ℕ) (left : Incoming) 
   pub sound : left.decoder.failed ≡ false
   pub octets : after ≡ left.decoder.octets
 
-take_one : (c : Bool) (rest : List ℕ) (i : Incoming) (d : Decided) (left : Incoming) → HoldsIn c rest i → TakesFrame c i d left
+take_one : (c : Bool) (rest : List ℕ) (i : Incoming) (d : Decided) (left : Incoming) → HoldsIn c rest i → DecidesNext c i d left
     → TookOne c d rest left
 take_one c rest i d left (lost w f) (waited e k) = let z : Some d ≡ None = sym e ∙ w in cc
 take_one c rest i d left (lost w f) (read fr front w1 s1 spells o1 s2 w2 a) = let z : true ≡ false = sym f ∙ s1 in cc
@@ -124,12 +124,12 @@ nothing_before rest i c w f o = held [] (0, refl) w f o
 -- a frame was taken and had its step
 stepped : (c : Bool) (frames : List Decided) (pieces : List ℕ) (s mid t : Session) (d : Decided) (left : Incoming)
     → State c frames pieces s → s.closed ≡ false
-    → TakesFrame s.server s.incoming d left → mid ≡ with_incoming left s → Keeps mid t → State c (frames ++ d ∷ []) pieces t
+    → DecidesNext s.server s.incoming d left → mid ≡ with_incoming left s → Keeps mid t → State c (frames ++ d ∷ []) pieces t
 stepped c frames pieces s mid t d left st o takes m k = elim st.next [
   | inl shut ↦ let z : true ≡ false = sym shut ∙ o in cc
   | inr h ↦
       let one = take_one (connected_after c frames) st.rest s.incoming d left h.incoming
-      (subst (λ b. TakesFrame b s.incoming d left) h.server takes) in
+      (subst (λ b. DecidesNext b s.incoming d left) h.server takes) in
       record {
         text = st.text ++ one.first.front;
         rest = one.after;
@@ -187,7 +187,7 @@ dealt c frames pieces n old new i h =
 -- ---- a frame, and frames
 
 one_step : (full n : ℕ) (c : Bool) (frames : List Decided) (pieces : List ℕ) (old mid : Server) (d : Decided) → Is c frames pieces n old
-    → Takes old n d mid
+    → TakesDecided old n d mid
     → Is c (frames ++ d ∷ []) pieces n (step full n d mid)
 one_step full n c frames pieces old mid d i t =
     let m : t.session ≡ i.session = same_session (session_of n old) t.session i.session t.is_open.found i.found in
@@ -252,7 +252,7 @@ fails c i left (now fault w f bad w2 f2) rest h = lost w2 f2
 fails c i left (before w f e) rest h = subst (λ (j : Incoming). HoldsIn c rest j) (sym e) h
 
 -- a frame that waits again
-waits_again : (c : Bool) (i left : Incoming) (d : Decided) → TakesFrame c i d left → (rest : List ℕ) → HoldsIn c rest i
+waits_again : (c : Bool) (i left : Incoming) (d : Decided) → DecidesNext c i d left → (rest : List ℕ) → HoldsIn c rest i
     → HoldsIn c rest (with_waiting d left)
 waits_again c i left d t rest h =
     let one = take_one c rest i d left h t in
@@ -289,7 +289,7 @@ stopped full n c frames pieces old new i (at_frame e) =
 stopped full n c frames pieces old new i (in_step d s left o t e) =
     subst (λ l. Is c l pieces n new) (sym (append-nil frames))
     (left_as c frames pieces n old new i s (with_waiting d left) o
-    (λ k. waits_again (connected_after c frames) s.incoming left d (subst (λ b. TakesFrame b s.incoming d left) k t)) e)
+    (λ k. waits_again (connected_after c frames) s.incoming left d (subst (λ b. DecidesNext b s.incoming d left) k t)) e)
 stopped full n c frames pieces old new i (in_deals d mid t deals) = dealt c (frames ++ d ∷ []) pieces n (step full n d mid) new
     (one_step full n c frames pieces old mid d i t) deals
 stopped full n c frames pieces old new i (at_fault s left o h e) =

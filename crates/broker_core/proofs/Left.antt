@@ -10,13 +10,13 @@ use Rattle.stomp_frame.specs.Spelling.{SpellsAfterGap}
 use Rattle.stomp_session.specs.Replies.{message_frame}
 use Rattle.stomp_session.specs.declared.request.Request.{Request}
 use Rattle.broker_book.specs.Steps.{Handed, Taken}
-use Rattle.broker_core.specs.Feeding.{Hands, TakesFrame, waited, read, delivery_of}
+use Rattle.broker_core.specs.Feeding.{Hands, DecidesNext, waited, read, delivery_of}
 use Rattle.broker_core.specs.Parts.Taking.{left_of}
 use Rattle.broker_core.specs.Performing.{Reach, performed}
 use Rattle.broker_core.specs.Serving.{Decided, Part, Roster, Server, is_session, session_of, with_session, writing, served, finished}
 use Rattle.broker_core.specs.Serving.{confirmed}
 use Rattle.broker_core.specs.Serving.{closing_if, is_last, reached, step, part}
-use Rattle.broker_core.specs.declared.fault.Refusal.{Refusal}
+use Rattle.broker_core.specs.declared.fault.FrameRefusal.{FrameRefusal}
 use Rattle.broker_core.specs.declared.incoming.Incoming.{Incoming}
 use Rattle.broker_core.specs.declared.session.Session.{Session}
 
@@ -90,7 +90,7 @@ closing_lessens : (last : Bool) (p : Part) → Lessens p.session (closing_if las
 closing_lessens true p = record { number = refl; left = omega arith }
 closing_lessens false p = record { number = refl; left = omega arith }
 
-finished_lessens : (request : Request) (p : Part) (r : Result Reach Refusal) → Lessens p.session (finished request p r).session
+finished_lessens : (request : Request) (p : Part) (r : Result Reach FrameRefusal) → Lessens p.session (finished request p r).session
 finished_lessens request p (Ok r) = let k = closing_lessens (is_last request) (confirmed request p r) in record
     { number = k.number; left = k.left }
 finished_lessens request p (Err x) = record { number = refl; left = omega arith }
@@ -117,7 +117,7 @@ spelled_long f front h =
     let k : length front ≡ length (h.1.head ++ f.body) + 1 = ap length e ∙ length-append (h.1.head ++ f.body) (0 ∷ []) in
     omega arith
 
-pub taken_less : (connected : Bool) (old : Incoming) (decided : Decided) (new : Incoming) → TakesFrame connected old decided new
+pub taken_less : (connected : Bool) (old : Incoming) (decided : Decided) (new : Incoming) → DecidesNext connected old decided new
     → left_of new < left_of old
 taken_less connected old decided new (waited w e) = rw (e, w) (omega arith)
 taken_less connected old decided new (read f front w s spells octets s2 w2 d) =

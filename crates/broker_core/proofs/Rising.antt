@@ -15,7 +15,7 @@ use Rattle.std.proofs.lemmas.Option.{slice_get-get_or, slice_get_cases}
 use Rattle.broker_book.specs.Books.{Book}
 use Rattle.broker_tx.proofs.Places.{changed_between, nowhere, passes_none, somewhere}
 use Rattle.broker_tx.specs.First.{first_changed, IsFirstAt}
-use Rattle.broker_core.specs.Calls.{NamesFresh, Opens, is_fresh, named, new_session, others}
+use Rattle.broker_core.specs.Calls.{NamesFresh, OpensSession, is_fresh, named, new_session, others}
 use Rattle.broker_core.specs.Parts.Rising.{AreRising, FreshPlace, IsFreshAt}
 use Rattle.broker_core.specs.Parts.Taking.{PlaceAnswer, SessionPieceAnswer}
 use Rattle.broker_core.specs.Serving.{Part, part, broker_of, is_session}
@@ -270,7 +270,8 @@ found_last : (n : ℕ) (ss : List Session) (s : Session) → list_any (is_sessio
 found_last n ss s e h = found_between (is_session n) ss s [] e h
 
 pub opens : (book : Book) (ss : List Session) (opened : ℕ) → AreRising 0 ss opened
-    → Opens (broker_of book (roster ss opened)) (opened + 1) (broker_of book (roster (ss ++ new_session (opened + 1) ∷ []) (opened + 1)))
+    → OpensSession (broker_of book (roster ss opened)) (opened + 1) (broker_of book (roster (ss
+    ++ new_session (opened + 1) ∷ []) (opened + 1)))
 opens book ss opened r =
     let e : list_any (is_session (opened + 1)) ss ≡ false = unused (opened + 1) 0 opened ss r (omega arith) in
     record {

@@ -3,12 +3,12 @@ use Rattle.std.proofs.Common.{◌≡◌, ℕ, Bool, true, false, List, [], ◌�
 use Rattle.std.proofs.Common.{refl, sym, ap, ◌∙◌, append_assoc, subst, inl, inr}
 use Rattle.std.specs.Prelude.{◌⊎◌}
 use Rattle.stomp_session.specs.declared.request.Request.{Request}
-use Rattle.broker_core.specs.Feeding.{TakesFrame, waited, read, Handles, with_incoming}
+use Rattle.broker_core.specs.Feeding.{DecidesNext, waited, read, Handles, with_incoming}
 use Rattle.broker_core.specs.Performing.{Reach, performed}
 use Rattle.broker_core.specs.Serving.{Decided, Part, Server, session_of, roster_of, served, finished, confirmed, closing_if, is_last}
 use Rattle.broker_core.specs.Serving.{reached, step, part}
 use Rattle.broker_core.specs.Streams.{TakesAll, Leaves, WereSpelled, HandledAreTaken, TakenAreSpelled}
-use Rattle.broker_core.specs.declared.fault.Refusal.{Refusal}
+use Rattle.broker_core.specs.declared.fault.FrameRefusal.{FrameRefusal}
 use Rattle.broker_core.specs.declared.incoming.Incoming.{Incoming}
 use Rattle.broker_core.specs.declared.session.Session.{Session}
 use Rattle.broker_core.proofs.Left.{Seen, seen, seen_in, seen_taken, seen_some, find_with}
@@ -16,7 +16,7 @@ use Rattle.broker_core.proofs.Left.{Seen, seen, seen_in, seen_taken, seen_some, 
 -- ---- the octets
 
 spelled_first : (connected : Bool) (old mid new : Incoming) (d : Decided) (frames : List Decided) → old.waiting ≡ None
-    → TakesFrame connected old d mid
+    → DecidesNext connected old d mid
     → (mid.waiting ≡ None → WereSpelled true mid frames new) → WereSpelled connected old (d ∷ frames) new
 spelled_first connected old mid new d frames w (waited e k) ih = let z : Some d ≡ None = sym e ∙ w in cc
 spelled_first connected old mid new d frames w (read f front w1 s1 spells octets s2 w2 answers) ih =
@@ -48,7 +48,7 @@ closing_keeps : (last : Bool) (s : Session) (p : Part) → Keeps s p.session →
 closing_keeps true s p k = record { number = k.number; kept = inl refl }
 closing_keeps false s p k = k
 
-finished_keeps : (request : Request) (p : Part) (r : Result Reach Refusal) → Keeps p.session (finished request p r).session
+finished_keeps : (request : Request) (p : Part) (r : Result Reach FrameRefusal) → Keeps p.session (finished request p r).session
 finished_keeps request p (Ok r) =
     closing_keeps (is_last request) p.session (confirmed request p r) (record { number = refl; kept = inr (refl, refl) })
 finished_keeps request p (Err x) = record { number = refl; kept = inl refl }
@@ -77,7 +77,7 @@ or_left t u i e h = elim h [
 -- one frame
 pub record OneTaken (n : ℕ) (s : Session) (d : Decided) (new : Server) : Type 0 where
   pub left : Incoming
-  pub takes : TakesFrame s.server s.incoming d left
+  pub takes : DecidesNext s.server s.incoming d left
   pub leaves : Leaves n new left true
 
 pub one_taken : (full n : ℕ) (old new : Server) (d : Decided) (s : Session) → Handles full n old d new → session_of n old ≡ Some s

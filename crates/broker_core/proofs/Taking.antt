@@ -6,13 +6,13 @@ use Rattle.stomp_frame.specs.Decoding.{Held, Nexts}
 use Rattle.stomp_frame.specs.Frames.{Content}
 use Rattle.stomp_frame.specs.declared.fault.FrameFault.{FrameFault}
 use Rattle.stomp_frame.specs.declared.fault.FrameFault.TheVariants.{Memory, Failed}
-use Rattle.broker_core.specs.Feeding.{TakesFrame, MeetsFault, answer_of, read, now, before}
+use Rattle.broker_core.specs.Feeding.{DecidesNext, MeetsFault, answer_of, read, now, before}
 use Rattle.broker_core.specs.Parts.Taking.{is_memory}
 use Rattle.broker_core.specs.Serving.{Decided}
 use Rattle.broker_core.specs.declared.incoming.Incoming.{Incoming}
 
 pub reads : (connected : Bool) (old new : Incoming) (f : Content) (decided : Decided) → old.waiting ≡ None → new.waiting ≡ None
-    → Nexts MAX_BODY old.decoder new.decoder (Ok (Some f)) → decided ≡ answer_of connected f → TakesFrame connected old decided new
+    → Nexts MAX_BODY old.decoder new.decoder (Ok (Some f)) → decided ≡ answer_of connected f → DecidesNext connected old decided new
 reads connected old new f decided w v n e = read f n.2 w n.0 n.3 n.4 n.1 v e
 
 same : (old new : Incoming) → old.waiting ≡ None → new.waiting ≡ None → new.decoder ≡ old.decoder → new ≡ old

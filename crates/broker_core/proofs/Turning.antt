@@ -4,7 +4,7 @@ use Rattle.std.proofs.Common.{refl, ap, ◌∙◌, subst, arith, length-append, 
 use Rattle.std.specs.Prelude.{◌⊎◌, is_some, is_err, OnOk, Result, Ok, Err}
 use Rattle.std.specs.List.{find}
 use Rattle.broker_core.specs.Calls.{closed_in}
-use Rattle.broker_core.specs.Feeding.{Takes, Handles, HandlesAll, Settles, Dealing, Ends, Stops}
+use Rattle.broker_core.specs.Feeding.{TakesDecided, Handles, HandlesAll, Settles, Dealing, Ends, Stops}
 use Rattle.broker_core.specs.Feeding.{FeedAnswer, taking, with_incoming, closed, awaits, faulty, in_step, in_deals, at_fault, at_end}
 use Rattle.broker_core.specs.Parts.Taking.{TakesNext, Turned, Handled, EndAnswer, waiting_again, left_of}
 use Rattle.broker_core.specs.Serving.{Decided, Server, roster_of, is_session, session_of, with_session, changing, step, with_fault}
@@ -16,7 +16,7 @@ use Rattle.broker_core.proofs.Left.{Seen, seen_in, seen_taken, seen_some, find_w
 
 -- ---- what was taken
 
-pub taken : (old new : Server) (n : ℕ) (d : Decided) → TakesNext n old new (Frame d) → Takes old n d new
+pub taken : (old new : Server) (n : ℕ) (d : Decided) → TakesNext n old new (Frame d) → TakesDecided old n d new
 taken old new n d h = record { session = h.session; left = h.left; is_open = h.is_open; takes = h.answer; changed = h.changed }
 
 pub ends_open : (old new : Server) (n : ℕ) → TakesNext n old new Nothing → Ends old n new
@@ -70,7 +70,8 @@ there_in : (o : Option Session) (t : Session) → o ≡ Some t → is_some o ≡
 there_in None t e = cc
 there_in (Some s) t e = refl
 
-pub turned : (full n : ℕ) (old mid new : Server) (d : Decided) → Takes old n d mid → Settles (step full n d mid) new → Turned full n old new
+pub turned : (full n : ℕ) (old mid new : Server) (d : Decided) → TakesDecided old n d mid → Settles (step full n d mid) new
+    → Turned full n old new
 turned full n old mid new d t s =
     let found : session_of n mid ≡ Some (with_incoming t.left t.session) =
     ap (session_of n) t.changed ∙ find_with n (with_incoming t.left) old.sessions t.session refl t.is_open.found in

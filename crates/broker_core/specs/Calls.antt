@@ -32,7 +32,7 @@ abbrev pub with_new_session : Server → Server
 with_new_session b = record b { sessions = b.sessions ++ new_session (b.opened + 1) ∷ []; opened = b.opened + 1 }
 
 -- a number that no session has is given to a new one
-pub record Opens (old : Server) (n : ℕ) (new : Server) : Type 0 where
+pub record OpensSession (old : Server) (n : ℕ) (new : Server) : Type 0 where
   pub next : n ≡ old.opened + 1
   pub unused : session_of n old ≡ None
   pub changed : new ≡ with_new_session old
@@ -40,7 +40,7 @@ pub record Opens (old : Server) (n : ℕ) (new : Server) : Type 0 where
 
 -- What `open` answers: a new session's number; no number is left; or memory was refused, and nothing has changed.
 abbrev pub OpenAnswer : Server → Server → Result ℕ BrokerFault → Type 0
-OpenAnswer old new (Ok n) = Opens old n new
+OpenAnswer old new (Ok n) = OpensSession old n new
 OpenAnswer old new (Err (Memory took)) = (took ≡ false) × (new ≡ old)
 OpenAnswer old new (Err TooMany) = (old.opened ≡ 2 ^ 64 - 1) × (new ≡ old)
 OpenAnswer old new (Err NoSession) = ⊥

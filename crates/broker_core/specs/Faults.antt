@@ -1,15 +1,16 @@
 -- The numbers and names of the refusals.
 use Rattle.std.specs.Prelude.{ℕ, List, codes}
 use Rattle.stomp_session.specs.Faults.{session_fault_number, session_fault_name}
-use Rattle.broker_core.specs.declared.fault.Refusal.{Refusal}
-use Rattle.broker_core.specs.declared.fault.Refusal.TheVariants.{BadFrame, Unaccepted, BadDestination, SubscriptionExists, NoSubscription}
-use Rattle.broker_core.specs.declared.fault.Refusal.TheVariants.{BadAckMode, TransactionExists, NoTransaction, NoSuchAck, QueueFull}
-use Rattle.broker_core.specs.declared.fault.Refusal.TheVariants.{TooMany}
+use Rattle.broker_core.specs.declared.fault.FrameRefusal.{FrameRefusal}
+use Rattle.broker_core.specs.declared.fault.FrameRefusal.TheVariants.{BadFrame, Unaccepted, BadDestination, SubscriptionExists}
+use Rattle.broker_core.specs.declared.fault.FrameRefusal.TheVariants.{NoSubscription}
+use Rattle.broker_core.specs.declared.fault.FrameRefusal.TheVariants.{BadAckMode, TransactionExists, NoTransaction, NoSuchAck, QueueFull}
+use Rattle.broker_core.specs.declared.fault.FrameRefusal.TheVariants.{TooMany}
 use Rattle.broker_core.specs.declared.fault.BrokerFault.{BrokerFault}
 use Rattle.broker_core.specs.declared.fault.BrokerFault.TheVariants.{Memory, NoSession, TooMany as NoNumber}
 
 -- a refusal's number
-abbrev pub refusal_number : Refusal → ℕ
+abbrev pub refusal_number : FrameRefusal → ℕ
 refusal_number BadFrame = 20
 refusal_number (Unaccepted fault) = session_fault_number fault
 refusal_number BadDestination = 25
@@ -23,7 +24,7 @@ refusal_number QueueFull = 32
 refusal_number TooMany = 36
 
 -- a refusal's name, as an ERROR tells it behind the number
-abbrev pub refusal_name : Refusal → List ℕ
+abbrev pub refusal_name : FrameRefusal → List ℕ
 refusal_name BadFrame = codes "BadFrame"
 refusal_name (Unaccepted fault) = session_fault_name fault
 refusal_name BadDestination = codes "BadDestination"

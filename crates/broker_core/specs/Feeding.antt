@@ -65,13 +65,13 @@ abbrev pub fed : List ℕ → Incoming → Incoming
 fed piece i = if i.decoder.failed then i else record i { decoder = record i.decoder { octets = i.decoder.octets ++ piece } }
 
 -- what is decided next, and what is left behind it
-pub data TakesFrame (connected : Bool) (old : Incoming) (decided : Decided) (new : Incoming) : Type 0 where
+pub data DecidesNext (connected : Bool) (old : Incoming) (decided : Decided) (new : Incoming) : Type 0 where
   -- what waits
-  waited : old.waiting ≡ Some decided → new ≡ record old { waiting = None } → TakesFrame connected old decided new
+  waited : old.waiting ≡ Some decided → new ≡ record old { waiting = None } → DecidesNext connected old decided new
   -- the frame whose gap and spelling begin the octets
   read : (f : Content) → (front : List ℕ) → old.waiting ≡ None → old.decoder.failed ≡ false → SpellsAfterGap MAX_BODY f front
       → old.decoder.octets ≡ front ++ new.decoder.octets → new.decoder.failed ≡ false → new.waiting ≡ None
-      → decided ≡ answer_of connected f → TakesFrame connected old decided new
+      → decided ≡ answer_of connected f → DecidesNext connected old decided new
 
 -- nothing waits, no whole frame begins the octets, and no octet is at fault; EOLs at the front may go
 pub record HasNone (old new : Incoming) : Type 0 where
@@ -107,17 +107,17 @@ pub record IsOpen (b : Server) (n : ℕ) (s : Session) : Type 0 where
   pub is_open : s.closed ≡ false
 
 -- a session's next frame is taken from what it was fed, and decided
-pub record Takes (old : Server) (n : ℕ) (decided : Decided) (new : Server) : Type 0 where
+pub record TakesDecided (old : Server) (n : ℕ) (decided : Decided) (new : Server) : Type 0 where
   pub session : Session
   pub left : Incoming
   pub is_open : IsOpen old n session
-  pub takes : TakesFrame session.server session.incoming decided left
+  pub takes : DecidesNext session.server session.incoming decided left
   pub changed : new ≡ changing n (with_incoming left) old
 
 -- A session's next frame is handled: it is taken, it has its step, and then messages are dealt until none can be.
 pub record Handles (full n : ℕ) (old : Server) (decided : Decided) (new : Server) : Type 0 where
   pub taken : Server
-  pub takes : Takes old n decided taken
+  pub takes : TakesDecided old n decided taken
   pub settles : Settles (step full n decided taken) new
 
 -- these frames are handled, one after another
@@ -154,9 +154,9 @@ pub record Feeds (full : ℕ) (old : Server) (n : ℕ) (piece : List ℕ) (new :
 -- deals at the end.
 pub data Stops (full n : ℕ) (old new : Server) : Type 0 where
   at_frame : new ≡ old → Stops full n old new
-  in_step : (decided : Decided) (s : Session) (left : Incoming) → IsOpen old n s → TakesFrame s.server s.incoming decided left
+  in_step : (decided : Decided) (s : Session) (left : Incoming) → IsOpen old n s → DecidesNext s.server s.incoming decided left
       → new ≡ changing n (with_incoming (with_waiting decided left)) old → Stops full n old new
-  in_deals : (decided : Decided) (taken : Server) → Takes old n decided taken → Dealing (step full n decided taken) new
+  in_deals : (decided : Decided) (taken : Server) → TakesDecided old n decided taken → Dealing (step full n decided taken) new
       → Stops full n old new
   at_fault : (s : Session) (left : Incoming) → IsOpen old n s → MeetsFault s.incoming left
       → new ≡ changing n (with_incoming left) old → Stops full n old new

@@ -13,8 +13,8 @@ use Rattle.broker_book.specs.Steps.{ended}
 use Rattle.broker_tx.specs.First.{first_changed}
 use Rattle.broker_core.specs.Faults.{refusal_number, refusal_name}
 use Rattle.broker_core.specs.Performing.{Reach, reach, performed}
-use Rattle.broker_core.specs.declared.fault.Refusal.{Refusal}
-use Rattle.broker_core.specs.declared.fault.Refusal.TheVariants.{BadFrame, Unaccepted}
+use Rattle.broker_core.specs.declared.fault.FrameRefusal.{FrameRefusal}
+use Rattle.broker_core.specs.declared.fault.FrameRefusal.TheVariants.{BadFrame, Unaccepted}
 use Rattle.broker_core.specs.declared.incoming.Incoming.{Incoming}
 use Rattle.broker_core.specs.declared.session.Session.{Session}
 
@@ -75,7 +75,7 @@ abbrev pub closing : Part → Part
 closing p = record { book = ended p.book p.session.number; session = closed_of p.session }
 
 -- an ERROR is written, and the session ends
-abbrev pub refused : Refusal → Option (List ℕ) → Part → Part
+abbrev pub refused : FrameRefusal → Option (List ℕ) → Part → Part
 refused refusal receipt p =
     closing (record p { session = writing (error_frame (refusal_number refusal) (refusal_name refusal) receipt) p.session })
 
@@ -100,7 +100,7 @@ confirmed request p r = record {
 }
 
 -- a request was done, or it was refused
-abbrev pub finished : Request → Part → Result Reach Refusal → Part
+abbrev pub finished : Request → Part → Result Reach FrameRefusal → Part
 finished request p (Ok r) = closing_if (is_last request) (confirmed request p r)
 finished request p (Err refusal) = refused refusal (receipt_of request) p
 

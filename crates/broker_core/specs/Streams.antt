@@ -4,7 +4,7 @@ use Rattle.std.specs.List.{flat_map}
 use Rattle.base.specs.declared.limits.TheConstants.{MAX_BODY}
 use Rattle.stomp_frame.specs.Frames.{Content}
 use Rattle.stomp_frame.specs.Spelling.{SpellsAfterGap}
-use Rattle.broker_core.specs.Feeding.{TakesFrame, HandlesAll, Feeds, FeedsPart, Stops, answer_of}
+use Rattle.broker_core.specs.Feeding.{DecidesNext, HandlesAll, Feeds, FeedsPart, Stops, answer_of}
 use Rattle.broker_core.specs.Feeding.{at_frame, in_step, in_deals, at_fault, at_end}
 use Rattle.broker_core.specs.Serving.{Decided, Server, session_of, nothing_incoming}
 use Rattle.broker_core.specs.declared.incoming.Incoming.{Incoming}
@@ -13,7 +13,7 @@ use Rattle.broker_core.specs.declared.session.Session.{Session}
 -- frames are taken one after another from what a session was fed; it is connected behind the first
 abbrev pub TakesAll : Bool → Incoming → List Decided → Incoming → Type 0
 TakesAll connected old [] new = new ≡ old
-TakesAll connected old (d ∷ frames) new = (mid : Incoming) × (TakesFrame connected old d mid × TakesAll true mid frames new)
+TakesAll connected old (d ∷ frames) new = (mid : Incoming) × (DecidesNext connected old d mid × TakesAll true mid frames new)
 
 -- whether a session is connected behind some frames
 abbrev pub connected_after : Bool → List Decided → Bool

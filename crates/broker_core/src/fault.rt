@@ -8,7 +8,7 @@ use thiserror::Error;
 
 /// Why a frame is refused: an ERROR tells its number and name, and ends the session.
 #[derive(Clone, Copy, Debug, PartialEq, Eq, Error)]
-pub enum Refusal {
+pub enum FrameRefusal {
     /// The octets are no frame.
     #[error("20 BadFrame: the octets are no frame")]
     BadFrame,
@@ -44,23 +44,23 @@ pub enum Refusal {
     TooMany,
 }
 
-impl Refusal {
+impl FrameRefusal {
     /// The number of the refusal.
     pub fn number(self) -> u8
         ensures { result ≡ refusal_number self }
     {
         match self {
-            Refusal::BadFrame => 20,
-            Refusal::Unaccepted(fault) => fault.number(),
-            Refusal::BadDestination => 25,
-            Refusal::SubscriptionExists => 26,
-            Refusal::NoSubscription => 27,
-            Refusal::BadAckMode => 28,
-            Refusal::TransactionExists => 29,
-            Refusal::NoTransaction => 30,
-            Refusal::NoSuchAck => 31,
-            Refusal::QueueFull => 32,
-            Refusal::TooMany => 36,
+            FrameRefusal::BadFrame => 20,
+            FrameRefusal::Unaccepted(fault) => fault.number(),
+            FrameRefusal::BadDestination => 25,
+            FrameRefusal::SubscriptionExists => 26,
+            FrameRefusal::NoSubscription => 27,
+            FrameRefusal::BadAckMode => 28,
+            FrameRefusal::TransactionExists => 29,
+            FrameRefusal::NoTransaction => 30,
+            FrameRefusal::NoSuchAck => 31,
+            FrameRefusal::QueueFull => 32,
+            FrameRefusal::TooMany => 36,
         }
     }
 
@@ -69,17 +69,17 @@ impl Refusal {
         ensures { result.now ≡ refusal_name self }
     {
         match self {
-            Refusal::BadFrame => "BadFrame",
-            Refusal::Unaccepted(fault) => fault.name(),
-            Refusal::BadDestination => "BadDestination",
-            Refusal::SubscriptionExists => "SubscriptionExists",
-            Refusal::NoSubscription => "NoSubscription",
-            Refusal::BadAckMode => "BadAckMode",
-            Refusal::TransactionExists => "TransactionExists",
-            Refusal::NoTransaction => "NoTransaction",
-            Refusal::NoSuchAck => "NoSuchAck",
-            Refusal::QueueFull => "QueueFull",
-            Refusal::TooMany => "TooMany",
+            FrameRefusal::BadFrame => "BadFrame",
+            FrameRefusal::Unaccepted(fault) => fault.name(),
+            FrameRefusal::BadDestination => "BadDestination",
+            FrameRefusal::SubscriptionExists => "SubscriptionExists",
+            FrameRefusal::NoSubscription => "NoSubscription",
+            FrameRefusal::BadAckMode => "BadAckMode",
+            FrameRefusal::TransactionExists => "TransactionExists",
+            FrameRefusal::NoTransaction => "NoTransaction",
+            FrameRefusal::NoSuchAck => "NoSuchAck",
+            FrameRefusal::QueueFull => "QueueFull",
+            FrameRefusal::TooMany => "TooMany",
         }
     }
 }
@@ -118,7 +118,7 @@ impl BrokerFault {
 #[derive(Clone, Copy, Debug, PartialEq, Eq)]
 pub enum HandlerFault {
     /// It is refused.
-    Refused(Refusal),
+    Refused(FrameRefusal),
     /// A growth was refused.
     Memory,
 }

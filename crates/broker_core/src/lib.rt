@@ -63,7 +63,7 @@ mod words;
 mod written;
 
 pub use broker::Broker;
-pub use fault::{BrokerFault, Refusal};
+pub use fault::{BrokerFault, FrameRefusal};
 pub use laws::{
     frames_are_handled_once_and_in_order, handled_frames_were_fed, taken_frames_are_spelled,
 };

@@ -8,7 +8,7 @@ ghost use Rattle.broker_core.specs.Parts.Taking.{Performs, lifted, lifted_transa
 ghost use Rattle.broker_core.specs.Performing.{reach, performed, kept, commit_done, unanswered_number, unsubscribe_done};
 ghost use Rattle.broker_core.specs.Words.{number_of};
 
-use crate::Refusal;
+use crate::FrameRefusal;
 use crate::asked::{Form, SharedSend};
 use crate::fault::HandlerFault;
 use crate::words::{is_destination, read_mode, read_number};
@@ -69,9 +69,9 @@ fn lift(answer: Result<(), QueueFault>) -> Result<(), HandlerFault>
     match answer {
         Ok(()) => Ok(()),
         Err(QueueFault::Memory) => Err(HandlerFault::Memory),
-        Err(QueueFault::NoSuchAck) => Err(HandlerFault::Refused(Refusal::NoSuchAck)),
-        Err(QueueFault::QueueFull) => Err(HandlerFault::Refused(Refusal::QueueFull)),
-        Err(QueueFault::TooMany) => Err(HandlerFault::Refused(Refusal::TooMany)),
+        Err(QueueFault::NoSuchAck) => Err(HandlerFault::Refused(FrameRefusal::NoSuchAck)),
+        Err(QueueFault::QueueFull) => Err(HandlerFault::Refused(FrameRefusal::QueueFull)),
+        Err(QueueFault::TooMany) => Err(HandlerFault::Refused(FrameRefusal::TooMany)),
     }
 }
 
@@ -82,12 +82,12 @@ fn lift_transaction(answer: Result<(), TransactionFault>) -> Result<(), HandlerF
         Ok(()) => Ok(()),
         Err(TransactionFault::Memory) => Err(HandlerFault::Memory),
         Err(TransactionFault::TransactionExists) => {
-            Err(HandlerFault::Refused(Refusal::TransactionExists))
+            Err(HandlerFault::Refused(FrameRefusal::TransactionExists))
         }
         Err(TransactionFault::NoTransaction) => {
-            Err(HandlerFault::Refused(Refusal::NoTransaction))
+            Err(HandlerFault::Refused(FrameRefusal::NoTransaction))
         }
-        Err(TransactionFault::TooMany) => Err(HandlerFault::Refused(Refusal::TooMany)),
+        Err(TransactionFault::TooMany) => Err(HandlerFault::Refused(FrameRefusal::TooMany)),
     }
 }
 
@@ -109,7 +109,7 @@ fn put<const FULL: usize>(
         (reach queues.old transactions.old) (reach queues.new transactions.new) result }
 {
     if !is_destination(&send.sent.get().destination) {
-        return Err(HandlerFault::Refused(Refusal::BadDestination));
+        return Err(HandlerFault::Refused(FrameRefusal::BadDestination));
     }
     match &send.transaction {
         None => lift(queues.put(&send.sent)),
@@ -148,16 +148,16 @@ fn subscribe<const FULL: usize>(
         (reach queues.old transactions) (reach queues.new transactions) result }
 {
     if !is_destination(&asked.destination) {
-        return Err(HandlerFault::Refused(Refusal::BadDestination));
+        return Err(HandlerFault::Refused(FrameRefusal::BadDestination));
     }
     let Some(mode) = read_mode(asked.ack_mode()) else {
-        return Err(HandlerFault::Refused(Refusal::BadAckMode));
+        return Err(HandlerFault::Refused(FrameRefusal::BadAckMode));
     };
     if queues.has_named(session, &asked.id) {
-        return Err(HandlerFault::Refused(Refusal::SubscriptionExists));
+        return Err(HandlerFault::Refused(FrameRefusal::SubscriptionExists));
     }
     if queues.count_of(session) >= MAX_SUBSCRIPTIONS {
-        return Err(HandlerFault::Refused(Refusal::TooMany));
+        return Err(HandlerFault::Refused(FrameRefusal::TooMany));
     }
     let Ok(subscription) = subscription(alloc, session, asked, mode) else {
         return Err(HandlerFault::Memory);
@@ -177,7 +177,7 @@ fn unsubscribe<const FULL: usize>(
         (reach queues.old transactions) (reach queues.new transactions) result }
 {
     if !queues.has_named(session, id) {
-        return Err(HandlerFault::Refused(Refusal::NoSubscription));
+        return Err(HandlerFault::Refused(FrameRefusal::NoSubscription));
     }
     queues.release(session, id);
     Ok(())
@@ -207,15 +207,15 @@ fn ack<const FULL: usize>(
     let Some(name) = &asked.transaction else {
         return match read_number(&asked.id) {
             Some(number) => lift(queues.ack(session, number)),
-            None => Err(HandlerFault::Refused(Refusal::NoSuchAck)),
+            None => Err(HandlerFault::Refused(FrameRefusal::NoSuchAck)),
         };
     };
     if !transactions.has(name) {
-        return Err(HandlerFault::Refused(Refusal::NoTransaction));
+        return Err(HandlerFault::Refused(FrameRefusal::NoTransaction));
     }
     match unanswered(queues, session, &asked.id) {
         Some(number) => keep(transactions, name, Action::Ack(number)),
-        None => Err(HandlerFault::Refused(Refusal::NoSuchAck)),
+        None => Err(HandlerFault::Refused(FrameRefusal::NoSuchAck)),
     }
 }
 
@@ -231,15 +231,15 @@ fn nack<const FULL: usize>(
     let Some(name) = &asked.transaction else {
         return match read_number(&asked.id) {
             Some(number) => lift(queues.nack(session, number)),
-            None => Err(HandlerFault::Refused(Refusal::NoSuchAck)),
+            None => Err(HandlerFault::Refused(FrameRefusal::NoSuchAck)),
         };
     };
     if !transactions.has(name) {
-        return Err(HandlerFault::Refused(Refusal::NoTransaction));
+        return Err(HandlerFault::Refused(FrameRefusal::NoTransaction));
     }
     match unanswered(queues, session, &asked.id) {
         Some(number) => keep(transactions, name, Action::Nack(number)),
-        None => Err(HandlerFault::Refused(Refusal::NoSuchAck)),
+        None => Err(HandlerFault::Refused(FrameRefusal::NoSuchAck)),
     }
 }
 
@@ -254,7 +254,7 @@ fn commit<const FULL: usize>(
         (reach queues.old transactions.old) (reach queues.new transactions.new) result }
 {
     let Some(actions) = transactions.actions(name) else {
-        return Err(HandlerFault::Refused(Refusal::NoTransaction));
+        return Err(HandlerFault::Refused(FrameRefusal::NoTransaction));
     };
     match queues.apply(session, actions) {
         Ok(()) => lift_transaction(transactions.commit(name)),

@@ -14,7 +14,7 @@ use crate::fault::HandlerFault;
 use crate::incoming::{Incoming, Next};
 use crate::perform::perform;
 use crate::written::Written;
-use crate::{Refusal, SessionId};
+use crate::{FrameRefusal, SessionId};
 use broker_queues::Queues;
 use broker_tx::Transactions;
 use std::alloc::{AllocError, Global};
@@ -122,7 +122,7 @@ impl Session {
         &mut self,
         alloc: Global,
         queues: &mut Queues<FULL>,
-        refusal: Refusal,
+        refusal: FrameRefusal,
         receipt: Option<&str>,
     ) -> Result<(), AllocError>
         ensures ok { OnOk result (part queues.new self.new ≡ refused refusal (option_copied receipt.entry) (part queues.old self.old)) }
@@ -168,7 +168,12 @@ impl Session {
         ensures err { OnErr result ((queues.new ≡ queues.old) × (self.new ≡ self.old)) }
     {
         let receipt = receipt_told(&refused.frame);
-        self.refuse(alloc, queues, Refusal::Unaccepted(refused.fault), receipt)
+        self.refuse(
+            alloc,
+            queues,
+            FrameRefusal::Unaccepted(refused.fault),
+            receipt,
+        )
     }
 
     fn serve_asked<const FULL: usize>(

@@ -11,13 +11,13 @@ ghost use Rattle.broker_core.specs.Feeding.{taking, with_incoming};
 ghost use Rattle.broker_core.specs.Parts.Taking.{FedAnswer, NextAnswer, NextTaken, PlaceAnswer, SessionPieceAnswer, left_in, waiting_again};
 ghost use Rattle.broker_core.specs.Parts.Rising.{FreshPlace, IsFreshAt};
 ghost use Rattle.broker_core.specs.Serving.{broker_of, in_roster, is_session, part, refused, served, step, with_fault, writing};
-ghost use Rattle.broker_core.specs.declared.fault.Refusal.TheVariants.{BadFrame};
+ghost use Rattle.broker_core.specs.declared.fault.FrameRefusal.TheVariants.{BadFrame};
 ghost use Rattle.broker_core.specs.declared.session.Session.{Session};
 
 use crate::asked::Asked;
 use crate::incoming::Next;
 use crate::session::Session;
-use crate::{BrokerFault, Refusal, SessionId};
+use crate::{BrokerFault, FrameRefusal, SessionId};
 use broker_book::{Sent, Subscription};
 use broker_queues::{Queues, Sink};
 use std::alloc::{AllocError, Global};
@@ -395,7 +395,7 @@ fn refuse_at<const FULL: usize>(
         × (items.new.items ≡ slice_set items.old.items at t) × (part queues.new t ≡ refused BadFrame None (part queues.old s)))) }
     ensures err { OnErr result ((queues.new ≡ queues.old) × (items.new.items ≡ items.old.items)) }
 {
-    items[at].refuse(alloc, queues, Refusal::BadFrame, None)
+    items[at].refuse(alloc, queues, FrameRefusal::BadFrame, None)
 }
 
 fn write_at(items: &mut Vec<Session>, at: usize, delivery: &Delivery) -> Result<(), AllocError>

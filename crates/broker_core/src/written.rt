@@ -8,7 +8,7 @@ ghost use Rattle.broker_core.specs.Faults.{refusal_name, refusal_number};
 ghost use Rattle.broker_core.specs.Parts.Asked.{request_in};
 ghost use Rattle.broker_core.specs.Serving.{reply_of, text_of};
 
-use crate::Refusal;
+use crate::FrameRefusal;
 use crate::asked::Form;
 use std::alloc::{AllocError, Global};
 use std::marker::Model;
@@ -118,7 +118,7 @@ impl Written {
     pub fn write_error(
         &mut self,
         alloc: Global,
-        refusal: Refusal,
+        refusal: FrameRefusal,
         receipt: Option<&str>,
     ) -> Result<(), AllocError>
         ensures ok { let f = error_frame (refusal_number refusal) (refusal_name refusal) (option_copied receipt.entry) in

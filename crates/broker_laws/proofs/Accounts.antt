@@ -4,7 +4,7 @@ use Rattle.std.specs.Prelude.{count_by, ◌==◌, ◌&&◌}
 use Rattle.std.specs.List.{AllByRecursion}
 use Rattle.broker_book.specs.Books.{empty_book, is_auto}
 use Rattle.broker_book.specs.Laws.{as_accepted, numbered}
-use Rattle.broker_book.specs.Runs.{Event, Puts, Hands, Acks, Nacks, Subscribes, Releases, Ends, Takes, ended_by, ended_in, handed_in}
+use Rattle.broker_book.specs.Runs.{BookEvent, Puts, Hands, Acks, Nacks, Subscribes, Releases, Ends, Takes, ended_by, ended_in, handed_in}
 use Rattle.broker_book.specs.Runs.{put_by}
 use Rattle.broker_book.specs.Runs.{put_in}
 use Rattle.broker_book.specs.Steps.{Handed}
@@ -16,8 +16,8 @@ use Rattle.broker_book.proofs.Orderly.{books_orderly}
 use Rattle.broker_core.specs.Calls.{empty}
 use Rattle.broker_core.specs.Serving.{Server}
 use Rattle.broker_book.specs.declared.parts.Sent.{Sent}
-use Rattle.broker_laws.specs.Deeds.{AcceptedWereSent, Deed, Brings, brings, done_by, done_in}
-use Rattle.broker_laws.specs.Lives.{Call, accepted_in, dealt_in, told_in}
+use Rattle.broker_laws.specs.Deeds.{AcceptedWereSent, BrokerDeed, Brings, brings, done_by, done_in}
+use Rattle.broker_laws.specs.Lives.{BrokerCall, accepted_in, dealt_in, told_in}
 use Rattle.broker_laws.specs.Runs.{Runs, hands_by, hands_in, acknowledged_by, acknowledged_in, brought, is_gone, StandsIn}
 use Rattle.broker_laws.specs.Runs.{BrokersAreOrderly, AcceptedAreToldOnce, MessagesWereAccepted, NoLifeLosesAny, NoneOvertakes}
 use Rattle.broker_laws.proofs.Overtaking.{none_overtake}
@@ -29,7 +29,7 @@ use Rattle.broker_laws.proofs.Weights.{load}
 -- ---- what was told
 
 -- what is told and what will be are the SENDs that were put
-all_told : (calls : List Call) (b : Server) (d : List Handed) (r : Runs empty.book (told_in calls) d b.book)
+all_told : (calls : List BrokerCall) (b : Server) (d : List Handed) (r : Runs empty.book (told_in calls) d b.book)
     → accepted_in calls b ≡ numbered 0 (put_in r.events)
 all_told calls b d r =
     ap (λ (l : List Accepted). l ++ b.book.accepted) (sym r.told) ∙ (each_accepted_once r.events b.book r.run).0
@@ -48,7 +48,7 @@ orderly full calls b h = let r = life_runs full empty b calls h in books_orderly
 
 -- ---- what was handed out
 
-handed_brought : (events : List Event) → handed_in events ≡ map brought (hands_in events)
+handed_brought : (events : List BookEvent) → handed_in events ≡ map brought (hands_in events)
 handed_brought [] = refl
 handed_brought (Hands d ∷ events) = ap (λ l. brought d ∷ l) (handed_brought events)
 handed_brought (Puts full sent ∷ events) = handed_brought events
@@ -88,7 +88,7 @@ one_gone : (n k : ℕ) (b : Bool) → stands n (cond b (k ∷ []) []) ≡ cond (
 one_gone n k true = let e = count-cons (λ (x : ℕ). x == n) k [] in omega (arith, e)
 one_gone n k false = refl
 
-event_split : (n : ℕ) (e : Event) → stands n (ended_by e) ≡ stands n (acknowledged_by e) + count_by (is_gone n) (hands_by e)
+event_split : (n : ℕ) (e : BookEvent) → stands n (ended_by e) ≡ stands n (acknowledged_by e) + count_by (is_gone n) (hands_by e)
 event_split n (Hands d) =
     let k = one_gone n d.number (is_auto d.to.mode) in
     let l = count-cons (is_gone n) d [] in
@@ -102,7 +102,7 @@ event_split n (Ends session) = refl
 event_split n (Takes accepted) = refl
 
 -- what was ended was acknowledged, or went out in mode `auto`
-all_split : (n : ℕ) (events : List Event)
+all_split : (n : ℕ) (events : List BookEvent)
     → stands n (ended_in events) ≡ stands n (acknowledged_in events) + count_by (is_gone n) (hands_in events)
 all_split n [] = refl
 all_split n (e ∷ events) =
@@ -114,7 +114,7 @@ all_split n (e ∷ events) =
     omega (arith, first, rest, all, acks, hands)
 
 -- a new broker has no transactions
-load_none : (p : Deed → Bool) → load p empty ≡ 0
+load_none : (p : BrokerDeed → Bool) → load p empty ≡ 0
 load_none p = refl
 
 pub loses_none : NoLifeLosesAny
@@ -141,7 +141,7 @@ numbered_count p last (s ∷ ss) =
     let c = numbered_count p (last + 1) ss in
     omega (arith, a, b, c)
 
-put_count : (p : Sent → Bool) (e : Event) → count_by p (put_by e) ≤ count_by (brings p) (done_by e)
+put_count : (p : Sent → Bool) (e : BookEvent) → count_by p (put_by e) ≤ count_by (brings p) (done_by e)
 put_count p (Puts full sent) =
     let a = count-cons p sent [] in let b = count-cons (brings p) (Brings sent) [] in omega (arith, a, b)
 put_count p (Hands d) = omega arith
@@ -152,7 +152,7 @@ put_count p (Releases session id) = omega arith
 put_count p (Ends session) = omega arith
 put_count p (Takes accepted) = omega arith
 
-puts_count : (p : Sent → Bool) (events : List Event) → count_by p (put_in events) ≤ count_by (brings p) (done_in events)
+puts_count : (p : Sent → Bool) (events : List BookEvent) → count_by p (put_in events) ≤ count_by (brings p) (done_in events)
 puts_count p [] = omega arith
 puts_count p (e ∷ events) =
     let a = count-append p (put_by e) (put_in events) in

@@ -2,11 +2,11 @@
 use Rattle.std.proofs.Common.{◌≡◌, false, true, List, [], ◌∷◌, refl, Ok, Err, None, codes}
 use Rattle.broker_core.specs.Calls.{empty, with_new_session}
 use Rattle.broker_core.specs.declared.fault.BrokerFault.TheVariants.{NoSession}
-use Rattle.broker_laws.specs.Lives.{Call, FedTo, Lives, Named, Opened, Told, dealt_in, fed_in}
+use Rattle.broker_laws.specs.Lives.{BrokerCall, FedTo, Lives, Named, Opened, Told, dealt_in, fed_in}
 use Rattle.broker_laws.specs.Streams.{touches}
 
 -- a session is opened; nothing was written for it and nothing accepted; a piece for a session that isn't there changes nothing
-abbrev calls : List Call
+abbrev calls : List BrokerCall
 calls = Opened (Ok 1) ∷ Named None ∷ Told [] ∷ FedTo 2 (codes "SEND") (Err NoSession) ∷ []
 
 life : Lives 16 empty calls (with_new_session empty)

@@ -7,10 +7,11 @@ use Rattle.std.proofs.lemmas.Bool.Decides.{nat_tests}
 use Rattle.std.specs.Prelude.{filter, find, ◌==◌, ◌&&◌, ◌||◌, if◌then◌else◌, nat_le}
 use Rattle.std.specs.List.{list_any, slice_get, AllByRecursion}
 use Rattle.std.specs.Str.{bytes_eq}
-use Rattle.broker_book.specs.Books.{Book, Message, Fate, Ready, Out, empty_book, is_ready, is_ready_fate, is_due, has_credit, may_take}
+use Rattle.broker_book.specs.Books.{Book, QueuedMessage, Fate, Ready, Out, empty_book, is_ready, is_ready_fate, is_due, has_credit}
+use Rattle.broker_book.specs.Books.{may_take}
 use Rattle.broker_book.specs.Books.{out_to, out_of}
 use Rattle.broker_book.specs.Laws.{RiseTo, IsOrderly, as_accepted, numbered}
-use Rattle.broker_book.specs.Runs.{Event, Puts, Hands, Acks, Nacks, Subscribes, Releases, Ends, Takes, Happens, Run, put_by, put_in}
+use Rattle.broker_book.specs.Runs.{BookEvent, Puts, Hands, Acks, Nacks, Subscribes, Releases, Ends, Takes, Happens, Run, put_by, put_in}
 use Rattle.broker_book.specs.Steps.{Handed, Deal, left_of, acked, nacked, holder, covered, ready_if}
 use Rattle.broker_book.specs.declared.parts.Accepted.{Accepted}
 use Rattle.broker_book.specs.declared.parts.Sent.{Sent}
@@ -69,7 +70,7 @@ find-any p (x ∷ xs) y h = found_any p x xs y (p x) (find-any p xs y) h
 -- ---- what waits to be handed out
 
 -- whether a message has this number and is ready
-abbrev is_waiting : ℕ → Message → Bool
+abbrev is_waiting : ℕ → QueuedMessage → Bool
 is_waiting n m = m.number == n && is_ready m
 
 -- each message was handed out, or waits
@@ -80,10 +81,11 @@ uncovered : (s : Subscription) (k : ℕ) (f : Fate) → is_ready_fate f ≡ true
 uncovered s k Ready h = refl
 uncovered s k (Out session id number) h = absurd cc
 
-waiting_uncovered : (s : Subscription) (k n : ℕ) (m : Message) → is_waiting n m ≡ true → not (covered s k m.fate) ≡ true
+waiting_uncovered : (s : Subscription) (k n : ℕ) (m : QueuedMessage) → is_waiting n m ≡ true → not (covered s k m.fate) ≡ true
 waiting_uncovered s k n m h = uncovered s k m.fate (and_parts (m.number == n) (is_ready m) h).1
 
-ready_waits : (b : Bool) (n : ℕ) (m : Message) → is_waiting n m ≡ true → is_waiting n (if b then record m { fate = Ready } else m) ≡ true
+ready_waits : (b : Bool) (n : ℕ) (m : QueuedMessage) → is_waiting n m ≡ true
+    → is_waiting n (if b then record m { fate = Ready } else m) ≡ true
 ready_waits true n m h = and_from (m.number == n) true (and_parts (m.number == n) (is_ready m) h).0 refl
 ready_waits false n m h = h
 
@@ -94,7 +96,7 @@ still_wait : (handed : List Handed) (old new : Book) → new.last ≡ old.last
 still_wait handed old new e k h n low high =
     or_more (was_handed handed n) (list_any (is_waiting n) old.living) (list_any (is_waiting n) new.living) (h n low (omega arith)) (k n)
 
-put_wait : (handed : List Handed) (old : Book) (m : Message) (n : ℕ) (b : Bool) → nat_le n old.last ≡ b → m.number ≡ old.last + 1
+put_wait : (handed : List Handed) (old : Book) (m : QueuedMessage) (n : ℕ) (b : Bool) → nat_le n old.last ≡ b → m.number ≡ old.last + 1
     → is_ready m ≡ true → AllWait handed old → 1 ≤ n → n ≤ old.last + 1
     → (was_handed handed n || list_any (is_waiting n) (old.living ++ m ∷ [])) ≡ true
 put_wait handed old m n true e number ready h low high =
@@ -106,7 +108,7 @@ put_wait handed old m n false e number ready h low high =
     (any_last (is_waiting n) old.living m (and_from (m.number == n) (is_ready m) (eq-eqb m.number n k) ready))
 
 -- a message of another number goes out
-any_dealt : (n : ℕ) (front back : List Message) (m : Message) (s : Subscription) (ack : Option ℕ) → (m.number == n) ≡ false
+any_dealt : (n : ℕ) (front back : List QueuedMessage) (m : QueuedMessage) (s : Subscription) (ack : Option ℕ) → (m.number == n) ≡ false
     → list_any (is_waiting n) (front ++ m ∷ back) ≡ true → list_any (is_waiting n) (front ++ (left_of m s ack ++ back)) ≡ true
 any_dealt n [] back m s None e h = rw e at h
 any_dealt n [] back m s (Some k) e h =
@@ -135,7 +137,7 @@ ack_waits : (handed : List Handed) (old new : Book) (number : ℕ) (o : Option S
     → AllWait handed old → AllWait handed new
 ack_waits handed old new number None h k = absurd cc
 ack_waits handed old new number (Some s) h k =
-    let left = λ (m : Message). not (covered s number m.fate) in
+    let left = λ (m : QueuedMessage). not (covered s number m.fate) in
     let e : record old { living = filter left old.living } ≡ new = cc in
     rw (← e) (still_wait handed old (record old { living = filter left old.living }) refl
     (λ n. any-filter (is_waiting n) left old.living (waiting_uncovered s number n)) k)
@@ -157,7 +159,7 @@ nack_waits handed old new number (Some s) h k =
 none_more : (handed : List Handed) (b : Book) → AllWait handed b → AllWait (handed ++ []) b
 none_more handed b h = subst (λ l. AllWait l b) (sym (append-nil handed)) h
 
-event_waits : (handed : List Handed) (old new : Book) (e : Event) → Happens old e new → AllWait handed old
+event_waits : (handed : List Handed) (old new : Book) (e : BookEvent) → Happens old e new → AllWait handed old
     → AllWait (handed ++ hands_by e) new
 event_waits handed old new (Puts full sent) h k =
     none_more handed new (rw (put_is full old sent new h)
@@ -177,7 +179,7 @@ event_waits handed old new (Ends session) h k =
     (ready_wait handed old new (out_of session) (ap (λ (b : Book). b.last) h) (ap (λ (b : Book). b.living) h) k)
 event_waits handed old new (Takes accepted) h k = none_more handed new (rw h.1 k)
 
-run_waits : (handed : List Handed) (events : List Event) (old new : Book) → Run old events new → AllWait handed old
+run_waits : (handed : List Handed) (events : List BookEvent) (old new : Book) → Run old events new → AllWait handed old
     → AllWait (handed ++ hands_in events) new
 run_waits handed [] old new h k = none_more handed new (rw h k)
 run_waits handed (e ∷ events) old new h k =
@@ -189,8 +191,8 @@ start_waits n low high = absurd (omega arith)
 
 -- ---- the run up to where a message is handed out
 
-pub record Parted (old : Book) (events : List Event) (before : List Handed) (d : Handed) : Type 0 where
-  pub front : List Event
+pub record Parted (old : Book) (events : List BookEvent) (before : List Handed) (d : Handed) : Type 0 where
+  pub front : List BookEvent
   pub mid : Book
   pub after : Book
   pub more : List Sent
@@ -200,7 +202,8 @@ pub record Parted (old : Book) (events : List Event) (before : List Handed) (d :
   pub put : put_in events ≡ put_in front ++ more
 
 -- an event that hands nothing out
-further : (old mid : Book) (e : Event) (events : List Event) (before : List Handed) (d : Handed) → Happens old e mid → hands_by e ≡ []
+further : (old mid : Book) (e : BookEvent) (events : List BookEvent) (before : List Handed) (d : Handed) → Happens old e mid
+    → hands_by e ≡ []
     → Parted mid events before d → Parted old (e ∷ events) before d
 further old mid e events before d h n p = record {
   front = e ∷ p.front;
@@ -213,7 +216,7 @@ further old mid e events before d h n p = record {
   put = ap (λ l. put_by e ++ l) p.put ∙ sym (append_assoc (put_by e) (put_in p.front) p.more);
 }
 
-parted : (events : List Event) (old new : Book) → Run old events new → (before behind : List Handed) (d : Handed)
+parted : (events : List BookEvent) (old new : Book) → Run old events new → (before behind : List Handed) (d : Handed)
     → hands_in events ≡ before ++ d ∷ behind → Parted old events before d
 parted [] old new h [] behind d e = absurd cc
 parted [] old new h (x ∷ before) behind d e = absurd cc
@@ -260,14 +263,14 @@ parted (Takes accepted ∷ events) old new h before behind d e =
 
 -- ---- what waits before a message that goes out
 
-none_above : (n low last : ℕ) (ms : List Message) → RiseTo low last ms → n ≤ low → list_any (is_waiting n) ms ≡ false
+none_above : (n low last : ℕ) (ms : List QueuedMessage) → RiseTo low last ms → n ≤ low → list_any (is_waiting n) ms ≡ false
 none_above n low last [] r h = refl
 none_above n low last (m ∷ ms) r h =
     let above = r.0 in
     let e : (m.number == n) ≡ false = grind (arith, nat_tests) in
     rw e (none_above n m.number last ms r.1 (omega arith))
 
-in_front : (n low last : ℕ) (front back : List Message) (m : Message) → RiseTo low last (front ++ m ∷ back) → n < m.number
+in_front : (n low last : ℕ) (front back : List QueuedMessage) (m : QueuedMessage) → RiseTo low last (front ++ m ∷ back) → n < m.number
     → list_any (is_waiting n) (front ++ m ∷ back) ≡ true → list_any (is_waiting n) front ≡ true
 in_front n low last [] back m r less h =
     let e : (m.number == n) ≡ false = grind (arith, nat_tests) in
@@ -277,20 +280,20 @@ in_front n low last (x ∷ front) back m r less h =
     or_more (is_waiting n x) (list_any (is_waiting n) (front ++ m ∷ back)) (list_any (is_waiting n) front) h
     (in_front n x.number last front back m r.1 less)
 
-number_below : (low last : ℕ) (front back : List Message) (m : Message) → RiseTo low last (front ++ m ∷ back) → m.number ≤ last
+number_below : (low last : ℕ) (front back : List QueuedMessage) (m : QueuedMessage) → RiseTo low last (front ++ m ∷ back) → m.number ≤ last
 number_below low last [] [] m r = r.1
 number_below low last [] (x ∷ back) m r = let k = number_below m.number last [] back x r.1 in let l = r.1.0 in omega arith
 number_below low last (x ∷ front) back m r = number_below x.number last front back m r.1
 
 -- one of these messages has the number, is ready, isn't due, and is the accepted SEND of its number
 pub record Waits (accepted : List Accepted) (b : Book) (n : ℕ) : Type 0 where
-  pub message : Message
+  pub message : QueuedMessage
   pub number : message.number ≡ n
   pub ready : is_ready message ≡ true
   pub not_due : is_due b message ≡ false
   pub stands : StandsIn accepted (as_accepted message)
 
-waits_here : (accepted : List Accepted) (b : Book) (n : ℕ) (m : Message) (ms : List Message) (w : Bool) → is_waiting n m ≡ w
+waits_here : (accepted : List Accepted) (b : Book) (n : ℕ) (m : QueuedMessage) (ms : List QueuedMessage) (w : Bool) → is_waiting n m ≡ w
     → (w || list_any (is_waiting n) ms) ≡ true → is_due b m ≡ false → StandsIn accepted (as_accepted m)
     → (list_any (is_waiting n) ms ≡ true → Waits accepted b n) → Waits accepted b n
 waits_here accepted b n m ms true e h due stands rest =
@@ -302,7 +305,7 @@ neither : (a b : Bool) → (a || b) ≡ false → (a ≡ false) × (b ≡ false)
 neither true b e = absurd cc
 neither false b e = (refl, e)
 
-waits_in : (accepted : List Accepted) (b : Book) (n : ℕ) (front back : List Message) → list_any (is_waiting n) front ≡ true
+waits_in : (accepted : List Accepted) (b : Book) (n : ℕ) (front back : List QueuedMessage) → list_any (is_waiting n) front ≡ true
     → list_any (is_due b) front ≡ false → AllByRecursion (StandsIn accepted) (map as_accepted (front ++ back)) → Waits accepted b n
 waits_in accepted b n [] back h due stand = absurd cc
 waits_in accepted b n (m ∷ front) back h due stand =
@@ -312,7 +315,7 @@ waits_in accepted b n (m ∷ front) back h due stand =
 -- ---- so none overtakes
 
 -- a ready message of the same queue as one that can go out can too
-would_go : (b : Book) (m x : Message) → is_ready x ≡ true → x.sent.destination ≡ m.sent.destination
+would_go : (b : Book) (m x : QueuedMessage) → is_ready x ≡ true → x.sent.destination ≡ m.sent.destination
     → list_any (may_take b m) b.subscriptions ≡ true → is_due b x ≡ true
 would_go b m x ready e may =
     and_from (is_ready x) (list_any (may_take b x) b.subscriptions) ready
@@ -362,7 +365,7 @@ either_handed true b h never = refl
 either_handed false b h never = absurd (never h)
 
 -- along a run from the empty book
-pub none_overtake : (events : List Event) (b : Book) → Run empty_book events b → (before behind : List Handed) (d : Handed)
+pub none_overtake : (events : List BookEvent) (b : Book) → Run empty_book events b → (before behind : List Handed) (d : Handed)
     → hands_in events ≡ before ++ d ∷ behind → (a : Accepted) → StandsIn (numbered 0 (put_in events)) a → a.number < d.number
     → a.sent.destination ≡ d.sent.destination → was_handed before a.number ≡ true
 none_overtake events b run before behind d e a stands less same =

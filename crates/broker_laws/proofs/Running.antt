@@ -13,7 +13,8 @@ use Rattle.broker_book.specs.declared.parts.Accepted.{Accepted}
 use Rattle.broker_book.proofs.Acted.{deals_run}
 use Rattle.broker_book.proofs.Counts.{count-append}
 use Rattle.broker_core.specs.Calls.{OpenAnswer, FreshAnswer, dropped, named, new_session, without_first}
-use Rattle.broker_core.specs.Feeding.{Dealing, Ends, closed, awaits, faulty, FeedAnswer, Handles, HandlesAll, Stops, Takes as TakesNext}
+use Rattle.broker_core.specs.Feeding.{Dealing, Ends, closed, awaits, faulty, FeedAnswer, Handles, HandlesAll, Stops}
+use Rattle.broker_core.specs.Feeding.{TakesDecided as TakesNext}
 use Rattle.broker_core.specs.Feeding.{Hands as Writes, at_frame, in_step, in_deals, at_fault, at_end, delivery_of, taking, with_incoming}
 use Rattle.broker_core.specs.Feeding.{with_waiting}
 use Rattle.broker_core.specs.Serving.{Decided, Part, Roster, Server, changing, changing_part, part, refused, roster_of, served}
@@ -21,11 +22,11 @@ use Rattle.broker_core.specs.Serving.{session_of, step, with_fault, writing}
 use Rattle.broker_core.specs.Streams.{stopped_frames}
 use Rattle.broker_core.specs.declared.fault.BrokerFault.{BrokerFault}
 use Rattle.broker_core.specs.declared.fault.BrokerFault.TheVariants.{Memory, NoSession, TooMany}
-use Rattle.broker_core.specs.declared.fault.Refusal.TheVariants.{BadFrame}
+use Rattle.broker_core.specs.declared.fault.FrameRefusal.TheVariants.{BadFrame}
 use Rattle.broker_core.specs.declared.session.Session.{Session}
 use Rattle.broker_core.proofs.Left.{served_number}
-use Rattle.broker_laws.specs.Deeds.{Deed, asked_by, asked_in, asked_of, done_in}
-use Rattle.broker_laws.specs.Lives.{Call, Opened, FedTo, Dispatched, TakenFrom, Dropped, Named, Told, Deals, Does, Lives, told_by}
+use Rattle.broker_laws.specs.Deeds.{BrokerDeed, asked_by, asked_in, asked_of, done_in}
+use Rattle.broker_laws.specs.Lives.{BrokerCall, Opened, FedTo, Dispatched, TakenFrom, Dropped, Named, Told, Deals, Does, Lives, told_by}
 use Rattle.broker_laws.specs.Lives.{told_in}
 use Rattle.broker_laws.specs.Lives.{dealt_behind, dealt_before, dealt_feeding, dealt_dispatching, dealt_by, dealt_in, frames_feeding}
 use Rattle.broker_laws.specs.Runs.{Runs, StepsAreRuns, CallsAreRuns, LivesAreRuns, hands_in}
@@ -36,19 +37,20 @@ use Rattle.broker_laws.proofs.Weights.{burden, load, weight, done_append, found_
 -- ---- what is carried from one broker to another
 
 -- A run of the book led there: with what all transactions keep then, no more was done than they kept before and was asked for.
-pub record Carries (old : Server) (told : List Accepted) (dealt : List Handed) (asked : List Deed) (new : Server) : Type 0 where
+pub record Carries (old : Server) (told : List Accepted) (dealt : List Handed) (asked : List BrokerDeed) (new : Server) : Type 0 where
   pub runs : Runs old.book told dealt new.book
-  pub owed : (p : Deed → Bool) → count_by p (done_in runs.events) + load p new ≤ load p old + count_by p asked
+  pub owed : (p : BrokerDeed → Bool) → count_by p (done_in runs.events) + load p new ≤ load p old + count_by p asked
 
 -- the book is the same, and transactions keep no more
-lighter : (old new : Server) → new.book ≡ old.book → ((p : Deed → Bool) → load p new ≤ load p old) → Carries old [] [] [] new
+lighter : (old new : Server) → new.book ≡ old.book → ((p : BrokerDeed → Bool) → load p new ≤ load p old) → Carries old [] [] [] new
 lighter old new e h = record { runs = stays old.book new.book e; owed = λ p. let l = h p in omega arith }
 
 same : (old new : Server) → new ≡ old → Carries old [] [] [] new
 same old new e =
     lighter old new (ap (λ (b : Server). b.book) e) (λ p. let l : load p new ≡ load p old = ap (λ (b : Server). load p b) e in omega arith)
 
-both : (old mid new : Server) (t u : List Accepted) (d g : List Handed) (a c : List Deed) → Carries old t d a mid → Carries mid u g c new
+both : (old mid new : Server) (t u : List Accepted) (d g : List Handed) (a c : List BrokerDeed) → Carries old t d a mid
+    → Carries mid u g c new
     → Carries old (t ++ u) (d ++ g) (a ++ c) new
 both old mid new t u d g a c h k = record {
   runs = joined old.book mid.book new.book t u d g h.runs k.runs;
@@ -76,7 +78,7 @@ done_none [] = refl
 done_none (d ∷ ds) = done_none ds
 
 -- MESSAGEs change no transaction
-written_load : (p : Deed → Bool) (old new : Roster) (ds : List Handed) → Taken Writes old ds new
+written_load : (p : BrokerDeed → Bool) (old new : Roster) (ds : List Handed) → Taken Writes old ds new
     → sum_by (burden p) new.sessions ≡ sum_by (burden p) old.sessions
 written_load p old new [] h = ap (λ (r : Roster). sum_by (burden p) r.sessions) h
 written_load p old new (d ∷ ds) h =
@@ -98,14 +100,14 @@ deals_carry old new h = record {
 }
 
 -- what was carried, and deals behind it
-then_deals : (old mid new : Server) (d : List Handed) (a : List Deed) → Carries old [] d a mid → (h : Dealing mid new)
+then_deals : (old mid new : Server) (d : List Handed) (a : List BrokerDeed) → Carries old [] d a mid → (h : Dealing mid new)
     → Carries old [] (d ++ h.handed) a new
 then_deals old mid new d a h k =
     subst (λ l. Carries old [] (d ++ k.handed) l new) (append-nil a) (both old mid new [] [] d k.handed a [] h (deals_carry mid new k))
 
 -- ---- changes of a session
 
-spared : (p : Deed → Bool) (f : Session → Session) → Spares f → (s : Session) → burden p (f s) ≡ burden p s
+spared : (p : BrokerDeed → Bool) (f : Session → Session) → Spares f → (s : Session) → burden p (f s) ≡ burden p s
 spared p f k s = ap (λ n. weight p n (f s).transactions) (k.number s) ∙ ap (λ l. weight p s.number l) (k.transactions s)
 
 changed : (n : ℕ) (f : Session → Session) (old new : Server) → Spares f → new ≡ changing n f old → Carries old [] [] [] new
@@ -114,7 +116,7 @@ changed n f old new k e =
     (λ p. let l = same_load p n f (spared p f k) old.sessions in omega (arith, l)))
 
 -- a session and the book are put back
-part_carries : (n : ℕ) (g : Part → Part) (asked : List Deed) (b : Server) (o : Option Session) → session_of n b ≡ o
+part_carries : (n : ℕ) (g : Part → Part) (asked : List BrokerDeed) (b : Server) (o : Option Session) → session_of n b ≡ o
     → ((p : Part) → (g p).session.number ≡ p.session.number)
     → ((s : Session) → s.number ≡ n → PaysAt s.number (part b.book s) asked (g (part b.book s)))
     → Carries b [] [] asked (changing_part n g b o)
@@ -144,7 +146,7 @@ fault_carries n b =
 -- ---- frames
 
 -- what frames of a session ask for
-abbrev asks : ℕ → List Decided → List Deed
+abbrev asks : ℕ → List Decided → List BrokerDeed
 asks n frames = flat_map (asked_of n) frames
 
 frame_carries : (full n : ℕ) (old mid : Server) (d : Decided) → TakesNext old n d mid → Carries old [] [] (asked_of n d) (step full n d mid)
@@ -255,7 +257,7 @@ told_carries old new accepted h = record {
   owed = λ p. let l : load p new ≡ load p old = ap (λ (b : Server). load p b) h.1 in omega (arith, l);
 }
 
-pub call_carries : (full : ℕ) (old new : Server) (c : Call) (h : Does full old c new)
+pub call_carries : (full : ℕ) (old new : Server) (c : BrokerCall) (h : Does full old c new)
     → Carries old (told_by c) (dealt_by full old c new h) (asked_by full old c new h) new
 call_carries full old new (Opened answer) h = opening_carries old new answer h
 call_carries full old new (FedTo n piece answer) h = feeding_carries full old n piece new answer h
@@ -267,7 +269,7 @@ call_carries full old new (Dropped n) h =
 call_carries full old new (Named answer) h = naming_carries old new answer h
 call_carries full old new (Told accepted) h = told_carries old new accepted h
 
-pub life_carries : (full : ℕ) (old new : Server) (calls : List Call) (h : Lives full old calls new)
+pub life_carries : (full : ℕ) (old new : Server) (calls : List BrokerCall) (h : Lives full old calls new)
     → Carries old (told_in calls) (dealt_in full old calls new h) (asked_in full old calls new h) new
 life_carries full old new [] h = same old new h
 life_carries full old new (c ∷ calls) h =

@@ -13,7 +13,7 @@ use Rattle.broker_book.specs.declared.parts.Accepted.{Accepted}
 use Rattle.broker_book.specs.declared.parts.Sent.{Sent}
 use Rattle.broker_book.proofs.Counts.{any-count, count-cons}
 use Rattle.broker_core.specs.Calls.{empty}
-use Rattle.broker_laws.specs.Deeds.{Deed, Brings, Acknowledges, Returns, MessagesWereSent, asked_in, brings}
+use Rattle.broker_laws.specs.Deeds.{BrokerDeed, Brings, Acknowledges, Returns, MessagesWereSent, asked_in, brings}
 use Rattle.broker_laws.specs.Lives.{accepted_in, dealt_in}
 use Rattle.broker_laws.specs.Runs.{StandsIn, brought}
 use Rattle.broker_laws.proofs.Accounts.{were_accepted, were_sent}
@@ -67,18 +67,18 @@ same_sent_self a =
 
 -- ---- one that is counted is there
 
-deed_same : (s : Sent) (d : Deed) → brings (same_sent s) d ≡ true → d ≡ Brings s
+deed_same : (s : Sent) (d : BrokerDeed) → brings (same_sent s) d ≡ true → d ≡ Brings s
 deed_same s (Brings t) h = ap Brings (sent_same s t h)
 deed_same s (Acknowledges session number) h = absurd cc
 deed_same s (Returns session number) h = absurd cc
 
-contained_step : (s : Sent) (x : Deed) (xs : List Deed) (b : Bool) → brings (same_sent s) x ≡ b
+contained_step : (s : Sent) (x : BrokerDeed) (xs : List BrokerDeed) (b : Bool) → brings (same_sent s) x ≡ b
     → (list_any (brings (same_sent s)) xs ≡ true → Contains xs (Brings s)) → (b || list_any (brings (same_sent s)) xs) ≡ true
     → Contains (x ∷ xs) (Brings s)
 contained_step s x xs true e ih h = (0, omega arith, deed_same s x e)
 contained_step s x xs false e ih h = let k = ih h in (suc k.0, (let l = k.1 in omega arith), k.2)
 
-contained : (s : Sent) (xs : List Deed) → list_any (brings (same_sent s)) xs ≡ true → Contains xs (Brings s)
+contained : (s : Sent) (xs : List BrokerDeed) → list_any (brings (same_sent s)) xs ≡ true → Contains xs (Brings s)
 contained s [] h = absurd cc
 contained s (x ∷ xs) h = contained_step s x xs (brings (same_sent s) x) refl (contained s xs) h
 
@@ -100,7 +100,7 @@ some_counted n h = grind (arith, nat_tests)
 
 -- ---- each message
 
-each_sent : (accepted : List Accepted) (asked : List Deed)
+each_sent : (accepted : List Accepted) (asked : List BrokerDeed)
     → ((p : Sent → Bool) → count_by (λ (a : Accepted). p a.sent) accepted ≤ count_by (brings p) asked)
     → (ds : List Handed) → AllByRecursion (StandsIn accepted) (map brought ds)
     → AllByRecursion (λ (d : Handed). Contains asked (Brings d.sent)) ds

@@ -10,7 +10,7 @@ use Rattle.stomp_session.specs.declared.request.Request.TheVariants.{Abort, Disc
 use Rattle.stomp_session.specs.declared.request.Subscribe.{Subscribe as SubscribeParts}
 use Rattle.std.specs.List.{list_any}
 use Rattle.broker_book.specs.Books.{Book, is_named}
-use Rattle.broker_book.specs.Runs.{Event, Puts, Acks, Nacks, Subscribes, Releases, Ends, Happens, taken_by}
+use Rattle.broker_book.specs.Runs.{BookEvent, Puts, Acks, Nacks, Subscribes, Releases, Ends, Happens, taken_by}
 use Rattle.broker_book.specs.Runs.{taken_in, numbers_covered, ShowAs}
 use Rattle.broker_book.specs.Steps.{Handed, apply_of, ended, holder, put_of, ack_of, nack_of, subscribed}
 use Rattle.broker_book.specs.declared.fault.QueueFault.{QueueFault}
@@ -31,9 +31,9 @@ use Rattle.broker_core.specs.Performing.{Reach, performed, in_book, in_transacti
 use Rattle.broker_core.specs.Performing.{answer_done, answer_kept, commit_done, ending}
 use Rattle.broker_core.specs.Serving.{Decided, Part, served, finished, confirmed, closing_if, is_last, reached}
 use Rattle.broker_core.specs.Words.{is_destination, mode_of, number_of}
-use Rattle.broker_core.specs.declared.fault.Refusal.{Refusal}
-use Rattle.broker_core.specs.declared.fault.Refusal.TheVariants.{NoTransaction, SubscriptionExists, TooMany}
-use Rattle.broker_laws.specs.Deeds.{Deed, Brings, Acknowledges, Returns, answering, asked_of, done_in}
+use Rattle.broker_core.specs.declared.fault.FrameRefusal.{FrameRefusal}
+use Rattle.broker_core.specs.declared.fault.FrameRefusal.TheVariants.{NoTransaction, SubscriptionExists, TooMany}
+use Rattle.broker_laws.specs.Deeds.{BrokerDeed, Brings, Acknowledges, Returns, answering, asked_of, done_in}
 use Rattle.broker_laws.specs.Runs.{Runs, hands_by, hands_in}
 use Rattle.broker_laws.proofs.Weights.{weight, deed_of, done_append, changed_weight, begun_weight, filter_weight, ended_weight}
 
@@ -44,7 +44,7 @@ abbrev pub stays : (old new : Book) → new ≡ old → Runs old [] [] new
 stays old new e = record { events = []; run = e; told = refl; handed = refl }
 
 -- one event, which takes nothing and hands nothing out
-abbrev pub one : (old new : Book) (e : Event) → Happens old e new → taken_by e ≡ [] → hands_by e ≡ [] → Runs old [] [] new
+abbrev pub one : (old new : Book) (e : BookEvent) → Happens old e new → taken_by e ≡ [] → hands_by e ≡ [] → Runs old [] [] new
 one old new e h t k = record { events = e ∷ []; run = (new, h, refl); told = rw t refl; handed = rw k refl }
 
 -- a run, and one behind it
@@ -61,39 +61,42 @@ joined old mid new t u d g h k = record {
 
 -- A session's request was done by a run of the book: with what its transactions keep then, no more was done than they kept before and it
 -- asks for.
-pub record Pays (session : ℕ) (old : Book) (before : List Transaction) (asked : List Deed) (new : Book) (after : List Transaction)
+pub record Pays (session : ℕ) (old : Book) (before : List Transaction) (asked : List BrokerDeed) (new : Book) (after : List Transaction)
     : Type 0 where
   pub runs : Runs old [] [] new
-  pub owed : (p : Deed → Bool) → count_by p (done_in runs.events) + weight p session after ≤ weight p session before + count_by p asked
+  pub owed : (p : BrokerDeed → Bool)
+      → count_by p (done_in runs.events) + weight p session after ≤ weight p session before + count_by p asked
 
 -- so it is where it wasn't refused
-abbrev Leads : ℕ → Reach → List Deed → Result Reach Refusal → Type 0
+abbrev Leads : ℕ → Reach → List BrokerDeed → Result Reach FrameRefusal → Type 0
 Leads session old asked (Ok r) = Pays session old.book old.transactions asked r.book r.transactions
 Leads session old asked (Err refusal) = Unit {0}
 
-either : (session : ℕ) (old : Reach) (asked : List Deed) (b : Bool) (x y : Result Reach Refusal) → Leads session old asked x
+either : (session : ℕ) (old : Reach) (asked : List BrokerDeed) (b : Bool) (x y : Result Reach FrameRefusal) → Leads session old asked x
     → Leads session old asked y → Leads session old asked (cond b x y)
 either session old asked true x y h k = h
 either session old asked false x y h k = k
 
 -- nothing has changed
-pays_none : (session : ℕ) (b : Book) (ts : List Transaction) (asked : List Deed) → Pays session b ts asked b ts
+pays_none : (session : ℕ) (b : Book) (ts : List Transaction) (asked : List BrokerDeed) → Pays session b ts asked b ts
 pays_none session b ts asked = record { runs = stays b b refl; owed = λ p. omega arith }
 
 -- one event that does no more than is asked for
-pays_one : (session : ℕ) (old new : Book) (ts : List Transaction) (asked : List Deed) (e : Event) → Happens old e new → taken_by e ≡ []
-    → hands_by e ≡ [] → ((p : Deed → Bool) → count_by p (done_in (e ∷ [])) ≤ count_by p asked) → Pays session old ts asked new ts
+pays_one : (session : ℕ) (old new : Book) (ts : List Transaction) (asked : List BrokerDeed) (e : BookEvent) → Happens old e new
+    → taken_by e ≡ []
+    → hands_by e ≡ [] → ((p : BrokerDeed → Bool) → count_by p (done_in (e ∷ [])) ≤ count_by p asked) → Pays session old ts asked new ts
 pays_one session old new ts asked e h t k less =
     record { runs = one old new e h t k; owed = λ p. let l = less p in omega arith }
 
-book_leads : (session : ℕ) (r : Reach) (asked : List Deed) (q : Result Book QueueFault)
+book_leads : (session : ℕ) (r : Reach) (asked : List BrokerDeed) (q : Result Book QueueFault)
     → ((new : Book) → q ≡ Ok new → Pays session r.book r.transactions asked new r.transactions) → Leads session r asked (in_book r q)
 book_leads session r asked (Ok b) h = h b refl
 book_leads session r asked (Err fault) h = tt
 
 -- the transactions alone change
-kept_leads : (session : ℕ) (r : Reach) (asked : List Deed) (q : Result (List Transaction) TransactionFault)
-    → ((ts : List Transaction) → q ≡ Ok ts → (p : Deed → Bool) → weight p session ts ≤ weight p session r.transactions + count_by p asked)
+kept_leads : (session : ℕ) (r : Reach) (asked : List BrokerDeed) (q : Result (List Transaction) TransactionFault)
+    → ((ts : List Transaction) → q ≡ Ok ts → (p : BrokerDeed → Bool)
+    → weight p session ts ≤ weight p session r.transactions + count_by p asked)
     → Leads session r asked (in_transactions r q)
 kept_leads session r asked (Ok ts) h = record { runs = stays r.book r.book refl; owed = λ p. let l = h ts refl p in omega arith }
 kept_leads session r asked (Err fault) h = tt
@@ -105,7 +108,8 @@ room_is : (room : Bool) (x ts : List Transaction)
 room_is true x ts e = cc
 room_is false x ts e = absurd cc
 
-add_weight : (p : Deed → Bool) (session : ℕ) (name : List ℕ) (action : Action) (before ts : List Transaction) (o : Option (List Action))
+add_weight : (p : BrokerDeed → Bool) (session : ℕ) (name : List ℕ) (action : Action) (before ts : List Transaction)
+    (o : Option (List Action))
     → add_to before name action o ≡ Ok ts
     → weight p session ts ≤ weight p session before + count_by p (deed_of session action ∷ [])
 add_weight p session name action before ts None e = absurd cc
@@ -172,14 +176,14 @@ subscribe_leads r session s (Some mode) =
 -- ---- ACK and NACK
 
 -- an answer to an unanswered delivery is kept
-answer_keeps : (deed : ℕ → Deed) (action : ℕ → Action) (r : Reach) (session : ℕ) (name : List ℕ) (k : ℕ) (there : Bool)
+answer_keeps : (deed : ℕ → BrokerDeed) (action : ℕ → Action) (r : Reach) (session : ℕ) (name : List ℕ) (k : ℕ) (there : Bool)
     → deed_of session (action k) ≡ deed k
     → Leads session r (deed k ∷ []) (answer_kept action r name (cond there (Some k) None))
 answer_keeps deed action r session name k true e =
     subst (λ d. Leads session r (d ∷ []) (in_transactions r (add_of r.transactions name (action k)))) e (adds session r name (action k))
 answer_keeps deed action r session name k false e = tt
 
-answered : (by : Book → ℕ → ℕ → Result Book QueueFault) (deed : ℕ → Deed) (action : ℕ → Action) (r : Reach) (session : ℕ)
+answered : (by : Book → ℕ → ℕ → Result Book QueueFault) (deed : ℕ → BrokerDeed) (action : ℕ → Action) (r : Reach) (session : ℕ)
     → ((k : ℕ) → deed_of session (action k) ≡ deed k)
     → ((k : ℕ) (new : Book) → by r.book session k ≡ Ok new → Pays session r.book r.transactions (deed k ∷ []) new r.transactions)
     → (number : Option ℕ) (name : Option (List ℕ)) → Leads session r (answering deed number) (answer_done by action r session number name)
@@ -193,12 +197,12 @@ answered by deed action r session e h (Some k) (Some name) =
 -- ---- COMMIT
 
 -- events take nothing, hand nothing out, and do what these actions do
-pub record IsQuiet (session : ℕ) (actions : List Action) (events : List Event) : Type 0 where
+pub record IsQuiet (session : ℕ) (actions : List Action) (events : List BookEvent) : Type 0 where
   pub told : taken_in events ≡ []
   pub handed : hands_in events ≡ []
   pub done : done_in events ≡ map (deed_of session) actions
 
-quiet : (full session : ℕ) (actions : List Action) (events : List Event) → ShowAs full session actions events
+quiet : (full session : ℕ) (actions : List Action) (events : List BookEvent) → ShowAs full session actions events
     → IsQuiet session actions events
 quiet full session [] events h = rw h (record { told = refl; handed = refl; done = refl })
 quiet full session (Put sent ∷ actions) events h =
@@ -277,7 +281,7 @@ performed_leads full session r (Disconnect d) = pays_none session r.book r.trans
 -- ---- a step
 
 -- the same of a session with the book
-abbrev pub PaysAt : ℕ → Part → List Deed → Part → Type 0
+abbrev pub PaysAt : ℕ → Part → List BrokerDeed → Part → Type 0
 PaysAt n old asked new = Pays n old.book old.session.transactions asked new.book new.session.transactions
 
 -- all subscriptions of a session end
@@ -285,10 +289,10 @@ abbrev pub ends : (b : Book) (n : ℕ) → Runs b [] [] (ended b n)
 ends b n = one b (ended b n) (Ends n) refl refl refl
 
 -- a session ends with its transactions
-pub pays_end : (n k : ℕ) (b : Book) (ts : List Transaction) (asked : List Deed) → Pays n b ts asked (ended b k) []
+pub pays_end : (n k : ℕ) (b : Book) (ts : List Transaction) (asked : List BrokerDeed) → Pays n b ts asked (ended b k) []
 pays_end n k b ts asked = record { runs = ends b k; owed = λ p. omega arith }
 
-closes : (n : ℕ) (last : Bool) (old p : Part) (asked : List Deed) → PaysAt n old asked p → PaysAt n old asked (closing_if last p)
+closes : (n : ℕ) (last : Bool) (old p : Part) (asked : List BrokerDeed) → PaysAt n old asked p → PaysAt n old asked (closing_if last p)
 closes n true old p asked h = record {
   runs = joined old.book p.book (ended p.book p.session.number) [] [] [] [] h.runs (ends p.book p.session.number);
   owed = λ q.
@@ -298,7 +302,7 @@ closes n true old p asked h = record {
 }
 closes n false old p asked h = h
 
-finishes : (n : ℕ) (request : Request) (p : Part) (asked : List Deed) (r : Result Reach Refusal) → Leads n (reached p) asked r
+finishes : (n : ℕ) (request : Request) (p : Part) (asked : List BrokerDeed) (r : Result Reach FrameRefusal) → Leads n (reached p) asked r
     → PaysAt n p asked (finished request p r)
 finishes n request p asked (Ok r) h = closes n (is_last request) p (confirmed request p r) asked h
 finishes n request p asked (Err refusal) h = pays_end n p.session.number p.book p.session.transactions asked

@@ -15,7 +15,8 @@ use Rattle.broker_core.specs.declared.session.Session.{Session}
 use Rattle.broker_core.proofs.Feedings.{handled_first}
 use Rattle.broker_core.proofs.Left.{Seen, seen, seen_in, seen_some, seen_taken}
 use Rattle.broker_core.proofs.Streams.{same_session}
-use Rattle.broker_laws.specs.Lives.{Call, Opened, FedTo, Dispatched, TakenFrom, Dropped, Named, Told, Deals, Does, fed_by, frames_feeding}
+use Rattle.broker_laws.specs.Lives.{BrokerCall, Opened, FedTo, Dispatched, TakenFrom, Dropped, Named, Told, Deals, Does, fed_by}
+use Rattle.broker_laws.specs.Lives.{frames_feeding}
 use Rattle.broker_laws.specs.Lives.{fed_in, was_taken}
 use Rattle.broker_laws.specs.Streams.{drops, touches, OtherCallsLeaveIt, LivesFeedInTurn, LivesAreHandledInOrder}
 use Rattle.broker_laws.proofs.There.{Stays, StaysThere, call_follows, stays_follow, there_follow, other_number}
@@ -111,7 +112,7 @@ feeding full n m old new piece (Err (Memory false)) d h = still n old new h.same
 feeding full n m old new piece (Err NoSession) d h = still n old new h.1
 feeding full n m old new piece (Err TooMany) d h = absurd h
 
-other_stays : (full n : ℕ) (old new : Server) (c : Call) (s : Session) → touches n c ≡ false → Does full old c new
+other_stays : (full n : ℕ) (old new : Server) (c : BrokerCall) (s : Session) → touches n c ≡ false → Does full old c new
     → session_of n old ≡ Some s → Stays n old new
 other_stays full n old new (Opened answer) s d h found = opening n old new s answer found h
 other_stays full n old new (FedTo m piece answer) s d h found = feeding full n m old new piece answer d h
@@ -204,12 +205,13 @@ piece_turn full n m old mid new piece answer s rest true e found h k =
 piece_turn full n m old mid new piece answer s rest false e found h k =
     untouched_turn full n old mid new rest (untouched_by n old mid s found (feeding_other full n m old mid piece answer e h)) k
 
-quiet_turn : (full n : ℕ) (old mid new : Server) (c : Call) (s : Session) (rest : List Fed) → touches n c ≡ false
+quiet_turn : (full n : ℕ) (old mid new : Server) (c : BrokerCall) (s : Session) (rest : List Fed) → touches n c ≡ false
     → session_of n old ≡ Some s → Does full old c mid → Rest full n mid rest new → FedInTurn full n old rest new
 quiet_turn full n old mid new c s rest d found h k =
     untouched_turn full n old mid new rest (others_leave full n old mid c s d h found) k
 
-call_turn : (full n : ℕ) (old mid new : Server) (c : Call) (s : Session) (rest : List Fed) → drops n c ≡ false → session_of n old ≡ Some s
+call_turn : (full n : ℕ) (old mid new : Server) (c : BrokerCall) (s : Session) (rest : List Fed) → drops n c ≡ false
+    → session_of n old ≡ Some s
     → (h : Does full old c mid) → Rest full n mid rest new → FedInTurn full n old (fed_by full n old c mid h ++ rest) new
 call_turn full n old mid new (FedTo m piece answer) s rest d found h k =
     piece_turn full n m old mid new piece answer s rest (m == n) refl found h k

@@ -6,14 +6,15 @@ use Rattle.std.specs.Prelude.{◌==◌, is_some}
 use Rattle.std.specs.List.{find}
 use Rattle.std.proofs.lemmas.Bool.{eqb-true}
 use Rattle.std.proofs.lemmas.Bool.Decides.{nat_tests}
-use Rattle.broker_core.specs.Feeding.{Dealing, Ends, closed, awaits, faulty, FeedAnswer, Handles, HandlesAll, Stops, Takes, fed, taking}
+use Rattle.broker_core.specs.Feeding.{Dealing, Ends, closed, awaits, faulty, FeedAnswer, Handles, HandlesAll, Stops, TakesDecided, fed}
+use Rattle.broker_core.specs.Feeding.{taking}
 use Rattle.broker_core.specs.Feeding.{at_frame, in_step, in_deals, at_fault, at_end, with_incoming, with_waiting}
 use Rattle.broker_core.specs.Serving.{Decided, Part, Server, changing, changing_part, is_session, part, refused, roster_of, served}
 use Rattle.broker_core.specs.Serving.{session_of}
 use Rattle.broker_core.specs.Serving.{step, with_fault, with_session}
 use Rattle.broker_core.specs.declared.fault.BrokerFault.{BrokerFault}
 use Rattle.broker_core.specs.declared.fault.BrokerFault.TheVariants.{Memory, NoSession, TooMany}
-use Rattle.broker_core.specs.declared.fault.Refusal.TheVariants.{BadFrame}
+use Rattle.broker_core.specs.declared.fault.FrameRefusal.TheVariants.{BadFrame}
 use Rattle.broker_core.specs.declared.incoming.Incoming.{Incoming}
 use Rattle.broker_core.specs.declared.session.Session.{Session}
 use Rattle.broker_core.specs.Streams.{stopped_frames}
@@ -60,7 +61,7 @@ module _ (full m : ℕ) (R : List Decided → Server → Server → Type 0) (k :
   then_more : (frames : List Decided) (a b c : Server) → R frames a b → R [] b c → R frames a c
   then_more frames a b c h j = subst (λ l. R l a c) (append-nil frames) (k.after frames [] a b c h j)
 
-  framed : (old mid : Server) (d : Decided) → Takes old m d mid → R (d ∷ []) old (step full m d mid)
+  framed : (old mid : Server) (d : Decided) → TakesDecided old m d mid → R (d ∷ []) old (step full m d mid)
   framed old mid d t =
       k.after [] (d ∷ []) old mid (step full m d mid)
       (changed (with_incoming t.left) old mid (spares_left t.left) t.changed) (k.steps d mid)

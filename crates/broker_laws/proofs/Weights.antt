@@ -5,7 +5,7 @@ use Rattle.std.specs.Prelude.{count_by, filter}
 use Rattle.std.specs.List.{find, sum_by}
 use Rattle.std.proofs.lemmas.Grind.{flat_map-append}
 use Rattle.std.proofs.lemmas.List.Sums.{sum_by-append, sum_by-cons}
-use Rattle.broker_book.specs.Runs.{Event}
+use Rattle.broker_book.specs.Runs.{BookEvent}
 use Rattle.broker_book.specs.declared.parts.Action.{Action}
 use Rattle.broker_book.specs.declared.parts.Action.TheVariants.{Put, Ack, Nack}
 use Rattle.broker_book.proofs.Counts.{count-cons, count-append}
@@ -14,20 +14,20 @@ use Rattle.broker_core.specs.Serving.{Server, is_session, with_session}
 use Rattle.broker_core.specs.declared.session.Session.{Session}
 use Rattle.broker_tx.specs.First.{first_changed}
 use Rattle.broker_tx.specs.Transactions.{Transaction, actions_of, is_transaction, with_action}
-use Rattle.broker_laws.specs.Deeds.{Deed, Brings, Acknowledges, Returns, done_by, done_in}
+use Rattle.broker_laws.specs.Deeds.{BrokerDeed, Brings, Acknowledges, Returns, done_by, done_in}
 
 -- what a session's action does
-abbrev pub deed_of : ℕ → Action → Deed
+abbrev pub deed_of : ℕ → Action → BrokerDeed
 deed_of session (Put sent) = Brings sent
 deed_of session (Ack number) = Acknowledges session number
 deed_of session (Nack number) = Returns session number
 
 -- how often a run does what passes a test
-pub done_append : (p : Deed → Bool) (xs ys : List Event)
+pub done_append : (p : BrokerDeed → Bool) (xs ys : List BookEvent)
     → count_by p (done_in (xs ++ ys)) ≡ count_by p (done_in xs) + count_by p (done_in ys)
 done_append p xs ys = ap (count_by p) (flat_map-append done_by xs ys) ∙ count-append p (done_in xs) (done_in ys)
 
-module _ (p : Deed → Bool) (n : ℕ) where
+module _ (p : BrokerDeed → Bool) (n : ℕ) where
   -- the actions of a session's transaction that pass
   abbrev pub kept : Transaction → ℕ
   kept t = count_by (λ a. p (deed_of n a)) t.actions
@@ -109,7 +109,7 @@ module _ (p : Deed → Bool) (n : ℕ) where
 
 -- ---- all sessions
 
-module _ (p : Deed → Bool) where
+module _ (p : BrokerDeed → Bool) where
   -- what a session's open transactions keep
   abbrev pub burden : Session → ℕ
   burden s = weight p s.number s.transactions

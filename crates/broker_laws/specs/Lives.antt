@@ -13,14 +13,14 @@ use Rattle.broker_core.specs.declared.fault.BrokerFault.TheVariants.{Memory, NoS
 -- ---- calls
 
 -- a call of a broker that changes it, with what it was given and what it answered
-pub data Call : Type 0 where
-  Opened : (answer : Result ℕ BrokerFault) → Call
-  FedTo : (session : ℕ) → (piece : List ℕ) → (answer : Result ℕ BrokerFault) → Call
-  Dispatched : (whole : Bool) → Call
-  TakenFrom : (session count : ℕ) → Call
-  Dropped : (session : ℕ) → Call
-  Named : (answer : Option ℕ) → Call
-  Told : (accepted : List Accepted) → Call
+pub data BrokerCall : Type 0 where
+  Opened : (answer : Result ℕ BrokerFault) → BrokerCall
+  FedTo : (session : ℕ) → (piece : List ℕ) → (answer : Result ℕ BrokerFault) → BrokerCall
+  Dispatched : (whole : Bool) → BrokerCall
+  TakenFrom : (session count : ℕ) → BrokerCall
+  Dropped : (session : ℕ) → BrokerCall
+  Named : (answer : Option ℕ) → BrokerCall
+  Told : (accepted : List Accepted) → BrokerCall
 
 -- a dispatch dealt until nothing could be dealt, or some deals before memory was refused
 abbrev pub Deals : Bool → Server → Server → Type 0
@@ -28,7 +28,7 @@ Deals true old new = Settles old new
 Deals false old new = Dealing old new
 
 -- what a call does
-abbrev pub Does : ℕ → Server → Call → Server → Type 0
+abbrev pub Does : ℕ → Server → BrokerCall → Server → Type 0
 Does full old (Opened answer) new = OpenAnswer old new answer
 Does full old (FedTo n piece answer) new = FeedAnswer full old n piece new answer
 Does full old (Dispatched whole) new = Deals whole old new
@@ -38,24 +38,24 @@ Does full old (Named answer) new = FreshAnswer old new answer
 Does full old (Told accepted) new = (accepted ≡ old.book.accepted) × (new ≡ record old { book = record old.book { accepted = [] } })
 
 -- one call after another leads there
-abbrev pub Lives : ℕ → Server → List Call → Server → Type 0
+abbrev pub Lives : ℕ → Server → List BrokerCall → Server → Type 0
 Lives full old [] new = new ≡ old
 Lives full old (c ∷ calls) new = (mid : Server) × Does full old c mid × Lives full mid calls new
 
 -- ---- what is told
 
 -- the accepted SENDs that a call tells
-abbrev pub told_by : Call → List Accepted
+abbrev pub told_by : BrokerCall → List Accepted
 told_by (Told accepted) = accepted
 told_by c = []
 
 -- those that these calls tell, in order
-abbrev pub told_in : List Call → List Accepted
+abbrev pub told_in : List BrokerCall → List Accepted
 told_in [] = []
 told_in (c ∷ calls) = told_by c ++ told_in calls
 
 -- what was told, and then what will be told next: each accepted SEND
-abbrev pub accepted_in : List Call → Server → List Accepted
+abbrev pub accepted_in : List BrokerCall → Server → List Accepted
 accepted_in calls b = told_in calls ++ b.book.accepted
 
 -- ---- what is dealt
@@ -88,7 +88,7 @@ dealt_dispatching true old new h = h.0.handed
 dealt_dispatching false old new h = h.handed
 
 -- what was dealt in a call
-abbrev pub dealt_by : (full : ℕ) (old : Server) (c : Call) (new : Server) → Does full old c new → List Handed
+abbrev pub dealt_by : (full : ℕ) (old : Server) (c : BrokerCall) (new : Server) → Does full old c new → List Handed
 dealt_by full old (FedTo n piece answer) new h = dealt_feeding full old n piece new answer h
 dealt_by full old (Dispatched whole) new h = dealt_dispatching whole old new h
 dealt_by full old (Opened answer) new h = []
@@ -98,7 +98,7 @@ dealt_by full old (Named answer) new h = []
 dealt_by full old (Told accepted) new h = []
 
 -- what was dealt in these calls, in order
-abbrev pub dealt_in : (full : ℕ) (old : Server) (calls : List Call) (new : Server) → Lives full old calls new → List Handed
+abbrev pub dealt_in : (full : ℕ) (old : Server) (calls : List BrokerCall) (new : Server) → Lives full old calls new → List Handed
 dealt_in full old [] new h = []
 dealt_in full old (c ∷ calls) new h = dealt_by full old c h.0 h.1 ++ dealt_in full h.0 calls new h.2
 
@@ -121,7 +121,7 @@ frames_feeding full old n piece new (Err NoSession) h = []
 frames_feeding full old n piece new (Err TooMany) h = []
 
 -- the piece that a session took in a call, with its frames that had their step then
-abbrev pub fed_by : (full n : ℕ) (old : Server) (c : Call) (new : Server) → Does full old c new → List Fed
+abbrev pub fed_by : (full n : ℕ) (old : Server) (c : BrokerCall) (new : Server) → Does full old c new → List Fed
 fed_by full n old (FedTo m piece answer) new h =
     if m == n && was_taken answer then record { piece = piece; frames = frames_feeding full old m piece new answer h } ∷ [] else []
 fed_by full n old (Dispatched whole) new h = []
@@ -132,6 +132,6 @@ fed_by full n old (Named answer) new h = []
 fed_by full n old (Told accepted) new h = []
 
 -- those that it took in these calls, in order
-abbrev pub fed_in : (full n : ℕ) (old : Server) (calls : List Call) (new : Server) → Lives full old calls new → List Fed
+abbrev pub fed_in : (full n : ℕ) (old : Server) (calls : List BrokerCall) (new : Server) → Lives full old calls new → List Fed
 fed_in full n old [] new h = []
 fed_in full n old (c ∷ calls) new h = fed_by full n old c h.0 h.1 ++ fed_in full n h.0 calls new h.2

@@ -8,7 +8,7 @@ use Rattle.std.specs.Str.{bytes_eq}
 use Rattle.std.proofs.lemmas.Bool.{cases_Bool, and_parts, and_from}
 use Rattle.base.specs.declared.limits.TheConstants.{MAX_UNANSWERED}
 use Rattle.broker_book.specs.declared.parts.Accepted.{Accepted}
-use Rattle.broker_book.specs.Books.{Book, Message, Fate, Ready, Out, is_auto, has_credit, may_take, is_due, IsQuiet}
+use Rattle.broker_book.specs.Books.{Book, QueuedMessage, Fate, Ready, Out, is_auto, has_credit, may_take, is_due, IsQuiet}
 use Rattle.broker_book.specs.Steps.{Deal, left_of, last_given, next_ack}
 use Rattle.broker_index.specs.Index.{Kept, Subscriber, with_fate}
 use Rattle.broker_queues.specs.Parts.Shelf.{rise, kept_at, subscriber_at, living_of, message_of, living_as, subscriptions_of, may_have}
@@ -53,7 +53,7 @@ module _ (h : Holding) (accepted : List Accepted) (is : IsShelf h) where
       let k : IsAmong (λ k. k.number) (λ k. tests (is_due b) (message_of k)) kept =
       any_at (λ k. k.number) (λ k. tests (is_due b) (message_of k)) 0 kept rises (sym (any_of_living (is_due b) kept) ∙ any) in
       let one : IsReadyOne b k.value = ready_one b k.value k.value.fate refl k.passes in
-      let m : Message = record { number = k.value.number; sent = k.value.sent; fate = Ready } in
+      let m : QueuedMessage = record { number = k.value.number; sent = k.value.sent; fate = Ready } in
       let s : IsAmong (λ s. s.age) (λ s. may_take b m s.subscription) h.subscribers =
       any_at (λ s. s.age) (λ s. may_take b m s.subscription) 0 h.subscribers is.ages
       (sym (any_map (may_take b m) (λ s. s.subscription) (λ s. may_take b m s.subscription) (λ s. refl) h.subscribers) ∙ one.taken) in
@@ -76,7 +76,7 @@ module _ (h : Holding) (accepted : List Accepted) (is : IsShelf h) where
   ]
 
   module _ (n : ℕ) (k : Kept) (a : ℕ) (s : Subscriber) (p : Picks h n k a s) where
-    picked : Message
+    picked : QueuedMessage
     picked = record { number = k.number; sent = k.sent; fate = Ready }
 
     none_before : list_any (is_due (book_of h accepted)) (living_of (front_of (λ k. k.number) n h.kept)) ≡ false
@@ -96,7 +96,7 @@ module _ (h : Holding) (accepted : List Accepted) (is : IsShelf h) where
         ≡ Some s.subscription
     oldest =
         let b : Book = book_of h accepted in
-        let m : Message = record { number = k.number; sent = k.sent; fate = Ready } in
+        let m : QueuedMessage = record { number = k.number; sent = k.sent; fate = Ready } in
         let first : find (λ s. may_take b m s.subscription) h.subscribers ≡ Some s =
         least_first (λ s. s.age) (λ s. may_take b m s.subscription) 0 h.subscribers s a is.ages p.sits
         (and_from (bytes_eq s.subscription.destination k.sent.destination) (has_credit b s.subscription) p.same

@@ -10,7 +10,7 @@ use Rattle.std.proofs.lemmas.List.Folds.{list_any-append}
 use Rattle.broker_book.specs.declared.parts.Accepted.{Accepted}
 use Rattle.broker_book.specs.declared.parts.Sent.{Sent}
 use Rattle.broker_book.specs.declared.parts.Subscription.{Subscription}
-use Rattle.broker_book.specs.Books.{Book, Message, Fate, Ready, Out, out_to, is_auto, is_for, is_named}
+use Rattle.broker_book.specs.Books.{Book, QueuedMessage, Fate, Ready, Out, out_to, is_auto, is_for, is_named}
 use Rattle.broker_book.specs.Steps.{Deal, last_given, next_ack}
 use Rattle.broker_index.specs.Index.{Kept, Subscriber, has_age, with_fate, with_count, with_entry}
 use Rattle.broker_index.specs.declared.places.Entry.{Entry}
@@ -245,7 +245,7 @@ module _ (h : Holding) (is : IsShelf h) (n a : ℕ) (k : Kept) (s : Subscriber) 
 -- ---- the book takes the deal
 
 -- books of the same values are the same
-same_books : (l m : List Message) (p q r t : ℕ) (u v : List Subscription) (accepted : List Accepted) → l ≡ m → p ≡ q → r ≡ t → u ≡ v
+same_books : (l m : List QueuedMessage) (p q r t : ℕ) (u v : List Subscription) (accepted : List Accepted) → l ≡ m → p ≡ q → r ≡ t → u ≡ v
     → (let one : Book = record { living = l; last = p; given = r; subscriptions = u; accepted = accepted } in one)
     ≡ record { living = m; last = q; given = t; subscriptions = v; accepted = accepted }
 same_books l m p q r t u v accepted e1 e2 e3 e4 = rw (e1, e2, e3, e4) refl

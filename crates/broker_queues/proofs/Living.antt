@@ -6,7 +6,7 @@ use Rattle.std.specs.List.{sum_by, list_any}
 use Rattle.std.proofs.lemmas.Bool.{cases_Bool, and_parts, eqb-true}
 use Rattle.std.proofs.lemmas.List.Sums.{sum_by-cons, sum_by_push}
 use Rattle.broker_book.specs.declared.parts.Sent.{Sent}
-use Rattle.broker_book.specs.Books.{Message, Fate, Ready}
+use Rattle.broker_book.specs.Books.{QueuedMessage, Fate, Ready}
 use Rattle.broker_book.specs.Steps.{ready_if}
 use Rattle.broker_index.specs.Index.{Kept, with_fate}
 use Rattle.broker_queues.specs.Parts.Shelf.{rise, kept_at, message_of, living_as, living_of}
@@ -15,7 +15,7 @@ use Rattle.broker_queues.proofs.Rising.{sum_edit, sum_filter, sum_zero, none_bel
 
 -- ---- counts
 
-pub count_living : (test : Message → Bool) (kept : List Kept)
+pub count_living : (test : QueuedMessage → Bool) (kept : List Kept)
     → count_by test (living_of kept) ≡ sum_by (λ k. weight test (message_of k)) kept
 count_living test [] = refl
 count_living test (k ∷ kept) = by_fate k.fate (count_living test kept)
@@ -24,7 +24,7 @@ count_living test (k ∷ kept) = by_fate k.fate (count_living test kept)
         → count_by test (living_of (fated fate k ∷ kept)) ≡ sum_by (λ k. weight test (message_of k)) (fated fate k ∷ kept)
     by_fate None rest = omega (arith, rest, sum_by-cons (λ k. weight test (message_of k)) (fated None k) kept)
     by_fate (Some fate) rest =
-        let m : Message = record { number = k.number; sent = k.sent; fate = fate } in
+        let m : QueuedMessage = record { number = k.number; sent = k.sent; fate = fate } in
         omega (
           arith,
           rest,
@@ -33,7 +33,7 @@ count_living test (k ∷ kept) = by_fate k.fate (count_living test kept)
         )
 
 -- a message has another fate
-pub count_change : (test : Message → Bool) (n : ℕ) (fate : Option Fate) (kept : List Kept) (k : Kept)
+pub count_change : (test : QueuedMessage → Bool) (n : ℕ) (fate : Option Fate) (kept : List Kept) (k : Kept)
     → rise (λ k. k.number) 0 kept ≡ true → kept_at n kept ≡ Some k
     → count_by test (living_of (map (with_fate n fate) kept)) + weight test (message_of k)
     ≡ count_by test (living_of kept) + weight test (message_of (fated fate k))
@@ -79,23 +79,23 @@ living_back test (k ∷ kept) = by_fate k.fate (living_back test kept)
 
 -- ---- one more, one fewer
 
-pub count_push : (test : Message → Bool) (kept : List Kept) (k : Kept)
+pub count_push : (test : QueuedMessage → Bool) (kept : List Kept) (k : Kept)
     → count_by test (living_of (kept ++ k ∷ [])) ≡ count_by test (living_of kept) + weight test (message_of k)
 count_push test kept k =
     rw (count_living test (kept ++ k ∷ []), count_living test kept) (sum_by_push (λ l. weight test (message_of l)) kept k)
 
 -- a message without a fate counts nothing
-pub weight_gone : (test : Message → Bool) (k : Kept) → k.fate ≡ None → weight test (message_of k) ≡ 0
+pub weight_gone : (test : QueuedMessage → Bool) (k : Kept) → k.fate ≡ None → weight test (message_of k) ≡ 0
 weight_gone test k gone = rw gone refl
 
-pub count_purge : (test : Message → Bool) (n : ℕ) (kept : List Kept) (k : Kept) → rise (λ k. k.number) 0 kept ≡ true
+pub count_purge : (test : QueuedMessage → Bool) (n : ℕ) (kept : List Kept) (k : Kept) → rise (λ k. k.number) 0 kept ≡ true
     → kept_at n kept ≡ Some k → k.fate ≡ None
     → count_by test (living_of (filter (λ k. not (k.number == n)) kept)) ≡ count_by test (living_of kept)
 count_purge test n kept k rises found gone =
     rw (count_living test (filter (λ k. not (k.number == n)) kept), count_living test kept)
     (omega (arith, sum_filter (λ k. k.number) (λ k. weight test (message_of k)) n 0 kept k rises found, weight_gone test k gone))
 
-pub count_zero : (test : Message → Bool) (kept : List Kept) → rise (λ k. k.number) 0 kept ≡ true
+pub count_zero : (test : QueuedMessage → Bool) (kept : List Kept) → rise (λ k. k.number) 0 kept ≡ true
     → ((n : ℕ) (k : Kept) → kept_at n kept ≡ Some k → weight test (message_of k) ≡ 0) → count_by test (living_of kept) ≡ 0
 count_zero test kept rises zeros =
     count_living test kept ∙ sum_zero (λ k. k.number) (λ k. weight test (message_of k)) 0 kept rises zeros
@@ -140,11 +140,11 @@ living_purge n low (l ∷ kept) k rises found gone =
 -- ---- tests of living messages
 
 -- a test of a message, which nothing passes where there is none
-abbrev pub tests : (Message → Bool) → Option Message → Bool
+abbrev pub tests : (QueuedMessage → Bool) → Option QueuedMessage → Bool
 tests test None = false
 tests test (Some m) = test m
 
-pub any_of_living : (test : Message → Bool) (kept : List Kept)
+pub any_of_living : (test : QueuedMessage → Bool) (kept : List Kept)
     → list_any test (living_of kept) ≡ list_any (λ k. tests test (message_of k)) kept
 any_of_living test [] = refl
 any_of_living test (k ∷ kept) = by_fate k.fate (any_of_living test kept)

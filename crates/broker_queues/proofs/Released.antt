@@ -9,7 +9,7 @@ use Rattle.std.proofs.lemmas.List.Elements.{All-head, All-tail, All-map}
 use Rattle.std.proofs.lemmas.List.Folds.{map_fixed}
 use Rattle.broker_book.specs.declared.parts.Accepted.{Accepted}
 use Rattle.broker_book.specs.declared.parts.Subscription.{Subscription}
-use Rattle.broker_book.specs.Books.{Book, Fate, Message, Ready, Out, out_of, out_to, is_named}
+use Rattle.broker_book.specs.Books.{Book, Fate, QueuedMessage, Ready, Out, out_of, out_to, is_named}
 use Rattle.broker_book.specs.Steps.{ended, ready_if, released}
 use Rattle.broker_index.specs.Index.{Kept, Subscriber, is_place_of, without}
 use Rattle.broker_index.specs.declared.places.Place.{Place}
@@ -162,7 +162,7 @@ module _ (h : Holding) (is : IsShelf h) (x : ℕ) (none : length (h.sessions x) 
 
 -- to end all is to end one, and then all
 module _ (x : ℕ) (j : List ℕ) where
-  ready_twice : (m : Message) → ready_if (out_of x) (ready_if (out_to x j) m) ≡ ready_if (out_of x) m
+  ready_twice : (m : QueuedMessage) → ready_if (out_of x) (ready_if (out_to x j) m) ≡ ready_if (out_of x) m
   ready_twice m = by_fate m.fate
     where
       by_fate : (f : Fate)
@@ -176,7 +176,7 @@ module _ (x : ℕ) (j : List ℕ) where
         ]
       ]
 
-  ready_all : (ms : List Message) → map (ready_if (out_of x)) (map (ready_if (out_to x j)) ms) ≡ map (ready_if (out_of x)) ms
+  ready_all : (ms : List QueuedMessage) → map (ready_if (out_of x)) (map (ready_if (out_to x j)) ms) ≡ map (ready_if (out_of x)) ms
   ready_all [] = refl
   ready_all (m ∷ ms) = rw (ready_twice m, ready_all ms) refl
 

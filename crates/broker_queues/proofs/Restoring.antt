@@ -8,7 +8,7 @@ use Rattle.std.specs.Str.{bytes_eq}
 use Rattle.std.proofs.lemmas.Bool.{cases_Bool, cases_eq, and_from, eq-eqb, ne_eqb}
 use Rattle.std.proofs.lemmas.List.Sums.{sum_by-cons}
 use Rattle.std.proofs.lemmas.Slice.Eq.{bytes_eq-Decides}
-use Rattle.broker_book.specs.Books.{Message, Fate, Ready, Out, out_to, is_for, is_named}
+use Rattle.broker_book.specs.Books.{QueuedMessage, Fate, Ready, Out, out_to, is_for, is_named}
 use Rattle.broker_index.specs.Index.{Kept, Subscriber, Queue, Sets, counting, opened, has_age, with_count, with_fate}
 use Rattle.broker_index.specs.Standing.{fate_of}
 use Rattle.broker_queues.specs.declared.undoing.Logged.{Logged}
@@ -65,16 +65,16 @@ counts_same was most queues name there = record {
 
 -- ---- fewer than all
 
-weight_most : (test : Message → Bool) (o : Option Message) → weight test o ≤ 1
+weight_most : (test : QueuedMessage → Bool) (o : Option QueuedMessage) → weight test o ≤ 1
 weight_most test None = omega arith
 weight_most test (Some m) = elim (cases_Bool (test m)) [ inl on ↦ rw on (omega arith) | inr off ↦ rw off (omega arith) ]
 
-sum_most : (test : Message → Bool) (kept : List Kept) → sum_by (λ k. weight test (message_of k)) kept ≤ length kept
+sum_most : (test : QueuedMessage → Bool) (kept : List Kept) → sum_by (λ k. weight test (message_of k)) kept ≤ length kept
 sum_most test [] = omega arith
 sum_most test (k ∷ kept) =
     omega (arith, sum_by-cons (λ k. weight test (message_of k)) k kept, weight_most test (message_of k), sum_most test kept)
 
-sum_below : (test : Message → Bool) (n : ℕ) (kept : List Kept) (k : Kept) → kept_at n kept ≡ Some k → weight test (message_of k) ≡ 0
+sum_below : (test : QueuedMessage → Bool) (n : ℕ) (kept : List Kept) (k : Kept) → kept_at n kept ≡ Some k → weight test (message_of k) ≡ 0
     → sum_by (λ k. weight test (message_of k)) kept < length kept
 sum_below test n [] k found zero = let never : None ≡ Some k = found in cc
 sum_below test n (x ∷ kept) k found zero = elim (cases_Bool (x.number == n)) [
@@ -89,7 +89,7 @@ sum_below test n (x ∷ kept) k found zero = elim (cases_Bool (x.number == n)) [
 ]
 
 -- if one doesn't count, fewer count than there are
-count_below : (test : Message → Bool) (n : ℕ) (kept : List Kept) (k : Kept) → kept_at n kept ≡ Some k
+count_below : (test : QueuedMessage → Bool) (n : ℕ) (kept : List Kept) (k : Kept) → kept_at n kept ≡ Some k
     → weight test (message_of k) ≡ 0 → count_by test (living_of kept) < length kept
 count_below test n kept k found zero = rw (count_living test kept) (sum_below test n kept k found zero)
 

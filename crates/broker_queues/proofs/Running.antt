@@ -4,7 +4,7 @@ use Rattle.std.specs.Prelude.{count_by}
 use Rattle.std.proofs.lemmas.List.Sums.{sum_by-cons, sum_by-append}
 use Rattle.broker_book.specs.declared.parts.Accepted.{Accepted}
 use Rattle.broker_book.specs.declared.parts.Subscription.{Subscription}
-use Rattle.broker_book.specs.Books.{Book, Message, Out, IsQuiet, is_ready}
+use Rattle.broker_book.specs.Books.{Book, QueuedMessage, Out, IsQuiet, is_ready}
 use Rattle.broker_book.specs.Steps.{Handed, Deal, Deals, Taken, Dealt, left_of}
 use Rattle.broker_queues.specs.Parts.Choosing.{Rests, IsNext}
 use Rattle.broker_queues.specs.Parts.Shelf.{living_of}
@@ -38,7 +38,7 @@ pub rests_book : (h i : Holding) → Rests h i → (accepted : List Accepted) �
 rests_book h i r accepted = rw (r.kept, r.subscribers, r.last, r.given) refl
 
 -- one that went out is ready no more
-left_ready : (m : Message) (to : Subscription) (ack : Option ℕ) (back : List Message)
+left_ready : (m : QueuedMessage) (to : Subscription) (ack : Option ℕ) (back : List QueuedMessage)
     → count_by is_ready (left_of m to ack ++ back) ≡ count_by is_ready back
 left_ready m to None back = refl
 left_ready m to (Some n) back = omega (arith, sum_by-cons (λ x. cond (is_ready x) 1 0) (record m { fate = Out to.session to.id n }) back)
@@ -46,7 +46,7 @@ left_ready m to (Some n) back = omega (arith, sum_by-cons (λ x. cond (is_ready 
 -- a deal leaves fewer that are ready
 pub fewer_ready : (old new : Book) (d : Handed) → Deal old d new → count_by is_ready new.living < count_by is_ready old.living
 fewer_ready old new d deal =
-    let f : Message → ℕ = λ x. cond (is_ready x) 1 0 in
+    let f : QueuedMessage → ℕ = λ x. cond (is_ready x) 1 0 in
     let now : new.living ≡ deal.front ++ (left_of deal.message d.to d.ack ++ deal.back) = ap (λ (b : Book). b.living) deal.changed in
     let one : f deal.message ≡ 1 = rw deal.ready refl in
     rw (now, deal.found) (omega (

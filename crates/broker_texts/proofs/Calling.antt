@@ -14,7 +14,7 @@ use Rattle.stomp_frame.specs.Frames.{Content}
 use Rattle.stomp_client.specs.Written.{Wrote}
 use Rattle.broker_book.specs.declared.parts.Sent.{Sent}
 use Rattle.broker_book.specs.declared.parts.Subscription.{Subscription}
-use Rattle.broker_core.specs.Calls.{Opens as IsOpened, dropped, empty, named, new_session, others, out_in, with_new_session}
+use Rattle.broker_core.specs.Calls.{OpensSession, dropped, empty, named, new_session, others, out_in, with_new_session}
 use Rattle.broker_core.specs.Calls.{without_first}
 use Rattle.broker_core.specs.Feeding.{fed, taking}
 use Rattle.broker_core.specs.Serving.{Decided, Server, changing, is_session, session_of}
@@ -191,7 +191,7 @@ module _ (R : Sent → Type 0) (Q : Subscription → Type 0) (n : ℕ) where
       let z : Some s ≡ Some t = sym (old_found m (new_session k) s ss e) ∙ h in
       let y : s ≡ t = cc in all m t (rw y at e)
 
-  opens_step : (m : ℕ) (a : Account) (old new : Server) (v : Bool) → (n == m) ≡ v → IsOpened old m new → Stands R Q n a old
+  opens_step : (m : ℕ) (a : Account) (old new : Server) (v : Bool) → (n == m) ≡ v → OpensSession old m new → Stands R Q n a old
       → Stands R Q n (after n a (Opens m)) new
   opens_step m a old new true e t h =
       let z : m ≡ n = sym (eqb-true n m e) in

@@ -3,7 +3,7 @@ use Rattle.std.proofs.Common.{ℕ, false, List, [], ◌∷◌, ◌++◌, length,
 use Rattle.std.proofs.lemmas.List.{append-nil, take_all}
 use Rattle.base.specs.declared.limits.TheConstants.{MAX_BODY}
 use Rattle.receipts.specs.Books.{new_book}
-use Rattle.stomp_frame.specs.Calls.{Call as Reading, Fed, Gave, nothing_held}
+use Rattle.stomp_frame.specs.Calls.{DecoderCall as Reading, Fed, Gave, nothing_held}
 use Rattle.stomp_frame.specs.Frames.{canonical}
 use Rattle.stomp_frame.proofs.Canonical.{canon_spells}
 use Rattle.stomp_wire.specs.Travel.{Travels, begins, puts, carries, takes}
@@ -11,7 +11,7 @@ use Rattle.stomp_session.specs.Replies.{connected_frame}
 use Rattle.stomp_session.proofs.Framing.{connected_is_a_frame}
 use Rattle.stomp_client.specs.Clients.{Client, connected}
 use Rattle.stomp_client.specs.Frames.{connect_frame}
-use Rattle.stomp_client.specs.declared.event.Event.TheVariants as event
+use Rattle.stomp_client.specs.declared.event.ClientEvent.TheVariants as event
 use Rattle.stomp_client.specs.declared.session.Stage.TheVariants as stage
 use Rattle.broker_texts.specs.Carried.{IsFed}
 use Rattle.broker_texts.specs.Conversations.{Comes}

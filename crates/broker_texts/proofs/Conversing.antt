@@ -12,8 +12,8 @@ use Rattle.stomp_session.specs.Replies.{Delivered, connected_frame, message_fram
 use Rattle.stomp_client.proofs.Writing.{awaited}
 use Rattle.stomp_client.specs.Accepting.{Accepts, Tells, is_closed, is_open, receipt_number, unaccepted}
 use Rattle.stomp_client.specs.Clients.{Client}
-use Rattle.stomp_client.specs.declared.event.Event.{Event}
-use Rattle.stomp_client.specs.declared.event.Event.TheVariants as event
+use Rattle.stomp_client.specs.declared.event.ClientEvent.{ClientEvent}
+use Rattle.stomp_client.specs.declared.event.ClientEvent.TheVariants as event
 use Rattle.stomp_client.specs.declared.fault.ClientFault.{ClientFault}
 use Rattle.stomp_client.specs.declared.fault.ClientFault.TheVariants as fault
 use Rattle.stomp_client.specs.declared.session.Stage.{Stage}
@@ -56,9 +56,9 @@ receipt_taken : {T : Type 0} (c : Client T) (value : List ℕ) → is_open c.rec
 receipt_taken c value is stage = rw (stage, is) refl
 
 -- an accepted frame is an event, and one that isn't CONNECTED or ERROR leaves the stage
-event_told : {T : Type 0} (f : Content) (old new : Client T) (r : Result (Event T) ClientFault) → unaccepted old f ≡ None
+event_told : {T : Type 0} (f : Content) (old new : Client T) (r : Result (ClientEvent T) ClientFault) → unaccepted old f ≡ None
     → Accepts f old new r
-    → (e : Event T) × (r ≡ Ok e) × Tells f old new e
+    → (e : ClientEvent T) × (r ≡ Ok e) × Tells f old new e
 event_told f old new (Ok e) none a = (e, refl, a.1)
 event_told f old new (Err fault.Closed) none a = absurd (let z : None ≡ Some fault.Closed = sym none ∙ a.0 in cc)
 event_told f old new (Err fault.Unexpected) none a = absurd (let z : None ≡ Some fault.Unexpected = sym none ∙ a.0 in cc)
@@ -86,7 +86,7 @@ module _ (T : Type 0) (R : Sent → Type 0) (Q : Subscription → Type 0) (n : �
   neither c P (inr e) (inl k) = absurd cc
   neither c P (inr e) (inr k) = absurd cc
 
-  later_stage : (f : Content) (old new : Client T) (e : Event T) → IsLater R Q n f → Tells f old new e → new.stage ≡ old.stage
+  later_stage : (f : Content) (old new : Client T) (e : ClientEvent T) → IsLater R Q n f → Tells f old new e → new.stage ≡ old.stage
   later_stage f old new event.Connected is k = neither f.command _ (later_command f is) (inl k.0)
   later_stage f old new (event.Message m) is k = ap (λ (c : Client T). c.stage) k.2
   later_stage f old new (event.Receipt number tag) is k = ap (λ (c : Client T). c.stage) k.3
@@ -135,9 +135,9 @@ module _ (T : Type 0) (R : Sent → Type 0) (Q : Subscription → Type 0) (n : �
   -- ---- each is an event
 
   abbrev Answers : Type 0
-  Answers = List (Result (Event T) ClientFault)
+  Answers = List (Result (ClientEvent T) ClientFault)
 
-  ok_at : (r : Result (Event T) ClientFault) (e : Event T) → r ≡ Ok e → IsOk r
+  ok_at : (r : Result (ClientEvent T) ClientFault) (e : ClientEvent T) → r ≡ Ok e → IsOk r
   ok_at r e k = rw k refl
 
   error_taken : (c : Client T) (f : Content) → IsError f → is_closed c.stage ≡ false → unaccepted c f ≡ None
@@ -170,7 +170,7 @@ module _ (T : Type 0) (R : Sent → Type 0) (Q : Subscription → Type 0) (n : �
   connected_taken : (c : Client T) → c.stage ≡ Connecting → unaccepted c connected_frame ≡ None
   connected_taken c stage = rw stage refl
 
-  connected_stage : (old new : Client T) (e : Event T) → Tells connected_frame old new e → new.stage ≡ Connected
+  connected_stage : (old new : Client T) (e : ClientEvent T) → Tells connected_frame old new e → new.stage ≡ Connected
   connected_stage old new event.Connected k = ap (λ (c : Client T). c.stage) k.1
   connected_stage old new (event.Message m) k =
       absurd (let z : command.Connected ≡ command.Message = ap (λ (g : Content). g.command) (sym k.0) ∙ k.1.command in cc)

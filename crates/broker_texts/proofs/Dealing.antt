@@ -13,7 +13,7 @@ use Rattle.stomp_session.proofs.Framing.{message_is_a_frame}
 use Rattle.stomp_session.proofs.Owning.{all_append}
 use Rattle.stomp_session.proofs.Taking.{same_text}
 use Rattle.stomp_session.specs.Replies.{IsEchoed, IsGivenIfAny, message_frame}
-use Rattle.broker_book.specs.Books.{Book, Message, has_credit, is_auto, may_take, unanswered}
+use Rattle.broker_book.specs.Books.{Book, QueuedMessage, has_credit, is_auto, may_take, unanswered}
 use Rattle.broker_book.specs.Steps.{Deal, Deals, Handed, Taken, left_of, next_ack}
 use Rattle.broker_book.specs.declared.parts.Sent.{Sent}
 use Rattle.broker_book.specs.declared.parts.Subscription.{Subscription}
@@ -65,7 +65,8 @@ live_session (Some s) e = let k = both s.server (not s.closed) e in (s, refl, k.
     not_true false e = refl
 
 module _ (R : Sent → Type 0) (P : Subscription → Type 0) where
-  left_fits : (m : Message) (s : Subscription) (o : Option ℕ) (back : List Message) → MessageFits R m → AllByRecursion (MessageFits R) back
+  left_fits : (m : QueuedMessage) (s : Subscription) (o : Option ℕ) (back : List QueuedMessage) → MessageFits R m
+      → AllByRecursion (MessageFits R) back
       → AllByRecursion (MessageFits R) (left_of m s o ++ back)
   left_fits m s None back g h = h
   left_fits m s (Some k) back g h = (record { sent = g.sent; number = g.number }, h)

@@ -12,7 +12,7 @@ use Rattle.stomp_session.specs.Requests.{asked, asked_by, is_server, opens, refu
 use Rattle.stomp_session.specs.declared.fault.SessionFault.{SessionFault}
 use Rattle.stomp_session.specs.declared.fault.SessionFault.TheVariants.{NotConnected, AlreadyConnected, WrongCommand}
 use Rattle.stomp_session.specs.declared.request.Request.{Request}
-use Rattle.broker_core.specs.Feeding.{TakesFrame, waited, read, MeetsFault, now, before, answer_by}
+use Rattle.broker_core.specs.Feeding.{DecidesNext, waited, read, MeetsFault, now, before, answer_by}
 use Rattle.broker_core.specs.Serving.{Decided, is_connect}
 use Rattle.broker_core.specs.declared.incoming.Incoming.{Incoming}
 
@@ -70,7 +70,7 @@ decided_by connected f (Err fault) e is = is
 -- ---- what is taken
 
 -- what was taken fits, and nothing waits behind it
-pub takes_fit : (connected : Bool) (old left : Incoming) (d : Decided) → TakesFrame connected old d left
+pub takes_fit : (connected : Bool) (old left : Incoming) (d : Decided) → DecidesNext connected old d left
     → WaitingFits connected old.waiting
     → DecidedFits connected d × (left.waiting ≡ None)
 takes_fit connected old left d (waited e k) h = (subst (WaitingFits connected) e h, ap (λ (i : Incoming). i.waiting) k)

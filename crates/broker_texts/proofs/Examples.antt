@@ -5,7 +5,7 @@ use Rattle.stomp_frame.specs.Frames.{Content, frame, header}
 use Rattle.stomp_session.specs.Replies.{connected_frame, receipt_frame, error_frame}
 use Rattle.stomp_session.specs.declared.request.Request.TheVariants.{Connect as Connecting, Disconnect as Disconnecting}
 use Rattle.stomp_client.specs.Frames.{connect_frame}
-use Rattle.broker_core.specs.Calls.{Opens as IsOpened, empty, with_new_session}
+use Rattle.broker_core.specs.Calls.{OpensSession, empty, with_new_session}
 use Rattle.broker_texts.specs.Carried.{decided_all}
 use Rattle.broker_texts.specs.Lives.{Opens, Drops, Lives}
 use Rattle.broker_texts.specs.Written.{Confirms, IsLater, Told, opened, receipt, refused}
@@ -13,7 +13,7 @@ use Rattle.broker_texts.specs.Written.{Confirms, IsLater, Told, opened, receipt,
 -- ---- calls
 
 -- the first session is opened
-opens_one : IsOpened empty 1 (with_new_session empty)
+opens_one : OpensSession empty 1 (with_new_session empty)
 opens_one = record { next = refl; unused = refl; changed = refl; found = refl }
 
 -- and dropped

@@ -6,7 +6,7 @@ use Rattle.std.specs.List.{AllByRecursion}
 use Rattle.std.proofs.lemmas.List.{append-nil}
 use Rattle.broker_book.specs.declared.parts.Sent.{Sent}
 use Rattle.broker_book.specs.declared.parts.Subscription.{Subscription}
-use Rattle.broker_core.specs.Feeding.{Ends, HandlesAll, Stops, Takes, at_end, at_fault}
+use Rattle.broker_core.specs.Feeding.{Ends, HandlesAll, Stops, TakesDecided, at_end, at_fault}
 use Rattle.broker_core.specs.Feeding.{at_frame, awaits, closed, faulty, in_deals, in_step, with_incoming, with_waiting}
 use Rattle.broker_core.specs.Serving.{Decided, Server, changing, session_of, step}
 use Rattle.broker_core.specs.Streams.{stopped_frames}
@@ -56,7 +56,7 @@ module _ (R : Sent → Type 0) (Q : Subscription → Type 0) (n : ℕ) where
   -- ---- a frame
 
   -- a frame was taken, has its step, and stands
-  taken_step : (full m : ℕ) (a : Account) (old : Server) (d : Decided) (taken : Server) → Takes old m d taken → Knows R Q m d
+  taken_step : (full m : ℕ) (a : Account) (old : Server) (d : Decided) (taken : Server) → TakesDecided old m d taken → Knows R Q m d
       → Stands R Q n a old → Stands R Q n (handling n m a d) (step full m d taken)
   taken_step full m a old d taken t k h =
       let s = t.session in

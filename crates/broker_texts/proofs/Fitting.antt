@@ -5,7 +5,7 @@ use Rattle.std.proofs.lemmas.Bool.{ltb-true}
 use Rattle.std.specs.Prelude.{◌^◌, ◌-◌, ◌==◌, not, nat_lt, map}
 use Rattle.std.specs.List.{AllByRecursion, find, count_by}
 use Rattle.base.specs.declared.limits.TheConstants.{MAX_ACTIONS, MAX_SUBSCRIPTIONS, MAX_TRANSACTIONS}
-use Rattle.broker_book.specs.Books.{Book, Fate, Message, is_for, out_of, out_to}
+use Rattle.broker_book.specs.Books.{Book, Fate, QueuedMessage, is_for, out_of, out_to}
 use Rattle.broker_book.specs.Steps.{ready_if, put_of, with_message, acked, nacked, ack_of, nack_of, act_of, then_all, apply_of, released}
 use Rattle.broker_book.specs.Steps.{ended}
 use Rattle.broker_book.specs.Steps.{holder}
@@ -29,7 +29,7 @@ use Rattle.broker_core.specs.Performing.{subscription_count}
 use Rattle.broker_core.specs.Performing.{subscribe_in, unsubscribe_done, answer_now, unanswered_number, answer_kept, answer_done, without}
 use Rattle.broker_core.specs.Performing.{ending, commit_done}
 use Rattle.broker_core.specs.Words.{is_destination, mode_of, number_of}
-use Rattle.broker_core.specs.declared.fault.Refusal.{Refusal}
+use Rattle.broker_core.specs.declared.fault.FrameRefusal.{FrameRefusal}
 use Rattle.broker_texts.specs.Fitting.{SentFits, MessageFits, AcceptedFits, BookFits, ActionFits, TransactionFits}
 use Rattle.broker_texts.proofs.Lists.{all_weaker, all_map, all_kept, all_found, all_changed}
 
@@ -42,7 +42,7 @@ abbrev StepFits : (Sent → Type 0) → (Subscription → Type 0) → Result Boo
 StepFits R P (Ok b) = BookFits R P b
 StepFits R P (Err fault) = Unit {0}
 
-abbrev pub DoneFits : (Sent → Type 0) → (Subscription → Type 0) → Result Reach Refusal → Type 0
+abbrev pub DoneFits : (Sent → Type 0) → (Subscription → Type 0) → Result Reach FrameRefusal → Type 0
 DoneFits R P (Ok r) = ReachFits R P r
 DoneFits R P (Err refusal) = Unit {0}
 
@@ -71,12 +71,12 @@ not_there : (b : Bool) → not b ≡ true → b ≡ false
 not_there true e = absurd cc
 not_there false e = refl
 
-ready_one : (R : Sent → Type 0) (m r : Message) (b : Bool) → r.sent ≡ m.sent → r.number ≡ m.number → MessageFits R m
+ready_one : (R : Sent → Type 0) (m r : QueuedMessage) (b : Bool) → r.sent ≡ m.sent → r.number ≡ m.number → MessageFits R m
     → MessageFits R (cond b r m)
 ready_one R m r true e k h = record { sent = rw e h.sent; number = rw k h.number }
 ready_one R m r false e k h = h
 
-ready_fits : (R : Sent → Type 0) (test : Fate → Bool) (ms : List Message) → AllByRecursion (MessageFits R) ms
+ready_fits : (R : Sent → Type 0) (test : Fate → Bool) (ms : List QueuedMessage) → AllByRecursion (MessageFits R) ms
     → AllByRecursion (MessageFits R) (map (ready_if test) ms)
 ready_fits R test ms h = all_map (MessageFits R) (ready_if test) ms (λ m k. ready_one R m _ (test m.fate) refl refl k) h
 
@@ -155,7 +155,7 @@ module _ (R : Sent → Type 0) (P : Subscription → Type 0) where
 
   -- ---- steps
 
-  done_if : (t : Bool) (a b : Result Reach Refusal) → DoneFits R P a → DoneFits R P b → DoneFits R P (cond t a b)
+  done_if : (t : Bool) (a b : Result Reach FrameRefusal) → DoneFits R P a → DoneFits R P b → DoneFits R P (cond t a b)
   done_if true a b h k = h
   done_if false a b h k = k
 
@@ -196,7 +196,7 @@ module _ (R : Sent → Type 0) (P : Subscription → Type 0) where
   without_fits name r h = transactions_done r (end_of r.transactions name)
       (open_if (is_open r.transactions name) _ _ (all_filter (TransactionFits R) _ r.transactions h.transactions) tt) h
 
-  ending_fits : (name : List ℕ) (o : Result Reach Refusal) → DoneFits R P o → DoneFits R P (ending name o)
+  ending_fits : (name : List ℕ) (o : Result Reach FrameRefusal) → DoneFits R P o → DoneFits R P (ending name o)
   ending_fits name (Ok r) h = without_fits name r h
   ending_fits name (Err x) h = tt
 

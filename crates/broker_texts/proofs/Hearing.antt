@@ -5,7 +5,7 @@ use Rattle.std.proofs.Common.{◌∙◌, subst, append_assoc, inr, arith}
 use Rattle.std.specs.Prelude.{◌==◌, is_some}
 use Rattle.std.proofs.lemmas.Bool.{eqb-true, eqb-false}
 use Rattle.std.proofs.lemmas.List.{append-nil}
-use Rattle.broker_core.specs.Calls.{Opens as IsOpened, dropped, empty, named, new_session, without_first}
+use Rattle.broker_core.specs.Calls.{OpensSession, dropped, empty, named, new_session, without_first}
 use Rattle.broker_core.specs.Serving.{Decided, Server, roster_of, session_of}
 use Rattle.broker_core.specs.Streams.{AreFirst, Fed, Took, part, whole}
 use Rattle.broker_core.specs.declared.session.Session.{Session}
@@ -80,7 +80,7 @@ new_is m new found = record {
   };
 }
 
-opened_here : (m : ℕ) (h : List Decided) (t : List ℕ) (old new : Server) → IsOpened old m new → Heard m h t old → Heard m h t new
+opened_here : (m : ℕ) (h : List Decided) (t : List ℕ) (old new : Server) → OpensSession old m new → Heard m h t old → Heard m h t new
 opened_here m h t old new o (never low none a c) =
     let k : new.opened ≡ old.opened + 1 = ap (λ (b : Server). b.opened) o.changed in
     let next = o.next in
@@ -88,7 +88,7 @@ opened_here m h t old new o (never low none a c) =
 opened_here m h t old new o (there low i) = absurd (let next = o.next in omega (arith, next, low))
 opened_here m h t old new o (gone low none f) = absurd (let next = o.next in omega (arith, next, low))
 
-opened_step : (k m : ℕ) (h : List Decided) (t : List ℕ) (old new : Server) (v : Bool) → (m == k) ≡ v → IsOpened old k new
+opened_step : (k m : ℕ) (h : List Decided) (t : List ℕ) (old new : Server) (v : Bool) → (m == k) ≡ v → OpensSession old k new
     → Heard m h t old → Heard m h t new
 opened_step k m h t old new true e o g = opened_here m h t old new (rw (eqb-true m k e) o) g
 opened_step k m h t old new false e o g =

@@ -5,7 +5,7 @@ use Rattle.std.specs.Prelude.{IsOk}
 use Rattle.std.specs.List.{AllByRecursion, Contains}
 use Rattle.std.proofs.lemmas.List.{append-nil}
 use Rattle.std.proofs.lemmas.List.Elements.{Contains-append_left, Contains-push}
-use Rattle.receipts.specs.Books.{Book, closed as closing_number, opened as opening}
+use Rattle.receipts.specs.Books.{ReceiptBook, closed as closing_number, opened as opening}
 use Rattle.stomp_frame.specs.declared.command.Command.{Command}
 use Rattle.stomp_frame.specs.declared.command.Command.TheVariants as command
 use Rattle.stomp_frame.specs.Frames.{Content, Header, value_of}
@@ -16,8 +16,8 @@ use Rattle.stomp_client.specs.Accepting.{Accepts, Tells, is_open, receipt_number
 use Rattle.stomp_client.specs.Clients.{Client}
 use Rattle.stomp_client.specs.Frames.{connect_frame, with_receipt}
 use Rattle.stomp_client.specs.Served.{IsClients, IsTakeable, sends_with_receipt}
-use Rattle.stomp_client.specs.declared.event.Event.{Event}
-use Rattle.stomp_client.specs.declared.event.Event.TheVariants as event
+use Rattle.stomp_client.specs.declared.event.ClientEvent.{ClientEvent}
+use Rattle.stomp_client.specs.declared.event.ClientEvent.TheVariants as event
 use Rattle.stomp_client.specs.declared.fault.ClientFault.{ClientFault}
 use Rattle.stomp_client.specs.declared.session.Stage.{Stage}
 use Rattle.stomp_client.specs.declared.session.Stage.TheVariants.{Connecting}
@@ -67,12 +67,12 @@ other_receipts _ hs k = refl
 
 module _ (T : Type 0) where
   abbrev Answers : Type 0
-  Answers = List (Result (Event T) ClientFault)
+  Answers = List (Result (ClientEvent T) ClientFault)
 
   -- frames are accepted one after another, from one stage to another
   abbrev AcceptsTo : Stage → List Content → Answers → Stage → Type 0
   AcceptsTo stage [] answers last = (answers ≡ []) × (stage ≡ last)
-  AcceptsTo stage (f ∷ frames) answers last = (old : Client T) × ((new : Client T) × ((answer : Result (Event T) ClientFault) ×
+  AcceptsTo stage (f ∷ frames) answers last = (old : Client T) × ((new : Client T) × ((answer : Result (ClientEvent T) ClientFault) ×
       ((others : Answers) × ((answers ≡ answer ∷ others) × (old.stage ≡ stage) × TellsOpen f old
       × Accepts f old new answer × AcceptsTo new.stage frames others last))))
 
@@ -84,7 +84,7 @@ module _ (T : Type 0) where
       (h.0, (h.1.0, (h.1.1.0, (h.1.1.1.0, (k.0, k.1, k.2, k.3, forget h.1.0.stage frames h.1.1.1.0 last k.4)))))
 
   accepts_one : (stage : Stage) (frames : List Content) (answers : Answers) (last : Stage) (f : Content) (old new : Client T)
-      (answer : Result (Event T) ClientFault) → AcceptsTo stage frames answers last → old.stage ≡ last → TellsOpen f old
+      (answer : Result (ClientEvent T) ClientFault) → AcceptsTo stage frames answers last → old.stage ≡ last → TellsOpen f old
       → Accepts f old new answer → AcceptsTo stage (frames ++ f ∷ []) (answers ++ answer ∷ []) new.stage
   accepts_one stage [] answers last f old new answer h here tells a =
       (old, (new, (answer, ([], (ap (λ (l : Answers). l ++ answer ∷ []) h.0, here ∙ sym h.1, tells, a, (refl, refl))))))
@@ -110,7 +110,7 @@ module _ (T : Type 0) where
       )
 
   -- what stands of a client that went on
-  record Stays (wrote read : List Content) (book : Book T) (stage : Stage) : Type 0 where
+  record Stays (wrote read : List Content) (book : ReceiptBook T) (stage : Stage) : Type 0 where
     frames : List Content
     all : AllByRecursion IsClients frames
     wrote_is : wrote ≡ connect_frame ∷ frames
@@ -128,7 +128,7 @@ module _ (T : Type 0) where
     value : receipts_in (f ∷ []) ≡ decimal (told + 1) ∷ []
     low : told + 1 ≤ last
 
-  next_is : (f : Content) (wrote read : List Content) (book : Book T) (stage : Stage) (h : Stays wrote read book stage)
+  next_is : (f : Content) (wrote read : List Content) (book : ReceiptBook T) (stage : Stage) (h : Stays wrote read book stage)
       → IsServed wrote (read ++ f ∷ []) → f.command ≡ command.Receipt → IsNext f h.told book.last
   next_is f wrote read book stage h served k =
       let v = is_receipt f wrote read served k in
@@ -142,22 +142,22 @@ module _ (T : Type 0) where
       }
 
   -- the receipts that are told once a frame is read, and those that are open
-  record Tallies (f : Content) (read : List Content) (book after : Book T) : Type 0 where
+  record Tallies (f : Content) (read : List Content) (book after : ReceiptBook T) : Type 0 where
     last : after.last ≡ book.last
     told : ℕ
     numbers : AreNumerals 0 told (receipts_in (read ++ f ∷ []))
     tags : AreTags {T = T} told after.last after.tags
 
-  module _ (f : Content) (wrote read : List Content) (book : Book T) (stage : Stage) (h : Stays wrote read book stage)
+  module _ (f : Content) (wrote read : List Content) (book : ReceiptBook T) (stage : Stage) (h : Stays wrote read book stage)
       (served : IsServed wrote (read ++ f ∷ [])) (old new : Client T) (same : old.receipts ≡ book) (here : old.stage ≡ stage) where
     tells_open : TellsOpen f old
     tells_open k =
         let n = next_is f wrote read book stage h served k in
-        ap (λ (b : Book T). is_open b (receipt_number f)) same ∙ ap (is_open book) n.number
+        ap (λ (b : ReceiptBook T). is_open b (receipt_number f)) same ∙ ap (is_open book) n.number
         ∙ first_open h.told book.last book.tags h.tags n.low
 
     -- the answer is an event
-    answer_ok : (answer : Result (Event T) ClientFault) → Accepts f old new answer → IsOk answer
+    answer_ok : (answer : Result (ClientEvent T) ClientFault) → Accepts f old new answer → IsOk answer
     answer_ok answer a =
         let all = h.answers ++ answer ∷ [] in
         let chain = accepts_one Connecting read h.answers stage f old new answer h.chain here tells_open a in
@@ -182,7 +182,7 @@ module _ (T : Type 0) where
     apart : (c : Command) → f.command ≡ c → (c ≡ command.Receipt → ⊥) → f.command ≡ command.Receipt → ⊥
     apart c e other k = other (sym e ∙ k)
 
-    told_tally : (e : Event T) → Tells f old new e → Tallies f read book new.receipts
+    told_tally : (e : ClientEvent T) → Tells f old new e → Tallies f read book new.receipts
     told_tally event.Connected k = others_tally (apart command.Connected k.0 (λ z. cc)) (ap (λ (c : Client T). c.receipts) k.1)
     told_tally (event.Message m) k = others_tally
         (apart command.Message (ap (λ (g : Content). g.command) (sym k.0) ∙ k.1.command) (λ z. cc))
@@ -203,11 +203,12 @@ module _ (T : Type 0) where
           tags = first_closed h.told book.last book.tags h.tags n.low;
         })
 
-    tally : (answer : Result (Event T) ClientFault) → IsOk answer → Accepts f old new answer → Tallies f read book new.receipts
+    tally : (answer : Result (ClientEvent T) ClientFault) → IsOk answer → Accepts f old new answer → Tallies f read book new.receipts
     tally (Ok e) ok a = told_tally e a.1
     tally (Err x) ok a = absurd cc
 
-    reads_stays : (answer : Result (Event T) ClientFault) → Accepts f old new answer → Stays wrote (read ++ f ∷ []) new.receipts new.stage
+    reads_stays : (answer : Result (ClientEvent T) ClientFault) → Accepts f old new answer
+        → Stays wrote (read ++ f ∷ []) new.receipts new.stage
     reads_stays answer a =
         let t = tally answer (answer_ok answer a) a in
         record {
@@ -225,13 +226,15 @@ module _ (T : Type 0) where
 
   -- ---- what a client writes
 
-  one_asked : (wrote read : List Content) (book : Book T) (stage : Stage) (h : Stays wrote read book stage) (f : Content) → IsClients f
+  one_asked : (wrote read : List Content) (book : ReceiptBook T) (stage : Stage) (h : Stays wrote read book stage) (f : Content)
+      → IsClients f
       → receipts_asked (decided_all false (wrote ++ f ∷ [])) ≡ receipts_asked (decided_all false wrote) ++ listed (receipt_told f)
   one_asked wrote read book stage h f is =
       ap (λ (l : List Content). receipts_asked (decided_all false (l ++ f ∷ []))) h.wrote_is ∙ asked_last h.frames f is
       ∙ ap (λ (l : List Content). receipts_asked (decided_all false l) ++ listed (receipt_told f)) (sym h.wrote_is)
 
-  writes_stays : (wrote read : List Content) (book : Book T) (stage : Stage) (f : Content) → Stays wrote read book stage → IsClients f
+  writes_stays : (wrote read : List Content) (book : ReceiptBook T) (stage : Stage) (f : Content) → Stays wrote read book stage
+      → IsClients f
       → value_of (codes "receipt") f.headers ≡ None → Stays (wrote ++ f ∷ []) read book stage
   writes_stays wrote read book stage f h is none =
       let same : receipts_asked (decided_all false (wrote ++ f ∷ [])) ≡ receipts_asked (decided_all false wrote) =
@@ -251,7 +254,7 @@ module _ (T : Type 0) where
         chain = h.chain;
       }
 
-  sends_stays : (wrote read : List Content) (book : Book T) (stage : Stage) (m : Content) (tag : T) → Stays wrote read book stage
+  sends_stays : (wrote read : List Content) (book : ReceiptBook T) (stage : Stage) (m : Content) (tag : T) → Stays wrote read book stage
       → IsTakeable m → book.last < 2 ^ 64 - 1 → Stays (wrote ++ with_receipt (book.last + 1) m ∷ []) read (opening tag book) stage
   sends_stays wrote read book stage m tag h is room =
       let f = with_receipt (book.last + 1) m in
@@ -274,7 +277,7 @@ module _ (T : Type 0) where
         chain = h.chain;
       }
 
-  stays : (wrote read : List Content) (book : Book T) (stage : Stage) → Went T wrote read book stage → Stays wrote read book stage
+  stays : (wrote read : List Content) (book : ReceiptBook T) (stage : Stage) → Went T wrote read book stage → Stays wrote read book stage
   stays _ _ _ _ connects = record {
     frames = [];
     all = tt;

@@ -10,8 +10,8 @@ use Rattle.stomp_frame.proofs.Streaming.{gap_wants_more}
 use Rattle.stomp_session.proofs.Owning.{owned, utf8}
 use Rattle.stomp_session.specs.Replies.{connected_frame}
 use Rattle.stomp_client.specs.Frames.{connect_frame}
-use Rattle.broker_core.specs.Calls.{Opens as IsOpened, empty, new_session, with_new_session, without_first}
-use Rattle.broker_core.specs.Feeding.{Dealing, Ends, Feeds as IsFed, Handles, Takes as AreTaken, answer_of, awaits, read, taking}
+use Rattle.broker_core.specs.Calls.{OpensSession, empty, new_session, with_new_session, without_first}
+use Rattle.broker_core.specs.Feeding.{Dealing, Ends, Feeds as IsFed, Handles, TakesDecided as AreTaken, answer_of, awaits, read, taking}
 use Rattle.broker_core.specs.Feeding.{with_incoming}
 use Rattle.broker_core.specs.Serving.{Decided, Server, changing, nothing_incoming, step}
 use Rattle.broker_core.specs.Streams.{whole}
@@ -119,7 +119,7 @@ connect_is_fed = record {
 abbrev pub calls : List Call
 calls = Opens 1 ∷ Feeds 1 (record { piece = canonical connect_frame; frames = asks ∷ [] }) ∷ Takes 1 (canonical connected_frame) ∷ []
 
-first_opens : IsOpened empty 1 opened
+first_opens : OpensSession empty 1 opened
 first_opens = record { next = refl; unused = refl; changed = refl; found = refl }
 
 -- all of its octets

@@ -25,8 +25,8 @@ use Rattle.broker_core.specs.Serving.{finished}
 use Rattle.broker_core.specs.Serving.{changing_part, is_last, is_session, part, reached, refused as refusing, served, session_of, step}
 use Rattle.broker_core.specs.Serving.{with_fault, with_part, with_session, writing}
 use Rattle.broker_core.specs.Words.{mode_of}
-use Rattle.broker_core.specs.declared.fault.Refusal.{Refusal}
-use Rattle.broker_core.specs.declared.fault.Refusal.TheVariants.{BadFrame, Unaccepted}
+use Rattle.broker_core.specs.declared.fault.FrameRefusal.{FrameRefusal}
+use Rattle.broker_core.specs.declared.fault.FrameRefusal.TheVariants.{BadFrame, Unaccepted}
 use Rattle.broker_core.specs.declared.session.Session.{Session}
 use Rattle.broker_core.proofs.Left.{find_with}
 use Rattle.broker_texts.specs.Lives.{Account}
@@ -77,7 +77,7 @@ abbrev pub handling : ℕ → ℕ → Account → Decided → Account
 handling n m a d = if n == m then with_handled a d else a
 
 -- an ERROR is written
-abbrev pub telling : Refusal → Option (List ℕ) → Part → Part
+abbrev pub telling : FrameRefusal → Option (List ℕ) → Part → Part
 telling x asked p = record p { session = writing (error_frame (refusal_number x) (refusal_name x) asked) p.session }
 
 -- ---- alike sessions
@@ -189,7 +189,7 @@ module _ (R : Sent → Type 0) (Q : Subscription → Type 0) (n : ℕ) where
     fits = fits;
   }
 
-  finished_steps : (P : Subscription → Type 0) (q : Request) (p : Part) (o : Result Reach Refusal) → p.session.closed ≡ false
+  finished_steps : (P : Subscription → Type 0) (q : Request) (p : Part) (o : Result Reach FrameRefusal) → p.session.closed ≡ false
       → p.session.incoming.waiting ≡ None → DoneFits R P o → BookFits R P p.book → Steps P p (finished q p o)
   finished_steps P q p (Ok r) unclosed none g h = closed_steps P (is_last q) p (confirmed q p r) refl unclosed refl
       (record { waits = none_fits true p.session.incoming.waiting none; transactions = g.transactions }) g.book

@@ -15,10 +15,11 @@ use Rattle.stomp_session.specs.declared.request.Request.{Request}
 use Rattle.stomp_session.specs.declared.request.Request.TheVariants.{Connect, Send, Subscribe, Unsubscribe, Ack, Nack, Begin, Commit}
 use Rattle.stomp_session.specs.declared.request.Request.TheVariants.{Abort, Disconnect}
 use Rattle.broker_core.specs.Faults.{refusal_number, refusal_name}
-use Rattle.broker_core.specs.declared.fault.Refusal.{Refusal}
-use Rattle.broker_core.specs.declared.fault.Refusal.TheVariants.{BadFrame, Unaccepted, BadDestination, SubscriptionExists, NoSubscription}
-use Rattle.broker_core.specs.declared.fault.Refusal.TheVariants.{BadAckMode, TransactionExists, NoTransaction, NoSuchAck, QueueFull}
-use Rattle.broker_core.specs.declared.fault.Refusal.TheVariants.{TooMany}
+use Rattle.broker_core.specs.declared.fault.FrameRefusal.{FrameRefusal}
+use Rattle.broker_core.specs.declared.fault.FrameRefusal.TheVariants.{BadFrame, Unaccepted, BadDestination, SubscriptionExists}
+use Rattle.broker_core.specs.declared.fault.FrameRefusal.TheVariants.{NoSubscription}
+use Rattle.broker_core.specs.declared.fault.FrameRefusal.TheVariants.{BadAckMode, TransactionExists, NoTransaction, NoSuchAck, QueueFull}
+use Rattle.broker_core.specs.declared.fault.FrameRefusal.TheVariants.{TooMany}
 
 pub receipt_fits : (request : Request) → Fits request → IsEchoedIfAny (receipt_of request)
 receipt_fits (Connect c) h = tt
@@ -34,7 +35,7 @@ receipt_fits (Disconnect d) h = h
 
 -- ---- refusals
 
-number_fits : (r : Refusal) → IsGiven (refusal_number r)
+number_fits : (r : FrameRefusal) → IsGiven (refusal_number r)
 number_fits BadFrame = omega arith
 number_fits (Unaccepted NotConnected) = omega arith
 number_fits (Unaccepted AlreadyConnected) = omega arith
@@ -57,7 +58,7 @@ number_fits TooMany = omega arith
 named : (name : List ℕ) → list_any (λ o. o == 0) name ≡ false → list_all (λ o. ltb o 128) name ≡ true → length name ≤ 128 → IsEchoed name
 named name plain ascii short = record { plain = plain; utf8 = utf8 name ascii; short = short }
 
-name_fits : (r : Refusal) → IsEchoed (refusal_name r)
+name_fits : (r : FrameRefusal) → IsEchoed (refusal_name r)
 name_fits BadFrame = named (refusal_name BadFrame) refl refl (omega arith)
 name_fits (Unaccepted NotConnected) = named (refusal_name (Unaccepted NotConnected)) refl refl (omega arith)
 name_fits (Unaccepted AlreadyConnected) = named (refusal_name (Unaccepted AlreadyConnected)) refl refl (omega arith)
@@ -77,6 +78,6 @@ name_fits QueueFull = named (refusal_name QueueFull) refl refl (omega arith)
 name_fits TooMany = named (refusal_name TooMany) refl refl (omega arith)
 
 -- the ERROR of each refusal
-pub error_fits : (r : Refusal) (receipt : Option (List ℕ)) → IsEchoedIfAny receipt
+pub error_fits : (r : FrameRefusal) (receipt : Option (List ℕ)) → IsEchoedIfAny receipt
     → IsFrame MAX_BODY (error_frame (refusal_number r) (refusal_name r) receipt)
 error_fits r receipt h = error_is_a_frame (refusal_number r) (refusal_name r) receipt (number_fits r) (name_fits r) h

@@ -3,13 +3,14 @@ use Rattle.std.proofs.Common.{◌≡◌, ℕ, Bool, true, false, cond, List, [],
 use Rattle.std.specs.Prelude.{◌==◌}
 use Rattle.std.proofs.lemmas.Bool.{eqb-true}
 use Rattle.broker_book.specs.Steps.{Handed, Taken}
-use Rattle.broker_core.specs.Feeding.{Dealing, Ends, Hands, HandlesAll, Stops, Takes, at_end, at_fault, at_frame, awaits, closed, faulty}
+use Rattle.broker_core.specs.Feeding.{Dealing, Ends, Hands, HandlesAll, Stops, TakesDecided, at_end, at_fault, at_frame, awaits, closed}
+use Rattle.broker_core.specs.Feeding.{faulty}
 use Rattle.broker_core.specs.Feeding.{fed, in_deals, in_step, taking, with_incoming, with_waiting}
 use Rattle.broker_core.specs.Serving.{Decided, Part, Roster, Server, changing, changing_part, part, refused as refusing}
 use Rattle.broker_core.specs.Serving.{roster_of}
 use Rattle.broker_core.specs.Serving.{served, session_of, step, with_fault, with_session}
 use Rattle.broker_core.specs.Streams.{Fed, Took, part as in_part, whole}
-use Rattle.broker_core.specs.declared.fault.Refusal.TheVariants.{BadFrame}
+use Rattle.broker_core.specs.declared.fault.FrameRefusal.TheVariants.{BadFrame}
 use Rattle.broker_core.specs.declared.session.Session.{Session}
 use Rattle.broker_core.proofs.Left.{Seen, find_with, seen, seen_in, seen_taken, served_number}
 use Rattle.broker_texts.proofs.Sessions.{Keeps, at, none_changed, other_found}
@@ -66,7 +67,7 @@ module _ (k m : ℕ) where
 
   -- ---- frames
 
-  takes_spares : (old : Server) (d : Decided) (new : Server) → Takes old k d new → Spares k m old new
+  takes_spares : (old : Server) (d : Decided) (new : Server) → TakesDecided old k d new → Spares k m old new
   takes_spares old d new t = changing_spares (with_incoming t.left) old new (λ s e. refl) t.changed
 
   all_spare : (full : ℕ) (old : Server) (ds : List Decided) (new : Server) → HandlesAll full k old ds new → Spares k m old new

@@ -21,7 +21,7 @@ use Rattle.broker_core.specs.Performing.{Reach}
 use Rattle.broker_core.specs.Serving.{Decided, Part, closed_of, closing_if, confirmed, finished, is_connect, is_last}
 use Rattle.broker_core.specs.Serving.{receipt_reply}
 use Rattle.broker_core.specs.Serving.{reply_of, refused as refusing, text_of}
-use Rattle.broker_core.specs.declared.fault.Refusal.{Refusal}
+use Rattle.broker_core.specs.declared.fault.FrameRefusal.{FrameRefusal}
 use Rattle.broker_core.specs.declared.session.Session.{Session}
 use Rattle.broker_texts.specs.Lives.{Account}
 use Rattle.broker_texts.specs.Written.{Confirms, Speaks, Told, nothing, refused, opened, ended, listed, receipt_asked, receipt_by}
@@ -224,7 +224,7 @@ module _ (later : Content → Type 0) where
       (record { frames = h.frames; each = h.each; wrote = h.wrote; receipts = h.receipts; connected = h.connected })
   closing_speaks a false p h = running_speaks a p.session h
 
-  pub refused_speaks : (a b : Account) (x : Refusal) (receipt : Option (List ℕ)) (missing : Option (List ℕ)) (p : Part)
+  pub refused_speaks : (a b : Account) (x : FrameRefusal) (receipt : Option (List ℕ)) (missing : Option (List ℕ)) (p : Part)
       → IsEchoedIfAny receipt
       → b.taken ≡ a.taken → receipts_asked b.handled ≡ receipts_asked a.handled ++ listed missing
       → IsFresh a p.session ⊎ IsRunning later a p.session → Speaks later b (Some (refusing x receipt p).session)
@@ -232,7 +232,7 @@ module _ (later : Content → Type 0) where
       error_speaks a b p.session (refusing x receipt p).session (refusal_number x) (refusal_name x) receipt missing h
       (error_fits x receipt is) same asks refl refl refl
 
-  pub finished_speaks : (a : Account) (q : Request) (p : Part) (o : Result Reach Refusal) → ((v : List ℕ) → later (receipt_frame v))
+  pub finished_speaks : (a : Account) (q : Request) (p : Part) (o : Result Reach FrameRefusal) → ((v : List ℕ) → later (receipt_frame v))
       → Fits q
       → is_connect q ≡ not p.session.server → IsFresh a p.session ⊎ IsRunning later a p.session
       → Speaks later (with_handled a (Ok q)) (Some (finished q p o).session)

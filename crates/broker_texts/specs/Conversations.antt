@@ -4,7 +4,7 @@ use Rattle.std.specs.List.{AllByRecursion, Contains}
 use Rattle.base.specs.declared.limits.TheConstants.{MAX_BODY}
 use Rattle.stomp_frame.specs.declared.command.Command.TheVariants.{Receipt}
 use Rattle.stomp_frame.specs.Awaiting.{Awaits}
-use Rattle.stomp_frame.specs.Calls.{Call as Reading, Happened, fed, given}
+use Rattle.stomp_frame.specs.Calls.{DecoderCall as Reading, Happened, fed, given}
 use Rattle.stomp_frame.specs.Decoding.{Held}
 use Rattle.stomp_frame.specs.Frames.{Content}
 use Rattle.stomp_wire.specs.Travel.{Travels}
@@ -13,7 +13,7 @@ use Rattle.stomp_session.specs.declared.request.Request.TheVariants.{Subscribe}
 use Rattle.stomp_session.specs.declared.request.Subscribe.{Subscribe as SubscribeParts}
 use Rattle.stomp_client.specs.Accepting.{Accepts, is_open, receipt_number}
 use Rattle.stomp_client.specs.Clients.{Client}
-use Rattle.stomp_client.specs.declared.event.Event.{Event}
+use Rattle.stomp_client.specs.declared.event.ClientEvent.{ClientEvent}
 use Rattle.stomp_client.specs.declared.fault.ClientFault.{ClientFault}
 use Rattle.stomp_client.specs.declared.session.Stage.{Stage}
 use Rattle.stomp_client.specs.declared.session.Stage.TheVariants.{Connecting}
@@ -58,15 +58,15 @@ module _ {T : Type 0} where
   TellsOpen f c = f.command ≡ Receipt → is_open c.receipts (receipt_number f) ≡ true
 
   -- A client at this stage accepts frames one after another, and answers so; between two it may do all but change its stage.
-  abbrev pub AcceptsAll : Stage → List Content → List (Result (Event T) ClientFault) → Type 0
+  abbrev pub AcceptsAll : Stage → List Content → List (Result (ClientEvent T) ClientFault) → Type 0
   AcceptsAll stage [] answers = answers ≡ []
-  AcceptsAll stage (f ∷ frames) answers = (old : Client T) × ((new : Client T) × ((answer : Result (Event T) ClientFault) ×
-      ((others : List (Result (Event T) ClientFault)) × ((answers ≡ answer ∷ others) × (old.stage ≡ stage) × TellsOpen f old
+  AcceptsAll stage (f ∷ frames) answers = (old : Client T) × ((new : Client T) × ((answer : Result (ClientEvent T) ClientFault) ×
+      ((others : List (Result (ClientEvent T) ClientFault)) × ((answers ≡ answer ∷ others) × (old.stage ≡ stage) × TellsOpen f old
       × Accepts f old new answer × AcceptsAll new.stage frames others))))
 
 -- Each frame that was given is an event to a client that is connecting at the first, and asks for no subscription of mode `auto`.
 abbrev pub ClientsTakeAll : Type 0 → Type 0
 ClientsTakeAll T = (full : ℕ) (calls : List Call) (b : Server) (n : ℕ) (waiting carried : List ℕ) (frames : List Content) (held : Held)
-    (answers : List (Result (Event T) ClientFault)) → Lives full empty calls b
+    (answers : List (Result (ClientEvent T) ClientFault)) → Lives full empty calls b
     → Comes (account n calls) waiting carried frames held → AsksForAcks calls n → AcceptsAll Connecting frames answers
     → AllByRecursion (λ answer. IsOk answer) answers

@@ -1,7 +1,7 @@
 -- What a broker keeps, where all of it can be told again, and what else holds of what SENDs brought and of each subscription.
 use Rattle.std.specs.List.{AllByRecursion}
 use Rattle.stomp_session.specs.Replies.{IsCarried, IsGiven}
-use Rattle.broker_book.specs.Books.{Book, Message}
+use Rattle.broker_book.specs.Books.{Book, QueuedMessage}
 use Rattle.broker_book.specs.declared.parts.Accepted.{Accepted}
 use Rattle.broker_book.specs.declared.parts.Action.{Action}
 use Rattle.broker_book.specs.declared.parts.Action.TheVariants.{Put, Ack as AckOf, Nack as NackOf}
@@ -15,7 +15,7 @@ pub record SentFits (R : Sent → Type 0) (s : Sent) : Type 0 where
   pub brought : R s
 
 -- the same of a living message, with its number
-pub record MessageFits (R : Sent → Type 0) (m : Message) : Type 0 where
+pub record MessageFits (R : Sent → Type 0) (m : QueuedMessage) : Type 0 where
   pub sent : SentFits R m.sent
   pub number : IsGiven m.number
 

@@ -2,7 +2,7 @@
 use Rattle.std.specs.Prelude.{◌≡◌, ◌⊎◌, ℕ, ◌==◌, if◌then◌else◌, List, [], ◌∷◌, take, Option, Some, None, Result, Ok, Err}
 use Rattle.std.specs.List.{flat_map}
 use Rattle.broker_core.specs.Calls.{NamesFresh, OpenAnswer, FreshAnswer, dropped, out_in, without_first}
-use Rattle.broker_core.specs.Calls.{Opens as IsOpened}
+use Rattle.broker_core.specs.Calls.{OpensSession}
 use Rattle.broker_core.specs.Feeding.{Dealing, FeedAnswer}
 use Rattle.broker_core.specs.Serving.{Decided, Server, changing, session_of}
 use Rattle.broker_core.specs.Streams.{Fed, Took}
@@ -21,7 +21,7 @@ pub data Call : Type 0 where
 
 -- what a call does to a broker of which each queue holds so many messages
 abbrev pub Does : ℕ → Server → Call → Server → Type 0
-Does full old (Opens n) new = IsOpened old n new
+Does full old (Opens n) new = OpensSession old n new
 Does full old (Feeds n fed) new = Took full n old fed new
 Does full old Deals new = Dealing old new
 Does full old (Takes n octets) new =

@@ -9,7 +9,7 @@ use receipts::Receipts;
 use std::alloc::Global;
 use std::io;
 use std::io::Write;
-use stomp_client::{ClientFault, ClientSession, Event, Stage};
+use stomp_client::{ClientEvent, ClientFault, ClientSession, Stage};
 use stomp_frame::{Decoder, Frame};
 
 /// What a call gives. It is printed without memory, since the call is done then.
@@ -24,7 +24,7 @@ pub enum Answer {
     /// How far a client is.
     Stage(Stage),
     /// What a server's frame tells. A MESSAGE is kept by the session.
-    Event(Event<String>),
+    Event(ClientEvent<String>),
     /// The MESSAGE that was accepted last.
     Message,
     /// What the client has still to send.
@@ -178,7 +178,7 @@ impl Session {
     fn accept(&mut self, alloc: Global, text: &str) -> Result<Answer, LineFault> {
         let frame = frame(alloc, text)?;
         match self.client.accept(frame)? {
-            Event::Message(message) => {
+            ClientEvent::Message(message) => {
                 self.message = Some(message);
                 Ok(Answer::Message)
             }

@@ -3,7 +3,7 @@
 use crate::session::{Answer, Session};
 use std::io;
 use std::io::Write;
-use stomp_client::Event;
+use stomp_client::ClientEvent;
 use stomp_frame::Frame;
 
 /// The escape of an octet, where it is a backslash and a letter.
@@ -50,12 +50,12 @@ fn show_frame<W: Write>(out: &mut W, frame: &Frame) -> io::Result<()> {
 }
 
 /// What a server's frame tells.
-fn show_event<W: Write>(out: &mut W, event: &Event<String>) -> io::Result<()> {
+fn show_event<W: Write>(out: &mut W, event: &ClientEvent<String>) -> io::Result<()> {
     match event {
-        Event::Connected => write!(out, "connected"),
-        Event::Receipt(number, tag) => write!(out, "receipt {number} {tag}"),
-        Event::Message(message) => show_frame(out, message),
-        Event::Error(text) => {
+        ClientEvent::Connected => write!(out, "connected"),
+        ClientEvent::Receipt(number, tag) => write!(out, "receipt {number} {tag}"),
+        ClientEvent::Message(message) => show_frame(out, message),
+        ClientEvent::Error(text) => {
             write!(out, "error ")?;
             show_octets(out, text.as_bytes())
         }

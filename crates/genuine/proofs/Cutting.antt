@@ -8,9 +8,9 @@ use Rattle.mail.specs.Offices.{Office}
 use Rattle.passage.specs.Passing.{GoodOffice}
 use Rattle.schedules.specs.declared.event.ConnectionNumber.{ConnectionNumber}
 use Rattle.schedules.specs.declared.event.ConnectionNumber.TheVariants.{Zero, One}
-use Rattle.sites.specs.Channels.{channel_of, with_channel, Leaves, Same, CutsBoth, After, AfterFault, Meets, MeetsAlone}
-use Rattle.sites.specs.declared.fate.Fate.{Fate}
-use Rattle.sites.specs.declared.fate.Fate.TheVariants.{Stays, IsCut, BothAreCut}
+use Rattle.sites.specs.Channels.{channel_of, with_channel, MailAfterCut, Same, CutsBoth, After, AfterFault, Meets, MeetsAlone}
+use Rattle.sites.specs.declared.fate.ChannelFate.{ChannelFate}
+use Rattle.sites.specs.declared.fate.ChannelFate.TheVariants.{Stays, IsCut, BothAreCut}
 use Rattle.sites.specs.declared.channel.Channel.{Channel}
 use Rattle.sites.specs.declared.site.Site.{Site}
 use Rattle.genuine.specs.Sitting.{Sits, Passes}
@@ -38,14 +38,15 @@ module _ {H K S C : Type 0} (ok : Envelope → Type 0) where
 
     -- a connection is cut, where it is open
     leaves_of : (number : ConnectionNumber) (s : Site H K S C) (from to : Office) (o : Option Channel) → channel_of number s ≡ o
-        → Leaves o from to → Sits ok up down s from → GoodOffice ok up down from → Passes ok up down s from (with_channel number None s) to
+        → MailAfterCut o from to → Sits ok up down s from → GoodOffice ok up down from
+        → Passes ok up down s from (with_channel number None s) to
     leaves_of number s from to None is leaves h office = subst (λ o. Passes ok up down s from (with_channel number None s) o) (sym leaves)
         (closed ok up down number s from h office)
     leaves_of number s from to (Some l) is leaves h office =
         cut_off ok up down number s l is l.connection from to leaves.0 refl leaves.1 h office
 
   pub leaves_pass : (up down : ℕ → List ℕ) (number : ConnectionNumber) (s : Site H K S C) (from to : Office)
-      → Leaves (channel_of number s) from to → Sits ok up down s from → GoodOffice ok up down from
+      → MailAfterCut (channel_of number s) from to → Sits ok up down s from → GoodOffice ok up down from
       → Passes ok up down s from (with_channel number None s) to
   leaves_pass up down number s from to leaves h office = leaves_of up down number s from to (channel_of number s) refl leaves h office
 
@@ -78,8 +79,8 @@ module _ {H K S C : Type 0} (ok : Envelope → Type 0) where
 
   -- ---- the fate of an open connection, which changed before
 
-  pub meets_pass : (up down : ℕ → List ℕ) (fate : Fate) (number : ConnectionNumber) (l : Channel) (s : Site H K S C) (from between : Office)
-      (t : Site H K S C) (to : Office) → Meets fate number l s between t to
+  pub meets_pass : (up down : ℕ → List ℕ) (fate : ChannelFate) (number : ConnectionNumber) (l : Channel) (s : Site H K S C)
+      (from between : Office) (t : Site H K S C) (to : Office) → Meets fate number l s between t to
       → Passes ok up down s from (with_channel number (Some l) s) between
       → Passes ok up down s from t to
   meets_pass up down Stays number l s from between t to meets p =
@@ -96,7 +97,7 @@ module _ {H K S C : Type 0} (ok : Envelope → Type 0) where
       (cuts_pass p.rising p.falling (with_channel number (Some l) s) between t to meets p.sits p.office)
 
   -- and where it isn't open
-  pub alone_passes : (up down : ℕ → List ℕ) (fate : Fate) (s : Site H K S C) (from : Office) (t : Site H K S C) (to : Office)
+  pub alone_passes : (up down : ℕ → List ℕ) (fate : ChannelFate) (s : Site H K S C) (from : Office) (t : Site H K S C) (to : Office)
       → MeetsAlone fate s from t to → Sits ok up down s from → GoodOffice ok up down from → Passes ok up down s from t to
   alone_passes up down Stays s from t to meets h office = same_passes up down s from t to meets h office
   alone_passes up down IsCut s from t to meets h office = same_passes up down s from t to meets h office

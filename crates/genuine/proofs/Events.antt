@@ -32,11 +32,11 @@ use Rattle.genuine.proofs.Telling.{drains_good, settles_ok}
 use Rattle.sites.specs.Cursors.{AreRight}
 use Rattle.sites.specs.Happenings.{Adds, CarriesOn, DrainsOne, DrainsOver, Falls, Happens, IfOpen, OpensChannel, Rises}
 use Rattle.sites.specs.Happenings.{SendsRows, TakesFrame, TakesOne, TakesWhat, leaves_of, over, waiting_of, with_store}
-use Rattle.sites.specs.Channels.{channel_of, with_channel, Leaves, Meets, Same}
+use Rattle.sites.specs.Channels.{channel_of, with_channel, MailAfterCut, Meets, Same}
 use Rattle.sites.specs.Outcomes.{decoder_fate, drain_fate, fall_fate, fill_fate, taken_fate}
 use Rattle.sites.specs.SiteEvents.{SiteEvent}
 use Rattle.sites.specs.SiteEvents as event
-use Rattle.sites.specs.declared.fate.Fate.TheVariants.{Stays}
+use Rattle.sites.specs.declared.fate.ChannelFate.TheVariants.{Stays}
 use Rattle.sites.specs.declared.channel.Channel.{Channel}
 use Rattle.sites.specs.declared.site.Site.{Site}
 
@@ -150,7 +150,7 @@ module _ {H K S C : Type 0} (ok : Envelope → Type 0) where
     opens_pass number (Some l) opens = same_passes ok up down s from t to opens.1 h office
     opens_pass number None opens = new_channel number opens.0 opens.1 opens.3
 
-    cuts_channel : (number : ConnectionNumber) (l : Channel) → channel_of number s ≡ Some l → Leaves (Some l) from to
+    cuts_channel : (number : ConnectionNumber) (l : Channel) → channel_of number s ≡ Some l → MailAfterCut (Some l) from to
         → t ≡ with_channel number None s
         → Passes ok up down s from t to
     cuts_channel number l is leaves site = subst (λ x. Passes ok up down s from x to) (sym site)

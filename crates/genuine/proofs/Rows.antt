@@ -25,7 +25,7 @@ use Rattle.endpoint.specs.Matches.{AllMatch}
 use Rattle.mail.specs.Offices.{Office}
 use Rattle.passage.specs.Passing.{GoodFrame, HasWritten}
 use Rattle.relay.specs.Calls.{Fills, Gives, idle_answer}
-use Rattle.relay.specs.Filling.{Connection, sends_of, unsent, with_sent}
+use Rattle.relay.specs.Filling.{SendState, sends_of, unsent, with_sent}
 use Rattle.relay.specs.Knowing.{KnowsAll}
 use Rattle.relay.specs.declared.fault.RelayFault.{RelayFault}
 use Rattle.schedules.specs.declared.event.ConnectionNumber.{ConnectionNumber}
@@ -76,7 +76,7 @@ module _ (ok : Envelope → Type 0) where
   -- ---- their SENDs
 
   sends_good : (messages : Messages) → ((l : Letter) → messages l.pair l.number ≡ Some l.message → ok (envelope.Letter l))
-      → (c : Connection) (ls : List Letter) → AllByRecursion (λ l. IsEnvelope (envelope.Letter l)) ls → Stand messages ls
+      → (c : SendState) (ls : List Letter) → AllByRecursion (λ l. IsEnvelope (envelope.Letter l)) ls → Stand messages ls
       → AreFrames MAX_BODY (sends_of c ls) → AllByRecursion (GoodFrame ok) (sends_of c ls)
   sends_good messages good c [] are stand frames = tt
   sends_good messages good c (l ∷ ls) are stand frames = (
@@ -84,7 +84,7 @@ module _ (ok : Envelope → Type 0) where
     sends_good messages good (with_sent c l) ls are.1 stand.1 frames.1,
   )
 
-  filled_good : (clean : Type 0) (messages : Messages) (limit : ℕ) (old new : Connection) (r : Result ℕ RelayFault)
+  filled_good : (clean : Type 0) (messages : Messages) (limit : ℕ) (old new : SendState) (r : Result ℕ RelayFault)
       → Fills clean messages limit old new r → clean → ((l : Letter) → messages l.pair l.number ≡ Some l.message → ok (envelope.Letter l))
       → HasWritten old.client.out → WritesGood ok old.client new.client
   filled_good clean messages limit old new r fills c good written =
@@ -97,13 +97,13 @@ module _ (ok : Envelope → Type 0) where
       }
 
   -- where the session isn't connected none was sent
-  idle_good : (here : Stage) (old new : Connection) (r : Result ℕ RelayFault) (A : Type 0) → IfSome (idle_answer here)
+  idle_good : (here : Stage) (old new : SendState) (r : Result ℕ RelayFault) (A : Type 0) → IfSome (idle_answer here)
       (λ answer. (r ≡ answer) × A × (new ≡ old)) → (here ≡ stage.Connected → WritesGood ok old.client new.client)
       → WritesGood ok old.client new.client
-  idle_good stage.Fresh old new r A idle connected = writes_none ok old.client new.client (ap (λ (x : Connection). x.client.out) idle.2)
+  idle_good stage.Fresh old new r A idle connected = writes_none ok old.client new.client (ap (λ (x : SendState). x.client.out) idle.2)
   idle_good stage.Connecting old new r A idle connected =
-      writes_none ok old.client new.client (ap (λ (x : Connection). x.client.out) idle.2)
-  idle_good stage.Closed old new r A idle connected = writes_none ok old.client new.client (ap (λ (x : Connection). x.client.out) idle.2)
+      writes_none ok old.client new.client (ap (λ (x : SendState). x.client.out) idle.2)
+  idle_good stage.Closed old new r A idle connected = writes_none ok old.client new.client (ap (λ (x : SendState). x.client.out) idle.2)
   idle_good stage.Connected old new r A idle connected = connected refl
 
   module _ {H K S C : Type 0} (seen : K → Seen (Tables S C)) (sound : (k : K) → IsSound (seen k)) (service : Service S C)
@@ -135,4 +135,4 @@ module _ (ok : Envelope → Type 0) where
           (clean, (match, channel_has (KnowsEach service (seen s.endpoint.keep).may_leave) number s l is right))
           (row_ok up usable) written)
           (λ down. writes_none ok l.connection.client.client sends.later.connection.client.client
-          (ap (λ (x : Connection). x.client.out) (sends.unused down))))
+          (ap (λ (x : SendState). x.client.out) (sends.unused down))))

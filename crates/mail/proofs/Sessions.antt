@@ -4,15 +4,16 @@ use Rattle.std.proofs.Common.{◌∙◌, eqb-true}
 use Rattle.std.specs.Prelude.{◌==◌, is_some, IfErr, IfOk}
 use Rattle.std.specs.List.{find}
 use Rattle.broker_book.specs.Steps.{Handed, Taken}
-use Rattle.broker_core.specs.Calls.{OpenAnswer, Opens, dropped, others, new_session, without_first}
-use Rattle.broker_core.specs.Feeding.{DispatchAnswer, Dealing, Hands, delivery_of, Takes, Handles, HandlesAll, Ends, closed, awaits, faulty}
+use Rattle.broker_core.specs.Calls.{OpenAnswer, OpensSession, dropped, others, new_session, without_first}
+use Rattle.broker_core.specs.Feeding.{DispatchAnswer, Dealing, Hands, delivery_of, TakesDecided, Handles, HandlesAll, Ends, closed, awaits}
+use Rattle.broker_core.specs.Feeding.{faulty}
 use Rattle.broker_core.specs.Feeding.{Stops, at_frame, in_step, in_deals, at_fault, at_end, Feeds, FeedsPart, FeedAnswer, taking}
 use Rattle.broker_core.specs.Feeding.{with_incoming, with_waiting}
 use Rattle.broker_core.specs.Serving.{Decided, Part, Roster, Server, is_session, session_of, with_session, changing, changing_part, part}
 use Rattle.broker_core.specs.Serving.{served, step, with_fault, writing, refused}
 use Rattle.broker_core.specs.declared.fault.BrokerFault.{BrokerFault}
 use Rattle.broker_core.specs.declared.fault.BrokerFault.TheVariants.{Memory, NoSession, TooMany}
-use Rattle.broker_core.specs.declared.fault.Refusal.TheVariants.{BadFrame}
+use Rattle.broker_core.specs.declared.fault.FrameRefusal.TheVariants.{BadFrame}
 use Rattle.broker_core.specs.declared.session.Session.{Session}
 use Rattle.broker_core.proofs.Left.{served_number}
 use Rattle.stomp_session.specs.Replies.{message_frame}
@@ -91,7 +92,7 @@ both old mid new a b n = b n ∙ a n
 same_keeps : (old mid new : Server) → new ≡ mid → KeepsSessions old mid → KeepsSessions old new
 same_keeps old mid new e a n = ap (has_session n) e ∙ a n
 
-takes_keeps : (old new : Server) (m : ℕ) (d : Decided) → Takes old m d new → KeepsSessions old new
+takes_keeps : (old new : Server) (m : ℕ) (d : Decided) → TakesDecided old m d new → KeepsSessions old new
 takes_keeps old new m d h = same_keeps old _ new h.changed (changing_keeps m (with_incoming h.left) old (λ s e. refl))
 
 all_keep : (full m : ℕ) (old new : Server) (ds : List Decided) → HandlesAll full m old ds new → KeepsSessions old new
@@ -219,7 +220,7 @@ not_own : (n k : ℕ) (t : Bool) → (k == n) ≡ t → n ≢ k → (k == n) ≡
 not_own n k true e apart = absurd (apart (sym (eqb-true k n e)))
 not_own n k false e apart = e
 
-pub open_keeps : (old new : Server) (m : ℕ) → Opens old m new → KeepsOthers m old new
+pub open_keeps : (old new : Server) (m : ℕ) → OpensSession old m new → KeepsOthers m old new
 open_keeps old new m h n apart =
     ap (has_session n) h.changed
     ∙ added_has n (new_session (old.opened + 1)) old.sessions

@@ -3,12 +3,12 @@ use Rattle.std.specs.Prelude.{◌≡◌, ℕ, ◌≤◌, min, true, false, List,
 use Rattle.base.specs.declared.limits.TheConstants.{MAX_BODY, MAX_QUEUED}
 use Rattle.stomp_frame.specs.declared.fault.FrameFault.{FrameFault}
 use Rattle.stomp_frame.specs.Frames.{Content, IsFrame}
-use Rattle.stomp_frame.specs.Decoding.{Feeds as DecoderFeeds, Nexts}
+use Rattle.stomp_frame.specs.Decoding.{FeedsDecoder, Nexts}
 use Rattle.stomp_frame.specs.Calls.{nothing_held}
 use Rattle.stomp_client.specs.Clients.{Client, new_client, connecting, without_first as client_without_first}
 use Rattle.stomp_client.specs.Frames.{connect_frame}
 use Rattle.stomp_client.specs.declared.fault.ClientFault.TheVariants.{Memory as NoMemory}
-use Rattle.broker_core.specs.Calls.{OpenAnswer, Opens as BrokerOpens, dropped, out_in, without_first}
+use Rattle.broker_core.specs.Calls.{OpenAnswer, OpensSession, dropped, out_in, without_first}
 use Rattle.broker_core.specs.Feeding.{DispatchAnswer, FeedAnswer, Feeds, FeedsPart}
 use Rattle.broker_core.specs.Serving.{changing, session_of}
 use Rattle.broker_core.specs.declared.fault.BrokerFault.{BrokerFault}
@@ -22,7 +22,7 @@ use Rattle.mail.specs.declared.fault.OpenFault.TheVariants.{Client as OfClient, 
 
 -- a new connection: CONNECT waits to be carried, nothing came down, and the broker has a session for it
 pub record Opened (from : Office) (c : Connection) (to : Office) : Type 0 where
-  pub session : BrokerOpens from.broker c.session to.broker
+  pub session : OpensSession from.broker c.session to.broker
   pub earlier : to.earlier ≡ from.earlier
   pub is_frame : IsFrame MAX_BODY connect_frame
   pub client : c.client.client ≡ connecting new_client
@@ -50,7 +50,7 @@ abbrev pub piece_of : ℕ → List ℕ → List ℕ
 piece_of most waiting = take (carried most waiting) waiting
 
 -- so many octets left the client, and nothing else of the connection changed
-pub record Sends (count : ℕ) (old new : Connection) : Type 0 where
+pub record SendsOctets (count : ℕ) (old new : Connection) : Type 0 where
   pub session : new.session ≡ old.session
   pub client : new.client.client ≡ client_without_first count old.client.client
   pub room : old.client.room ≤ new.client.room
@@ -63,13 +63,13 @@ pub record CarriedUp (most : ℕ) (old : Connection) (from : Office) (new : Conn
   pub counted : count ≡ carried most (rising old)
   pub feeds : Feeds MAX_QUEUED from.broker old.session (piece_of most (rising old)) to.broker handled
   pub earlier : to.earlier ≡ from.earlier
-  pub sends : Sends count old new
+  pub sends : SendsOctets count old new
 
 -- the octets went up whole, and memory was refused as they were handled
 pub record CarriedUpPart (most : ℕ) (old : Connection) (from : Office) (new : Connection) (to : Office) : Type 0 where
   pub feeds : FeedsPart MAX_QUEUED from.broker old.session (piece_of most (rising old)) to.broker
   pub earlier : to.earlier ≡ from.earlier
-  pub sends : Sends (carried most (rising old)) old new
+  pub sends : SendsOctets (carried most (rising old)) old new
 
 -- What `carry_up` answers: how many octets went over; memory was refused behind that; or the broker's refusal, and nothing has changed.
 abbrev pub CarriesUp : ℕ → Connection → Office → Connection → Office → Result ℕ BrokerFault → Type 0
@@ -87,7 +87,7 @@ falling c o = out_in (session_of c.session o.broker)
 -- the octets went down, so many
 pub record CarriedDown (most : ℕ) (old : Connection) (from : Office) (new : Connection) (to : Office) (count : ℕ) : Type 0 where
   pub counted : count ≡ carried most (falling old from)
-  pub feeds : DecoderFeeds old.decoder new.decoder (piece_of most (falling old from)) (Ok tt)
+  pub feeds : FeedsDecoder old.decoder new.decoder (piece_of most (falling old from)) (Ok tt)
   pub same : new ≡ record old { decoder = new.decoder }
   pub left : to ≡ record from { broker = changing old.session (without_first count) from.broker }
 
@@ -95,7 +95,7 @@ pub record CarriedDown (most : ℕ) (old : Connection) (from : Office) (new : Co
 abbrev pub CarriesDown : ℕ → Connection → Office → Connection → Office → Result ℕ FrameFault → Type 0
 CarriesDown most old from new to (Ok count) = CarriedDown most old from new to count
 CarriesDown most old from new to (Err fault) =
-    DecoderFeeds old.decoder old.decoder (piece_of most (falling old from)) (Err fault) × (to ≡ from) × (new ≡ old)
+    FeedsDecoder old.decoder old.decoder (piece_of most (falling old from)) (Err fault) × (to ≡ from) × (new ≡ old)
 
 -- ---- next
 

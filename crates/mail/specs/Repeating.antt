@@ -2,7 +2,7 @@
 use Rattle.std.specs.Prelude.{◌≡◌, ◌⊎◌, ℕ, ◌-◌, ◌^◌, List, Option, Some, None, Result, Ok, Err}
 use Rattle.base.specs.declared.limits.TheConstants.{MAX_QUEUED}
 use Rattle.broker_book.specs.declared.parts.Sent.{Sent}
-use Rattle.broker_core.specs.Calls.{Opens, dropped, out_in}
+use Rattle.broker_core.specs.Calls.{OpensSession, dropped, out_in}
 use Rattle.broker_core.specs.Feeding.{FeedAnswer}
 use Rattle.broker_core.specs.Serving.{Server, session_of}
 use Rattle.broker_core.specs.declared.fault.BrokerFault.{BrokerFault}
@@ -24,7 +24,7 @@ pub record FedAgain (sent : Sent) (session : ℕ) (old new : Office) (r : Result
 pub record SentAgain (sent : Sent) (old new : Office) (r : Result (Option ℕ) RepeatFault) : Type 0 where
   pub session : ℕ
   pub opened : Office
-  pub opens : Opens old.broker session opened.broker
+  pub opens : OpensSession old.broker session opened.broker
   pub earlier : opened.earlier ≡ old.earlier
   pub feeds : FedAgain sent session opened new r
 

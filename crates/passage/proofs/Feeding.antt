@@ -1,7 +1,8 @@
 -- What feeding a session makes of what is good.
 use Rattle.std.proofs.Common.{◌≡◌, ℕ, Bool, true, false, cond, List, [], ◌∷◌, ◌++◌, Some, Result, Ok, Err, refl, sym, ap, ◌∙◌}
 use Rattle.std.proofs.Common.{subst, append_assoc}
-use Rattle.broker_core.specs.Feeding.{TakesFrame, waited, read, HasNone, MeetsFault, now, before, Takes, Handles, HandlesAll, Ends, closed}
+use Rattle.broker_core.specs.Feeding.{DecidesNext, waited, read, HasNone, MeetsFault, now, before, TakesDecided, Handles, HandlesAll, Ends}
+use Rattle.broker_core.specs.Feeding.{closed}
 use Rattle.broker_core.specs.Feeding.{awaits, faulty, Stops, at_frame, in_step, in_deals, at_fault, at_end, FeedAnswer, fed, taking}
 use Rattle.broker_core.specs.Feeding.{with_incoming, with_waiting}
 use Rattle.broker_core.specs.Serving.{Decided, Server, changing, session_of, step}
@@ -26,7 +27,7 @@ module _ (ok : Envelope → Type 0) where
   -- ---- what a session was fed
 
   module _ (up down : List ℕ) (s : Session) where
-    takes_good : (d : Decided) (left : Incoming) → s.closed ≡ false → GoodSession ok up down s → TakesFrame s.server s.incoming d left
+    takes_good : (d : Decided) (left : Incoming) → s.closed ≡ false → GoodSession ok up down s → DecidesNext s.server s.incoming d left
         → GoodDecided ok d × GoodSession ok up down (with_incoming left s)
     takes_good d left unclosed h (waited e k) = (
       subst (GoodWaiting ok) e h.waits,
@@ -89,7 +90,7 @@ module _ (ok : Envelope → Type 0) where
         (same_some (session_of n b) s x found e) k) in
         record { book = h.book; sessions = all.found; gone = all.none }
 
-    taken_good : (old : Server) (n : ℕ) (d : Decided) (new : Server) → Takes old n d new → GoodServer ok up down old
+    taken_good : (old : Server) (n : ℕ) (d : Decided) (new : Server) → TakesDecided old n d new → GoodServer ok up down old
         → GoodDecided ok d × GoodServer ok up down new
     taken_good old n d new t h =
         let k = takes_good (up n) (down n) t.session d t.left t.is_open.is_open (h.sessions n t.session t.is_open.found) t.takes in

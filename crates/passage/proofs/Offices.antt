@@ -17,7 +17,7 @@ use Rattle.broker_core.specs.declared.fault.BrokerFault.{BrokerFault}
 use Rattle.broker_core.specs.declared.fault.BrokerFault.TheVariants.{Memory, NoSession, TooMany}
 use Rattle.envelope.specs.declared.message.Envelope.{Envelope}
 use Rattle.mail.specs.Connecting.{CarriesDown, CarriesUp, Cuts, Opens, TakesNext, TakesNextOf, carried, falling, piece_of, without_session}
-use Rattle.mail.specs.Connecting.{Sends}
+use Rattle.mail.specs.Connecting.{SendsOctets}
 use Rattle.mail.specs.Offices.{Office, new_office, restarted}
 use Rattle.mail.specs.declared.connection.Connection.{Connection}
 use Rattle.mail.specs.declared.fault.OpenFault.{OpenFault}
@@ -130,7 +130,7 @@ module _ (ok : Envelope → Type 0) (up down : ℕ → List ℕ) where
   split_text most text = sym (take-append-drop (carried most text) text)
 
   sent_good : (old : Connection) (from : Office) (new : Connection) (to : Office) (count : ℕ) (piece : List ℕ)
-      → going old ≡ piece ++ drop count (going old) → Sends count old new → AreOf old up down → to.broker.opened ≡ from.broker.opened
+      → going old ≡ piece ++ drop count (going old) → SendsOctets count old new → AreOf old up down → to.broker.opened ≡ from.broker.opened
       → GoodOffice ok up down from
       → AllByRecursion (AcceptedFits (Brought ok)) to.earlier
       → GoodServer ok (at old.session (drop count (going old)) up) down to.broker → GoodWith ok new up down to
@@ -154,7 +154,7 @@ module _ (ok : Envelope → Type 0) (up down : ℕ → List ℕ) where
   carried_up_good most old from new to (Ok count) h are g =
       let rest = drop (carried most (going old)) (going old) in
       sent_good old from new to (carried most (going old)) (piece_of most (going old)) (split_text most (going old))
-      (subst (λ k. Sends k old new) h.counted h.sends) are (carried_up_opened most old from new to (Ok count) h) g
+      (subst (λ k. SendsOctets k old new) h.counted h.sends) are (carried_up_opened most old from new to (Ok count) h) g
       (subst (λ l. AllByRecursion (AcceptedFits (Brought ok)) l) (sym h.earlier) g.earlier)
       (feed_good ok up down MAX_QUEUED from.broker old.session (piece_of most (going old)) rest to.broker (Ok h.handled)
       (are.0 ∙ split_text most (going old)) h.feeds g.server)
@@ -305,7 +305,7 @@ module _ (ok : Envelope → Type 0) where
     };
   }
 
-  sent_connection : (count : ℕ) (old new : Connection) → Sends count old new → GoodConnection ok old → GoodConnection ok new
+  sent_connection : (count : ℕ) (old new : Connection) → SendsOctets count old new → GoodConnection ok old → GoodConnection ok new
   sent_connection count old new sends c = record {
     waits = subst (GoodNext ok) (sym sends.waiting) c.waits;
     wrote = subst HasWritten (sym (ap (λ (k : Client ℕ). k.out) sends.client)) (less_written (going old) count c.wrote);

@@ -11,7 +11,7 @@ use Rattle.broker_core.specs.Serving.{Decided, Part, Roster, Server, changing, c
 use Rattle.broker_core.specs.Serving.{with_fault}
 use Rattle.broker_core.specs.declared.fault.BrokerFault.{BrokerFault}
 use Rattle.broker_core.specs.declared.fault.BrokerFault.TheVariants.{Memory, NoSession, TooMany}
-use Rattle.broker_core.specs.declared.fault.Refusal.TheVariants.{BadFrame}
+use Rattle.broker_core.specs.declared.fault.FrameRefusal.TheVariants.{BadFrame}
 use Rattle.broker_core.specs.declared.session.Session.{Session}
 use Rattle.mail.specs.Connecting.{CarriesDown, CarriesUp, Cuts, Opens, without_session}
 use Rattle.mail.specs.Offices.{Office, collected, taken_from}

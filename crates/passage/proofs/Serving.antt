@@ -19,8 +19,8 @@ use Rattle.broker_core.specs.Performing.{Reach, performed}
 use Rattle.broker_core.specs.Serving.{Decided, Part, Server, changing_part, closing, closing_if, confirmed, finished, is_connect}
 use Rattle.broker_core.specs.Serving.{is_last, is_session, part, reached, receipt_reply, refused, reply_of, served, session_of, step}
 use Rattle.broker_core.specs.Serving.{text_of, with_fault, writing}
-use Rattle.broker_core.specs.declared.fault.Refusal.{Refusal}
-use Rattle.broker_core.specs.declared.fault.Refusal.TheVariants.{BadFrame, Unaccepted}
+use Rattle.broker_core.specs.declared.fault.FrameRefusal.{FrameRefusal}
+use Rattle.broker_core.specs.declared.fault.FrameRefusal.TheVariants.{BadFrame, Unaccepted}
 use Rattle.broker_core.specs.declared.session.Session.{Session}
 use Rattle.broker_core.proofs.Left.{served_number}
 use Rattle.broker_texts.proofs.Fitting.{Brings, DoneFits, book_weaker, ended_fits, performed_fits}
@@ -56,7 +56,7 @@ module _ (ok : Envelope → Type 0) where
   spelled_reply text None h g = subst (Spelled ok) (sym (append-nil text)) h
   spelled_reply text (Some f) h g = spelled_more ok text f h g
 
-  pub error_good : (x : Refusal) (receipt : Option (List ℕ)) → IsEchoedIfAny receipt
+  pub error_good : (x : FrameRefusal) (receipt : Option (List ℕ)) → IsEchoedIfAny receipt
       → GoodFrame ok (error_frame (refusal_number x) (refusal_name x) receipt)
   error_good x receipt h = not_carrying_good _ refl (error_fits x receipt h)
 
@@ -114,7 +114,7 @@ module _ (ok : Envelope → Type 0) where
   closing_step up down p true h = closing_good up down p h
   closing_step up down p false h = h
 
-  refused_good : (up down : List ℕ) (p : Part) (x : Refusal) (receipt : Option (List ℕ)) → IsEchoedIfAny receipt → GoodPart up down p
+  refused_good : (up down : List ℕ) (p : Part) (x : FrameRefusal) (receipt : Option (List ℕ)) → IsEchoedIfAny receipt → GoodPart up down p
       → GoodPart up down (refused x receipt p)
   refused_good up down p x receipt e h =
       closing_good up down (record p { session = writing (error_frame (refusal_number x) (refusal_name x) receipt) p.session })
@@ -133,7 +133,8 @@ module _ (ok : Envelope → Type 0) where
     };
   }
 
-  finished_good : (up down : List ℕ) (q : Request) (p : Part) (o : Result Reach Refusal) → Fits q → DoneFits (Brought ok) (HasName ok) o
+  finished_good : (up down : List ℕ) (q : Request) (p : Part) (o : Result Reach FrameRefusal) → Fits q
+      → DoneFits (Brought ok) (HasName ok) o
       → GoodPart up down p → GoodPart up down (finished q p o)
   finished_good up down q p (Ok r) fits g h = closing_step up down (confirmed q p r) (is_last q) (confirmed_good up down q p r fits g h)
   finished_good up down q p (Err x) fits g h = refused_good up down p x (receipt_of q) (receipt_fits q fits) h

@@ -5,7 +5,7 @@ use Rattle.std.specs.Ordering.{nat_cmp, match_ordering}
 use Rattle.std.specs.Cmp.{nat_cmp_is}
 use Rattle.std.specs.Map.{remove_entry}
 use Rattle.std.specs.BTreeMap.{insert_entry}
-use Rattle.receipts.specs.Books.{Book, Rise, IsBook, opened}
+use Rattle.receipts.specs.Books.{ReceiptBook, Rise, IsBook, opened}
 
 module _ {T : Type 0} where
   -- none is above the last
@@ -46,7 +46,7 @@ module _ {T : Type 0} where
       → IsBook (record { last = n + 1; tags = new })
   is_book n tag es b e = record { numbered = rw (e ∙ at_end 0 n tag es b.numbered) (added 0 n tag es b.numbered) }
 
-  pub is_opened : (n : ℕ) (tag : T) (es : List (ℕ × T)) {new : List (ℕ × T)} {b : Book T} → b ≡ record { last = n; tags = es }
+  pub is_opened : (n : ℕ) (tag : T) (es : List (ℕ × T)) {new : List (ℕ × T)} {b : ReceiptBook T} → b ≡ record { last = n; tags = es }
       → IsBook (record { last = n; tags = es })
       → new ≡ insert_entry nat_cmp es (n + 1) tag → record { last = n + 1; tags = new } ≡ opened tag b
   is_opened n tag es s b e = rw s (ap (λ (l : List (ℕ × T)). record { last = n + 1; tags = l }) (e ∙ at_end 0 n tag es b.numbered))

@@ -3,11 +3,11 @@ use Rattle.std.proofs.Common.{◌≡◌, ℕ, List, [], ◌∷◌, refl, arith}
 use Rattle.std.specs.Prelude.{◌^◌, ◌-◌, Option, Some, None, Ok, Err}
 use Rattle.receipts.specs.declared.fault.ReceiptFault.TheVariants.{Memory, NumbersUsed}
 use Rattle.receipts.specs.Fault.{receipt_fault_number}
-use Rattle.receipts.specs.Books.{Book, IsBook, new_book, open_under, opened, closed, Opens}
+use Rattle.receipts.specs.Books.{ReceiptBook, IsBook, new_book, open_under, opened, closed, Opens}
 use Rattle.receipts.specs.Calls.{Call, Opened, Closed, Leads, opened_tags, given, AreOpened}
 
 -- these tags are open, and this was the last number
-abbrev book : ℕ → List (ℕ × ℕ) → Book ℕ
+abbrev book : ℕ → List (ℕ × ℕ) → ReceiptBook ℕ
 book last tags = record { last = last; tags = tags }
 
 -- 20 and 30 are opened, 2 is closed twice, and 40 is opened

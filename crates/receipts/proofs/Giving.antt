@@ -10,7 +10,7 @@ use Rattle.std.specs.BTreeMap.{is_at}
 use Rattle.std.proofs.lemmas.Bool.{cases_Bool, ltb-true}
 use Rattle.std.proofs.lemmas.Bool.Decides.{nat_tests}
 use Rattle.std.proofs.lemmas.List.{length-append}
-use Rattle.receipts.specs.Books.{Book, Rise, IsBook, open_under, opened, closed}
+use Rattle.receipts.specs.Books.{ReceiptBook, Rise, IsBook, open_under, opened, closed}
 use Rattle.receipts.specs.Calls.{Call, Opened, Closed, Leads, opened_tags, given, AreOpened}
 use Rattle.receipts.proofs.Adding.{at_most, added, removed}
 
@@ -83,14 +83,14 @@ module _ {T : Type 0} where
 
   -- ---- calls
 
-  still_book : (calls : List (Call T)) (old new : Book T) → IsBook old → Leads old calls new → IsBook new
+  still_book : (calls : List (Call T)) (old new : ReceiptBook T) → IsBook old → Leads old calls new → IsBook new
   still_book [] old new b leads = subst IsBook (sym leads) b
   still_book (Opened tag ∷ calls) old new b leads =
       still_book calls (opened tag old) new (record { numbered = added 0 old.last tag old.tags b.numbered }) leads
   still_book (Closed n answer ∷ calls) old new b leads =
       still_book calls (closed n old) new (record { numbered = removed (is n) 0 old.last old.tags b.numbered }) leads.1
 
-  parted : (xs ys : List (Call T)) (old new : Book T) → Leads old (xs ++ ys) new → (between : Book T) × Leads old xs between
+  parted : (xs ys : List (Call T)) (old new : ReceiptBook T) → Leads old (xs ++ ys) new → (between : ReceiptBook T) × Leads old xs between
       × Leads between ys new
   parted [] ys old new leads = (old, refl, leads)
   parted (Opened tag ∷ xs) ys old new leads = parted xs ys (opened tag old) new leads
@@ -98,7 +98,7 @@ module _ {T : Type 0} where
       let rest = parted xs ys (closed n old) new leads.1 in (rest.0, (leads.0, rest.1), rest.2)
 
   -- a number that was given and isn't open is open never again
-  stays_closed : (calls : List (Call T)) (n : ℕ) (old new : Book T) → n ≤ old.last → open_under n old ≡ None → Leads old calls new
+  stays_closed : (calls : List (Call T)) (n : ℕ) (old new : ReceiptBook T) → n ≤ old.last → open_under n old ≡ None → Leads old calls new
       → open_under n new ≡ None
   stays_closed [] n old new le e leads = rw leads e
   stays_closed (Opened tag ∷ calls) n old new le e leads =
@@ -107,7 +107,7 @@ module _ {T : Type 0} where
   stays_closed (Closed k answer ∷ calls) n old new le e leads =
       stays_closed calls n (closed k old) new le (stays_gone n (is k) old.tags e) leads.1
 
-  pub closed_once : (before between : List (Call T)) (n : ℕ) (tag other : T) (old new : Book T) → IsBook old
+  pub closed_once : (before between : List (Call T)) (n : ℕ) (tag other : T) (old new : ReceiptBook T) → IsBook old
       → Leads old (before ++ Closed n (Some tag) ∷ between ++ Closed n (Some other) ∷ []) new → ⊥
   closed_once before between n tag other old new b leads =
       let second = parted (before ++ Closed n (Some tag) ∷ between) (Closed n (Some other) ∷ []) old new leads in
@@ -159,7 +159,7 @@ module _ {T : Type 0} where
     | inr there ↦ opened_at tags n tag es are.2 (rw there at e)
   ]
 
-  pub given_opened : (calls : List (Call T)) (tags : List T) (old new : Book T) → AreOpened tags old.tags → length tags ≡ old.last
+  pub given_opened : (calls : List (Call T)) (tags : List T) (old new : ReceiptBook T) → AreOpened tags old.tags → length tags ≡ old.last
       → Leads old calls new
       → AreOpened (tags ++ opened_tags calls) (given calls)
   given_opened [] tags old new are len leads = tt

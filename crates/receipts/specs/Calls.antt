@@ -1,6 +1,6 @@
 -- What happens to receipts, call by call.
 use Rattle.std.specs.Prelude.{◌≡◌, ℕ, ◌-◌, ◌<◌, List, [], ◌∷◌, Option, Some, None, slice_get}
-use Rattle.receipts.specs.Books.{Book, open_under, opened, closed}
+use Rattle.receipts.specs.Books.{ReceiptBook, open_under, opened, closed}
 
 -- a tag was opened, or a number was closed and this was given
 pub data Call (T : Type 0) : Type 0 where
@@ -9,7 +9,7 @@ pub data Call (T : Type 0) : Type 0 where
 
 module _ {T : Type 0} where
   -- the calls lead from the one book to the other
-  abbrev pub Leads : Book T → List (Call T) → Book T → Type 0
+  abbrev pub Leads : ReceiptBook T → List (Call T) → ReceiptBook T → Type 0
   Leads old [] new = new ≡ old
   Leads old (Opened tag ∷ calls) new = Leads (opened tag old) calls new
   Leads old (Closed number answer ∷ calls) new = (answer ≡ open_under number old) × Leads (closed number old) calls new

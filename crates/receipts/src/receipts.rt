@@ -20,9 +20,9 @@ pub struct Receipts<T: Drop> {
 }
 
 impl<T: Drop> Model for Receipts<T> {
-    ghost use Rattle.receipts.specs.Books.{Book, IsBook};
+    ghost use Rattle.receipts.specs.Books.{ReceiptBook, IsBook};
 
-    ghost Value = { Book T };
+    ghost Value = { ReceiptBook T };
 
     ghost view = { λ r. record { last = r.last; tags = r.tags.entries } };
 

@@ -8,7 +8,7 @@ use Rattle.stomp_frame.specs.declared.command.Command.TheVariants as command
 use Rattle.stomp_client.specs.Accepting.{Accepts}
 use Rattle.stomp_client.specs.Clients.{Client, counting, connected}
 use Rattle.stomp_client.specs.Frames.{subscribe_frame}
-use Rattle.stomp_client.specs.declared.event.Event.TheVariants as event
+use Rattle.stomp_client.specs.declared.event.ClientEvent.TheVariants as event
 use Rattle.stomp_client.specs.declared.fault.ClientFault.TheVariants as client
 use Rattle.stomp_client.specs.declared.session.Stage.TheVariants as stage
 use Rattle.envelope.specs.Reading.{read_frame}
@@ -22,16 +22,16 @@ use Rattle.reception.specs.declared.taken.Taken.{Taken}
 use Rattle.reception.specs.declared.taken.Taken.TheVariants.{Connected, Receipt, Handled, Repeated, Held, Settled, Error}
 
 -- the frame is a MESSAGE that the client accepts
-abbrev pub IsMessage : Content → Client ℕ → Type 0
-IsMessage f c = Accepts f c c (Ok (event.Message f))
+abbrev pub BringsMessage : Content → Client ℕ → Type 0
+BringsMessage f c = Accepts f c c (Ok (event.Message f))
 
 -- it carries this letter
 abbrev pub CarriesLetter : Content → Client ℕ → Letter → Type 0
-CarriesLetter f c l = IsMessage f c × (read_frame f ≡ Some (envelope.Letter l))
+CarriesLetter f c l = BringsMessage f c × (read_frame f ≡ Some (envelope.Letter l))
 
 -- it carries a settle of this pair, up to this number
 abbrev pub CarriesSettle : Content → Client ℕ → Pair → ℕ → Type 0
-CarriesSettle f c pair number = IsMessage f c × (read_frame f ≡ Some (envelope.Settle pair number))
+CarriesSettle f c pair number = BringsMessage f c × (read_frame f ≡ Some (envelope.Settle pair number))
 
 -- What a client of a service of this kind does with a frame, and writes. After a letter that was handled, now or before, its pair is
 -- settled so far, in the next transaction.
@@ -52,7 +52,7 @@ Answers kind f old new (Err (fault.Client client.Memory)) = new ≡ old
 Answers kind f old new (Err (fault.Client client.NumbersUsed)) =
     (l : Letter) × CarriesLetter f old l × (old.transactions ≡ 2 ^ 64 - 1) × (new ≡ old)
 Answers kind f old new (Err (fault.Client cause)) = Accepts f old new (Err cause)
-Answers kind f old new (Err (fault.Envelope envelope_fault.BadEnvelope)) = IsMessage f old × (read_frame f ≡ None)
+Answers kind f old new (Err (fault.Envelope envelope_fault.BadEnvelope)) = BringsMessage f old × (read_frame f ≡ None)
     × Writes (answer command.Ack f) old new
-Answers kind f old new (Err (fault.Envelope envelope_fault.Memory)) = IsMessage f old × (new ≡ old)
-Answers kind f old new (Err (fault.End cause)) = IsMessage f old × Writes (refusal f cause) old new
+Answers kind f old new (Err (fault.Envelope envelope_fault.Memory)) = BringsMessage f old × (new ≡ old)
+Answers kind f old new (Err (fault.End cause)) = BringsMessage f old × Writes (refusal f cause) old new

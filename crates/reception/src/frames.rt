@@ -22,7 +22,7 @@ use base::Kind;
 use endpoint::Endpoint;
 use keep::Keep;
 use std::alloc::Global;
-use stomp_client::{ClientFault, ClientSession, Event, Stage};
+use stomp_client::{ClientEvent, ClientFault, ClientSession, Stage};
 use stomp_frame::{Command, Frame};
 
 /// SUBSCRIBE to the queue of a kind, with room for it.
@@ -60,7 +60,7 @@ fn take_connected(
         Err(fault) => return Err(Untaken::of(ReceptionFault::Client(fault), frame)),
     };
     match client.accept(frame) {
-        Ok(Event::Connected) => {
+        Ok(ClientEvent::Connected) => {
             write(client, &text);
             Ok(Taken::Connected)
         }
@@ -105,10 +105,10 @@ where
         return take_connected(alloc, client, H::kind(), frame);
     }
     match client.accept(frame) {
-        Ok(Event::Connected) => unreachable!(),
-        Ok(Event::Receipt(number, _)) => Ok(Taken::Receipt(number)),
-        Ok(Event::Error(text)) => Ok(Taken::Error(text)),
-        Ok(Event::Message(message)) => {
+        Ok(ClientEvent::Connected) => unreachable!(),
+        Ok(ClientEvent::Receipt(number, _)) => Ok(Taken::Receipt(number)),
+        Ok(ClientEvent::Error(text)) => Ok(Taken::Error(text)),
+        Ok(ClientEvent::Message(message)) => {
             match take_message::<H, K>(alloc, endpoint, client, &message) {
                 Ok(taken) => Ok(taken),
                 Err(fault) => Err(Untaken::of(fault, message)),

@@ -10,7 +10,7 @@ ghost use Rattle.stomp_client.specs.declared.fault.ClientFault.TheVariants.{Memo
 ghost use Rattle.envelope.specs.Reading.{read_frame};
 ghost use Rattle.envelope.specs.declared.message.Envelope.TheVariants as envelope;
 ghost use Rattle.endpoint.specs.Calls.{ComesBy, StillMatches};
-ghost use Rattle.reception.specs.Answers.{Answers, IsMessage};
+ghost use Rattle.reception.specs.Answers.{Answers, BringsMessage};
 ghost use Rattle.reception.specs.Deeds.{TakeMay, TellsOfUse};
 ghost use Rattle.reception.specs.Parts.Letters.{AreAcknowledgements, HasRoom, KnownMay, KnownUse};
 ghost use Rattle.reception.specs.Replies.{answer, IsTextOf, Writes};
@@ -51,7 +51,7 @@ fn take_known<H, K>(
 where
     H: Handler,
     K: Keep<State = H::State, Command = H::Command> + Drop,
-    requires message { IsMessage message.now client.old.client }
+    requires message { BringsMessage message.now client.old.client }
     requires carries { read_frame message.now ≡ Some (envelope.Letter letter.now) }
     requires numbers { client.old.client.transactions < 2 ^ 64 - 1 }
     requires answers { AreAcknowledgements message.now answers.now }
@@ -94,7 +94,7 @@ fn take_letter<H, K>(
 where
     H: Handler,
     K: Keep<State = H::State, Command = H::Command> + Drop,
-    requires message { IsMessage message.now client.old.client }
+    requires message { BringsMessage message.now client.old.client }
     requires carries { read_frame message.now ≡ Some (envelope.Letter letter.now) }
     ensures doubt { (K.seen endpoint.old).doubt ≤ (K.seen endpoint.new).doubt }
     ensures matches { StillMatches K.seen endpoint.old endpoint.new H.service }
@@ -129,7 +129,7 @@ fn take_settle<H, K>(
 where
     H: Handler,
     K: Keep<State = H::State, Command = H::Command> + Drop,
-    requires message { IsMessage message.now client.old.client }
+    requires message { BringsMessage message.now client.old.client }
     requires carries { read_frame message.now ≡ Some (envelope.Settle pair.now number) }
     ensures doubt { (K.seen endpoint.old).doubt ≤ (K.seen endpoint.new).doubt }
     ensures matches { StillMatches K.seen endpoint.old endpoint.new H.service }
@@ -177,7 +177,7 @@ pub(crate) fn take_message<H, K>(
 where
     H: Handler,
     K: Keep<State = H::State, Command = H::Command> + Drop,
-    requires { IsMessage message.now client.old.client }
+    requires { BringsMessage message.now client.old.client }
     ensures doubt { (K.seen endpoint.old).doubt ≤ (K.seen endpoint.new).doubt }
     ensures matches { StillMatches K.seen endpoint.old endpoint.new H.service }
     ensures comes { ComesBy K.seen endpoint.old endpoint.new H.service (TakeMay H.service message.now result) }

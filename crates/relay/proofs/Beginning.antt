@@ -15,7 +15,7 @@ use Rattle.keep.specs.Tables.{Tables, Messages}
 use Rattle.outbox.specs.Rows.{unsettled_of}
 use Rattle.endpoint.specs.Calls.{Stays}
 use Rattle.endpoint.specs.Deeds.{kept}
-use Rattle.relay.specs.Filling.{Connection, marks_of, unsent}
+use Rattle.relay.specs.Filling.{SendState, marks_of, unsent}
 use Rattle.relay.specs.Calls.{Fills, StopsBehind}
 use Rattle.relay.specs.Knowing.{IsUpto, AllSent, KnowsAll}
 use Rattle.relay.specs.Marks.{mark_in}
@@ -45,7 +45,7 @@ same_sent r s ms ms' behind marks same sent = λ x up some.
 
 -- ---- what was sent, of messages that are the same where nothing is in doubt
 
-module _ (clean clean' : Type 0) (less : clean' → clean) (ms ms' : Messages) (same : clean' → ms' ≡ ms) (old new : Connection) where
+module _ (clean clean' : Type 0) (less : clean' → clean) (ms ms' : Messages) (same : clean' → ms' ≡ ms) (old new : SendState) where
   first_there : (n : ℕ) (ls : List Letter) → (clean → AreFirst (unsent old.marks ms') None n ls) → clean'
       → AreFirst (unsent old.marks ms) None n ls
   first_there n ls are c = subst (λ (m : Messages). AreFirst (unsent old.marks m) None n ls) (same c) (are (less c))
@@ -76,12 +76,12 @@ module _ (clean clean' : Type 0) (less : clean' → clean) (ms ms' : Messages) (
     gives = (first_there (length f.letters) f.letters f.gives.0, stops_there f.letters new.client.receipts.last fault f.gives.1);
   }
 
-pub fills_to : {clean : Type 0} {ms : Messages} {limit : ℕ} {start old end new : Connection} {result : Result ℕ RelayFault} → start ≡ old
+pub fills_to : {clean : Type 0} {ms : Messages} {limit : ℕ} {start old end new : SendState} {result : Result ℕ RelayFault} → start ≡ old
     → new ≡ end
     → Fills clean ms limit start end result → Fills clean ms limit old new result
 fills_to {clean} {ms} {limit} {start} {old} {end} {new} {result} e g f =
-    subst (λ (x : Connection). Fills clean ms limit old x result) (sym g)
-    (subst (λ (x : Connection). Fills clean ms limit x end result) e f)
+    subst (λ (x : SendState). Fills clean ms limit old x result) (sym g)
+    (subst (λ (x : SendState). Fills clean ms limit x end result) e f)
 
 -- ---- the cursor behind a filling
 

@@ -20,7 +20,7 @@ use Rattle.endpoint.specs.Deeds.{Kept}
 use Rattle.endpoint.proofs.Examples.{bolts, acme, placing, from_order}
 use Rattle.endpoint.proofs.CallExamples.{orders}
 use Rattle.relay.specs.Calls.{idle_answer, store_end}
-use Rattle.relay.specs.Filling.{marks_of, unsent, due, Stops}
+use Rattle.relay.specs.Filling.{marks_of, unsent, due, StopsSending}
 use Rattle.relay.specs.Knowing.{IsUpto, AllSent, KnowsRows, Knows}
 use Rattle.relay.specs.declared.fault.RelayFault.TheVariants as fault
 use Rattle.relay.specs.declared.relay.Relay.{Relay}
@@ -45,9 +45,9 @@ letters_are_due_once = (refl, refl, refl, refl)
 -- before CONNECTED nothing is sent, and none after the end; only the last receipt number stops a relay that has memory
 relays_are_idle : (idle_answer stage.Fresh ≡ Some (Ok 0)) × (idle_answer stage.Connected ≡ None)
     × (idle_answer stage.Closed ≡ Some (Err (fault.Client client.Closed)))
-    × Stops (2 ^ 64 - 1) (fault.Client client.NumbersUsed) × (Stops 7 (fault.Client client.NumbersUsed) → ⊥)
-    × Stops 7 (fault.Envelope envelope_fault.Memory) × (Stops (2 ^ 64 - 1) (fault.Client client.Memory) → ⊥)
-    × (Stops 7 (fault.Endpoint StoreFailed) → ⊥)
+    × StopsSending (2 ^ 64 - 1) (fault.Client client.NumbersUsed) × (StopsSending 7 (fault.Client client.NumbersUsed) → ⊥)
+    × StopsSending 7 (fault.Envelope envelope_fault.Memory) × (StopsSending (2 ^ 64 - 1) (fault.Client client.Memory) → ⊥)
+    × (StopsSending 7 (fault.Endpoint StoreFailed) → ⊥)
     × (store_end {R = ℕ} (Err (fault.Endpoint StoreFailed)) ≡ Err failed)
     × (store_end {R = ℕ} (Err (fault.Client client.Closed)) ≡ Err no_memory)
 relays_are_idle = (refl, refl, refl, refl, λ h. omega (arith, h), omega arith, λ h. omega (arith, h), λ h. h, refl, refl)

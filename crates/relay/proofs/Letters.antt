@@ -11,7 +11,7 @@ use Rattle.envelope.specs.declared.message.Letter.{Letter}
 use Rattle.keep.specs.Tables.{set_mark}
 use Rattle.stomp_client.specs.declared.session.Stage.TheVariants.{Connected}
 use Rattle.relay.specs.declared.fault.RelayFault.{RelayFault}
-use Rattle.relay.specs.Filling.{Connection, due, Sends, Stops}
+use Rattle.relay.specs.Filling.{SendState, due, SendsLetters, StopsSending}
 use Rattle.relay.specs.Calls.{FillsLetters}
 use Rattle.relay.specs.Parts.Pages.{IsFilling}
 use Rattle.relay.proofs.Sending.{sends_none, sends_append}
@@ -28,7 +28,7 @@ none_due : (k : ℕ) (m : Pair → ℕ) → due k m [] ≡ []
 none_due zero m = refl
 none_due (suc k) m = refl
 
-module _ (limit : ℕ) (letters : List Letter) (old : Connection) where
+module _ (limit : ℕ) (letters : List Letter) (old : SendState) where
   pub start : old.client.stage ≡ Connected → IsFilling limit letters old old 0 letters
   start stage = record {
     done = [];
@@ -39,13 +39,13 @@ module _ (limit : ℕ) (letters : List Letter) (old : Connection) where
     stage = stage;
   }
 
-  module _ (now : Connection) (count : ℕ) where
+  module _ (now : SendState) (count : ℕ) where
     finished : (rest : List Letter) (f : IsFilling limit letters old now count rest) (k : ℕ) → count + k ≡ limit → due k now.marks rest ≡ []
         → FillsLetters limit letters old now (Ok count)
     finished rest f k at none =
         let all : due limit old.marks letters ≡ f.done = ap (λ n. due n old.marks letters) (sym at) ∙ f.whole k
         ∙ ap (λ (x : List Letter). f.done ++ x) none ∙ append-nil f.done in
-        (f.number ∙ ap length (sym all), subst (λ (x : List Letter). Sends x old now) (sym all) f.sends)
+        (f.number ∙ ap length (sym all), subst (λ (x : List Letter). SendsLetters x old now) (sym all) f.sends)
 
     pub at_limit : (rest : List Letter) → IsFilling limit letters old now count rest → count ≡ limit
         → FillsLetters limit letters old now (Ok count)
@@ -74,10 +74,10 @@ module _ (limit : ℕ) (letters : List Letter) (old : Connection) where
       next_due e k = f.whole (suc k) ∙ ap (λ (x : List Letter). f.done ++ due (suc k) now.marks x) cut
           ∙ ap (λ (x : List Letter). f.done ++ x) (due_yes k now.marks l ls e)
 
-      pub send : count < limit → nat_lt (now.marks l.pair) l.number ≡ true → (next : Connection) → Sends (l ∷ []) now next
+      pub send : count < limit → nat_lt (now.marks l.pair) l.number ≡ true → (next : SendState) → SendsLetters (l ∷ []) now next
           → IsFilling limit letters old next (count + 1) ls
       send small e next sends =
-          let marks : next.marks ≡ set_mark l.pair l.number now.marks = ap (λ (x : Connection). x.marks) sends.all in
+          let marks : next.marks ≡ set_mark l.pair l.number now.marks = ap (λ (x : SendState). x.marks) sends.all in
           record {
             done = f.done ++ l ∷ [];
             whole = λ k. ap (λ n. due n old.marks letters) (omega arith) ∙ next_due e k
@@ -86,11 +86,11 @@ module _ (limit : ℕ) (letters : List Letter) (old : Connection) where
             number = omega (arith, f.number, length-append f.done (l ∷ []));
             within = omega (arith, small);
             sends = sends_append f.done (l ∷ []) old now next f.sends sends;
-            stage = ap (λ (x : Connection). x.client.stage) sends.all ∙ f.stage;
+            stage = ap (λ (x : SendState). x.client.stage) sends.all ∙ f.stage;
           }
 
-      pub stopped : (fault : RelayFault) → count < limit → nat_lt (now.marks l.pair) l.number ≡ true → (next : Connection) → next ≡ now
-          → Stops now.client.receipts.last fault → FillsLetters limit letters old next (Err fault)
+      pub stopped : (fault : RelayFault) → count < limit → nat_lt (now.marks l.pair) l.number ≡ true → (next : SendState) → next ≡ now
+          → StopsSending now.client.receipts.last fault → FillsLetters limit letters old next (Err fault)
       stopped fault small e next same stops =
           let done : due count old.marks letters ≡ f.done =
           ap (λ n. due n old.marks letters) (omega arith) ∙ f.whole 0 ∙ append-nil f.done in
@@ -100,9 +100,9 @@ module _ (limit : ℕ) (letters : List Letter) (old : Connection) where
             count,
             small,
             omega (arith, number, ap length more, length-append f.done (l ∷ [])),
-            subst (λ (x : Connection). Sends (due count old.marks letters) old x) (sym same)
-                (subst (λ (x : List Letter). Sends x old now) (sym done) f.sends),
-            subst (λ (x : Connection). Stops x.client.receipts.last fault) (sym same) stops,
+            subst (λ (x : SendState). SendsLetters (due count old.marks letters) old x) (sym same)
+                (subst (λ (x : List Letter). SendsLetters x old now) (sym done) f.sends),
+            subst (λ (x : SendState). StopsSending x.client.receipts.last fault) (sym same) stops,
           )
 
 pub is_so : (a b x y : ℕ) → a ≡ x → b ≡ y → a < b → nat_lt x y ≡ true

@@ -20,7 +20,7 @@ use Rattle.endpoint.specs.Calls.{Stays}
 use Rattle.endpoint.specs.declared.fault.EndFault.{EndFault}
 use Rattle.relay.specs.declared.fault.RelayFault.{RelayFault}
 use Rattle.relay.specs.declared.fault.RelayFault.TheVariants.{Client, Envelope, Endpoint}
-use Rattle.relay.specs.Filling.{Connection, marks_of, connection, due, unsent, Sends, Stops}
+use Rattle.relay.specs.Filling.{SendState, marks_of, send_state, due, unsent, SendsLetters, StopsSending}
 use Rattle.relay.specs.Calls.{FillsLetters, Fills, StopsBehind, store_end}
 use Rattle.endpoint.specs.Faults.{end_cause, end_of}
 use Rattle.relay.specs.Knowing.{AllSent}
@@ -34,19 +34,19 @@ use Rattle.relay.proofs.Knowing.{from_cursor, skip_first, skip_sent, all_were_se
 use Rattle.relay.specs.declared.relay.Relay.{Relay}
 use Rattle.relay.specs.Marks.{mark_in}
 use Rattle.std.specs.BTreeMap.{BTreeMap}
-use Rattle.stomp_client.specs.Clients.{Client as Client-state, Seen as Seen-client}
+use Rattle.stomp_client.specs.Clients.{Client as Client-state, ClientWithRoom}
 
 -- ---- one page
 
 -- what stops behind some letters, wherever these begin
 stops_behind : (clean : Type 0) (messages : Messages) (after : Option Place) (letters : List Letter) (last : ℕ) (fault : RelayFault)
-    → Stops last fault → (clean → (l : Letter) × AreFirst messages after (length letters + 1) (letters ++ l ∷ []))
+    → StopsSending last fault → (clean → (l : Letter) × AreFirst messages after (length letters + 1) (letters ++ l ∷ []))
     → StopsBehind clean messages after letters last fault
 stops_behind clean messages after letters last (Client cause) stops next = (stops, next)
 stops_behind clean messages after letters last (Envelope cause) stops next = (stops, next)
 stops_behind clean messages after letters last (Endpoint cause) stops next = tt
 
-module _ (clean : Type 0) (messages : Messages) (after next : Option Place) (page limit : ℕ) (rows : List Letter) (old new : Connection)
+module _ (clean : Type 0) (messages : Messages) (after next : Option Place) (page limit : ℕ) (rows : List Letter) (old new : SendState)
     (are : clean → AreFirst messages after page rows) where
   abbrev now_due : List Letter
   now_due = due limit old.marks rows
@@ -54,8 +54,8 @@ module _ (clean : Type 0) (messages : Messages) (after next : Option Place) (pag
   first : clean → AreFirst (unsent old.marks messages) after (length now_due) now_due
   first c = first_due messages page after rows (are c) limit old.marks
 
-  marks_are : Sends now_due old new → new.marks ≡ marked old.marks now_due
-  marks_are s = ap (λ (x : Connection). x.marks) s.all ∙ marks_after old now_due
+  marks_are : SendsLetters now_due old new → new.marks ≡ marked old.marks now_due
+  marks_are s = ap (λ (x : SendState). x.marks) s.all ∙ marks_after old now_due
 
   -- the limit was reached
   pub page_full : (count : ℕ) → FillsLetters limit rows old new (Ok count) → count ≡ limit
@@ -131,12 +131,12 @@ module _ (clean : Type 0) (messages : Messages) (after next : Option Place) (pag
       }
 
 -- the outbox couldn't be read
-pub page_unread : (clean : Type 0) (messages : Messages) (after next : Option Place) (limit : ℕ) (old : Connection) (fault : EndFault)
+pub page_unread : (clean : Type 0) (messages : Messages) (after next : Option Place) (limit : ℕ) (old : SendState) (fault : EndFault)
     → FillsPage clean messages after next limit old old (Err (Endpoint fault))
 page_unread clean messages after next limit old fault =
     record { letters = []; sends = sends_none old; within = omega arith; ends = (λ c. tt, tt) }
 
-pub page_unread_of : (clean : Type 0) (messages : Messages) (after next : Option Place) (limit : ℕ) (old : Connection) (cause : EndFault)
+pub page_unread_of : (clean : Type 0) (messages : Messages) (after next : Option Place) (limit : ℕ) (old : SendState) (cause : EndFault)
     (result : Result (ℕ × Bool) RelayFault) (fault : RelayFault) → result ≡ Err fault → fault ≡ Endpoint cause
     → FillsPage clean messages after next limit old old result
 page_unread_of clean messages after next limit old cause result fault e f =
@@ -189,7 +189,7 @@ move_behind : (messages : Messages) (m : Pair → ℕ) (here next : Option Place
 move_behind messages m here next (inl same) k more are = subst (λ (x : Option Place). AreFirst (unsent m messages) x k more) same are
 move_behind messages m here next (inr jumps) k more are = jump_behind messages m here next jumps k more are
 
-module _ (clean : Type 0) (messages : Messages) (after next : Option Place) (page limit : ℕ) (rows : List Letter) (old new : Connection)
+module _ (clean : Type 0) (messages : Messages) (after next : Option Place) (page limit : ℕ) (rows : List Letter) (old new : SendState)
     (are : clean → AreFirst messages after page rows) (count : ℕ) (f : FillsLetters limit rows old new (Ok count))
     (other : count ≢ limit) where
   small : count < limit
@@ -217,53 +217,53 @@ module _ (clean : Type 0) (messages : Messages) (after next : Option Place) (pag
       (all_were_sent limit old.marks rows (omega (arith, number, small)))
 
 -- whatever was sent, marks only rise
-pub filling_rises : (limit : ℕ) (rows : List Letter) (old new : Connection) (result : Result ℕ RelayFault)
+pub filling_rises : (limit : ℕ) (rows : List Letter) (old new : SendState) (result : Result ℕ RelayFault)
     → FillsLetters limit rows old new result
     → (p : Pair) → old.marks p ≤ new.marks p
 filling_rises limit rows old new (Ok count) f p = subst (λ (m : Pair → ℕ). old.marks p ≤ m p)
-    (sym (ap (λ (x : Connection). x.marks) f.1.all ∙ marks_after old (due limit old.marks rows)))
+    (sym (ap (λ (x : SendState). x.marks) f.1.all ∙ marks_after old (due limit old.marks rows)))
     (marks_rise limit old.marks rows p)
 filling_rises limit rows old new (Err fault) f p = subst (λ (m : Pair → ℕ). old.marks p ≤ m p)
-    (sym (ap (λ (x : Connection). x.marks) f.3.all ∙ marks_after old (due f.0 old.marks rows)))
+    (sym (ap (λ (x : SendState). x.marks) f.3.all ∙ marks_after old (due f.0 old.marks rows)))
     (marks_rise f.0 old.marks rows p)
 
-abbrev seen_as : (Pair → ℕ) → Client-state ℕ → Connection
+abbrev seen_as : (Pair → ℕ) → Client-state ℕ → SendState
 seen_as marks client = record { marks = marks; client = client }
 
 -- the same relay for all that is seen of it
-pub same_connection : (r s : Relay) (c : Seen-client ℕ) → s.marks ≡ r.marks → connection s c ≡ connection r c
+pub same_connection : (r s : Relay) (c : ClientWithRoom ℕ) → s.marks ≡ r.marks → send_state s c ≡ send_state r c
 same_connection r s c e = ap (λ (m : BTreeMap Pair ℕ). seen_as (λ p. mark_in m p) c.client) e
 
-pub page_moved : {clean : Type 0} {messages : Messages} {after next : Option Place} {limit : ℕ} {old mid new : Connection}
+pub page_moved : {clean : Type 0} {messages : Messages} {after next : Option Place} {limit : ℕ} {old mid new : SendState}
     {result : Result (ℕ × Bool) RelayFault} → new ≡ mid → FillsPage clean messages after next limit old mid result
     → FillsPage clean messages after next limit old new result
 page_moved {clean} {messages} {after} {next} {limit} {old} {mid} {new} {result} e f =
-    subst (λ (x : Connection). FillsPage clean messages after next limit old x result) (sym e) f
+    subst (λ (x : SendState). FillsPage clean messages after next limit old x result) (sym e) f
 
-module _ (messages : Messages) (page limit : ℕ) (rows : List Letter) (r s t : Relay) (c d : Seen-client ℕ) (same : s.behind ≡ r.behind)
+module _ (messages : Messages) (page limit : ℕ) (rows : List Letter) (r s t : Relay) (c d : ClientWithRoom ℕ) (same : s.behind ≡ r.behind)
     (are : AreFirst messages r.behind page rows) (sent : AllSent (marks_of r) messages r.behind) where
   still_first : AreFirst messages s.behind page rows
   still_first = subst (λ (x : Option Place). AreFirst messages x page rows) (sym same) are
 
-  still_sent : (result : Result ℕ RelayFault) → FillsLetters limit rows (connection r c) (connection s d) result
+  still_sent : (result : Result ℕ RelayFault) → FillsLetters limit rows (send_state r c) (send_state s d) result
       → AllSent (marks_of s) messages s.behind
   still_sent result f = subst (λ (x : Option Place). AllSent (marks_of s) messages x) (sym same)
-      (risen messages r.behind (marks_of r) (marks_of s) (filling_rises limit rows (connection r c) (connection s d) result f) sent)
+      (risen messages r.behind (marks_of r) (marks_of s) (filling_rises limit rows (send_state r c) (send_state s d) result f) sent)
 
   -- the cursor goes behind what was sent of a page
-  pub goes_part : (result : Result ℕ RelayFault) → FillsLetters limit rows (connection r c) (connection s d) result
+  pub goes_part : (result : Result ℕ RelayFault) → FillsLetters limit rows (send_state r c) (send_state s d) result
       → ((ms : Messages) (n : ℕ) → AreFirst ms s.behind n rows → AllSent (marks_of s) ms s.behind → AllSent (marks_of t) ms t.behind)
       → AllSent (marks_of t) messages t.behind
   goes_part result f goes = goes messages page still_first (still_sent result f)
 
   -- or behind the whole page
-  pub goes_whole : (count : ℕ) → FillsLetters limit rows (connection r c) (connection s d) (Ok count) → count ≢ limit
+  pub goes_whole : (count : ℕ) → FillsLetters limit rows (send_state r c) (send_state s d) (Ok count) → count ≢ limit
       → Moves (marks_of s) (place_behind s.behind rows) t.behind → t.marks ≡ s.marks
       → AllSent (marks_of t) messages t.behind
   goes_whole count f other moves marks = subst (λ (m : BTreeMap Pair ℕ). AllSent (λ p. mark_in m p) messages t.behind) (sym marks)
       (moved_sent messages (marks_of s) (place_behind s.behind rows) t.behind moves
       (page_sent messages (marks_of s) s.behind page rows still_first
-      (page_was_sent (AreFirst messages r.behind page rows) messages r.behind r.behind page limit rows (connection r c) (connection s d)
+      (page_was_sent (AreFirst messages r.behind page rows) messages r.behind r.behind page limit rows (send_state r c) (send_state s d)
       (λ x. x) count f other)
       (still_sent (Ok count) f)))
 
@@ -301,7 +301,7 @@ all_of a b k t e = omega (arith, e)
 rest_of : (a count limit : ℕ) → count ≡ a → count ≤ limit → a + (limit - count) ≡ limit
 rest_of a count limit e h = omega (arith, e, h)
 
-module _ (messages : Messages) (limit : ℕ) (old : Connection) where
+module _ (messages : Messages) (limit : ℕ) (old : SendState) where
   pub none_filled : (clean : Type 0) (after : Option Place) → (clean → AllSent old.marks messages after) → old.client.stage ≡ Connected
       → HasFilled clean messages limit old old 0 after
   none_filled clean after sent stage = record {
@@ -315,7 +315,7 @@ module _ (messages : Messages) (limit : ℕ) (old : Connection) where
         (from_cursor messages old.marks after k more (sent c) behind);
   }
 
-  module _ (clean clean' clean'' : Type 0) (messages' : Messages) (mid new : Connection) (count : ℕ) (after next : Option Place)
+  module _ (clean clean' clean'' : Type 0) (messages' : Messages) (mid new : SendState) (count : ℕ) (after next : Option Place)
       (f : HasFilled clean messages limit old mid count after) (earlier : clean' → clean) (there : clean' → clean'')
       (same : clean' → messages' ≡ messages) where
     -- what is due behind the pages so far, as the next page found it
@@ -348,7 +348,7 @@ module _ (messages : Messages) (limit : ℕ) (old : Connection) where
           sends = sends_append f.letters p.letters old mid new f.sends p.sends;
           number = omega (arith, number, number', long);
           within = omega (arith, within, within', number');
-          stage = ap (λ (x : Connection). x.client.stage) p.sends.all ∙ stage_after mid p.letters ∙ f.stage;
+          stage = ap (λ (x : SendState). x.client.stage) p.sends.all ∙ stage_after mid p.letters ∙ f.stage;
           goes_on = λ c k more are.
               subst (λ (x : List Letter). AreFirst (unsent old.marks messages) None (length (f.letters ++ p.letters) + k) x)
               (sym (append_assoc f.letters p.letters more))
@@ -430,11 +430,11 @@ module _ (messages : Messages) (limit : ℕ) (old : Connection) where
         }
 
 -- the cursor skips what was sent, and what is due behind it comes next
-pub passed_filled : (clean : Type 0) (messages : Messages) (limit : ℕ) (old : Connection) (r t : Relay) (c : Seen-client ℕ) (count : ℕ)
-    → HasFilled clean messages limit old (connection r c) count r.behind → t.marks ≡ r.marks
-    → (clean → Skips (marks_of r) messages r.behind t.behind) → HasFilled clean messages limit old (connection t c) count t.behind
+pub passed_filled : (clean : Type 0) (messages : Messages) (limit : ℕ) (old : SendState) (r t : Relay) (c : ClientWithRoom ℕ) (count : ℕ)
+    → HasFilled clean messages limit old (send_state r c) count r.behind → t.marks ≡ r.marks
+    → (clean → Skips (marks_of r) messages r.behind t.behind) → HasFilled clean messages limit old (send_state t c) count t.behind
 passed_filled clean messages limit old r t c count f marks skips =
-    subst (λ (x : Connection). HasFilled clean messages limit old x count t.behind) (sym (same_connection r t c marks)) (record {
+    subst (λ (x : SendState). HasFilled clean messages limit old x count t.behind) (sym (same_connection r t c marks)) (record {
       letters = f.letters;
       sends = f.sends;
       number = f.number;
@@ -478,7 +478,7 @@ stops_where clean clean' less messages after letters last (Endpoint cause) s = t
 stops_where clean clean' less messages after letters last (Client cause) s = (s.0, λ c. s.1 (less c))
 stops_where clean clean' less messages after letters last (Envelope cause) s = (s.0, λ c. s.1 (less c))
 
-pub fills_where : (clean clean' : Type 0) → (clean' → clean) → (messages : Messages) (limit : ℕ) (old new : Connection)
+pub fills_where : (clean clean' : Type 0) → (clean' → clean) → (messages : Messages) (limit : ℕ) (old new : SendState)
     (result : Result ℕ RelayFault)
     → Fills clean messages limit old new result → Fills clean' messages limit old new result
 fills_where clean clean' less messages limit old new (Ok count) f = record {
@@ -497,14 +497,14 @@ fills_where clean clean' less messages limit old new (Err fault) f = record {
   );
 }
 
-pub fills_from : {clean : Type 0} {messages : Messages} {limit : ℕ} {start old new : Connection} {result : Result ℕ RelayFault}
+pub fills_from : {clean : Type 0} {messages : Messages} {limit : ℕ} {start old new : SendState} {result : Result ℕ RelayFault}
     → start ≡ old
     → Fills clean messages limit start new result → Fills clean messages limit old new result
 fills_from {clean} {messages} {limit} {start} {old} {new} {result} e f =
-    subst (λ (x : Connection). Fills clean messages limit x new result) e f
+    subst (λ (x : SendState). Fills clean messages limit x new result) e f
 
 -- the endpoint wasn't usable, and nothing was sent
-pub none_sent : (clean : Type 0) (messages : Messages) (limit : ℕ) (old : Connection) (fault : EndFault)
+pub none_sent : (clean : Type 0) (messages : Messages) (limit : ℕ) (old : SendState) (fault : EndFault)
     → Fills clean messages limit old old (Err (Endpoint fault))
 none_sent clean messages limit old fault =
     record { letters = []; sends = sends_none old; within = omega arith; gives = (λ c. tt, tt) }
@@ -539,7 +539,7 @@ module _ {E S C : Type 0} (seen : E → Seen (Tables S C)) (old new : E) where
   same_end R Q (Endpoint cause) h = same_cause R Q (end_cause cause) h
 
   -- a read, and then a letter that couldn't be sent
-  pub read_and_stopped : (R Q : Type 0) (gives : Tables S C → R → Type 0) (r : R) (last : ℕ) (fault : RelayFault) → Stops last fault
+  pub read_and_stopped : (R Q : Type 0) (gives : Tables S C → R → Type 0) (r : R) (last : ℕ) (fault : RelayFault) → StopsSending last fault
       → Reads seen old new {F = EndFault} gives (Ok r) → Reads seen old new {R = Q} Any (store_end (Err fault))
   read_and_stopped R Q gives r last (Client cause) stops h = record { call = h.call; doubt = h.doubt; clean = λ c. (h.clean c).1 }
   read_and_stopped R Q gives r last (Envelope cause) stops h = record { call = h.call; doubt = h.doubt; clean = λ c. (h.clean c).1 }

@@ -10,7 +10,7 @@ use Rattle.keep.specs.Seen.{End, no_memory}
 use Rattle.keep.specs.Tables.{Messages}
 use Rattle.endpoint.specs.Faults.{end_cause}
 use Rattle.endpoint.specs.declared.fault.EndFault.{EndFault}
-use Rattle.relay.specs.Filling.{Connection, due, unsent, Sends, Stops}
+use Rattle.relay.specs.Filling.{SendState, due, unsent, SendsLetters, StopsSending}
 use Rattle.relay.specs.declared.fault.RelayFault.{RelayFault}
 use Rattle.relay.specs.declared.fault.RelayFault.TheVariants.{Client, Endpoint}
 
@@ -22,16 +22,16 @@ idle_answer stage.Connected = None
 idle_answer stage.Closed = Some (Err (Client Closed))
 
 -- Of these letters those due are sent, up to the limit. Or a first part of them is, up to one that is due and can't be sent.
-abbrev pub FillsLetters : (limit : ℕ) → List Letter → (old new : Connection) → Result ℕ RelayFault → Type 0
+abbrev pub FillsLetters : (limit : ℕ) → List Letter → (old new : SendState) → Result ℕ RelayFault → Type 0
 FillsLetters limit letters old new (Ok count) = (count ≡ length (due limit old.marks letters))
-    × Sends (due limit old.marks letters) old new
+    × SendsLetters (due limit old.marks letters) old new
 FillsLetters limit letters old new (Err fault) = (count : ℕ) × (count < limit) × (length (due (count + 1) old.marks letters) ≡ count + 1)
-    × Sends (due count old.marks letters) old new × Stops new.client.receipts.last fault
+    × SendsLetters (due count old.marks letters) old new × StopsSending new.client.receipts.last fault
 
 -- why it stopped behind these letters: the store told, or the next one that is due couldn't be sent
 abbrev pub StopsBehind : (clean : Type 0) → (messages : Messages) → (after : Option Place) → List Letter → (last : ℕ) → RelayFault → Type 0
 StopsBehind clean messages after letters last (Endpoint fault) = ⊤
-StopsBehind clean messages after letters last fault = Stops last fault
+StopsBehind clean messages after letters last fault = StopsSending last fault
     × (clean → (l : Letter) × AreFirst messages after (length letters + 1) (letters ++ l ∷ []))
 
 -- of these messages the first ones after a place were sent, up to the limit; or a first part of these, and why no more
@@ -43,9 +43,9 @@ Gives clean messages after limit letters last (Err fault) = (clean → AreFirst 
 
 -- Of all messages that stand in the outbox those that are due are sent, the first ones by pair and number, up to the limit. `clean` is
 -- that no file is in doubt.
-pub record Fills (clean : Type 0) (messages : Messages) (limit : ℕ) (old new : Connection) (result : Result ℕ RelayFault) : Type 0 where
+pub record Fills (clean : Type 0) (messages : Messages) (limit : ℕ) (old new : SendState) (result : Result ℕ RelayFault) : Type 0 where
   pub letters : List Letter
-  pub sends : Sends letters old new
+  pub sends : SendsLetters letters old new
   pub within : length letters ≤ limit
   pub gives : Gives clean (unsent old.marks messages) None limit letters new.client.receipts.last result
 

@@ -3,7 +3,7 @@ use Rattle.std.specs.Prelude.{◌≡◌, ℕ, zero, suc, ◌+◌, ◌-◌, ◌<�
 use Rattle.std.specs.List.{AllByRecursion}
 use Rattle.base.specs.declared.pair.Pair.{Pair}
 use Rattle.stomp_frame.specs.Frames.{Content}
-use Rattle.stomp_client.specs.Clients.{Client, Seen, receipted}
+use Rattle.stomp_client.specs.Clients.{Client, ClientWithRoom, receipted}
 use Rattle.stomp_client.specs.Frames.{with_receipt}
 use Rattle.stomp_client.specs.Written.{Adds}
 use Rattle.stomp_client.specs.declared.fault.ClientFault.TheVariants as client
@@ -17,8 +17,8 @@ use Rattle.relay.specs.declared.relay.Relay.{Relay}
 use Rattle.relay.specs.declared.fault.RelayFault.{RelayFault}
 use Rattle.relay.specs.declared.fault.RelayFault.TheVariants as fault
 
--- a connection: the last number that was sent on it of each pair, and its client
-pub record Connection : Type 0 where
+-- what a connection has for sending: the last number that was sent on it of each pair, and its client
+pub record SendState : Type 0 where
   pub marks : Pair → ℕ
   pub client : Client ℕ
 
@@ -27,8 +27,8 @@ abbrev pub marks_of : Relay → Pair → ℕ
 marks_of r p = mark_in r.marks p
 
 -- what a relay and a client make
-abbrev pub connection : Relay → Seen ℕ → Connection
-connection r c = record { marks = marks_of r; client = c.client }
+abbrev pub send_state : Relay → ClientWithRoom ℕ → SendState
+send_state r c = record { marks = marks_of r; client = c.client }
 
 -- ---- what is due
 
@@ -47,31 +47,31 @@ due (suc limit) marks (l ∷ ls) = if nat_lt (marks l.pair) l.number
 -- ---- what sending does
 
 -- a letter was sent, with the next receipt number; its number is the receipt's tag, and the last that was sent of its pair
-abbrev pub with_sent : Connection → Letter → Connection
+abbrev pub with_sent : SendState → Letter → SendState
 with_sent c l = record {
   marks = set_mark l.pair l.number c.marks;
   client = receipted (send_of (envelope.Letter l)) l.number c.client;
 }
 
 -- these letters were sent, the first of them first
-abbrev pub with_all_sent : Connection → List Letter → Connection
+abbrev pub with_all_sent : SendState → List Letter → SendState
 with_all_sent c [] = c
 with_all_sent c (l ∷ ls) = with_all_sent (with_sent c l) ls
 
 -- the frames that are written then
-abbrev pub sends_of : Connection → List Letter → List Content
+abbrev pub sends_of : SendState → List Letter → List Content
 sends_of c [] = []
 sends_of c (l ∷ ls) = with_receipt (c.client.receipts.last + 1) (send_of (envelope.Letter l)) ∷ sends_of (with_sent c l) ls
 
 -- exactly these letters were sent, each of which can be written, and so these frames were written
-pub record Sends (letters : List Letter) (old new : Connection) : Type 0 where
+pub record SendsLetters (letters : List Letter) (old new : SendState) : Type 0 where
   pub each : AllByRecursion (λ l. IsEnvelope (envelope.Letter l)) letters
   pub all : new ≡ with_all_sent old letters
   pub wrote : Adds (sends_of old letters) old.client.out new.client.out
 
 -- what stops a relay at a letter that is due: no receipt number is left behind the last, or else memory was refused
-abbrev pub Stops : (last : ℕ) → RelayFault → Type 0
-Stops last (fault.Client client.NumbersUsed) = last ≡ 2 ^ 64 - 1
-Stops last (fault.Client client.Memory) = last < 2 ^ 64 - 1
-Stops last (fault.Envelope envelope_fault.Memory) = last < 2 ^ 64 - 1
-Stops last _ = ⊥
+abbrev pub StopsSending : (last : ℕ) → RelayFault → Type 0
+StopsSending last (fault.Client client.NumbersUsed) = last ≡ 2 ^ 64 - 1
+StopsSending last (fault.Client client.Memory) = last < 2 ^ 64 - 1
+StopsSending last (fault.Envelope envelope_fault.Memory) = last < 2 ^ 64 - 1
+StopsSending last _ = ⊥

@@ -12,7 +12,7 @@ ghost use Rattle.endpoint.specs.Calls.{Stays};
 ghost use Rattle.endpoint.specs.Faults.{end_cause};
 ghost use Rattle.base.specs.declared.pair.Pair.{Pair};
 ghost use Rattle.stomp_client.specs.declared.session.Stage.TheVariants.{Connected};
-ghost use Rattle.relay.specs.Filling.{marks_of, connection};
+ghost use Rattle.relay.specs.Filling.{marks_of, send_state};
 ghost use Rattle.relay.specs.Knowing.{AllSent, KnowsAll};
 ghost use Rattle.relay.specs.Calls.{Fills, store_end};
 ghost use Rattle.relay.specs.Parts.Pages.{FillsPage, Moves, HasRead};
@@ -51,8 +51,8 @@ impl Relay {
         ensures read { Reads K.seen endpoint.old endpoint.new (λ _ _. ⊤) (store_end result) }
         ensures stays { Stays K.seen endpoint.old endpoint.new }
         ensures fills { Fills (((K.seen endpoint.new).doubt ≡ 0) × KnowsAll H.service self.old (K.seen endpoint.old).may_leave)
-            (K.seen endpoint.old).tables.unsettled limit (connection self.old client.old) (connection self.new client.new) result }
-        ensures unused { (K.seen endpoint.old).usable ≡ false → connection self.new client.new ≡ connection self.old client.old }
+            (K.seen endpoint.old).tables.unsettled limit (send_state self.old client.old) (send_state self.new client.new) result }
+        ensures unused { (K.seen endpoint.old).usable ≡ false → send_state self.new client.new ≡ send_state self.old client.old }
         ensures knows { (K.seen endpoint.new).doubt ≡ 0 → KnowsAll H.service self.old (K.seen endpoint.old).may_leave
             → KnowsAll H.service self.new (K.seen endpoint.new).may_leave }
     {
@@ -171,7 +171,7 @@ impl Relay {
         ensures fills { Fills (((K.seen endpoint.new).doubt ≡ 0)
             × AllSent (marks_of self.old) (K.seen endpoint.old).tables.unsettled self.old.behind
             × SentBut news.now (marks_of self.old) (K.seen endpoint.old).tables.unsettled reach.now)
-            (K.seen endpoint.old).tables.unsettled limit (connection self.old client.old) (connection self.new client.new) result }
+            (K.seen endpoint.old).tables.unsettled limit (send_state self.old client.old) (send_state self.new client.new) result }
         ensures sent { (K.seen endpoint.new).doubt ≡ 0 → AllSent (marks_of self.old) (K.seen endpoint.old).tables.unsettled self.old.behind
             → SentBut news.now (marks_of self.old) (K.seen endpoint.old).tables.unsettled reach.now
             → AllSent (marks_of self.new) (K.seen endpoint.old).tables.unsettled self.new.behind }
@@ -214,7 +214,7 @@ impl Relay {
         ensures read { Reads K.seen endpoint.old endpoint.new (λ _ _. ⊤) (store_end result) }
         ensures stays { Stays K.seen endpoint.old endpoint.new }
         ensures fills { FillsPage ((K.seen endpoint.new).doubt ≡ 0) (K.seen endpoint.old).tables.unsettled self.old.behind self.new.behind
-            limit (connection self.old client.old) (connection self.new client.new) result }
+            limit (send_state self.old client.old) (send_state self.new client.new) result }
         ensures sent { (K.seen endpoint.new).doubt ≡ 0 → AllSent (marks_of self.old) (K.seen endpoint.old).tables.unsettled self.old.behind
             → AllSent (marks_of self.new) (K.seen endpoint.old).tables.unsettled self.new.behind }
         ensures rows { self.new.rows ≡ self.old.rows }

@@ -7,7 +7,7 @@ ghost use Rattle.keep.specs.Law.{Reads};
 ghost use Rattle.endpoint.specs.Calls.{Stays};
 ghost use Rattle.keep.specs.Tables.{Messages};
 ghost use Rattle.stomp_client.specs.declared.session.Stage.TheVariants.{Connected};
-ghost use Rattle.relay.specs.Filling.{marks_of, connection, Sends, Stops};
+ghost use Rattle.relay.specs.Filling.{marks_of, send_state, SendsLetters, StopsSending};
 ghost use Rattle.relay.specs.Knowing.{KnowsRows, KnowsAll};
 ghost use Rattle.relay.specs.Calls.{idle_answer, FillsLetters, Fills, store_end};
 
@@ -77,9 +77,9 @@ impl Relay {
         letter: &Letter,
     ) -> Result<(), RelayFault>
         requires { client.old.client.stage ≡ Connected }
-        ensures sends { OnOk result (Sends (letter.now ∷ []) (connection self.old client.old) (connection self.new client.new)) }
-        ensures same { OnErr result (connection self.new client.new ≡ connection self.old client.old) }
-        ensures fault { IfErr result (Stops client.old.client.receipts.last) }
+        ensures sends { OnOk result (SendsLetters (letter.now ∷ []) (send_state self.old client.old) (send_state self.new client.new)) }
+        ensures same { OnErr result (send_state self.new client.new ≡ send_state self.old client.old) }
+        ensures fault { IfErr result (StopsSending client.old.client.receipts.last) }
         ensures behind { self.new.behind ≡ self.old.behind }
         ensures rows { self.new.rows ≡ self.old.rows }
     {
@@ -107,9 +107,9 @@ impl Relay {
         limit: usize,
     ) -> Result<usize, RelayFault>
         ensures idle { IfSome (idle_answer client.old.client.stage)
-            (λ answer. (result ≡ answer) × (connection self.new client.new ≡ connection self.old client.old)) }
+            (λ answer. (result ≡ answer) × (send_state self.new client.new ≡ send_state self.old client.old)) }
         ensures fills { client.old.client.stage ≡ Connected
-            → FillsLetters limit letters.now (connection self.old client.old) (connection self.new client.new) result }
+            → FillsLetters limit letters.now (send_state self.old client.old) (send_state self.new client.new) result }
         ensures knows { (rows : ℕ) (messages : Messages) → KnowsRows self.old rows messages → KnowsRows self.new rows messages }
     {
         match client.stage() {
@@ -127,7 +127,7 @@ impl Relay {
         limit: usize,
     ) -> Result<usize, RelayFault>
         requires { client.old.client.stage ≡ Connected }
-        ensures fills { FillsLetters limit letters.now (connection self.old client.old) (connection self.new client.new) result }
+        ensures fills { FillsLetters limit letters.now (send_state self.old client.old) (send_state self.new client.new) result }
         ensures behind { self.new.behind ≡ self.old.behind }
         ensures rows { self.new.rows ≡ self.old.rows }
     {
@@ -172,13 +172,13 @@ impl Relay {
         H: Handler,
         K: Keep<State = H::State, Command = H::Command> + Drop,
         ensures idle { IfSome (idle_answer client.old.client.stage) (λ answer. (result ≡ answer) × (endpoint.new ≡ endpoint.old)
-            × (connection self.new client.new ≡ connection self.old client.old)) }
+            × (send_state self.new client.new ≡ send_state self.old client.old)) }
         ensures read { client.old.client.stage ≡ Connected → Reads K.seen endpoint.old endpoint.new (λ _ _. ⊤) (store_end result) }
         ensures stays { Stays K.seen endpoint.old endpoint.new }
         ensures fills { client.old.client.stage ≡ Connected
             → Fills (((K.seen endpoint.new).doubt ≡ 0) × KnowsAll H.service self.old (K.seen endpoint.old).may_leave)
-            (K.seen endpoint.old).tables.unsettled limit (connection self.old client.old) (connection self.new client.new) result }
-        ensures unused { (K.seen endpoint.old).usable ≡ false → connection self.new client.new ≡ connection self.old client.old }
+            (K.seen endpoint.old).tables.unsettled limit (send_state self.old client.old) (send_state self.new client.new) result }
+        ensures unused { (K.seen endpoint.old).usable ≡ false → send_state self.new client.new ≡ send_state self.old client.old }
         ensures knows { (K.seen endpoint.new).doubt ≡ 0 → KnowsAll H.service self.old (K.seen endpoint.old).may_leave
             → KnowsAll H.service self.new (K.seen endpoint.new).may_leave }
     {

@@ -5,7 +5,7 @@ use endpoint::EndFault;
 use line_script::{first_word, natural};
 use relay::RelayFault;
 use std::alloc::{AllocError, Global};
-use stomp_client::{ClientFault, ClientSession, Event};
+use stomp_client::{ClientEvent, ClientFault, ClientSession};
 use stomp_frame::{Decoder, Frame};
 
 /// Appends a header's value, and a space.
@@ -56,14 +56,14 @@ pub fn push_sent(
 }
 
 /// Appends what a server's frame told.
-pub fn push_event(out: &mut String, event: &Event<u64>) -> Result<(), LineFault> {
+pub fn push_event(out: &mut String, event: &ClientEvent<u64>) -> Result<(), LineFault> {
     match event {
-        Event::Connected => write!(out, "connected").map_err(LineFault::from),
-        Event::Message(_) => write!(out, "message").map_err(LineFault::from),
-        Event::Receipt(number, tag) => {
+        ClientEvent::Connected => write!(out, "connected").map_err(LineFault::from),
+        ClientEvent::Message(_) => write!(out, "message").map_err(LineFault::from),
+        ClientEvent::Receipt(number, tag) => {
             write!(out, "receipt {number} of {tag}").map_err(LineFault::from)
         }
-        Event::Error(text) => write!(out, "error {text}").map_err(LineFault::from),
+        ClientEvent::Error(text) => write!(out, "error {text}").map_err(LineFault::from),
     }
 }
 

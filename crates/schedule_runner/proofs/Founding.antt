@@ -22,7 +22,7 @@ use Rattle.schedules.specs.declared.event.SeatCommand.{SeatCommand}
 use Rattle.schedules.specs.declared.outcome.Outcome.{Outcome}
 use Rattle.schedules.specs.declared.outcome.Outcome.TheVariants as outcome
 use Rattle.sites.specs.Deeds.{Channels, CameOn, CommandMay, FrameMay, HeldMay, SiteMay}
-use Rattle.sites.specs.Happenings.{row_of}
+use Rattle.sites.specs.Happenings.{command_row}
 use Rattle.sites.specs.SiteEvents.{SiteEvent, Commits, Opens, Cuts, Fills, Resends, Carries, Takes, Drains, Arms, Reopens, Stops}
 use Rattle.accord.specs.Deeds.{DeedIs}
 use Rattle.accord.proofs.Founded.{HeldIs, nothing_is, command_is, ingest_is, settle_is, drain_is}
@@ -32,7 +32,7 @@ module _ {S C : Type 0} (s : Service S C) (P : Envelope → Type 0) where
   abbrev FramesAre : (Content → Type 0) → Type 0
   FramesAre Came = (f : Content) → Came f → (e : Envelope) → read_frame f ≡ Some e → P e
 
-  command_founded : (asked : SeatCommand C) (o : Outcome) (x : Kept C) (d : Deed C) → CommandMay s (row_of asked) o x d → DeedIs P d
+  command_founded : (asked : SeatCommand C) (o : Outcome) (x : Kept C) (d : Deed C) → CommandMay s (command_row asked) o x d → DeedIs P d
   command_founded asked (outcome.Committed pos) x d may = command_is s P asked.entity asked.seat asked.command d may.0
   command_founded asked (outcome.NotDone refusal) x d may = nothing_is s P d may.0
   command_founded asked (outcome.Refused n) x d may = either may (nothing_is s P d)

@@ -17,7 +17,7 @@ use Rattle.schedules.specs.declared.event.ServiceName.TheVariants.{Purchasing, W
 use Rattle.schedules.specs.declared.outcome.Outcome.{Outcome}
 use Rattle.schedules.specs.declared.outcome.Outcome.TheVariants as outcome
 use Rattle.sites.specs.Deeds.{Channels, SiteMay, channels_of, CameOn}
-use Rattle.sites.specs.Happenings.{row_of}
+use Rattle.sites.specs.Happenings.{command_row}
 use Rattle.sites.specs.SiteEvents.{Commits}
 use Rattle.keep.specs.Seen.{Seen}
 use Rattle.keep.specs.Tables.{Tables}
@@ -78,14 +78,14 @@ commit_tells : {S C : Type 0} (s : Service S C) (channels : Channels) (asked : S
     → SiteMay s channels (Commits asked) o x d → Did s x d y → CommitTells s asked o x y
 commit_tells s channels asked (outcome.Committed pos) x y d may did =
     let h = subst (λ e. Did s x e y) may.0 did in
-    (row_of asked ∷ [], h.0.appended, ap (λ (n : ℕ). (n, asked) ∷ []) (sym may.1))
+    (command_row asked ∷ [], h.0.appended, ap (λ (n : ℕ). (n, asked) ∷ []) (sym may.1))
 commit_tells s channels asked (outcome.NotDone refusal) x y d may did =
     same_journal x.journal y.journal (ap (λ (k : Kept _). k.journal) (subst (λ e. Did s x e y) may.0 did))
 commit_tells s channels asked (outcome.Refused n) x y d may did = either may
     (λ e. let h = same_journal x.journal y.journal (ap (λ (k : Kept _). k.journal) (subst (λ e. Did s x e y) e did)) in
     (h.0, h.1, inl h.2))
     (λ e. let h = subst (λ e. Did s x e y) e.1 did in
-    (row_of asked ∷ [], h.0.appended, inr (e.0, suc (length x.journal), refl)))
+    (command_row asked ∷ [], h.0.appended, inr (e.0, suc (length x.journal), refl)))
 commit_tells s channels asked outcome.Opened x y d may did = absurd may
 commit_tells s channels asked outcome.Already x y d may did = absurd may
 commit_tells s channels asked outcome.Closed x y d may did = absurd may

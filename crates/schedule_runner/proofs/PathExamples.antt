@@ -30,7 +30,7 @@ use Rattle.schedules.specs.declared.event.Event.TheVariants as event
 use Rattle.schedules.specs.declared.event.SeatCommand.{SeatCommand}
 use Rattle.schedules.specs.declared.outcome.Outcome.{Outcome}
 use Rattle.schedules.specs.declared.outcome.Outcome.TheVariants.{Committed, NotDone, Stopped, Pumped}
-use Rattle.sites.specs.Happenings.{row_of}
+use Rattle.sites.specs.Happenings.{command_row}
 use Rattle.sites.specs.Outcomes.{commit_told}
 use Rattle.schedule_runner.specs.declared.world.World.{World}
 use Rattle.schedule_runner.specs.Deeds.{Moment, moment, Step, Goes}
@@ -184,7 +184,7 @@ module _ (any : TheWorld) where
   nothing_is_lost (next, happened, end) = lost next happened.0.result happened.0.tells happened.0.commits end
     where
       lost : (next : TheWorld) (r : Result Position EndFault) → Committed 1 ≡ commit_told r
-          → Commits (through seen) new.purchasing.endpoint next.purchasing.endpoint orders_service (row_of asked) r → new ≡ next → ⊥
+          → Commits (through seen) new.purchasing.endpoint next.purchasing.endpoint orders_service (command_row asked) r → new ≡ next → ⊥
       lost next (Ok c) tells commits end =
           let appended = (commits.clean refl (matches before before_matches).0).0.0.appended in
           let one : rows next ≡ 1 = ap length appended in

@@ -5,14 +5,14 @@ use Rattle.stomp_client.specs.Clients.{Client}
 use Rattle.endpoint.specs.declared.fault.EndFault.TheVariants.{StoreFailed, Memory}
 use Rattle.keep.specs.Failing.{Failing}
 use Rattle.mail.specs.Offices.{Office, new_office}
-use Rattle.relay.specs.Filling.{Connection, marks_of}
+use Rattle.relay.specs.Filling.{SendState, marks_of}
 use Rattle.relay.specs.declared.relay.Relay.{Relay}
 use Rattle.schedules.specs.declared.event.ConnectionNumber.TheVariants.{Zero, One}
-use Rattle.sites.specs.Channels.{sending, IsAllDue, at_zero, at_one, at_number, ChannelHas, Leaves, channel_of, with_channel}
+use Rattle.sites.specs.Channels.{sending, IsAllDue, at_zero, at_one, at_number, ChannelHas, MailAfterCut, channel_of, with_channel}
 use Rattle.sites.specs.Channels.{ChannelsHave, TakesChannel}
 use Rattle.sites.specs.Channels.{Same}
 use Rattle.sites.specs.Channels.{CutsBoth, AfterFault, After, Meets, MeetsAlone}
-use Rattle.sites.specs.declared.fate.Fate.TheVariants.{Stays, IsCut, BothAreCut}
+use Rattle.sites.specs.declared.fate.ChannelFate.TheVariants.{Stays, IsCut, BothAreCut}
 use Rattle.sites.specs.declared.channel.Channel.{Channel}
 use Rattle.sites.specs.declared.site.Site.{Site}
 
@@ -48,7 +48,7 @@ module _ (l : Channel) (nothing : (p : Pair) → marks_of l.relay p ≡ 0) (late
     refl,
     refl,
     λ h. let longer : length (65 ∷ l.connection.client.client.out) ≡ length l.connection.client.client.out =
-        ap (λ (c : Client ℕ). length c.out) (ap (λ (c : Connection). c.client) h) in omega (arith, longer),
+        ap (λ (c : Client ℕ). length c.out) (ap (λ (c : SendState). c.client) h) in omega (arith, longer),
   )
 
   -- all is due where the cursor tells of no row; a cursor that tells of one isn't right of an outbox without rows
@@ -67,8 +67,8 @@ module _ (l : Channel) (nothing : (p : Pair) → marks_of l.relay p ≡ 0) (late
   open_channels_have_it = (refl, tt, λ h. omega (arith, h))
 
   -- the mail stays where there was no connection; where one was cut that had no session nothing is dealt, and what was accepted stays
-  cuts_leave_the_mail : Leaves None new_office new_office × Leaves (Some l) new_office new_office
-      × (Leaves None new_office later → ⊥) × (Leaves (Some l) new_office later → ⊥)
+  cuts_leave_the_mail : MailAfterCut None new_office new_office × MailAfterCut (Some l) new_office new_office
+      × (MailAfterCut None new_office later → ⊥) × (MailAfterCut (Some l) new_office later → ⊥)
   cuts_leave_the_mail = (
     refl,
     (Ok tt, record { deals = (record { handed = []; deals = refl; taken = refl }, refl); earlier = refl }),

@@ -31,8 +31,8 @@ use Rattle.sites.specs.Channels.{ChannelHas, ChannelsHave}
 use Rattle.sites.specs.Outcomes.{decoder_fate, drain_fate, fall_fate, fill_fate, taken_fate}
 use Rattle.sites.specs.SiteEvents.{SiteEvent}
 use Rattle.sites.specs.SiteEvents as event
-use Rattle.sites.specs.declared.fate.Fate.{Fate}
-use Rattle.sites.specs.declared.fate.Fate.TheVariants.{Stays, IsCut, BothAreCut}
+use Rattle.sites.specs.declared.fate.ChannelFate.{ChannelFate}
+use Rattle.sites.specs.declared.fate.ChannelFate.TheVariants.{Stays, IsCut, BothAreCut}
 use Rattle.sites.specs.declared.channel.Channel.{Channel}
 use Rattle.sites.specs.declared.site.Site.{Site}
 
@@ -77,13 +77,13 @@ module _ {H K S C : Type 0} (Is : Relay → Type 0) where
     after_has (Ok done) after h = same_has after h
     after_has (Err fault) after h = fault_has fault after h
 
-    alone_has : (fate : Fate) → MeetsAlone fate s from t to → ChannelsHave Is s → ChannelsHave Is t
+    alone_has : (fate : ChannelFate) → MeetsAlone fate s from t to → ChannelsHave Is s → ChannelsHave Is t
     alone_has Stays meets h = same_has meets h
     alone_has IsCut meets h = same_has meets h
     alone_has BothAreCut meets h = cut_has meets
 
-  meets_has : (fate : Fate) (number : ConnectionNumber) (l : Channel) (s : Site H K S C) (from : Office) (t : Site H K S C) (to : Office)
-      → Meets fate number l s from t to → Is l.relay → ChannelsHave Is s → ChannelsHave Is t
+  meets_has : (fate : ChannelFate) (number : ConnectionNumber) (l : Channel) (s : Site H K S C) (from : Office) (t : Site H K S C)
+      (to : Office) → Meets fate number l s from t to → Is l.relay → ChannelsHave Is s → ChannelsHave Is t
   meets_has Stays number l s from t to meets own h =
       same_has (with_channel number (Some l) s) from t to meets (put_has number (Some l) s own h)
   meets_has IsCut number l s from t to meets own h = subst (ChannelsHave Is) (sym meets.1) (put_has number None s tt h)

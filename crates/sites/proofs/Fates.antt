@@ -7,8 +7,8 @@ use Rattle.schedules.specs.declared.outcome.Outcome.{Outcome}
 use Rattle.schedules.specs.declared.outcome.Outcome.TheVariants.{Closed}
 use Rattle.sites.specs.Happenings.{IfOpen}
 use Rattle.sites.specs.Channels.{channel_of, with_channel, Same, Meets, TakesChannel}
-use Rattle.sites.specs.declared.fate.Fate.{Fate}
-use Rattle.sites.specs.declared.fate.Fate.TheVariants.{Stays, IsCut, BothAreCut}
+use Rattle.sites.specs.declared.fate.ChannelFate.{ChannelFate}
+use Rattle.sites.specs.declared.fate.ChannelFate.TheVariants.{Stays, IsCut, BothAreCut}
 use Rattle.sites.specs.declared.channel.Channel.{Channel}
 use Rattle.sites.specs.declared.site.Site.{Site}
 
@@ -26,7 +26,7 @@ module _ {H K S C : Type 0} where
   with_back One l s e = λ i. record s { one = sym e i }
 
   -- its fate is that of one that was in its place
-  pub meets_again : (fate : Fate) (number : ConnectionNumber) (l : Channel) (k : Option Channel) (s : Site H K S C) (from : Office)
+  pub meets_again : (fate : ChannelFate) (number : ConnectionNumber) (l : Channel) (k : Option Channel) (s : Site H K S C) (from : Office)
       (t : Site H K S C) (to : Office) → Meets fate number l (with_channel number k s) from t to → Meets fate number l s from t to
   meets_again Stays Zero l k s from t to h = h
   meets_again Stays One l k s from t to h = h

@@ -33,7 +33,7 @@ use Rattle.reception.specs.declared.taken.Taken.TheVariants as taken
 use Rattle.schedules.specs.declared.event.FailureLeaves.TheVariants as failure
 use Rattle.schedules.specs.declared.event.SeatCommand.{SeatCommand}
 use Rattle.schedules.specs.declared.outcome.Outcome.TheVariants as told
-use Rattle.sites.specs.Happenings.{row_of, leaves_of, waiting_of, with_store}
+use Rattle.sites.specs.Happenings.{command_row, leaves_of, waiting_of, with_store}
 use Rattle.sites.specs.Happenings.{ArmsStore, TakesCommand, DrainsAlone}
 use Rattle.sites.specs.Happenings.{ReopensStore, StopsSite}
 use Rattle.sites.specs.Outcomes.{fault_told, commit_told, end_told, fill_told, rise_told, fall_told, reception_told, taken_told, drain_told}
@@ -46,11 +46,11 @@ abbrev pub asked : SeatCommand OrderCommand
 asked = record { seat = 0; entity = o1; command = Place (codes "bolts") 3 (codes "acme") 500 }
 
 -- a seat's command is the row that the journal takes; that of a command for another entity isn't
-rows_are_of_commands : (row_of asked ≡ placing) × (leaves_of failure.Old ≡ OldTables) × (leaves_of failure.New ≡ NewTables)
+rows_are_of_commands : (command_row asked ≡ placing) × (leaves_of failure.Old ≡ OldTables) × (leaves_of failure.New ≡ NewTables)
     × (leaves_of failure.Old ≡ NewTables → ⊥)
 rows_are_of_commands = (refl, refl, refl, λ h. absurd (cc))
 
-other_rows : row_of (record asked { entity = bolts }) ≡ placing → ⊥
+other_rows : command_row (record asked { entity = bolts }) ≡ placing → ⊥
 other_rows h = let kind : Stock ≡ Order = ap (λ (row : JournalRow OrderCommand). row.entity.kind) h in absurd (cc)
 
 -- a frame that was taken doesn't wait, nor does one behind a fault of the endpoint; for want of memory it does

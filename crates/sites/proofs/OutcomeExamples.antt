@@ -16,7 +16,7 @@ use Rattle.schedules.specs.declared.outcome.Outcome.TheVariants as told
 use Rattle.sites.specs.Outcomes.{fault_told, end_told, commit_told, open_told, fill_told, fill_fate, rise_told, decoder_told, decoder_fate}
 use Rattle.sites.specs.Outcomes.{fall_told, fall_fate, reception_told, reception_fate, event_told, taken_told, taken_fate, drain_told}
 use Rattle.sites.specs.Outcomes.{drain_fate}
-use Rattle.sites.specs.declared.fate.Fate.TheVariants.{Stays, IsCut, BothAreCut}
+use Rattle.sites.specs.declared.fate.ChannelFate.TheVariants.{Stays, IsCut, BothAreCut}
 
 -- the number of a refusal
 abbrev number_of : Outcome → ℕ

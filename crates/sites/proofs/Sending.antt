@@ -3,7 +3,7 @@ use Rattle.std.proofs.Common.{◌≡◌, ℕ, false, refl, sym, ◌∙◌, subst
 use Rattle.std.specs.Prelude.{⊤, IfSome}
 use Rattle.std.proofs.lemmas.Option.{IfSome_then}
 use Rattle.activities.specs.Service.{Service}
-use Rattle.stomp_client.specs.Clients.{Seen as SeenClient}
+use Rattle.stomp_client.specs.Clients.{ClientWithRoom}
 use Rattle.stomp_client.specs.declared.session.Stage.TheVariants.{Connected}
 use Rattle.keep.specs.Failing.{Failing, through}
 use Rattle.keep.specs.Law.{Reads}
@@ -12,7 +12,7 @@ use Rattle.keep.specs.Tables.{Tables}
 use Rattle.endpoint.specs.Calls.{Stays}
 use Rattle.mail.specs.Offices.{Office}
 use Rattle.relay.specs.Calls.{Fills, idle_answer, store_end}
-use Rattle.relay.specs.Filling.{connection}
+use Rattle.relay.specs.Filling.{send_state}
 use Rattle.relay.specs.Knowing.{KnowsAll}
 use Rattle.relay.specs.declared.fault.RelayFault.{RelayFault}
 use Rattle.relay.specs.declared.relay.Relay.{Relay}
@@ -21,21 +21,21 @@ use Rattle.schedules.specs.declared.outcome.Outcome.{Outcome}
 use Rattle.sites.specs.Happenings.{SendsRows, with_store}
 use Rattle.sites.specs.Channels.{Meets, sending}
 use Rattle.sites.specs.Outcomes.{fill_told, fill_fate}
-use Rattle.sites.specs.declared.fate.Fate.{Fate}
+use Rattle.sites.specs.declared.fate.ChannelFate.{ChannelFate}
 use Rattle.sites.specs.declared.channel.Channel.{Channel}
 use Rattle.sites.specs.declared.site.Site.{Site}
 
 module _ {H K S C : Type 0} (seen : K → Seen (Tables S C)) (service : Service S C) (number : ConnectionNumber) (limit : ℕ) (l : Channel)
     (outcome : Outcome) (s : Site H K S C) (from : Office) (t : Site H K S C) (to : Office) where
-  pub sends_on : (later : Relay) (client : SeenClient ℕ) (store : Failing K) (r : Result ℕ RelayFault) (fate : Fate)
+  pub sends_on : (later : Relay) (client : ClientWithRoom ℕ) (store : Failing K) (r : Result ℕ RelayFault) (fate : ChannelFate)
       → IfSome (idle_answer l.connection.client.client.stage)
-      (λ answer. (r ≡ answer) × (store ≡ s.endpoint) × (connection later client ≡ sending l))
+      (λ answer. (r ≡ answer) × (store ≡ s.endpoint) × (send_state later client ≡ sending l))
       → (l.connection.client.client.stage ≡ Connected → Reads (through seen) s.endpoint store (λ _ _. ⊤) (store_end r))
       → Stays (through seen) s.endpoint store
-      → ((through seen s.endpoint).usable ≡ false → connection later client ≡ sending l)
+      → ((through seen s.endpoint).usable ≡ false → send_state later client ≡ sending l)
       → (l.connection.client.client.stage ≡ Connected
       → Fills (((seen store.keep).doubt ≡ 0) × KnowsAll service l.relay (seen s.endpoint.keep).may_leave)
-      (seen s.endpoint.keep).tables.unsettled limit (sending l) (connection later client) r)
+      (seen s.endpoint.keep).tables.unsettled limit (sending l) (send_state later client) r)
       → ((seen store.keep).doubt ≡ 0 → KnowsAll service l.relay (seen s.endpoint.keep).may_leave
       → KnowsAll service later (seen store.keep).may_leave)
       → outcome ≡ fill_told r → fate ≡ fill_fate r → t.endpoint ≡ store

@@ -7,19 +7,19 @@ use Rattle.endpoint.specs.declared.fault.EndFault.TheVariants.{StoreFailed}
 use Rattle.keep.specs.Tables.{Messages}
 use Rattle.mail.specs.Connecting.{Cuts}
 use Rattle.mail.specs.Offices.{Office}
-use Rattle.relay.specs.Filling.{Connection, connection, marks_of}
+use Rattle.relay.specs.Filling.{SendState, send_state, marks_of}
 use Rattle.relay.specs.Knowing.{KnowsRows}
 use Rattle.relay.specs.declared.relay.Relay.{Relay}
 use Rattle.schedules.specs.declared.event.ConnectionNumber.{ConnectionNumber}
 use Rattle.schedules.specs.declared.event.ConnectionNumber.TheVariants.{Zero, One}
-use Rattle.sites.specs.declared.fate.Fate.{Fate}
-use Rattle.sites.specs.declared.fate.Fate.TheVariants.{Stays, IsCut, BothAreCut}
+use Rattle.sites.specs.declared.fate.ChannelFate.{ChannelFate}
+use Rattle.sites.specs.declared.fate.ChannelFate.TheVariants.{Stays, IsCut, BothAreCut}
 use Rattle.sites.specs.declared.channel.Channel.{Channel}
 use Rattle.sites.specs.declared.site.Site.{Site}
 
 -- what was sent on a channel, and its client
-abbrev pub sending : Channel → Connection
-sending l = connection l.relay l.connection.client
+abbrev pub sending : Channel → SendState
+sending l = send_state l.relay l.connection.client
 
 -- nothing counts as sent, and the relay's cursor leaves out no row, whatever the outbox
 pub record IsAllDue (relay : Relay) : Type 0 where
@@ -46,9 +46,9 @@ ChannelHas Is None = ⊤
 ChannelHas Is (Some l) = Is l.relay
 
 -- the mail behind the cut of a connection, where it was open; that memory was refused to the deals isn't told
-abbrev pub Leaves : Option Channel → Office → Office → Type 0
-Leaves None from to = to ≡ from
-Leaves (Some l) from to = (r : Result (Unit {0}) AllocError) × Cuts l.connection from to r
+abbrev pub MailAfterCut : Option Channel → Office → Office → Type 0
+MailAfterCut None from to = to ≡ from
+MailAfterCut (Some l) from to = (r : Result (Unit {0}) AllocError) × Cuts l.connection from to r
 
 module _ {H K S C : Type 0} where
   -- the connection of a number, where it is open
@@ -75,8 +75,8 @@ module _ {H K S C : Type 0} where
   -- both connections are cut, that of number 0 first
   pub record CutsBoth (s : Site H K S C) (from : Office) (t : Site H K S C) (to : Office) : Type 0 where
     pub between : Office
-    pub zero : Leaves s.zero from between
-    pub one : Leaves s.one between to
+    pub zero : MailAfterCut s.zero from between
+    pub one : MailAfterCut s.one between to
     pub site : t ≡ record s { zero = None; one = None }
 
   -- behind a fault of the endpoint both are cut where the store failed, and else nothing changes
@@ -90,13 +90,13 @@ module _ {H K S C : Type 0} where
   After (Err fault) s from t to = AfterFault fault s from t to
 
   -- an open connection, which is this now, has this fate
-  abbrev pub Meets : Fate → ConnectionNumber → Channel → Site H K S C → Office → Site H K S C → Office → Type 0
+  abbrev pub Meets : ChannelFate → ConnectionNumber → Channel → Site H K S C → Office → Site H K S C → Office → Type 0
   Meets Stays number l s from t to = Same (with_channel number (Some l) s) from t to
-  Meets IsCut number l s from t to = Leaves (Some l) from to × (t ≡ with_channel number None s)
+  Meets IsCut number l s from t to = MailAfterCut (Some l) from to × (t ≡ with_channel number None s)
   Meets BothAreCut number l s from t to = CutsBoth (with_channel number (Some l) s) from t to
 
   -- and where it isn't open
-  abbrev pub MeetsAlone : Fate → Site H K S C → Office → Site H K S C → Office → Type 0
+  abbrev pub MeetsAlone : ChannelFate → Site H K S C → Office → Site H K S C → Office → Type 0
   MeetsAlone Stays s from t to = Same s from t to
   MeetsAlone IsCut s from t to = Same s from t to
   MeetsAlone BothAreCut s from t to = CutsBoth s from t to

@@ -21,7 +21,7 @@ use Rattle.reception.specs.declared.taken.Taken.TheVariants as taken
 use Rattle.schedules.specs.declared.event.ConnectionNumber.{ConnectionNumber}
 use Rattle.schedules.specs.declared.outcome.Outcome.{Outcome}
 use Rattle.schedules.specs.declared.outcome.Outcome.TheVariants.{Committed, Handled, Repeated, Held, Settled, Idle, Drained, Refused, NotDone}
-use Rattle.sites.specs.Happenings.{row_of}
+use Rattle.sites.specs.Happenings.{command_row}
 use Rattle.sites.specs.Channels.{channel_of}
 use Rattle.sites.specs.SiteEvents.{SiteEvent, Commits, Takes, Drains}
 use Rattle.sites.specs.declared.channel.Channel.{Channel}
@@ -69,7 +69,7 @@ module _ {S C : Type 0} (service : Service S C) where
 
   -- each event: what isn't named here does nothing to the tables
   abbrev pub SiteMay : Channels → SiteEvent C → Outcome → Kept C → Deed C → Type 0
-  SiteMay channels (Commits asked) outcome x d = CommandMay (row_of asked) outcome x d
+  SiteMay channels (Commits asked) outcome x d = CommandMay (command_row asked) outcome x d
   SiteMay channels (Takes number) outcome x d = FrameMay (CameOn (channels number)) outcome x d
   SiteMay channels (Drains number) outcome x d = HeldMay outcome x d
   SiteMay channels _ outcome x d = d ≡ Nothing

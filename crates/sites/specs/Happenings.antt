@@ -4,7 +4,7 @@ use Rattle.stomp_wire.specs.declared.wire.Way.{Way}
 use Rattle.stomp_wire.specs.declared.wire.Way.TheVariants.{Up, Down}
 use Rattle.stomp_frame.specs.Frames.{Content}
 use Rattle.stomp_frame.specs.declared.fault.FrameFault.{FrameFault}
-use Rattle.stomp_client.specs.Clients.{Seen as SeenClient}
+use Rattle.stomp_client.specs.Clients.{ClientWithRoom}
 use Rattle.stomp_client.specs.declared.session.Stage.TheVariants.{Connected}
 use Rattle.activities.specs.Service.{Service}
 use Rattle.activities.specs.declared.input.Input.TheVariants.{FromSeat}
@@ -43,15 +43,15 @@ use Rattle.schedules.specs.declared.outcome.Outcome.{Outcome}
 use Rattle.schedules.specs.declared.outcome.Outcome.TheVariants as told
 use Rattle.sites.specs.SiteEvents.{SiteEvent}
 use Rattle.sites.specs.SiteEvents as event
-use Rattle.sites.specs.Channels.{sending, IsAllDue, Leaves, channel_of, with_channel, Same, CutsBoth, After, Meets, MeetsAlone}
+use Rattle.sites.specs.Channels.{sending, IsAllDue, MailAfterCut, channel_of, with_channel, Same, CutsBoth, After, Meets, MeetsAlone}
 use Rattle.sites.specs.Outcomes.{commit_told, open_told, fill_told, fill_fate, rise_told, decoder_told, decoder_fate, fall_told, fall_fate}
 use Rattle.sites.specs.Outcomes.{taken_told, taken_fate, drain_told, drain_fate, end_told}
 use Rattle.sites.specs.declared.channel.Channel.{Channel}
 use Rattle.sites.specs.declared.site.Site.{Site}
 
 -- the journal's row of a seat's command
-abbrev pub row_of : {C : Type 0} → SeatCommand C → JournalRow C
-row_of asked = record { entity = asked.entity; input = FromSeat asked.seat asked.command }
+abbrev pub command_row : {C : Type 0} → SeatCommand C → JournalRow C
+command_row asked = record { entity = asked.entity; input = FromSeat asked.seat asked.command }
 
 -- which tables a store leaves that is to fail
 abbrev pub leaves_of : FailureLeaves → LeftTables
@@ -93,7 +93,7 @@ module _ {H K S C : Type 0} where
 
   abbrev pub CutsChannel : ConnectionNumber → Channel → Outcome → Site H K S C → Office → Site H K S C → Office → Type 0
   CutsChannel number l outcome s from t to =
-      (outcome ≡ told.Cut) × Leaves (Some l) from to × (t ≡ with_channel number None s)
+      (outcome ≡ told.Cut) × MailAfterCut (Some l) from to × (t ≡ with_channel number None s)
 
   -- all rows are due again
   abbrev pub Resends : ConnectionNumber → Channel → Outcome → Site H K S C → Office → Site H K S C → Office → Type 0
@@ -137,7 +137,7 @@ module _ {H K S C : Type 0} (seen : K → Seen (Tables S C)) (service : Service 
   pub record TakesCommand (asked : SeatCommand C) (outcome : Outcome) (s : Site H K S C) (from : Office) (t : Site H K S C) (to : Office)
       : Type 0 where
     pub result : Result Committed EndFault
-    pub commits : Commits (through seen) s.endpoint t.endpoint service (row_of asked) result
+    pub commits : Commits (through seen) s.endpoint t.endpoint service (command_row asked) result
     pub tells : outcome ≡ commit_told result
     pub after : After result (with_store t.endpoint s) from t to
 
@@ -170,7 +170,7 @@ module _ {H K S C : Type 0} (seen : K → Seen (Tables S C)) (service : Service 
   pub record TakesFrame (number : ConnectionNumber) (l : Channel) (f : Content) (outcome : Outcome) (s : Site H K S C) (from : Office)
       (t : Site H K S C) (to : Office) : Type 0 where
     pub result : Result Taken ReceptionFault
-    pub client : SeenClient ℕ
+    pub client : ClientWithRoom ℕ
     pub answers : Answers service.kind f l.connection.client.client client.client result
     pub comes : ComesBy (through seen) s.endpoint t.endpoint service (TakeMay service f result)
     pub used : TellsOfUse (through seen) s.endpoint t.endpoint result
@@ -195,7 +195,7 @@ module _ {H K S C : Type 0} (seen : K → Seen (Tables S C)) (service : Service 
   pub record DrainsOver (number : ConnectionNumber) (l : Channel) (outcome : Outcome) (s : Site H K S C) (from : Office) (t : Site H K S C)
       (to : Office) : Type 0 where
     pub result : Result (Option Drained) ReceptionFault
-    pub client : SeenClient ℕ
+    pub client : ClientWithRoom ℕ
     pub wrote : DrainWrites l.connection.client.client client.client result
     pub comes : ComesBy (through seen) s.endpoint t.endpoint service (DrainsMay service result)
     pub used : TellsOfDraining (through seen) s.endpoint t.endpoint result

@@ -24,8 +24,8 @@ use Rattle.reception.specs.declared.taken.Taken.{Taken}
 use Rattle.reception.specs.declared.taken.Taken.TheVariants as taken
 use Rattle.schedules.specs.declared.outcome.Outcome.{Outcome}
 use Rattle.schedules.specs.declared.outcome.Outcome.TheVariants as told
-use Rattle.sites.specs.declared.fate.Fate.{Fate}
-use Rattle.sites.specs.declared.fate.Fate.TheVariants.{Stays, IsCut, BothAreCut}
+use Rattle.sites.specs.declared.fate.ChannelFate.{ChannelFate}
+use Rattle.sites.specs.declared.fate.ChannelFate.TheVariants.{Stays, IsCut, BothAreCut}
 
 -- a fault of the endpoint: a refusal as business has its own
 abbrev pub fault_told : EndFault → Outcome
@@ -52,7 +52,7 @@ fill_told (Ok count) = told.Sent count
 fill_told (Err (Endpoint fault)) = fault_told fault
 fill_told (Err fault) = told.Refused (relay_fault_number fault)
 
-abbrev pub fill_fate : Result ℕ RelayFault → Fate
+abbrev pub fill_fate : Result ℕ RelayFault → ChannelFate
 fill_fate (Err (Endpoint StoreFailed)) = BothAreCut
 fill_fate _ = Stays
 
@@ -66,7 +66,7 @@ abbrev pub decoder_told : FrameFault → Outcome
 decoder_told Memory = told.Refused 44
 decoder_told fault = told.Refused (frame_fault_number fault)
 
-abbrev pub decoder_fate : FrameFault → Fate
+abbrev pub decoder_fate : FrameFault → ChannelFate
 decoder_fate Memory = Stays
 decoder_fate _ = IsCut
 
@@ -75,7 +75,7 @@ abbrev pub fall_told : Result ℕ FrameFault → Outcome
 fall_told (Ok count) = told.Carried count
 fall_told (Err fault) = decoder_told fault
 
-abbrev pub fall_fate : Result ℕ FrameFault → Fate
+abbrev pub fall_fate : Result ℕ FrameFault → ChannelFate
 fall_fate (Ok _) = Stays
 fall_fate (Err fault) = decoder_fate fault
 
@@ -85,7 +85,7 @@ reception_told (End fault) = fault_told fault
 reception_told fault = told.Refused (reception_fault_number fault)
 
 -- Behind a frame that no server may send the connection is cut, and behind a failure of the store both are.
-abbrev pub reception_fate : ReceptionFault → Fate
+abbrev pub reception_fate : ReceptionFault → ChannelFate
 reception_fate (Client Unexpected) = IsCut
 reception_fate (End StoreFailed) = BothAreCut
 reception_fate _ = Stays
@@ -105,7 +105,7 @@ taken_told (Ok event) = event_told event
 taken_told (Err fault) = reception_told fault
 
 -- behind an ERROR the connection is cut, too
-abbrev pub taken_fate : Result Taken ReceptionFault → Fate
+abbrev pub taken_fate : Result Taken ReceptionFault → ChannelFate
 taken_fate (Ok (taken.Error text)) = IsCut
 taken_fate (Ok _) = Stays
 taken_fate (Err fault) = reception_fate fault
@@ -116,6 +116,6 @@ drain_told (Ok (Some drained)) = told.Drained drained.pair drained.number
 drain_told (Ok None) = told.Idle
 drain_told (Err fault) = reception_told fault
 
-abbrev pub drain_fate : Result (Option Drained) ReceptionFault → Fate
+abbrev pub drain_fate : Result (Option Drained) ReceptionFault → ChannelFate
 drain_fate (Err (End StoreFailed)) = BothAreCut
 drain_fate _ = Stays

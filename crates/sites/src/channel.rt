@@ -1,6 +1,6 @@
 //! An open connection of a service.
 
-ghost use Rattle.sites.specs.Channels.{Leaves};
+ghost use Rattle.sites.specs.Channels.{MailAfterCut};
 
 use mail::{Connection, Mail};
 use relay::Relay;
@@ -17,7 +17,7 @@ pub struct Channel {
 /// Cuts a connection, where it is open: all octets on the way are lost, and the broker deals what was out to it to others. That memory was
 /// refused to the deals isn't told: the next call of the broker goes on with them.
 pub(crate) fn hang_up(channel: Option<Channel>, mail: &mut Mail)
-    ensures { Leaves channel mail.old mail.new }
+    ensures { MailAfterCut channel mail.old mail.new }
 {
     if let Some(channel) = channel {
         let _ = channel.connection.cut(mail);

@@ -2,7 +2,7 @@
 
 /// What becomes of a connection behind an answer.
 #[derive(Clone, Copy, Debug, PartialEq, Eq)]
-pub enum Fate {
+pub enum ChannelFate {
     /// It stays open.
     Stays,
     /// It is cut.

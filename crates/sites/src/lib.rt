@@ -31,6 +31,6 @@ mod site;
 mod storing;
 
 pub use channel::Channel;
-pub use fate::Fate;
+pub use fate::ChannelFate;
 pub use laws::cursors_stay_right;
 pub use site::Site;

@@ -4,7 +4,7 @@ ghost use Rattle.std.specs.Prelude.{◌≡◌};
 ghost use Rattle.sites.specs.Outcomes.{fault_told, fill_told, fill_fate, rise_told, decoder_told, decoder_fate, fall_told, fall_fate};
 ghost use Rattle.sites.specs.Outcomes.{reception_told, reception_fate, event_told, taken_told, taken_fate, drain_told, drain_fate};
 
-use crate::Fate;
+use crate::ChannelFate;
 use broker_core::BrokerFault;
 use endpoint::EndFault;
 use reception::{Drained, ReceptionFault, Taken};
@@ -35,12 +35,12 @@ pub(crate) fn fill_told(answer: Result<usize, RelayFault>) -> Outcome
 }
 
 /// What becomes of the connection behind it.
-pub(crate) fn fill_fate(answer: &Result<usize, RelayFault>) -> Fate
+pub(crate) fn fill_fate(answer: &Result<usize, RelayFault>) -> ChannelFate
     ensures { result ≡ fill_fate answer.now }
 {
     match answer {
-        Err(RelayFault::Endpoint(EndFault::StoreFailed)) => Fate::BothAreCut,
-        _ => Fate::Stays,
+        Err(RelayFault::Endpoint(EndFault::StoreFailed)) => ChannelFate::BothAreCut,
+        _ => ChannelFate::Stays,
     }
 }
 
@@ -65,12 +65,12 @@ pub(crate) fn decoder_told(fault: FrameFault) -> Outcome
 }
 
 /// What becomes of the connection behind it.
-pub(crate) fn decoder_fate(fault: FrameFault) -> Fate
+pub(crate) fn decoder_fate(fault: FrameFault) -> ChannelFate
     ensures { result ≡ decoder_fate fault }
 {
     match fault {
-        FrameFault::Memory => Fate::Stays,
-        _ => Fate::IsCut,
+        FrameFault::Memory => ChannelFate::Stays,
+        _ => ChannelFate::IsCut,
     }
 }
 
@@ -85,11 +85,11 @@ pub(crate) fn fall_told(answer: Result<u64, FrameFault>) -> Outcome
 }
 
 /// What becomes of the connection behind them.
-pub(crate) fn fall_fate(answer: &Result<u64, FrameFault>) -> Fate
+pub(crate) fn fall_fate(answer: &Result<u64, FrameFault>) -> ChannelFate
     ensures { result ≡ fall_fate answer.now }
 {
     match answer {
-        Ok(_) => Fate::Stays,
+        Ok(_) => ChannelFate::Stays,
         Err(fault) => decoder_fate(*fault),
     }
 }
@@ -105,13 +105,13 @@ fn reception_told(fault: ReceptionFault) -> Outcome
 }
 
 /// What becomes of the connection behind it.
-fn reception_fate(fault: ReceptionFault) -> Fate
+fn reception_fate(fault: ReceptionFault) -> ChannelFate
     ensures { result ≡ reception_fate fault }
 {
     match fault {
-        ReceptionFault::Client(ClientFault::Unexpected) => Fate::IsCut,
-        ReceptionFault::End(EndFault::StoreFailed) => Fate::BothAreCut,
-        _ => Fate::Stays,
+        ReceptionFault::Client(ClientFault::Unexpected) => ChannelFate::IsCut,
+        ReceptionFault::End(EndFault::StoreFailed) => ChannelFate::BothAreCut,
+        _ => ChannelFate::Stays,
     }
 }
 
@@ -141,12 +141,12 @@ pub(crate) fn taken_told(answer: Result<Taken, ReceptionFault>) -> Outcome
 }
 
 /// What becomes of the connection behind it.
-pub(crate) fn taken_fate(answer: &Result<Taken, ReceptionFault>) -> Fate
+pub(crate) fn taken_fate(answer: &Result<Taken, ReceptionFault>) -> ChannelFate
     ensures { result ≡ taken_fate answer.now }
 {
     match answer {
-        Ok(Taken::Error(_)) => Fate::IsCut,
-        Ok(_) => Fate::Stays,
+        Ok(Taken::Error(_)) => ChannelFate::IsCut,
+        Ok(_) => ChannelFate::Stays,
         Err(fault) => reception_fate(*fault),
     }
 }
@@ -163,11 +163,11 @@ pub(crate) fn drain_told(answer: Result<Option<Drained>, ReceptionFault>) -> Out
 }
 
 /// What becomes of the connection behind them.
-pub(crate) fn drain_fate(answer: &Result<Option<Drained>, ReceptionFault>) -> Fate
+pub(crate) fn drain_fate(answer: &Result<Option<Drained>, ReceptionFault>) -> ChannelFate
     ensures { result ≡ drain_fate answer.now }
 {
     match answer {
-        Err(ReceptionFault::End(EndFault::StoreFailed)) => Fate::BothAreCut,
-        _ => Fate::Stays,
+        Err(ReceptionFault::End(EndFault::StoreFailed)) => ChannelFate::BothAreCut,
+        _ => ChannelFate::Stays,
     }
 }

@@ -9,7 +9,7 @@ ghost use Rattle.sites.specs.SiteEvents.{Opens, Cuts, Resends};
 
 use crate::channel::hang_up;
 use crate::outcomes::fault_told;
-use crate::{Channel, Fate};
+use crate::{Channel, ChannelFate};
 use activities::Handler;
 use endpoint::{EndFault, Endpoint};
 use keep::{Faulty, Keep};
@@ -106,7 +106,7 @@ where
     pub(crate) fn meet(
         &mut self,
         mail: &mut Mail,
-        fate: Fate,
+        fate: ChannelFate,
         number: ConnectionNumber,
         channel: Channel,
     )
@@ -114,12 +114,12 @@ where
         ensures store { self.new.endpoint ≡ self.old.endpoint }
     {
         match fate {
-            Fate::Stays => self.put_channel(number, channel),
-            Fate::IsCut => {
+            ChannelFate::Stays => self.put_channel(number, channel),
+            ChannelFate::IsCut => {
                 self.clear_channel(number);
                 hang_up(Some(channel), mail);
             }
-            Fate::BothAreCut => {
+            ChannelFate::BothAreCut => {
                 self.put_channel(number, channel);
                 self.disconnect(mail);
             }
@@ -127,13 +127,13 @@ where
     }
 
     /// Gives both connections their fate, where none was taken out.
-    pub(crate) fn meet_alone(&mut self, mail: &mut Mail, fate: Fate)
+    pub(crate) fn meet_alone(&mut self, mail: &mut Mail, fate: ChannelFate)
         ensures meets { MeetsAlone fate self.old mail.old self.new mail.new }
         ensures store { self.new.endpoint ≡ self.old.endpoint }
     {
         match fate {
-            Fate::BothAreCut => self.disconnect(mail),
-            Fate::Stays | Fate::IsCut => {}
+            ChannelFate::BothAreCut => self.disconnect(mail),
+            ChannelFate::Stays | ChannelFate::IsCut => {}
         }
     }
 

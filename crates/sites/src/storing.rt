@@ -5,7 +5,7 @@ ghost use Rattle.endpoint.specs.Calls.{Commits, ComesBy, StillMatches};
 ghost use Rattle.endpoint.specs.Deeds.{CommitMay};
 ghost use Rattle.mail.specs.Offices.{Office};
 ghost use Rattle.sites.specs.Deeds.{DoubtStays, Matches, Goes, SiteMay, channels_of};
-ghost use Rattle.sites.specs.Happenings.{Happens, leaves_of, row_of};
+ghost use Rattle.sites.specs.Happenings.{Happens, leaves_of, command_row};
 ghost use Rattle.sites.specs.SiteEvents.{Commits as CommitsCommand, Arms, Reopens, Stops};
 
 use crate::Site;
@@ -36,8 +36,8 @@ fn commit_copy<H, K>(
 where
     H: Handler,
     K: Keep<State = H::State, Command = H::Command> + Drop,
-    ensures commits { Commits K.seen endpoint.old endpoint.new H.service (row_of asked.now) result }
-    ensures comes { ComesBy K.seen endpoint.old endpoint.new H.service (CommitMay H.service (row_of asked.now) result) }
+    ensures commits { Commits K.seen endpoint.old endpoint.new H.service (command_row asked.now) result }
+    ensures comes { ComesBy K.seen endpoint.old endpoint.new H.service (CommitMay H.service (command_row asked.now) result) }
     ensures matches { StillMatches K.seen endpoint.old endpoint.new H.service }
 {
     if !endpoint.usable() {

@@ -2,13 +2,13 @@
 use Rattle.std.proofs.Common.{◌≡◌, ℕ, List, [], ◌∷◌, refl, ap, codes}
 use Rattle.std.specs.Prelude.{◌^◌, ◌-◌, Some, None, Ok, Err}
 use Rattle.std.specs.Fmt.{digits}
-use Rattle.receipts.specs.Books.{Book}
+use Rattle.receipts.specs.Books.{ReceiptBook}
 use Rattle.stomp_frame.specs.declared.command.Command.TheVariants as command
 use Rattle.stomp_frame.specs.Frames.{Content, frame, header, canonical}
 use Rattle.stomp_client.specs.declared.fault.ClientFault.TheVariants as fault
 use Rattle.stomp_client.specs.declared.session.Stage.{Stage}
 use Rattle.stomp_client.specs.declared.session.Stage.TheVariants.{Fresh, Connecting, Connected, Closed}
-use Rattle.stomp_client.specs.declared.event.Event.TheVariants as event
+use Rattle.stomp_client.specs.declared.event.ClientEvent.TheVariants as event
 use Rattle.stomp_client.specs.Fault.{client_fault_number}
 use Rattle.stomp_client.specs.Frames.{disconnect_frame}
 use Rattle.stomp_client.specs.Clients.{Client, written, connecting, receipted, counting, begun, appended, without_first, connected, closing}
@@ -16,11 +16,11 @@ use Rattle.stomp_client.specs.Calls.{unready, unconnectable, or_used, WritesFram
 use Rattle.stomp_client.specs.Accepting.{receipt_number, unaccepted, Accepts}
 
 -- nothing is to be sent, and these receipts are open
-abbrev client : Stage → Book ℕ → Client ℕ
+abbrev client : Stage → ReceiptBook ℕ → Client ℕ
 client stage receipts = record { stage = stage; out = []; receipts = receipts; transactions = 4 }
 
 -- one receipt is open, of the tag 20, and three were
-book : Book ℕ
+book : ReceiptBook ℕ
 book = record { last = 3; tags = (2, 20) ∷ [] }
 
 -- ---- calls that write

@@ -8,7 +8,7 @@ use Rattle.std.proofs.lemmas.Bool.Decides.{nat_tests}
 use Rattle.std.proofs.lemmas.List.{append-nil}
 use Rattle.std.proofs.lemmas.List.Elements.{filter-append}
 use Rattle.stomp_frame.specs.declared.command.Command.TheVariants.{Ack, Nack}
-use Rattle.stomp_frame.specs.Calls.{Call, Happened, fed, given}
+use Rattle.stomp_frame.specs.Calls.{DecoderCall, Happened, fed, given}
 use Rattle.stomp_frame.specs.Decoding.{Held}
 use Rattle.stomp_frame.specs.Frames.{Header, Content, header, value_of, with_header}
 use Rattle.stomp_session.specs.declared.fault.SessionFault.{SessionFault}
@@ -150,7 +150,7 @@ first_taken : (fs gs : List Content) (connected : Bool) → AllByRecursion (λ r
 first_taken [] gs connected all = tt
 first_taken (f ∷ fs) gs connected all = (all.0, first_taken fs gs (connected || is_ok (request_of connected f)) all.1)
 
-pub given_are_taken : (fs : List Content) (gone out received waiting carried : List ℕ) (calls : List Call) (held : Held)
+pub given_are_taken : (fs : List Content) (gone out received waiting carried : List ℕ) (calls : List DecoderCall) (held : Held)
     → AllByRecursion IsClients fs
     → Wrote (connect_frame ∷ fs) gone out → Travels gone received (Some waiting) (Some carried) → Happened 65536 calls held
     → fed calls ≡ received

@@ -6,7 +6,7 @@ use Rattle.stomp_frame.specs.Spelling.{NoFrame}
 use Rattle.stomp_frame.specs.Decoding.{Held}
 use Rattle.stomp_frame.specs.Streams.{canonical_texts, SpellsAll}
 use Rattle.stomp_frame.specs.Awaiting.{Awaits}
-use Rattle.stomp_frame.specs.Calls.{Call, Happened, fed, given}
+use Rattle.stomp_frame.specs.Calls.{DecoderCall, Happened, fed, given}
 use Rattle.stomp_frame.proofs.Streaming.{canonical_texts_are_spelled, none_is_left}
 use Rattle.stomp_frame.proofs.Cutting.{sent_is_given}
 use Rattle.stomp_wire.specs.Travel.{Travels}
@@ -14,14 +14,15 @@ use Rattle.stomp_wire.proofs.Journeys.{travels_keep}
 use Rattle.stomp_client.specs.Written.{Wrote}
 
 -- what was fed and what is to come are what was written
-whole_text : (frames : List Content) (gone out received waiting carried : List ℕ) (calls : List Call) → Wrote frames gone out
+whole_text : (frames : List Content) (gone out received waiting carried : List ℕ) (calls : List DecoderCall) → Wrote frames gone out
     → Travels gone received (Some waiting) (Some carried) → fed calls ≡ received
     → canonical_texts frames ≡ fed calls ++ (carried ++ waiting ++ out)
 whole_text frames gone out received waiting carried calls wrote travels e =
     let kept : gone ≡ received ++ carried ++ waiting = travels_keep gone received (Some waiting) (Some carried) travels in
     sym wrote.whole ∙ rw (kept, e) (simp append_assoc)
 
-pub awaited : (frames : List Content) (gone out received waiting carried : List ℕ) (calls : List Call) (held : Held) → Wrote frames gone out
+pub awaited : (frames : List Content) (gone out received waiting carried : List ℕ) (calls : List DecoderCall) (held : Held)
+    → Wrote frames gone out
     → Travels gone received (Some waiting) (Some carried) → Happened 65536 calls held → fed calls ≡ received
     → (others : List Content) × (frames ≡ given calls ++ others) × Awaits 65536 others held (carried ++ waiting ++ out)
 awaited frames gone out received waiting carried calls held wrote travels happened e =
@@ -30,7 +31,7 @@ awaited frames gone out received waiting carried calls held wrote travels happen
     (canonical_texts_are_spelled 65536 (omega arith) frames wrote.each) in
     sent_is_given 65536 calls held frames (carried ++ waiting ++ out) happened spelled
 
-pub all_given : (frames : List Content) (gone received : List ℕ) (calls : List Call) (held : Held) → Wrote frames gone []
+pub all_given : (frames : List Content) (gone received : List ℕ) (calls : List DecoderCall) (held : Held) → Wrote frames gone []
     → Travels gone received (Some []) (Some [])
     → Happened 65536 calls held → fed calls ≡ received → NoFrame 65536 held.octets → given calls ≡ frames
 all_given frames gone received calls held wrote travels happened e none =

@@ -1,7 +1,7 @@
 -- What a server's frame tells a client.
 use Rattle.std.specs.Prelude.{◌≡◌, ℕ, ◌&&◌, Bool, true, false, if◌then◌else◌, is_some, List, codes, Option, Some, None, Result, Ok, Err}
 use Rattle.std.specs.String.{string_bytes}
-use Rattle.receipts.specs.Books.{Book, open_under}
+use Rattle.receipts.specs.Books.{ReceiptBook, open_under}
 use Rattle.stomp_frame.specs.declared.command.Command.{Command}
 use Rattle.stomp_frame.specs.declared.command.Command.TheVariants as command
 use Rattle.stomp_frame.specs.Frames.{Content, value_of}
@@ -9,8 +9,8 @@ use Rattle.stomp_client.specs.declared.fault.ClientFault.{ClientFault}
 use Rattle.stomp_client.specs.declared.fault.ClientFault.TheVariants as fault
 use Rattle.stomp_client.specs.declared.session.Stage.{Stage}
 use Rattle.stomp_client.specs.declared.session.Stage.TheVariants.{Connecting, Connected, Closed}
-use Rattle.stomp_client.specs.declared.event.Event.{Event}
-use Rattle.stomp_client.specs.declared.event.Event.TheVariants as event
+use Rattle.stomp_client.specs.declared.event.ClientEvent.{ClientEvent}
+use Rattle.stomp_client.specs.declared.event.ClientEvent.TheVariants as event
 use Rattle.stomp_client.specs.Numbers.{number_of}
 use Rattle.stomp_client.specs.Frames.{text_or_empty}
 use Rattle.stomp_client.specs.Delivered.{is_whole, IsDelivered}
@@ -42,7 +42,7 @@ receipt_number f = number_in (value_of (codes "receipt-id") f.headers)
 
 module _ {T : Type 0} where
   -- whether a receipt of this number is open
-  abbrev pub is_open : Book T → Option ℕ → Bool
+  abbrev pub is_open : ReceiptBook T → Option ℕ → Bool
   is_open book None = false
   is_open book (Some number) = is_some (open_under number book)
 
@@ -59,7 +59,7 @@ module _ {T : Type 0} where
   unaccepted c f = if is_closed c.stage then Some fault.Closed else if is_expected c f f.command then None else Some fault.Unexpected
 
   -- what an accepted frame tells, and the client after it
-  abbrev pub Tells : Content → Client T → Client T → Event T → Type 0
+  abbrev pub Tells : Content → Client T → Client T → ClientEvent T → Type 0
   Tells f old new event.Connected = (f.command ≡ command.Connected) × (new ≡ connected old)
   Tells f old new (event.Message message) = (message ≡ f) × IsDelivered message × (new ≡ old)
   Tells f old new (event.Receipt number tag) = (f.command ≡ command.Receipt) × (receipt_number f ≡ Some number)
@@ -68,7 +68,7 @@ module _ {T : Type 0} where
       × (string_bytes text ≡ text_or_empty (value_of (codes "message") f.headers)) × (new ≡ closing old)
 
   -- What accepting a frame does and answers: an event, or why it isn't accepted. One that is unexpected closes the session.
-  abbrev pub Accepts : Content → Client T → Client T → Result (Event T) ClientFault → Type 0
+  abbrev pub Accepts : Content → Client T → Client T → Result (ClientEvent T) ClientFault → Type 0
   Accepts f old new (Ok event) = (unaccepted old f ≡ None) × Tells f old new event
   Accepts f old new (Err fault.Closed) = (unaccepted old f ≡ Some fault.Closed) × (new ≡ old)
   Accepts f old new (Err fault.Unexpected) = (unaccepted old f ≡ Some fault.Unexpected) × (new ≡ closing old)

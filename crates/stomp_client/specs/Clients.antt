@@ -1,6 +1,6 @@
 -- A client's session, as contracts see it.
 use Rattle.std.specs.Prelude.{ℕ, ◌+◌, List, [], ◌++◌, drop}
-use Rattle.receipts.specs.Books.{Book, new_book, opened, closed}
+use Rattle.receipts.specs.Books.{ReceiptBook, new_book, opened, closed}
 use Rattle.stomp_frame.specs.declared.command.Command.TheVariants.{Begin}
 use Rattle.stomp_frame.specs.Frames.{Content, canonical}
 use Rattle.stomp_client.specs.declared.session.Stage.{Stage}
@@ -11,11 +11,11 @@ use Rattle.stomp_client.specs.Frames.{connect_frame, transaction_frame, with_rec
 pub record Client (T : Type 0) : Type 0 where
   pub stage : Stage
   pub out : List ℕ
-  pub receipts : Book T
+  pub receipts : ReceiptBook T
   pub transactions : ℕ
 
 -- a client, and how many more octets can be appended without memory
-pub record Seen (T : Type 0) : Type 0 where
+pub record ClientWithRoom (T : Type 0) : Type 0 where
   pub client : Client T
   pub room : ℕ
 

@@ -4,7 +4,7 @@ use stomp_frame::Frame;
 
 /// What a server's frame tells.
 #[derive(Debug, Drop)]
-pub enum Event<T: Drop> {
+pub enum ClientEvent<T: Drop> {
     /// The session is connected.
     Connected,
     /// A MESSAGE for a subscription. It has a `destination`, a `message-id`, a `subscription` and an `ack`.

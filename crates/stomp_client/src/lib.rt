@@ -2,8 +2,8 @@
 //!
 //! Each call that writes appends one canonical frame to [`ClientSession::out`], or answers a fault and leaves the session as it was. So
 //! what was written over any calls is the canonical text of the calls' frames, one behind the other, and a server's decoder reads exactly
-//! these, however their text is cut on its way: [`what_a_client_wrote_is_read`]. A server's frame tells one [`Event`]; one that no server
-//! may send then closes the session. Accepting takes no memory.
+//! these, however their text is cut on its way: [`what_a_client_wrote_is_read`]. A server's frame tells one [`ClientEvent`]; one that no
+//! server may send then closes the session. Accepting takes no memory.
 //!
 //! ```text
 //! connect               CONNECT accept-version:1.2 host:outbox
@@ -29,7 +29,7 @@ mod laws;
 mod numbers;
 mod session;
 
-pub use event::Event;
+pub use event::ClientEvent;
 pub use fault::ClientFault;
 pub use frames::{answer_frame, connect_frame, in_transaction, subscribe_frame, transaction_frame};
 pub use laws::{

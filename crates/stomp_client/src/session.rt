@@ -21,7 +21,7 @@ use crate::frames::{
     answer_frame, connect_frame, in_transaction, subscribe_frame, transaction_frame, with_number,
 };
 use crate::numbers::read_number;
-use crate::{ClientFault, Event};
+use crate::{ClientEvent, ClientFault};
 use receipts::Receipts;
 use std::alloc::{AllocError, Global};
 use std::marker::Model;
@@ -53,9 +53,9 @@ pub struct ClientSession<T: Drop> {
 }
 
 impl<T: Drop> Model for ClientSession<T> {
-    ghost use Rattle.stomp_client.specs.Clients.{Seen};
+    ghost use Rattle.stomp_client.specs.Clients.{ClientWithRoom};
 
-    ghost Value = { Seen T };
+    ghost Value = { ClientWithRoom T };
 
     ghost view = { λ s. record {
       client = record { stage = s.stage; out = s.out.octets; receipts = s.receipts; transactions = s.transactions };
@@ -349,7 +349,7 @@ impl<T: Drop> ClientSession<T> {
     /// - `Unexpected` where no server may send the frame now, and then the session is closed: a client's command; CONNECTED but for the one
     ///   that answers CONNECT; before CONNECTED any other but ERROR; a RECEIPT whose number isn't open; a MESSAGE without `destination`,
     ///   `message-id`, `subscription` or `ack`.
-    pub fn accept(&mut self, frame: Frame) -> Result<Event<T>, ClientFault>
+    pub fn accept(&mut self, frame: Frame) -> Result<ClientEvent<T>, ClientFault>
         ensures accepts { Accepts frame self.old.client self.new.client result }
         ensures room { self.new.room ≡ self.old.room }
     {
@@ -375,7 +375,7 @@ impl<T: Drop> ClientSession<T> {
         ClientFault::Unexpected
     }
 
-    fn accept_connected(&mut self, frame: Frame) -> Result<Event<T>, ClientFault>
+    fn accept_connected(&mut self, frame: Frame) -> Result<ClientEvent<T>, ClientFault>
         requires command { frame.command ≡ Connected }
         requires stage { is_closed self.old.client.stage ≡ false }
         ensures accepts { Accepts frame self.old.client self.new.client result }
@@ -385,10 +385,10 @@ impl<T: Drop> ClientSession<T> {
             return Err(self.refuse());
         }
         self.stage = Stage::Connected;
-        Ok(Event::Connected)
+        Ok(ClientEvent::Connected)
     }
 
-    fn accept_message(&mut self, frame: Frame) -> Result<Event<T>, ClientFault>
+    fn accept_message(&mut self, frame: Frame) -> Result<ClientEvent<T>, ClientFault>
         requires command { frame.command ≡ Message }
         requires stage { is_closed self.old.client.stage ≡ false }
         ensures accepts { Accepts frame self.old.client self.new.client result }
@@ -397,10 +397,10 @@ impl<T: Drop> ClientSession<T> {
         if self.stage != Stage::Connected || !is_whole(&frame) {
             return Err(self.refuse());
         }
-        Ok(Event::Message(frame))
+        Ok(ClientEvent::Message(frame))
     }
 
-    fn accept_receipt(&mut self, frame: Frame) -> Result<Event<T>, ClientFault>
+    fn accept_receipt(&mut self, frame: Frame) -> Result<ClientEvent<T>, ClientFault>
         requires command { frame.command ≡ Receipt }
         requires stage { is_closed self.old.client.stage ≡ false }
         ensures accepts { Accepts frame self.old.client self.new.client result }
@@ -413,12 +413,12 @@ impl<T: Drop> ClientSession<T> {
             return Err(self.refuse());
         };
         match self.receipts.close(number) {
-            Some(tag) => Ok(Event::Receipt(number, tag)),
+            Some(tag) => Ok(ClientEvent::Receipt(number, tag)),
             None => Err(self.refuse()),
         }
     }
 
-    fn accept_error(&mut self, frame: Frame) -> Event<T>
+    fn accept_error(&mut self, frame: Frame) -> ClientEvent<T>
         requires command { frame.command ≡ Error }
         requires stage { is_closed self.old.client.stage ≡ false }
         ensures accepts { Accepts frame self.old.client self.new.client (Ok result) }
@@ -427,7 +427,7 @@ impl<T: Drop> ClientSession<T> {
         let (_, headers, _) = frame.into_parts();
         let text = first_value(self.alloc, headers, "message");
         self.stage = Stage::Closed;
-        Event::Error(text)
+        ClientEvent::Error(text)
     }
 }
 

@@ -1,7 +1,7 @@
 //! The decoder: frames from the pieces of a text.
 
 ghost use Rattle.std.specs.Prelude.{◌≡◌, ◌<◌, ◌^◌, [], length, false};
-ghost use Rattle.stomp_frame.specs.Decoding.{Nexts, Feeds};
+ghost use Rattle.stomp_frame.specs.Decoding.{Nexts, FeedsDecoder};
 
 use crate::reading::{Found, Progress, after_gap, read_frame};
 use crate::{Frame, FrameFault};
@@ -64,7 +64,7 @@ impl Decoder {
     /// - `Memory` where a growth was refused, never for a piece of no octets;
     /// - `Failed` where `next` has answered a fault of the text.
     pub fn feed(&mut self, piece: &[u8]) -> Result<(), FrameFault>
-        ensures { Feeds self.old self.new piece.now result }
+        ensures { FeedsDecoder self.old self.new piece.now result }
     {
         if self.failed {
             return Err(FrameFault::Failed);

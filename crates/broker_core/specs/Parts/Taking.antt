@@ -3,7 +3,7 @@ use Rattle.std.specs.Prelude.{◌≡◌, ◌≢◌, ◌⊎◌, ℕ, ◌+◌, ◌
 use Rattle.stomp_frame.specs.declared.fault.FrameFault.{FrameFault}
 use Rattle.stomp_frame.specs.declared.fault.FrameFault.TheVariants.{Memory}
 use Rattle.broker_tx.specs.First.{IsFirstAt, PassesNone}
-use Rattle.broker_core.specs.Feeding.{TakesFrame, HasNone, MeetsFault, with_incoming, with_waiting, taking, Handles, HandlesAll, Ends}
+use Rattle.broker_core.specs.Feeding.{DecidesNext, HasNone, MeetsFault, with_incoming, with_waiting, taking, Handles, HandlesAll, Ends}
 use Rattle.broker_core.specs.Feeding.{Stops}
 use Rattle.broker_core.specs.Feeding.{fed, Settles, Dealing, IsOpen, FeedsNone}
 use Rattle.broker_core.specs.Performing.{Reach, queue_refusal, transaction_refusal}
@@ -12,7 +12,7 @@ use Rattle.broker_core.specs.declared.fault.BrokerFault.{BrokerFault}
 use Rattle.broker_core.specs.declared.fault.BrokerFault.TheVariants.{Memory as OutOfMemory}
 use Rattle.broker_core.specs.declared.fault.HandlerFault.{HandlerFault}
 use Rattle.broker_core.specs.declared.fault.HandlerFault.TheVariants.{Refused as IsRefused, Memory as HasNoMemory}
-use Rattle.broker_core.specs.declared.fault.Refusal.{Refusal}
+use Rattle.broker_core.specs.declared.fault.FrameRefusal.{FrameRefusal}
 use Rattle.broker_core.specs.declared.incoming.Incoming.{Incoming}
 use Rattle.broker_core.specs.declared.incoming.Next.{Next}
 use Rattle.broker_core.specs.declared.incoming.Next.TheVariants.{Frame, Nothing, Fault}
@@ -25,7 +25,7 @@ use Rattle.broker_tx.specs.declared.fault.TransactionFault.TheVariants.{Memory a
 -- ---- handlers
 
 -- a request was done; it was refused, or memory was, and nothing has changed
-abbrev pub Performs : Result Reach Refusal → Reach → Reach → Result (Unit {0}) HandlerFault → Type 0
+abbrev pub Performs : Result Reach FrameRefusal → Reach → Reach → Result (Unit {0}) HandlerFault → Type 0
 Performs step old new (Ok _) = step ≡ Ok new
 Performs step old new (Err (IsRefused refusal)) = (step ≡ Err refusal) × (new ≡ old)
 Performs step old new (Err HasNoMemory) = new ≡ old
@@ -56,7 +56,7 @@ SessionPieceAnswer piece old new (Err _) = (old.closed ≡ false) × (old.incomi
 
 -- the next frame was taken and decided, or there is none, or a fault; where memory was refused nothing has changed
 abbrev pub NextAnswer : {E : Type 0} → Bool → Incoming → Incoming → Result Next E → Type 0
-NextAnswer connected old new (Ok (Frame decided)) = TakesFrame connected old decided new
+NextAnswer connected old new (Ok (Frame decided)) = DecidesNext connected old decided new
 NextAnswer connected old new (Ok Nothing) = HasNone old new
 NextAnswer connected old new (Ok Fault) = MeetsFault old new
 NextAnswer connected old new (Err _) = new ≡ old

@@ -1,7 +1,7 @@
 -- What a shelf does with the fates of its messages.
 use Rattle.std.specs.Prelude.{ℕ, ◌+◌, ◌-◌, Bool, false, ◌&&◌, if◌then◌else◌, List, Option, Some, None}
 use Rattle.broker_book.specs.declared.parts.Subscription.{Subscription}
-use Rattle.broker_book.specs.Books.{Fate, Ready, Out, Message, out_to}
+use Rattle.broker_book.specs.Books.{Fate, Ready, Out, QueuedMessage, out_to}
 use Rattle.broker_book.specs.Books.{out_as}
 use Rattle.broker_book.specs.Steps.{covered}
 use Rattle.broker_index.specs.Index.{Kept, Subscriber}
@@ -24,7 +24,7 @@ abbrev pub recounted : Option Fate → Option Fate → Subscriber → Subscriber
 recounted before after s = record s { count = (s.count + counts_for s after) - counts_for s before }
 
 -- how much a message counts in a test, none for nothing
-abbrev pub weight : (Message → Bool) → Option Message → ℕ
+abbrev pub weight : (QueuedMessage → Bool) → Option QueuedMessage → ℕ
 weight test None = 0
 weight test (Some m) = if test m then 1 else 0
 

@@ -8,7 +8,7 @@ use Rattle.std.specs.Str.{bytes_eq}
 use Rattle.base.specs.declared.limits.TheConstants.{MAX_UNANSWERED}
 use Rattle.broker_book.specs.declared.parts.Sent.{Sent}
 use Rattle.broker_book.specs.declared.parts.Subscription.{Subscription}
-use Rattle.broker_book.specs.Books.{Message, Fate, Ready, Out, out_to, is_for, is_named, is_auto}
+use Rattle.broker_book.specs.Books.{QueuedMessage, Fate, Ready, Out, out_to, is_for, is_named, is_auto}
 use Rattle.broker_index.specs.Index.{Kept, has_number, is_place_of, Subscriber, has_age, Queue, opened}
 use Rattle.broker_index.specs.declared.places.Entry.{Entry}
 use Rattle.broker_index.specs.declared.places.Place.{Place}
@@ -16,16 +16,16 @@ use Rattle.broker_index.specs.declared.places.Place.{Place}
 -- ---- the book that the parts stand for
 
 -- a kept message as the book has it: not at all, where it is gone
-abbrev pub living_as : ℕ → Sent → Option Fate → Option Message
+abbrev pub living_as : ℕ → Sent → Option Fate → Option QueuedMessage
 living_as number sent None = None
 living_as number sent (Some fate) = Some (record { number = number; sent = sent; fate = fate })
 
 -- the same of a kept message
-abbrev pub message_of : Kept → Option Message
+abbrev pub message_of : Kept → Option QueuedMessage
 message_of k = living_as k.number k.sent k.fate
 
 -- the messages that aren't gone
-abbrev pub living_of : List Kept → List Message
+abbrev pub living_of : List Kept → List QueuedMessage
 living_of kept = filter_map message_of kept
 
 -- the subscriptions of the subscribers

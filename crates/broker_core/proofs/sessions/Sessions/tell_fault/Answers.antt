@@ -1,7 +1,7 @@
 use Rattle.std.proofs.Common.{refl, None}
 use Rattle.broker_tx.proofs.Places.{on_ok}
 use Rattle.broker_core.specs.Serving.{refused}
-use Rattle.broker_core.specs.declared.fault.Refusal.TheVariants.{BadFrame}
+use Rattle.broker_core.specs.declared.fault.FrameRefusal.TheVariants.{BadFrame}
 use Rattle.broker_core.proofs.Places.{part_at}
 use Rattle.broker_core.proofs.Rising.{kept_part}
 use Rattle.broker_core.proofs.sessions.Sessions.tell_fault.Goals as goal

@@ -2,7 +2,7 @@ use Rattle.std.proofs.Common.{arith, subst, Option, Err, Ok}
 use Rattle.std.proofs.lemmas.Result.{err_from_is_err_and}
 use Rattle.keep.specs.declared.change.Place.{Place}
 use Rattle.keep.specs.Pages.{place_behind}
-use Rattle.relay.specs.Filling.{marks_of, connection}
+use Rattle.relay.specs.Filling.{marks_of, send_state}
 use Rattle.relay.specs.Parts.Pages.{Moves}
 use Rattle.relay.proofs.Paging.{page_unread_of, filling_rises, rises_with}
 use Rattle.relay.proofs.Paging.{page_full, page_short, page_more, page_stopped, page_moved, same_connection, goes_part, goes_whole}
@@ -12,7 +12,7 @@ pub returns-in-Err-clause-fills : goal.returns-in-Err-clause-fills
 returns-in-Err-clause-fills g c =
     page_moved (same_connection c.fill_letters.new.self c.go_behind_sent.new.self c.fill_letters.new.client c.go_behind_sent.ensures.marks)
     (page_stopped _ _ c.args.self.now.behind c.go_behind_sent.new.self.behind c.args.page c.args.limit c.in_ok-rows.rows.items
-    (connection c.args.self.now c.args.client.now) (connection c.fill_letters.new.self c.fill_letters.new.client)
+    (send_state c.args.self.now c.args.client.now) (send_state c.fill_letters.new.self c.fill_letters.new.client)
     (λ clean. (c.in_ok-rows.ensures.read.clean clean).0) c.in-Err.fault (rw c.deref.ensures.value at c.in-Err.ensures.fills))
 
 pub returns-in-Err-clause-sent : goal.returns-in-Err-clause-sent
@@ -25,7 +25,7 @@ pub returns-then-sent-limit-clause-fills : goal.returns-then-sent-limit-clause-f
 returns-then-sent-limit-clause-fills g c =
     page_moved (same_connection c.fill_letters.new.self c.go_behind_sent-then-sent-limit.new.self c.fill_letters.new.client c.go_behind_sent-then-sent-limit.ensures.marks)
     (page_full _ _ c.args.self.now.behind c.go_behind_sent-then-sent-limit.new.self.behind c.args.page c.args.limit c.in_ok-rows.rows.items
-    (connection c.args.self.now c.args.client.now) (connection c.fill_letters.new.self c.fill_letters.new.client)
+    (send_state c.args.self.now c.args.client.now) (send_state c.fill_letters.new.self c.fill_letters.new.client)
     (λ clean. (c.in_ok-rows.ensures.read.clean clean).0) c.in-Ok.sent (rw c.deref.ensures.value at c.in-Ok.ensures.fills)
     c.if-sent-limit.true)
 
@@ -39,7 +39,7 @@ pub returns-then-len-page-clause-fills : goal.returns-then-len-page-clause-fills
 returns-then-len-page-clause-fills g c =
     page_moved (same_connection c.fill_letters.new.self c.go_behind.new.self c.fill_letters.new.client c.go_behind.ensures.marks)
     (page_short _ _ c.args.self.now.behind c.go_behind.new.self.behind c.args.page c.args.limit c.in_ok-rows.rows.items
-    (connection c.args.self.now c.args.client.now) (connection c.fill_letters.new.self c.fill_letters.new.client)
+    (send_state c.args.self.now c.args.client.now) (send_state c.fill_letters.new.self c.fill_letters.new.client)
     (λ clean. (c.in_ok-rows.ensures.read.clean clean).0) c.in-Ok.sent (rw c.deref.ensures.value at c.in-Ok.ensures.fills)
     c.if-sent-limit.false (omega (arith, c.len.ensures, c.if-len-page.true)))
 
@@ -53,7 +53,7 @@ pub returns-clause-fills : goal.returns-clause-fills
 returns-clause-fills g c =
     page_moved (same_connection c.fill_letters.new.self c.go_behind-2.new.self c.fill_letters.new.client c.go_behind-2.ensures.marks)
     (page_more _ _ c.args.self.now.behind c.go_behind-2.new.self.behind c.args.page c.args.limit c.in_ok-rows.rows.items
-    (connection c.args.self.now c.args.client.now) (connection c.fill_letters.new.self c.fill_letters.new.client)
+    (send_state c.args.self.now c.args.client.now) (send_state c.fill_letters.new.self c.fill_letters.new.client)
     (λ clean. (c.in_ok-rows.ensures.read.clean clean).0) c.in-Ok.sent (rw c.deref.ensures.value at c.in-Ok.ensures.fills)
     c.if-sent-limit.false
     (subst (λ (x : Option Place). Moves (marks_of c.fill_letters.new.self) (place_behind x c.in_ok-rows.rows.items)
@@ -68,29 +68,29 @@ returns-clause-sent g c clean sent =
 pub returns-in_err-rows-clause-fills : goal.returns-in_err-rows-clause-fills
 returns-in_err-rows-clause-fills g c =
     let p = err_from_is_err_and c.from_residual.result c.from_residual.ensures.1 in
-    page_unread_of _ _ c.args.self.now.behind c.args.self.now.behind c.args.limit (connection c.args.self.now c.args.client.now) _
+    page_unread_of _ _ c.args.self.now.behind c.args.self.now.behind c.args.limit (send_state c.args.self.now c.args.client.now) _
     c.from_residual.result p.0 p.1 p.2
 
 pub returns-in-Err-clause-rises : goal.returns-in-Err-clause-rises
 returns-in-Err-clause-rises g c =
     rises_with c.fill_letters.new.self c.go_behind_sent.new.self c.go_behind_sent.ensures.marks
-    (filling_rises c.args.limit c.in_ok-rows.rows.items (connection c.args.self.now c.args.client.now) (connection c.fill_letters.new.self c.fill_letters.new.client) (Err c.in-Err.fault)
+    (filling_rises c.args.limit c.in_ok-rows.rows.items (send_state c.args.self.now c.args.client.now) (send_state c.fill_letters.new.self c.fill_letters.new.client) (Err c.in-Err.fault)
     (rw c.deref.ensures.value at c.in-Err.ensures.fills))
 
 pub returns-then-sent-limit-clause-rises : goal.returns-then-sent-limit-clause-rises
 returns-then-sent-limit-clause-rises g c =
     rises_with c.fill_letters.new.self c.go_behind_sent-then-sent-limit.new.self c.go_behind_sent-then-sent-limit.ensures.marks
-    (filling_rises c.args.limit c.in_ok-rows.rows.items (connection c.args.self.now c.args.client.now) (connection c.fill_letters.new.self c.fill_letters.new.client) (Ok c.in-Ok.sent)
+    (filling_rises c.args.limit c.in_ok-rows.rows.items (send_state c.args.self.now c.args.client.now) (send_state c.fill_letters.new.self c.fill_letters.new.client) (Ok c.in-Ok.sent)
     (rw c.deref.ensures.value at c.in-Ok.ensures.fills))
 
 pub returns-then-len-page-clause-rises : goal.returns-then-len-page-clause-rises
 returns-then-len-page-clause-rises g c =
     rises_with c.fill_letters.new.self c.go_behind.new.self c.go_behind.ensures.marks
-    (filling_rises c.args.limit c.in_ok-rows.rows.items (connection c.args.self.now c.args.client.now) (connection c.fill_letters.new.self c.fill_letters.new.client) (Ok c.in-Ok.sent)
+    (filling_rises c.args.limit c.in_ok-rows.rows.items (send_state c.args.self.now c.args.client.now) (send_state c.fill_letters.new.self c.fill_letters.new.client) (Ok c.in-Ok.sent)
     (rw c.deref.ensures.value at c.in-Ok.ensures.fills))
 
 pub returns-clause-rises : goal.returns-clause-rises
 returns-clause-rises g c =
     rises_with c.fill_letters.new.self c.go_behind-2.new.self c.go_behind-2.ensures.marks
-    (filling_rises c.args.limit c.in_ok-rows.rows.items (connection c.args.self.now c.args.client.now) (connection c.fill_letters.new.self c.fill_letters.new.client) (Ok c.in-Ok.sent)
+    (filling_rises c.args.limit c.in_ok-rows.rows.items (send_state c.args.self.now c.args.client.now) (send_state c.fill_letters.new.self c.fill_letters.new.client) (Ok c.in-Ok.sent)
     (rw c.deref.ensures.value at c.in-Ok.ensures.fills))

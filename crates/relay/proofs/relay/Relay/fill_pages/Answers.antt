@@ -1,6 +1,6 @@
 use Rattle.std.proofs.Common.{ℕ, Ok, Bool, ◌∙◌, inl, inr, refl, arith}
 use Rattle.std.specs.Prelude.{⊤}
-use Rattle.relay.specs.Filling.{marks_of, connection}
+use Rattle.relay.specs.Filling.{marks_of, send_state}
 use Rattle.relay.proofs.Paging.{one_page_more, last_page, stopped_page, earlier, same_tables, read_again, stays_again, some_read, sent_on}
 use Rattle.relay.specs.Calls.{store_end}
 use Rattle.std.proofs.Common.{Err}
@@ -11,8 +11,8 @@ pub returns-in-Err-clause-fills : goal.returns-in-Err-clause-fills
 returns-in-Err-clause-fills g c =
     let had = c.loop-page.invariant.0 in
     let d = c.in-Err.ensures.read.doubt in
-    stopped_page _ c.args.limit (connection c.args.self.now c.args.client.now) _ _ _ _ (connection c.pass_over.new.self c.loop-page.client)
-    (connection c.fill_page.new.self c.fill_page.new.client) c.loop-page.count c.pass_over.new.self.behind c.fill_page.new.self.behind
+    stopped_page _ c.args.limit (send_state c.args.self.now c.args.client.now) _ _ _ _ (send_state c.pass_over.new.self c.loop-page.client)
+    (send_state c.fill_page.new.self c.fill_page.new.client) c.loop-page.count c.pass_over.new.self.behind c.fill_page.new.self.behind
     (passed_filled _ _ _ _ c.loop-page.self c.pass_over.new.self
     c.loop-page.client c.loop-page.count c.loop-page.invariant.1 c.pass_over.ensures.marks
     (λ clean. c.pass_over.ensures.skips _ (risen_but _ _ _ _ _ c.loop-page.invariant.4 clean.2))) (λ clean. (earlier _ _ d clean.0, clean.1, clean.2)) (λ clean. clean.0)
@@ -38,9 +38,9 @@ loop-page-preserved g c =
             c.in-Ok.done tt c.in-Ok.ensures.read),
         stays_again g.K.Keep.seen c.args.endpoint.now c.loop-page.endpoint c.fill_page.new.endpoint had d c.in-Ok.ensures.stays,
       ),
-      one_page_more _ c.args.limit (connection c.args.self.now c.args.client.now) _ _ _ _
-          (connection c.pass_over.new.self c.loop-page.client)
-          (connection c.fill_page.new.self c.fill_page.new.client) c.loop-page.count c.pass_over.new.self.behind
+      one_page_more _ c.args.limit (send_state c.args.self.now c.args.client.now) _ _ _ _
+          (send_state c.pass_over.new.self c.loop-page.client)
+          (send_state c.fill_page.new.self c.fill_page.new.client) c.loop-page.count c.pass_over.new.self.behind
           c.fill_page.new.self.behind (passed_filled _ _ _ _ c.loop-page.self c.pass_over.new.self
           c.loop-page.client c.loop-page.count c.loop-page.invariant.1 c.pass_over.ensures.marks
           (λ clean. c.pass_over.ensures.skips _ (risen_but _ _ _ _ _ c.loop-page.invariant.4 clean.2))) (λ clean. (earlier _ _ d clean.0, clean.1, clean.2)) (λ clean. clean.0)
@@ -60,8 +60,8 @@ pub returns-in-Err-fill_page-clause-fills : goal.returns-in-Err-fill_page-clause
 returns-in-Err-fill_page-clause-fills g c =
     let had = c.loop-page.invariant.0 in
     let d = c.in-Err-fill_page.ensures.read.doubt in
-    stopped_page _ c.args.limit (connection c.args.self.now c.args.client.now) _ _ _ _ (connection c.loop-page.self c.loop-page.client)
-    (connection c.fill_page-2.new.self c.fill_page-2.new.client) c.loop-page.count c.loop-page.self.behind
+    stopped_page _ c.args.limit (send_state c.args.self.now c.args.client.now) _ _ _ _ (send_state c.loop-page.self c.loop-page.client)
+    (send_state c.fill_page-2.new.self c.fill_page-2.new.client) c.loop-page.count c.loop-page.self.behind
     c.fill_page-2.new.self.behind c.loop-page.invariant.1 (λ clean. (earlier _ _ d clean.0, clean.1, clean.2)) (λ clean. clean.0)
     (λ clean. same_tables g.K.Keep.seen c.args.endpoint.now c.loop-page.endpoint c.fill_page-2.new.endpoint had d clean.0)
     c.in-Err-fill_page.fault c.in-Err-fill_page.ensures.fills
@@ -78,8 +78,8 @@ pub returns-clause-fills : goal.returns-clause-fills
 returns-clause-fills g c =
     let had = c.loop-page.invariant.0 in
     let d = c.in-Ok-fill_page.ensures.read.doubt in
-    last_page _ c.args.limit (connection c.args.self.now c.args.client.now) _ _ _ _ (connection c.loop-page.self c.loop-page.client)
-    (connection c.fill_page-2.new.self c.fill_page-2.new.client) c.loop-page.count c.loop-page.self.behind
+    last_page _ c.args.limit (send_state c.args.self.now c.args.client.now) _ _ _ _ (send_state c.loop-page.self c.loop-page.client)
+    (send_state c.fill_page-2.new.self c.fill_page-2.new.client) c.loop-page.count c.loop-page.self.behind
     c.fill_page-2.new.self.behind c.loop-page.invariant.1 (λ clean. (earlier _ _ d clean.0, clean.1, clean.2)) (λ clean. clean.0)
     (λ clean. same_tables g.K.Keep.seen c.args.endpoint.now c.loop-page.endpoint c.fill_page-2.new.endpoint had d clean.0)
     c.in-Ok-fill_page.done.0 c.in-Ok-fill_page.done.1 (c.in-Ok-fill_page.ensures.whole (omega arith)) c.in-Ok-fill_page.ensures.fills
@@ -95,7 +95,7 @@ returns-clause-sent g c clean start but =
 pub loop-page-init : goal.loop-page-init
 loop-page-init g c = (
   inl refl,
-  none_filled _ c.args.limit (connection c.args.self.now c.args.client.now) _ c.args.self.now.behind (λ clean. clean.1) c.requires,
+  none_filled _ c.args.limit (send_state c.args.self.now c.args.client.now) _ c.args.self.now.behind (λ clean. clean.1) c.requires,
   λ clean start but. start,
   refl,
   λ p. omega arith,
@@ -105,8 +105,8 @@ pub returns-then-not-more-clause-fills : goal.returns-then-not-more-clause-fills
 returns-then-not-more-clause-fills g c =
     let had = c.loop-page.invariant.0 in
     let d = c.in-Ok.ensures.read.doubt in
-    last_page _ c.args.limit (connection c.args.self.now c.args.client.now) _ _ _ _ (connection c.pass_over.new.self c.loop-page.client)
-    (connection c.fill_page.new.self c.fill_page.new.client) c.loop-page.count c.pass_over.new.self.behind c.fill_page.new.self.behind
+    last_page _ c.args.limit (send_state c.args.self.now c.args.client.now) _ _ _ _ (send_state c.pass_over.new.self c.loop-page.client)
+    (send_state c.fill_page.new.self c.fill_page.new.client) c.loop-page.count c.pass_over.new.self.behind c.fill_page.new.self.behind
     (passed_filled _ _ _ _ c.loop-page.self c.pass_over.new.self
     c.loop-page.client c.loop-page.count c.loop-page.invariant.1 c.pass_over.ensures.marks
     (λ clean. c.pass_over.ensures.skips _ (risen_but _ _ _ _ _ c.loop-page.invariant.4 clean.2))) (λ clean. (earlier _ _ d clean.0, clean.1, clean.2)) (λ clean. clean.0)

@@ -1,6 +1,6 @@
 use Rattle.std.proofs.Common.{◌≡◌, ◌≤◌}
 use Rattle.base.specs.declared.pair.Pair.{Pair}
-use Rattle.relay.specs.Filling.{marks_of, connection}
+use Rattle.relay.specs.Filling.{marks_of, send_state}
 use Rattle.relay.specs.Knowing.{AllSent}
 use Rattle.relay.specs.Parts.Pages.{HasRead, HasFilled}
 use Rattle.relay.specs.Parts.News.{SentBut}
@@ -12,7 +12,7 @@ invariant-loop-page g l = HasRead g.K.Keep.seen l.fn.endpoint l.endpoint
     × AllSent (marks_of l.fn.self) (g.K.Keep.seen l.fn.endpoint).tables.unsettled l.fn.self.behind
     × SentBut l.fn.news (marks_of l.fn.self) (g.K.Keep.seen l.fn.endpoint).tables.unsettled l.fn.reach)
     (g.K.Keep.seen l.fn.endpoint).tables.unsettled l.fn.limit
-    (connection l.fn.self l.fn.client) (connection l.self l.client) l.count l.self.behind
+    (send_state l.fn.self l.fn.client) (send_state l.self l.client) l.count l.self.behind
     × ((g.K.Keep.seen l.endpoint).doubt ≡ 0
     → AllSent (marks_of l.fn.self) (g.K.Keep.seen l.fn.endpoint).tables.unsettled l.fn.self.behind
     → SentBut l.fn.news (marks_of l.fn.self) (g.K.Keep.seen l.fn.endpoint).tables.unsettled l.fn.reach
