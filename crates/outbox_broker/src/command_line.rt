@@ -37,8 +37,8 @@ Limits:
   a connection  8,388,608 octets that its client doesn't read; then it is dropped
 
 Exit status:
-  1  `fault 2 Device`: the port can't be had, or the system refuses to wait for sockets;
-     `fault 34 Memory`: out of memory at the start
+  1  `fault 2 Device`: the port can't be had, or the system refuses to wait for sockets or to tell
+     the time; `fault 34 Memory`: out of memory at the start
   2  the words of the command line are at fault";
 
 /// What is told where a word of the command line isn't UTF-8.
