@@ -96,6 +96,7 @@ impl Relay {
 
     /// Sends of these letters, in their order, those that are above what was sent of their pairs on this connection, at most `limit`, and
     /// answers how many. Each SEND has the next receipt number, with the letter's number as its tag. Before CONNECTED it sends none.
+    /// The cursor stays where it is.
     ///
     /// # Errors
     /// `Closed` after the end of the session, and nothing is sent. Where a letter is due: `NumbersUsed` where the last receipt number is
@@ -111,6 +112,7 @@ impl Relay {
         ensures fills { client.old.client.stage ≡ Connected
             → FillsLetters limit letters.now (send_state self.old client.old) (send_state self.new client.new) result }
         ensures knows { (rows : ℕ) (messages : Messages) → KnowsRows self.old rows messages → KnowsRows self.new rows messages }
+        ensures cursor { (self.new.behind ≡ self.old.behind) × (self.new.rows ≡ self.old.rows) }
     {
         match client.stage() {
             Stage::Connected => self.fill_letters(client, letters, limit),
