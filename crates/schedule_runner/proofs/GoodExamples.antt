@@ -1,5 +1,5 @@
 -- Examples: worlds that are good, and why others aren't.
-use Rattle.std.proofs.Common.{◌≡◌, ◌≤◌, ℕ, ◌∷◌, length, Some, None, refl, sym, ap, subst, arith}
+use Rattle.std.proofs.Common.{◌≡◌, ◌≤◌, ℕ, [], ◌∷◌, length, Some, None, refl, sym, ap, subst, arith}
 use Rattle.std.specs.List.{AllByRecursion}
 use Rattle.base.specs.Order.{same_entity, same_pair}
 use Rattle.base.specs.declared.entity.Kind.TheVariants.{Stock}
@@ -8,8 +8,9 @@ use Rattle.envelope.specs.declared.message.Envelope.TheVariants.{Letter as OfLet
 use Rattle.envelope.specs.declared.message.Letter.{Letter}
 use Rattle.envelope.specs.declared.message.Message.TheVariants.{Request}
 use Rattle.keep.specs.Tables.{empty, set_message}
+use Rattle.endpoint.specs.Arrivals.{row_of_letter}
 use Rattle.endpoint.specs.Deeds.{TakesIn}
-use Rattle.endpoint.proofs.Examples.{bolts, from_order, placing}
+use Rattle.endpoint.proofs.Examples.{o1, bolts, from_order, placing}
 use Rattle.endpoint.proofs.CallExamples.{before, after, before_matches, taken_in}
 use Rattle.accord.specs.Deeds.{Turns, OfPurchasing, ComesOf}
 use Rattle.accord.specs.Good.{IsGenuine}
@@ -29,6 +30,10 @@ asks n = record { pair = from_order bolts; number = 1; message = Request n }
 -- a warehouse that holds such a letter
 abbrev holding : Letter → StockTables
 holding l = record empty { held = set_message l.pair l.number (Some l.message) (λ _ _. None) }
+
+-- a warehouse that took that letter in
+abbrev asked : StockTables
+asked = record empty { journal = row_of_letter (asks 3) ∷ [] }
 
 -- the tables of all three, with none of billing
 abbrev with_stocks : OrderTables → StockTables → AllTables
@@ -121,14 +126,24 @@ module _ (any : TheWorld) where
 
   -- ---- what stays
 
-  -- the order is placed, and the world stays good and agrees; no event leaves a letter held that nobody sent
+  -- the order is placed, and the world stays good and agrees; no event leaves a letter held that nobody sent, nor a line of an order at a
+  -- stock where the order wasn't placed
   worlds_stay_good : StaysGood seen seen seen new done × Agrees seen seen seen new done
       × (StaysGood seen seen seen new (world any before (holding (asks 3))) → ⊥)
+      × (Agrees seen seen seen new (world any before asked) → ⊥)
+  unfolding same_entity
   worlds_stay_good = (
     stays,
     good_agree seen seen seen new done stays,
     λ h. services_are_not_good.1 (h (refl, refl, refl) (matches any before before_matches) worlds_are_good.0),
+    no_line,
   )
     where
       stays : StaysGood seen seen seen new done
       stays clean match good = worlds_are_good.1
+
+      no_line : Agrees seen seen seen new (world any before asked) → ⊥
+      no_line h =
+          let all = h (refl, refl, refl) (matches any before before_matches) worlds_are_good.0 in
+          let here = all (with_stocks before asked) (leaves before asked) in
+          let none = (here.agree o1 refl).nowhere_else bolts (λ partner. partner) in absurd (cc)

@@ -1,5 +1,5 @@
 -- Examples: what is shown of a world in which an order was placed.
-use Rattle.std.proofs.Common.{◌≡◌, ◌∙◌, ℕ, [], ◌∷◌, length, None, Result, Ok, Err, refl, sym, ap, subst, arith}
+use Rattle.std.proofs.Common.{◌≡◌, ◌∙◌, ℕ, [], ◌∷◌, length, get_or, None, Result, Ok, Err, refl, sym, ap, subst, arith}
 use Rattle.std.specs.Fmt.{digits}
 use Rattle.std.specs.Prelude.{codes}
 use Rattle.std.specs.Global.{Vec}
@@ -15,18 +15,18 @@ use Rattle.keep.specs.Failing.{through}
 use Rattle.keep.specs.Law.{Reads}
 use Rattle.keep.specs.Tables.{Tables, empty}
 use Rattle.accord.specs.Sight.{OrderTables, StockTables, AccountTables}
-use Rattle.mail.specs.Offices.{new_office}
+use Rattle.mail.specs.Offices.{Office, new_office}
 use Rattle.schedules.specs.declared.event.Event.TheVariants as event
 use Rattle.schedules.specs.declared.event.ServiceName.TheVariants.{Purchasing, Warehouse, Billing}
 use Rattle.schedules.specs.declared.outcome.Outcome.{Outcome}
 use Rattle.schedules.specs.declared.outcome.Outcome.TheVariants as told
-use Rattle.showing.specs.Printed.{shown_or_none, shown_order, shown_order_command, shown_stock_command}
+use Rattle.showing.specs.Printed.{shown_or_none, shown_order, shown_order_command, shown_stock_command, pair_line}
 use Rattle.sites.specs.Outcomes.{fault_told}
 use Rattle.sites.specs.declared.site.Site.{Site}
 use Rattle.schedule_runner.specs.declared.looking.Listing.TheVariants.{Frames, Journal}
 use Rattle.schedule_runner.specs.declared.looking.Mark.TheVariants.{Sent, Settled, Handled}
 use Rattle.schedule_runner.specs.Looks.{mark_of, IsRow, AreListed, read_told, shown_told, ReadsSite}
-use Rattle.schedule_runner.specs.Shows.{Tells, Behind, ShowsLine, RowOf, ListOf, MarkOf, ShowsPair}
+use Rattle.schedule_runner.specs.Shows.{Tells, Behind, ShowsLine, RowOf, ListOf, MarkOf, Marks, ShowsPair, ShowsSettled, ShowsHandled}
 use Rattle.schedule_runner.specs.Steps.{Happened}
 use Rattle.schedule_runner.proofs.PathExamples.{seen, store, TheWorld, world}
 
@@ -67,6 +67,15 @@ module _ {H S C : Type 0} where
       by_answer (Ok x) tells reads = let is : x ≡ r = cc in other (subst (gives t) is (reads.clean refl).0)
       by_answer (Err fault) tells reads = absurd (cc)
 
+  -- what was read the tables give
+  read_is : {R : Type 0} (gives : Tables S C → R → Type 0) (r : R) (t : Tables S C) (u : Site H (Tables S C) S C) (to : Office)
+      → ReadsSite {H = H} seen gives (Ok r) (site t) new_office u to → gives t r
+  read_is {R} gives r t u to h = by_answer h.answer h.tells h.reads
+    where
+      by_answer : (a : Result R EndFault) → Ok r ≡ read_told a → Reads (through seen) (store t) u.endpoint gives (end_of a) → gives t r
+      by_answer (Ok x) tells reads = let is : x ≡ r = cc in subst (gives t) is (reads.clean refl).0
+      by_answer (Err fault) tells reads = absurd (cc)
+
 -- no fault shows lines
 not_shown : (lines : Vec ℕ) (f : EndFault) → told.Shown lines ≡ fault_told f → ⊥
 not_shown lines NotMine h = absurd (cc)
@@ -77,6 +86,14 @@ not_shown lines Memory h = absurd (cc)
 not_shown lines Unusable h = absurd (cc)
 not_shown lines NumberLimit h = absurd (cc)
 not_shown lines NotSent h = absurd (cc)
+
+not_read_shows : {H R S C : Type 0} (gives : Tables S C → R → Type 0) (o : Outcome) (s t : Site H (Tables S C) S C) (from to : Office)
+    (lines : Vec ℕ) → ReadsSite seen gives (Err o) s from t to → told.Shown lines ≡ o → ⊥
+not_read_shows {R} gives o s t from to lines h shown = by_answer h.answer h.tells
+  where
+    by_answer : (a : Result R EndFault) → Err o ≡ read_told a → ⊥
+    by_answer (Ok r) same = absurd (cc)
+    by_answer (Err f) same = let fault : o ≡ fault_told f = cc in not_shown lines f (shown ∙ fault)
 
 module _ (any : TheWorld) where
   -- the order was placed; and the world before that
@@ -211,3 +228,37 @@ module _ (any : TheWorld) where
       ),
       (Err (told.Refused 64), w, (no_memory _ after, refl, refl), (refl, refl)),
     )
+
+  -- no line is shown that tells of two letters, whatever is read behind their mark
+  module _ (line : Vec ℕ) (is : line.items ≡ codes "pair order/o1 stock/bolts sent 2 settled 0 handled 0\n") where
+    no_other_pair_is_shown : (ShowsPair seen seen seen (from_order bolts) (told.Shown line) w w → ⊥)
+        × (Marks seen seen seen Order Sent (from_order bolts) (λ n. ShowsLine (pair_line (from_order bolts) n 0 0)) (told.Shown line) w w
+        → ⊥)
+    unfolding digits same_entity same_pair
+    no_other_pair_is_shown = (by_pair, by_line)
+      where
+        differ : (m k : ℕ) → line.items ≡ pair_line (from_order bolts) 1 m k → ⊥
+        differ m k same = let digit : 50 ≡ 49 = ap (λ l. get_or l 31 0) (sym is ∙ same) in omega (arith, digit)
+
+        unlike : (n m k : ℕ) → n ≡ 1 → line.items ≡ pair_line (from_order bolts) n m k → ⊥
+        unlike n m k one same = differ m k (subst (λ x. line.items ≡ pair_line (from_order bolts) x m k) one same)
+
+        sent_is : (n : ℕ) (mid : TheWorld) → MarkOf seen seen seen Order Sent (from_order bolts) (Ok n) w mid → n ≡ 1
+        sent_is n mid mark = read_is (λ t x. x ≡ mark_of Sent t (from_order bolts)) n after mid.purchasing mid.mail mark.0
+
+        by_handled : (n m : ℕ) → n ≡ 1 → (a : TheWorld) → ShowsHandled seen seen seen (from_order bolts) n m (told.Shown line) a w → ⊥
+        by_handled n m one a (Ok k, mid, mark, behind) = unlike n m k one behind.0
+        by_handled n m one a (Err o, mid, mark, behind) = not_read_shows _ o a.warehouse mid.warehouse a.mail mid.mail line mark.0 behind.0
+
+        by_settled : (n : ℕ) → n ≡ 1 → (a : TheWorld) → ShowsSettled seen seen seen (from_order bolts) n (told.Shown line) a w → ⊥
+        by_settled n one a (Ok m, mid, mark, behind) = by_handled n m one mid behind
+        by_settled n one a (Err o, mid, mark, behind) = not_read_shows _ o a.purchasing mid.purchasing a.mail mid.mail line mark.0 behind.0
+
+        by_pair : ShowsPair seen seen seen (from_order bolts) (told.Shown line) w w → ⊥
+        by_pair (Ok n, mid, mark, behind) = by_settled n (sent_is n mid mark) mid behind
+        by_pair (Err o, mid, mark, behind) = not_read_shows _ o w.purchasing mid.purchasing w.mail mid.mail line mark.0 behind.0
+
+        by_line : Marks seen seen seen Order Sent (from_order bolts) (λ n. ShowsLine (pair_line (from_order bolts) n 0 0))
+            (told.Shown line) w w → ⊥
+        by_line (Ok n, mid, mark, behind) = unlike n 0 0 (sent_is n mid mark) behind.0
+        by_line (Err o, mid, mark, behind) = not_read_shows _ o w.purchasing mid.purchasing w.mail mid.mail line mark.0 behind.0

@@ -9,3 +9,9 @@ mod ChannelExamples
 mod HappeningExamples
 mod ConnectionExamples
 mod DeedExamples
+mod Framing
+mod WorkExamples
+mod FrameExamples
+mod LetterExamples
+mod OctetExamples
+mod OutboxExamples
