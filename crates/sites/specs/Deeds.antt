@@ -20,7 +20,8 @@ use Rattle.reception.specs.declared.fault.ReceptionFault.TheVariants.{End}
 use Rattle.reception.specs.declared.taken.Taken.TheVariants as taken
 use Rattle.schedules.specs.declared.event.ConnectionNumber.{ConnectionNumber}
 use Rattle.schedules.specs.declared.outcome.Outcome.{Outcome}
-use Rattle.schedules.specs.declared.outcome.Outcome.TheVariants.{Committed, Handled, Repeated, Held, Settled, Idle, Drained, Refused, NotDone}
+use Rattle.schedules.specs.declared.outcome.Outcome.TheVariants.{Committed, Handled, Repeated, Held, Settled, Idle, Drained, Refused}
+use Rattle.schedules.specs.declared.outcome.Outcome.TheVariants.{NotDone}
 use Rattle.sites.specs.Happenings.{command_row}
 use Rattle.sites.specs.Channels.{channel_of}
 use Rattle.sites.specs.SiteEvents.{SiteEvent, Commits, Takes, Drains}
