@@ -255,15 +255,30 @@ fn a_store_fails(alloc: Global) -> Result<Vec<Outcome>> {
     carry_out(alloc, &mut purchasing, &mut partner, &deliveries)
 }
 
-/// Letters between two services, which come early, late and again, and where a store fails as it takes one in.
-fn print_exchanges(rt: &impl Print, alloc: Global) -> Result<()> {
+/// Letters that come early and again, and whether all of them are handled then.
+fn print_exchange(
+    rt: &impl Print,
+    alloc: Global,
+    purchasing: &mut Endpoint<Orders, PlainKeep<Orders>>,
+    partner: &mut Endpoint<Rooms, Faulty<PlainKeep<Rooms>>>,
+) -> Result<()> {
+    let pair = room_pair(alloc)?;
+    let outcomes = what_comes_early_waits(alloc, purchasing, partner, &pair)?;
+    show(rt, "exchange", &outcomes)?;
+    let all = is_handled(alloc, purchasing, partner, &pair)?;
+    show(rt, "exchange", &all)
+}
+
+/// The same of purchasing, where an order was placed and cancelled, and a hotel.
+fn print_early_letters(rt: &impl Print, alloc: Global) -> Result<()> {
     let mut purchasing = cancelled(alloc)?;
     let mut partner = open_hotel(alloc);
-    let pair = room_pair(alloc)?;
-    let outcomes = what_comes_early_waits(alloc, &mut purchasing, &mut partner, &pair)?;
-    show(rt, "exchange", &outcomes)?;
-    let all = is_handled(alloc, &mut purchasing, &mut partner, &pair)?;
-    show(rt, "exchange", &all)?;
+    print_exchange(rt, alloc, &mut purchasing, &mut partner)
+}
+
+/// Letters between two services, which come early, late and again, and where a store fails as it takes one in.
+fn print_exchanges(rt: &impl Print, alloc: Global) -> Result<()> {
+    print_early_letters(rt, alloc)?;
     show(rt, "exchange", &a_store_fails(alloc)?)
 }
 
