@@ -6,8 +6,6 @@ use Rattle.stomp_frame.specs.declared.fault.FrameFault.{FrameFault}
 use Rattle.activities.specs.Service.{Service}
 use Rattle.keep.specs.Seen.{Seen}
 use Rattle.keep.specs.Tables.{Tables}
-use Rattle.relay.specs.Filling.{SendState}
-use Rattle.relay.specs.declared.fault.RelayFault.TheVariants as fault
 use Rattle.schedules.specs.declared.event.ConnectionNumber.{ConnectionNumber}
 use Rattle.schedules.specs.declared.outcome.Outcome.{Outcome}
 use Rattle.sites.specs.Happenings.{Falls, SendsRows, TakesFrame, TakesWhat, TakesOne, DrainsOver, DrainsOne, over, with_store, waiting_of}

@@ -6,7 +6,7 @@ use Rattle.schedules.specs.declared.event.ConnectionNumber.TheVariants.{Zero, On
 use Rattle.schedules.specs.declared.outcome.Outcome.{Outcome}
 use Rattle.schedules.specs.declared.outcome.Outcome.TheVariants.{Closed}
 use Rattle.sites.specs.Happenings.{IfOpen}
-use Rattle.sites.specs.Channels.{channel_of, with_channel, Same, Meets, TakesChannel}
+use Rattle.sites.specs.Channels.{channel_of, with_channel, Meets, TakesChannel}
 use Rattle.sites.specs.declared.fate.ChannelFate.{ChannelFate}
 use Rattle.sites.specs.declared.fate.ChannelFate.TheVariants.{Stays, IsCut, BothAreCut}
 use Rattle.sites.specs.declared.channel.Channel.{Channel}

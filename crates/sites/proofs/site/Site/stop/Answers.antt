@@ -1,4 +1,4 @@
-use Rattle.std.proofs.Common.{◌≡◌, None, refl, sym, ◌∙◌, subst}
+use Rattle.std.proofs.Common.{◌≡◌, refl, sym, ◌∙◌, subst}
 use Rattle.keep.specs.Failing.{through}
 use Rattle.endpoint.specs.Calls.{Finds}
 use Rattle.endpoint.specs.Deeds.{Nothing}
