@@ -31,8 +31,8 @@ use hotel::{RoomCommand, Rooms};
 use hotel_day::a_day_at_the_hotel;
 use keep::{Faulty, Keep, KeepFault, Leaves};
 use keep_plain::PlainKeep;
+use programs::open_world;
 use purchasing::Orders;
-use schedule_runner::World;
 use schedules::{ConnectionName, ConnectionNumber, ServiceName};
 use std::alloc::Global;
 use std::error::Error;
@@ -50,16 +50,7 @@ fn show<T: Debug>(rt: &impl Print, library: &str, told: &T) -> Result<()> {
 
 /// Opens a connection of a warehouse twice, in a world where nothing has happened yet.
 fn a_warehouse_stays_open(alloc: Global) -> bool {
-    let purchasing: Endpoint<Orders, Faulty<PlainKeep<Orders>>> = Endpoint::new(Faulty::new(
-        PlainKeep::new(alloc),
-    ));
-    let warehouse: Endpoint<Stocks, Faulty<PlainKeep<Stocks>>> = Endpoint::new(Faulty::new(
-        PlainKeep::new(alloc),
-    ));
-    let billing: Endpoint<Accounts, Faulty<PlainKeep<Accounts>>> = Endpoint::new(Faulty::new(
-        PlainKeep::new(alloc),
-    ));
-    let mut world = World::open(alloc, purchasing, warehouse, billing);
+    let mut world = open_world(alloc);
     let connection = ConnectionName {
         service: ServiceName::Warehouse,
         number: ConnectionNumber::Zero,

@@ -22,4 +22,5 @@ mod writing;
 
 pub use command_line::{run_schedule, tell_bad_words};
 pub use fault::RunFault;
+pub use running::{PlainWorld, open_world};
 pub use schedule::{run_input, run_text, tell_fault};

@@ -14,18 +14,16 @@ use std::alloc::{AllocError, Global};
 use warehouse::Stocks;
 
 /// Three services over tables in memory, and the mail between them.
-type PlainWorld = World<PlainKeep<Orders>, PlainKeep<Stocks>, PlainKeep<Accounts>>;
+pub type PlainWorld = World<PlainKeep<Orders>, PlainKeep<Stocks>, PlainKeep<Accounts>>;
 
-/// The world where a schedule begins.
-fn open_world(alloc: Global) -> PlainWorld
+/// The world where a schedule begins: empty tables, stores that are usable, no connection. It takes no memory.
+pub fn open_world(alloc: Global) -> PlainWorld
     ensures { IsBeginning result }
 {
-    World::open(
-        alloc,
-        Endpoint::new(Faulty::new(PlainKeep::new(alloc))),
-        Endpoint::new(Faulty::new(PlainKeep::new(alloc))),
-        Endpoint::new(Faulty::new(PlainKeep::new(alloc))),
-    )
+    let purchasing = Endpoint::new(Faulty::new(PlainKeep::new(alloc)));
+    let warehouse = Endpoint::new(Faulty::new(PlainKeep::new(alloc)));
+    let billing = Endpoint::new(Faulty::new(PlainKeep::new(alloc)));
+    World::open(alloc, purchasing, warehouse, billing)
 }
 
 /// Makes events, and puts their outcomes into an empty list.
