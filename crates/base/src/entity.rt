@@ -9,6 +9,7 @@ use crate::key::is_key;
 use crate::{EntityFault, Key};
 use std::alloc::{AllocError, Global};
 use std::cmp::Ordering;
+use std::fmt;
 use std::marker::Model;
 
 /// What an entity is, and so which service has it.
@@ -100,7 +101,7 @@ fn lead_of(kind: Kind, key: &str) -> u64
 /// An entity: contracts see its kind and the octets of its key.
 ///
 /// The key has 1 to 64 octets of UTF-8 and no NUL. Entities are ordered by the octets of their texts.
-#[derive(Debug, Drop)]
+#[derive(Drop)]
 pub struct Entity {
     kind: Kind,
     // Orders as the text's beginning does, so that most comparisons read no text.
@@ -194,6 +195,14 @@ impl Entity {
             lead: self.lead,
             text: String::from_str(alloc, &self.text)?,
         })
+    }
+}
+
+/// Its text, quoted and escaped as a `str` is: `"order/o1"`.
+impl fmt::Debug for Entity {
+    fn fmt<W: fmt::Write>(&self, f: &mut fmt::Formatter<W>) -> fmt::Result {
+        let text = self.text();
+        write!(f, "{text:?}")
     }
 }
 
