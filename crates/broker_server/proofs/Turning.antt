@@ -1,4 +1,4 @@
--- A piece that is fed, and octets that are written.
+-- A piece that is read, and octets that are written.
 use Rattle.std.proofs.Common.{◌≡◌, ℕ, ◌+◌, Bool, true, false, List, [], ◌∷◌, ◌++◌, ◌-◌, length, take, drop, Option, Ok, Err, refl}
 use Rattle.std.proofs.Common.{sym, ap, ◌∙◌, arith, subst}
 use Rattle.std.specs.List.{find}
@@ -6,48 +6,20 @@ use Rattle.std.specs.Io.KnownBytes.{Consumes}
 use Rattle.std.proofs.Math.Seq.{take-length}
 use Rattle.std.proofs.lemmas.List.{drop-drop, take-append-drop, length-drop, length-take-le, drop_all}
 use Rattle.broker_core.specs.Calls.{out_in, without_first}
-use Rattle.broker_core.specs.Feeding.{FeedAnswer, Feeds}
 use Rattle.broker_core.specs.Serving.{Server, changing, is_session, session_of, with_session}
-use Rattle.broker_core.specs.Streams.{whole, part as in_part, stopped_frames}
-use Rattle.broker_core.specs.declared.fault.BrokerFault.{BrokerFault}
-use Rattle.broker_core.specs.declared.fault.BrokerFault.TheVariants as fault
 use Rattle.broker_core.specs.declared.session.Session.{Session}
 use Rattle.broker_server.specs.Parts.{PieceAnswer, SomeAnswer, WritesSome}
-use Rattle.broker_server.specs.Turns.{FeedsPiece, FeedsOrNot, taken, unchanged, ReadsIn, some}
+use Rattle.broker_server.specs.Turns.{FeedsAll, ReadsIn, some}
 use Rattle.broker_server.specs.Turns.{WritesOut, WriteAnswer, WritesRest, RestAnswer}
 use Rattle.broker_server.specs.declared.turn.Piece.{Piece}
 use Rattle.broker_server.specs.declared.turn.Piece.TheVariants.{Octets}
 use Rattle.broker_server.specs.declared.turn.Written.{Written}
 use Rattle.broker_server.specs.declared.turn.Written.TheVariants.{All, Blocked, Again}
 
--- ---- feeding
-
-pub fed_whole : (full n : ℕ) (piece : List ℕ) (old new : Server) (count : ℕ) → Feeds full old n piece new count
-    → FeedsPiece full n piece old new
-fed_whole full n piece old new count h = record {
-  fed = record { piece = piece; frames = h.frames };
-  is_piece = refl;
-  took = whole count h refl;
-}
-
-part_by : (full n : ℕ) (piece : List ℕ) (old new : Server) (t : Bool)
-    → FeedAnswer full old n piece new (Err (fault.Memory t)) → FeedsOrNot full n piece old new
-part_by full n piece old new true h = taken (record {
-  fed = record { piece = piece; frames = h.frames ++ stopped_frames h.stops };
-  is_piece = refl;
-  took = in_part h refl;
-})
-part_by full n piece old new false h = unchanged h.same
-
-pub fed_part : (full n : ℕ) (piece : List ℕ) (old new : Server) (e : BrokerFault) (t : Bool) → e ≡ fault.Memory t
-    → FeedAnswer full old n piece new (Err e) → FeedsOrNot full n piece old new
-fed_part full n piece old new e t is h =
-    part_by full n piece old new t (subst (λ (x : BrokerFault). FeedAnswer full old n piece new (Err x)) is h)
-
 -- ---- reading
 
 pub read_whole : (full n : ℕ) (old new : Server) (before after : Option (List ℕ)) (buffer : List ℕ) (count : ℕ) (p : Piece)
-    → p ≡ Octets count → PieceAnswer before after buffer (Ok p) → FeedsPiece full n (take count buffer) old new
+    → p ≡ Octets count → PieceAnswer before after buffer (Ok p) → FeedsAll full n (take count buffer) old new
     → ReadsIn full n old new before after
 read_whole full n old new before after buffer count (Octets k) e h f =
     let alike : k ≡ count = cc in

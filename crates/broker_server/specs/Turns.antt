@@ -1,9 +1,12 @@
 -- What a turn of a connection reads and writes, where it is known what its stream gives and holds.
-use Rattle.std.specs.Prelude.{◌≡◌, ℕ, List, [], ◌++◌, length, Option, Result, Ok, Err}
+use Rattle.std.specs.Prelude.{◌≡◌, ◌≤◌, ℕ, List, [], ◌++◌, length, take, Option, Result, Ok, Err}
 use Rattle.std.specs.Io.KnownBytes.{Appends, Consumes, IsAtEnd, Keeps}
 use Rattle.broker_core.specs.Calls.{out_in, without_first}
+use Rattle.broker_core.specs.Feeding.{Feeds, FeedsNone, FeedsPart}
 use Rattle.broker_core.specs.Serving.{Server, changing, session_of}
-use Rattle.broker_core.specs.Streams.{Fed, Took}
+use Rattle.broker_server.specs.declared.fault.ReadFault.{ReadFault}
+use Rattle.broker_server.specs.declared.fault.ReadFault.TheVariants.{Waits, Untaken}
+use Rattle.broker_server.specs.declared.fault.ReadFault.TheVariants as read
 use Rattle.broker_server.specs.declared.fault.TurnFault.{TurnFault}
 use Rattle.broker_server.specs.declared.fault.TurnFault.TheVariants.{Stream, Memory}
 use Rattle.broker_server.specs.declared.turn.Turn.{Turn}
@@ -13,22 +16,18 @@ use Rattle.broker_server.specs.declared.turn.Written.TheVariants as written
 
 -- ---- feeding
 
--- a session took a piece, all of it
-pub record FeedsPiece (full n : ℕ) (piece : List ℕ) (old new : Server) : Type 0 where
-  pub fed : Fed
-  pub is_piece : fed.piece ≡ piece
-  pub took : Took full n old fed new
+-- a session took a piece, all its whole frames were handled, and messages were dealt until none could be
+pub record FeedsAll (full n : ℕ) (piece : List ℕ) (old new : Server) : Type 0 where
+  pub count : ℕ
+  pub feeds : Feeds full old n piece new count
 
--- memory was refused: the session took the piece all the same, or nothing has changed
-pub data FeedsOrNot (full n : ℕ) (piece : List ℕ) (old new : Server) : Type 0 where
-  taken : FeedsPiece full n piece old new → FeedsOrNot full n piece old new
-  unchanged : new ≡ old → FeedsOrNot full n piece old new
-
--- What feeding an open session answers.
-abbrev pub FedAnswer : ℕ → ℕ → List ℕ → Server → Server → Result (Unit {0}) TurnFault → Type 0
-FedAnswer full n piece old new (Ok _) = FeedsPiece full n piece old new
-FedAnswer full n piece old new (Err Memory) = FeedsOrNot full n piece old new
-FedAnswer full n piece old new (Err Stream) = ⊥
+-- What feeding an open session answers. At `Waits` the session has the piece, and goes on at the next feed; at `Untaken` nothing has
+-- changed, which never comes of a piece without an octet.
+abbrev pub FedAnswer : ℕ → ℕ → List ℕ → Server → Server → Result (Unit {0}) ReadFault → Type 0
+FedAnswer full n piece old new (Ok _) = FeedsAll full n piece old new
+FedAnswer full n piece old new (Err Waits) = FeedsPart full old n piece new
+FedAnswer full n piece old new (Err (Untaken count)) = (count ≡ length piece) × FeedsNone old n piece new
+FedAnswer full n piece old new (Err read.Stream) = ⊥
 
 -- ---- reading
 
@@ -39,22 +38,29 @@ pub record ReadsNone (old new : Server) (before after : Option (List ℕ)) : Typ
 
 -- the octets that were read are those that the session was fed; or nothing was read
 pub data ReadsIn (full n : ℕ) (old new : Server) (before after : Option (List ℕ)) : Type 0 where
-  some : (piece : List ℕ) → FeedsPiece full n piece old new → Consumes before after piece → ReadsIn full n old new before after
+  some : (piece : List ℕ) → FeedsAll full n piece old new → Consumes before after piece → ReadsIn full n old new before after
   none : ReadsNone old new before after → ReadsIn full n old new before after
 
--- memory was refused to the octets that were read
+-- the session took the octets that were read, and then memory was refused
 pub record ReadsPart (full n : ℕ) (old new : Server) (before after : Option (List ℕ)) : Type 0 where
   pub piece : List ℕ
-  pub feeds : FeedsOrNot full n piece old new
+  pub feeds : FeedsPart full old n piece new
   pub octets : Consumes before after piece
 
+-- the session took none of the octets that were read: they begin the buffer, and nothing else has changed
+pub record ReadsUntaken (n : ℕ) (old new : Server) (before after : Option (List ℕ)) (buffer : List ℕ) (count : ℕ) : Type 0 where
+  pub within : count ≤ length buffer
+  pub feeds : FeedsNone old n (take count buffer) new
+  pub octets : Consumes before after (take count buffer)
+
 -- What a turn of reading answers: what was read is what the session was fed. At `Ended` the stream gave nothing and has no more.
-abbrev pub ReadAnswer : ℕ → ℕ → Server → Server → Option (List ℕ) → Option (List ℕ) → Result Turn TurnFault → Type 0
-ReadAnswer full n old new before after (Ok turn.Ended) = ReadsNone old new before after × IsAtEnd after
-ReadAnswer full n old new before after (Ok turn.Blocked) = ReadsIn full n old new before after
-ReadAnswer full n old new before after (Ok turn.More) = ReadsIn full n old new before after
-ReadAnswer full n old new before after (Err Stream) = ReadsNone old new before after
-ReadAnswer full n old new before after (Err Memory) = ReadsPart full n old new before after
+abbrev pub ReadAnswer : ℕ → ℕ → Server → Server → Option (List ℕ) → Option (List ℕ) → List ℕ → Result Turn ReadFault → Type 0
+ReadAnswer full n old new before after buffer (Ok turn.Ended) = ReadsNone old new before after × IsAtEnd after
+ReadAnswer full n old new before after buffer (Ok turn.Blocked) = ReadsIn full n old new before after
+ReadAnswer full n old new before after buffer (Ok turn.More) = ReadsIn full n old new before after
+ReadAnswer full n old new before after buffer (Err read.Stream) = ReadsNone old new before after
+ReadAnswer full n old new before after buffer (Err Waits) = ReadsPart full n old new before after
+ReadAnswer full n old new before after buffer (Err (Untaken count)) = ReadsUntaken n old new before after buffer count
 
 -- so many octets were read, and thrown away; at `Ended` none, and the stream has no more
 pub record Discards (before after : Option (List ℕ)) (count : ℕ) : Type 0 where

@@ -1,12 +1,19 @@
 //! A connection: its socket, and how far it has come.
 
+ghost use Rattle.std.specs.Prelude.{◌≡◌, false};
+ghost use Rattle.broker_core.specs.Calls.{closed_in};
+ghost use Rattle.broker_core.specs.Serving.{session_of};
+
+use crate::ReadFault;
+use crate::buffers::Buffers;
 use crate::rest::Rest;
-use crate::turn::{Turn, Written, discard, read_in, write_out};
+use crate::turn::{Turn, Written, discard, feed_in, read_in, write_out};
 use broker_core::{Broker, SessionId};
 use mio::event::Event;
 use mio::net::TcpStream;
 use mio::{Interest, Registry, Token};
 use std::alloc::Global;
+use std::mem::replace;
 use std::net::Shutdown;
 
 /// The octets for a session that may be left after a write.
@@ -26,11 +33,24 @@ enum Stage {
     Draining,
 }
 
+/// What waits since memory was refused to it. Nothing is read meanwhile, so that the system's buffers hold the client back.
+#[derive(Drop)]
+enum Due {
+    /// Nothing.
+    Nothing,
+    /// Frames that the session was fed, or deals behind them.
+    Frames,
+    /// Octets that the session didn't take: the first so many of a buffer.
+    Octets(Vec<u8>, usize),
+}
+
 /// What came of a step.
 #[derive(Clone, Copy, PartialEq, Eq)]
 pub(crate) enum Step {
     /// The connection stays as far as it was.
     Stays,
+    /// So it does, and something of it waits for memory.
+    Waits,
     /// Its session was taken away. The connection has some time left to tell the rest.
     Leaves,
     /// It is over, and so is its session.
@@ -43,6 +63,7 @@ pub(crate) struct Connection {
     stream: TcpStream,
     session: SessionId,
     stage: Stage,
+    due: Due,
     /// The socket takes no more, and tells when it does.
     is_blocked: bool,
     /// The peer sends no more.
@@ -63,20 +84,21 @@ impl Connection {
             stream,
             session,
             stage: Stage::Serving,
+            due: Due::Nothing,
             is_blocked: false,
             has_ended: false,
             thrown: 0,
         }
     }
 
-    /// Reads where there is something to read, and writes where the socket takes more again.
+    /// Reads where there is something to read and nothing waits, and writes where the socket takes more again.
     pub(crate) fn handle<const FULL: usize>(
         &mut self,
         alloc: Global,
         registry: &Registry,
         broker: &mut Broker<FULL>,
         event: &Event,
-        buffer: &mut Vec<u8>,
+        buffers: &mut Buffers,
     ) -> Step {
         let was_blocked = self.is_blocked;
         if event.is_writable() {
@@ -84,12 +106,16 @@ impl Connection {
         }
         let has_more = event.is_readable() || event.is_read_closed() || event.is_error();
         let step = match self.stage {
-            _ if !has_more => Step::Stays,
-            Stage::Serving => self.read(alloc, registry, broker, event, buffer),
-            Stage::Leaving(_) | Stage::Draining => self.throw_away(registry, buffer),
+            _ if !has_more || self.is_waiting() => Step::Stays,
+            Stage::Serving => self.read(alloc, registry, broker, event, buffers),
+            Stage::Leaving(_) | Stage::Draining => self.throw_away(registry, buffers.current()),
         };
-        if step == Step::Stays && was_blocked && !self.is_blocked {
-            return self.write(registry, broker);
+        let stays = matches!(step, Step::Stays | Step::Waits);
+        if stays && was_blocked && !self.is_blocked {
+            return match self.write(registry, broker) {
+                Step::Stays => step,
+                ends => ends,
+            };
         }
         step
     }
@@ -101,13 +127,23 @@ impl Connection {
         registry: &Registry,
         broker: &mut Broker<FULL>,
         event: &Event,
-        buffer: &mut Vec<u8>,
+        buffers: &mut Buffers,
     ) -> Step {
+        let buffer = buffers.current();
         if broker.is_closed(self.session) || buffer.is_empty() {
             return self.leave(alloc, registry, broker);
         }
         match read_in(&mut self.stream, broker, self.session, buffer) {
-            Err(_) => return self.end(broker),
+            Err(ReadFault::Stream) => return self.end(broker),
+            Err(ReadFault::Waits) => return self.wait(alloc, registry, broker, Due::Frames),
+            Err(ReadFault::Untaken(count)) => {
+                return match buffers.keep() {
+                    Some(octets) => {
+                        self.wait(alloc, registry, broker, Due::Octets(octets, count))
+                    }
+                    None => self.end(broker),
+                };
+            }
             Ok(Turn::Ended) => {
                 self.has_ended = true;
                 return self.leave(alloc, registry, broker);
@@ -122,6 +158,61 @@ impl Connection {
         }
         if broker.is_closed(self.session) {
             return self.leave(alloc, registry, broker);
+        }
+        Step::Stays
+    }
+
+    /// Whether something of it waits for memory.
+    fn is_waiting(&self) -> bool {
+        !matches!(self.due, Due::Nothing)
+    }
+
+    /// Has something wait, unless the session is over.
+    fn wait<const FULL: usize>(
+        &mut self,
+        alloc: Global,
+        registry: &Registry,
+        broker: &mut Broker<FULL>,
+        due: Due,
+    ) -> Step {
+        if broker.is_closed(self.session) {
+            return self.leave(alloc, registry, broker);
+        }
+        self.due = due;
+        Step::Waits
+    }
+
+    /// Goes on with what waits. Where nothing does any more it is read again: the socket doesn't tell twice of what came meanwhile.
+    pub(crate) fn go_on<const FULL: usize>(
+        &mut self,
+        alloc: Global,
+        registry: &Registry,
+        broker: &mut Broker<FULL>,
+        buffers: &mut Buffers,
+    ) -> Step {
+        if !self.is_waiting() {
+            return Step::Stays;
+        }
+        let due = replace(&mut self.due, Due::Nothing);
+        if broker.is_closed(self.session) {
+            give_back(due, buffers);
+            return self.leave(alloc, registry, broker);
+        }
+        match feed_due(broker, self.session, &due) {
+            Err(ReadFault::Stream) | Err(ReadFault::Untaken(_)) => {
+                return self.wait(alloc, registry, broker, due);
+            }
+            Err(ReadFault::Waits) => {
+                give_back(due, buffers);
+                return self.wait(alloc, registry, broker, Due::Frames);
+            }
+            Ok(()) => give_back(due, buffers),
+        }
+        if broker.is_closed(self.session) {
+            return self.leave(alloc, registry, broker);
+        }
+        if !self.ask_again(registry) {
+            return self.end(broker);
         }
         Step::Stays
     }
@@ -261,6 +352,29 @@ impl Connection {
         registry
             .reregister(&mut self.stream, token, both_ways())
             .is_ok()
+    }
+}
+
+/// Feeds what waits.
+fn feed_due<const FULL: usize>(
+    broker: &mut Broker<FULL>,
+    session: SessionId,
+    due: &Due,
+) -> Result<(), ReadFault>
+    requires { closed_in (session_of session broker.old) ≡ false }
+{
+    match due {
+        Due::Octets(octets, count) if *count <= octets.len() => {
+            feed_in(broker, session, &octets[..*count])
+        }
+        _ => feed_in(broker, session, &[]),
+    }
+}
+
+/// Gives the buffer back that kept octets.
+fn give_back(due: Due, buffers: &mut Buffers) {
+    if let Due::Octets(octets, _) = due {
+        buffers.give_back(octets);
     }
 }
 

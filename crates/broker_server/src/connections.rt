@@ -1,5 +1,6 @@
 //! The connections that a loop serves.
 
+use crate::buffers::Buffers;
 use crate::connection::{Connection, Step, both_ways, token_of};
 use broker_core::{Broker, SessionId};
 use mio::Registry;
@@ -21,12 +22,14 @@ struct Leave {
     until: Instant,
 }
 
-/// The connections by the numbers of their sessions, and those that leave, the first to go first.
+/// The connections by the numbers of their sessions, those that leave, the first to go first, and those of which something waits for
+/// memory.
 #[derive(Drop)]
 pub(crate) struct Connections {
     alloc: Global,
     open: HashMap<u64, Connection>,
     leaving: VecDeque<Leave>,
+    waiting: VecDeque<u64>,
     /// A session was taken away since the last deal, so messages may go to others.
     pub(crate) has_dropped: bool,
 }
@@ -38,11 +41,13 @@ impl Connections {
             alloc,
             open: HashMap::new(alloc),
             leaving: VecDeque::new(alloc),
+            waiting: VecDeque::new(alloc),
             has_dropped: false,
         }
     }
 
-    /// Takes in a connection and opens its session. Where that fails the connection is closed, and nothing else has changed.
+    /// Takes in a connection and opens its session. Where that fails the connection is closed, and nothing else has changed. There is room
+    /// then to note that it waits for memory.
     pub(crate) fn take_in<const FULL: usize>(
         &mut self,
         registry: &Registry,
@@ -51,6 +56,7 @@ impl Connections {
     ) -> io::Result<()> {
         stream.set_nodelay(true)?;
         self.open.reserve(1)?;
+        self.waiting.reserve(self.open.len().saturating_add(1))?;
         let Ok(session) = broker.open() else {
             return Err(io::Error::from(ErrorKind::OutOfMemory));
         };
@@ -76,33 +82,60 @@ impl Connections {
         registry: &Registry,
         broker: &mut Broker<FULL>,
         event: &Event,
-        buffer: &mut Vec<u8>,
+        buffers: &mut Buffers,
         now: Instant,
     ) {
         let number = event.token().0 as u64;
         if let Some(connection) = self.open.get_mut(&number) {
-            let step = connection.handle(self.alloc, registry, broker, event, buffer);
-            self.follow(number, step, now);
+            let step = connection.handle(self.alloc, registry, broker, event, buffers);
+            self.follow(broker, number, step, now);
         }
     }
 
-    /// Writes to each connection for which octets have come, together.
+    /// Whether something waits for memory.
+    pub(crate) fn is_waiting(&self) -> bool {
+        !self.waiting.is_empty()
+    }
+
+    /// Goes on with what waits for memory, once each.
+    pub(crate) fn go_on<const FULL: usize>(
+        &mut self,
+        registry: &Registry,
+        broker: &mut Broker<FULL>,
+        buffers: &mut Buffers,
+        now: Instant,
+    ) {
+        for _ in 0..self.waiting.len() {
+            let Some(number) = self.waiting.pop_front() else {
+                return;
+            };
+            if let Some(connection) = self.open.get_mut(&number) {
+                let step = connection.go_on(self.alloc, registry, broker, buffers);
+                self.follow(broker, number, step, now);
+            }
+        }
+    }
+
+    /// Writes to each connection for which octets have come, together: the answer is whether there was one.
     pub(crate) fn write<const FULL: usize>(
         &mut self,
         registry: &Registry,
         broker: &mut Broker<FULL>,
         now: Instant,
-    ) {
+    ) -> bool {
+        let mut some = false;
         for _ in 0..u64::MAX {
             let Some(session) = broker.take_fresh() else {
-                return;
+                return some;
             };
+            some = true;
             let number = session.number();
             if let Some(connection) = self.open.get_mut(&number) {
                 let step = connection.write(registry, broker);
-                self.follow(number, step, now);
+                self.follow(broker, number, step, now);
             }
         }
+        some
     }
 
     /// Takes all sessions away: the connections are closed where this is let go.
@@ -126,9 +159,22 @@ impl Connections {
     }
 
     /// Does what a step asks for.
-    fn follow(&mut self, number: u64, step: Step, now: Instant) {
+    fn follow<const FULL: usize>(
+        &mut self,
+        broker: &mut Broker<FULL>,
+        number: u64,
+        step: Step,
+        now: Instant,
+    ) {
         match step {
             Step::Stays => {}
+            Step::Waits => {
+                if self.waiting.push_back(number).is_err() {
+                    broker.drop_session(SessionId::new(number));
+                    self.has_dropped = true;
+                    self.open.remove(&number);
+                }
+            }
             Step::Leaves => {
                 self.has_dropped = true;
                 if !self.gives_time(number, now) {

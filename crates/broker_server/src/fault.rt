@@ -28,6 +28,20 @@ impl ServeFault {
     }
 }
 
+/// Why a turn of reading came to no end.
+#[derive(Clone, Copy, Debug, PartialEq, Eq, Error)]
+pub enum ReadFault {
+    /// The read failed.
+    #[error("the stream failed")]
+    Stream,
+    /// Memory was refused to a frame, or to a deal behind it. The octets were taken: the next feed goes on where this one has stopped.
+    #[error("out of memory: frames wait")]
+    Waits,
+    /// Memory was refused to the octets, so many of them: the session has taken none, and nothing has changed.
+    #[error("out of memory: octets weren't taken")]
+    Untaken(usize),
+}
+
 /// Why a connection ends at a turn.
 #[derive(Clone, Copy, Debug, PartialEq, Eq, Error)]
 pub enum TurnFault {

@@ -27,9 +27,16 @@
 //!   written and this side is shut; what the client still sends is read and thrown away, up to 67,108,864 octets and 5 seconds. So no reset
 //!   of the connection takes an ERROR away before it is read.
 //! - Where the system has no descriptor left, connections wait until one is free.
-//! - Where memory is refused, the connection that asked for it is dropped, and the others go on.
+//! - Where memory is refused to a frame, or to a deal behind it, its connection stays. It isn't read from until its frames have gone on,
+//!   and they are tried at each turn, behind the writing of what was dealt, which gives memory back. Octets for which there is no memory
+//!   are kept in one of 8 buffers that were taken at the start; a connection for which none is free is dropped.
+//! - Where memory is refused to a deal, 196,608 octets are let go that were taken at the start, and are taken again once octets were
+//!   written.
+//! - Where memory is refused to a new connection it is closed, and so is one whose session is over, and whose client doesn't read, where
+//!   there is none for what is left.
 #![tactic(auto)]
 
+mod buffers;
 mod connection;
 mod connections;
 mod fault;
@@ -39,9 +46,9 @@ mod serving;
 mod stop;
 mod turn;
 
-pub use fault::{ServeFault, TurnFault};
+pub use fault::{ReadFault, ServeFault, TurnFault};
 pub use laws::what_is_read_is_handled_once_and_in_order;
 pub use rest::Rest;
 pub use serving::serve;
 pub use stop::Stop;
-pub use turn::{Turn, Written, discard, read_in, write_out};
+pub use turn::{Turn, Written, discard, feed_in, read_in, write_out};

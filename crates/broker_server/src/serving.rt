@@ -1,5 +1,6 @@
 //! The loop that serves.
 
+use crate::buffers::{Buffers, Reserve};
 use crate::connections::Connections;
 use crate::{ServeFault, Stop};
 use broker_core::Broker;
@@ -15,9 +16,6 @@ use std::time::{Clock, Duration, Instant};
 /// The token of the listener: no session has the number 0.
 const LISTENER: Token = Token(0);
 
-/// The octets that are read of a connection at a turn.
-const BUFFER: usize = 65_536;
-
 /// The sockets that a turn handles.
 const EVENTS: usize = 128;
 
@@ -32,7 +30,8 @@ const TICK: u64 = 100;
 struct Server {
     poll: Poll,
     events: Events<Global>,
-    buffer: Vec<u8>,
+    buffers: Buffers,
+    reserve: Reserve,
     connections: Connections,
     /// Connections may wait to be taken in.
     may_accept: bool,
@@ -40,6 +39,8 @@ struct Server {
     was_refused: bool,
     /// Memory was refused to a deal: it is tried again at each turn.
     may_deal: bool,
+    /// The last turn had octets to write, whose memory is free again where they were written.
+    has_written: bool,
 }
 
 /// Serves the connections of a listener by a broker, until it is asked to stop: those that are open then are closed, and their sessions
@@ -79,22 +80,31 @@ impl Server {
         listener: &mut TcpListener,
     ) -> Result<Server, ServeFault> {
         let events = Events::with_capacity(alloc, EVENTS).map_err(|_| ServeFault::Memory)?;
-        let buffer = Vec::from_elem(alloc, 0u8, BUFFER).map_err(|_| ServeFault::Memory)?;
+        let buffers = Buffers::new(alloc).map_err(|_| ServeFault::Memory)?;
+        let reserve = Reserve::new(alloc).map_err(|_| ServeFault::Memory)?;
         let poll = open_poll(rt, listener).map_err(|_| ServeFault::Device)?;
         Ok(Server {
             poll,
             events,
-            buffer,
+            buffers,
+            reserve,
             connections: Connections::new(alloc),
             may_accept: true,
             was_refused: false,
             may_deal: false,
+            has_written: false,
         })
     }
 
-    /// How long to wait for sockets at most.
+    /// Whether something waits for memory.
+    fn is_short(&self) -> bool {
+        self.may_deal || self.connections.is_waiting()
+    }
+
+    /// How long to wait for sockets at most. What waits for memory is tried again at once where some may have come.
     fn wait(&self) -> Duration {
-        if self.may_accept || self.connections.has_dropped {
+        let may_go_on = self.is_short() && self.has_written;
+        if self.may_accept || self.connections.has_dropped || may_go_on {
             Duration::ZERO
         } else {
             Duration::from_millis(TICK)
@@ -111,19 +121,27 @@ impl Server {
         let wait = self.wait();
         self.poll.poll(&mut self.events, Some(wait))?;
         let now = Instant::now(rt)?;
+        self.connections
+            .go_on(self.poll.registry(), broker, &mut self.buffers, now);
         for event in &self.events {
             if event.token() == LISTENER {
                 self.may_accept = true;
             } else {
-                self.connections
-                    .handle(self.poll.registry(), broker, event, &mut self.buffer, now);
+                self.connections.handle(
+                    self.poll.registry(),
+                    broker,
+                    event,
+                    &mut self.buffers,
+                    now,
+                );
             }
         }
         if self.may_accept || self.was_refused {
             self.accept(broker, listener);
         }
         self.deal(broker);
-        self.connections.write(self.poll.registry(), broker, now);
+        self.has_written = self.connections.write(self.poll.registry(), broker, now);
+        self.take_again();
         self.connections.expire(now);
         // A server has no use for what was accepted, and the list would grow.
         let _ = broker.take_accepted();
@@ -154,11 +172,23 @@ impl Server {
         }
     }
 
-    /// Deals where a session was taken away, since messages may be ready again.
+    /// Takes again what was let go of the reserve, and, where nothing has to be kept, spare buffers that are gone.
+    fn take_again(&mut self) {
+        self.reserve.take_again();
+        if !self.is_short() {
+            self.buffers.fill();
+        }
+    }
+
+    /// Deals where a session was taken away, since messages may be ready again, and where memory was refused: for that is the reserve.
     fn deal<const FULL: usize>(&mut self, broker: &mut Broker<FULL>) {
-        if self.connections.has_dropped || self.may_deal {
+        if self.connections.has_dropped || self.is_short() {
             self.connections.has_dropped = false;
             self.may_deal = broker.dispatch().is_err();
+            if self.may_deal {
+                self.reserve.let_go();
+                self.may_deal = broker.dispatch().is_err();
+            }
         }
     }
 }

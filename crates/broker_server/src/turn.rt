@@ -6,7 +6,7 @@ ghost use Rattle.broker_core.specs.Serving.{session_of};
 ghost use Rattle.broker_server.specs.Parts.{PieceAnswer, SomeAnswer};
 ghost use Rattle.broker_server.specs.Turns.{DiscardAnswer, FedAnswer, ReadAnswer, WriteAnswer};
 
-use crate::TurnFault;
+use crate::{ReadFault, TurnFault};
 use broker_core::{Broker, BrokerFault, SessionId};
 use std::io::{ErrorKind, Read, Write};
 
@@ -61,18 +61,25 @@ fn read_piece<S: Read>(stream: &mut S, buffer: &mut [u8]) -> Result<Piece, TurnF
     }
 }
 
-/// Feeds a piece to an open session.
-fn feed_piece<const FULL: usize>(
+/// Feeds octets to an open session, and handles them as far as its frames are whole. With no octets it goes on with the frames that wait
+/// since memory was refused to them.
+///
+/// # Errors
+/// - `Waits` where memory was refused behind the taking of the octets: the frames before were handled, and the next feed, also one of no
+///   octets, goes on where this one has stopped: no frame is lost or handled twice;
+/// - `Untaken` where memory was refused to the octets, never to none: nothing has changed, and they may be fed again. It tells how many.
+pub fn feed_in<const FULL: usize>(
     broker: &mut Broker<FULL>,
     session: SessionId,
     piece: &[u8],
-) -> Result<(), TurnFault>
+) -> Result<(), ReadFault>
     requires { closed_in (session_of session broker.old) ≡ false }
     ensures { FedAnswer FULL session piece.now broker.old broker.new result }
 {
     match broker.feed(session, piece) {
         Ok(_) => Ok(()),
-        Err(BrokerFault::Memory { took: _ }) => Err(TurnFault::Memory),
+        Err(BrokerFault::Memory { took: true }) => Err(ReadFault::Waits),
+        Err(BrokerFault::Memory { took: false }) => Err(ReadFault::Untaken(piece.len())),
         Err(BrokerFault::NoSession) => unreachable!(),
         Err(BrokerFault::TooMany) => unreachable!(),
     }
@@ -83,20 +90,28 @@ fn feed_piece<const FULL: usize>(
 ///
 /// # Errors
 /// - `Stream` where the read failed, and then nothing was read;
-/// - `Memory` where a growth was refused: the octets were fed and are handled in part, or they are lost. The connection is of no more use.
+/// - `Waits` where memory was refused behind the taking of the octets. The session has all of them, and a later [`feed_in`], also one of no
+///   octets, goes on with its frames: what is read until then waits behind them;
+/// - `Untaken` where memory was refused to the octets themselves. The session has none of them, and nothing has changed: they are the first
+///   so many of `buffer`, of which the stream doesn't tell again, and may be fed later by [`feed_in`], before others.
 pub fn read_in<S: Read, const FULL: usize>(
     stream: &mut S,
     broker: &mut Broker<FULL>,
     session: SessionId,
     buffer: &mut [u8],
-) -> Result<Turn, TurnFault>
+) -> Result<Turn, ReadFault>
     requires open { closed_in (session_of session broker.old) ≡ false }
     requires room { 0 < length buffer.old }
-    ensures { ReadAnswer FULL session broker.old broker.new (S.remaining stream.old) (S.remaining stream.new) result }
+    ensures { ReadAnswer FULL session broker.old broker.new (S.remaining stream.old) (S.remaining stream.new) buffer.new result }
 {
-    match read_piece(stream, buffer)? {
+    let piece = match read_piece(stream, buffer) {
+        Ok(piece) => piece,
+        Err(TurnFault::Stream) => return Err(ReadFault::Stream),
+        Err(TurnFault::Memory) => unreachable!(),
+    };
+    match piece {
         Piece::Octets(count) => {
-            feed_piece(broker, session, &buffer[..count])?;
+            feed_in(broker, session, &buffer[..count])?;
             if count < buffer.len() {
                 Ok(Turn::Blocked)
             } else {
