@@ -14,7 +14,7 @@ from client import Client, Closed, connected
 
 BROKER, LIBRARY = sys.argv[1:]
 WORDS = [["--help"], ["--version"], ["--port"], ["--port", "x"], ["--port", "0", "more"]]
-QUIET = 40  # growths that nobody misses, behind which there are no more
+QUIET = 400  # growths that nobody misses, behind which there are no more: a run with the clients has fewer in all
 
 
 class Wrong(Exception):
