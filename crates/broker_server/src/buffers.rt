@@ -63,8 +63,8 @@ impl Buffers {
     }
 }
 
-/// Memory that is kept for deals: where one was refused it is let go, so that others can be made, and taken again once octets were
-/// written. No frame that waits is tried while it isn't there, unless what was dealt is still to be written.
+/// Memory that is kept for deals: where one was refused it is let go, so that others can be made. As far as memory isn't refused, it is
+/// taken again behind the writing, before a frame that waits is tried.
 #[derive(Drop)]
 pub(crate) struct Reserve {
     alloc: Global,
