@@ -185,6 +185,41 @@ def accepted(*hand):
     agree("accepted", "; ".join(model_accepted(brokers[0])) or "none", "; ".join(accepted_parts(hand)) or "none")
 
 
+# ---- lines that are run with many numbers: each is its text, its answer by hand, and what the model answers, and `#` stands for a number
+
+def run_feed(session, frame):
+    return f"feed {session} {told(frame)}", "1", lambda number: brokers[0].feed(session, frame.replace(b"#", octets(number)))
+
+
+def run_out(session, *frames):
+    return f"out {session}", told(b"".join(frames)) or "none", lambda _: told(brokers[0].take_out(session)) or "none"
+
+
+def run_accepted(*hand):
+    return "accepted", "; ".join(accepted_parts(hand)), lambda _: "; ".join(model_accepted(brokers[0]))
+
+
+def run_open():
+    return "open", "#", lambda _: brokers[0].open()
+
+
+def run_drop():
+    return "drop #", "done", lambda number: brokers[0].drop(int(number)) or "done"
+
+
+def runs(first, last, *kept):
+    """These lines are run with each number from `first` to `last`."""
+    for line, hand, _ in kept:
+        say(f"| {line}", "done")
+        say(f"= {hand}", "done")
+    for number in map(str, range(first, last + 1)):
+        for line, hand, ask in kept:
+            model = str(ask(number))
+            if model != hand.replace("#", number):
+                sys.exit(f"{line} with {number}\nthe model answers:  {model!r}\nbut wanted by hand: {hand!r}")
+    say(f"run {first} {last}", "done")
+
+
 def cuts(*frames, gives, closed=True, handled=None, puts=()):
     """A whole dialogue of a session with a broker of its own, cut at every place."""
     piece = b"".join(octets(text) for text in frames)

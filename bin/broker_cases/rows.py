@@ -27,6 +27,7 @@ def tour():
     drop(1)
     dispatch()
     out(1)
+    runs(3, 4, run_open(), run_drop())
     cuts("ACK\n\n\0", gives=(error("21 NotConnected"),))
 
 
@@ -127,6 +128,37 @@ def full():
     fresh(1, 2, 3, 4)
 
 
+def numbers():
+    section("Numbers are never given again, and nothing grows with what is gone")
+    note("5,000 messages, each of which is taken and acknowledged before the next is sent: one at most is living, and the next is 5001.")
+    connected(2)
+    feed(2, subscribe())
+    runs(1, 5000, run_feed(1, send()), run_out(2, message("#", "0", "#")), run_feed(2, ack("#")), run_out(2), run_accepted(put("#")))
+    feed(1, send())
+    out(2, message(5001, "0", 5001))
+    accepted(put(5001))
+    feed(2, ack(5001))
+    note("The same in mode `auto`, and on a queue of its own each, where messages are numbered over all queues.")
+    connected(2)
+    runs(1, 5000, run_feed(2, subscribe("#", to="/queue/#", ack="auto")), run_feed(1, send(to="/queue/#")),
+         run_out(2, message("#", "#", to="/queue/#")), run_feed(2, frame("UNSUBSCRIBE", "id:#")), run_accepted(put("#", to="/queue/#")))
+    feed(1, send(to="/queue/1"), subscribe(to="/queue/1"))
+    out(1, message(5001, "0", 1, to="/queue/1"))
+    note("5,000 sessions, each of which is dropped before the next is opened: the next is 5001.")
+    new()
+    runs(1, 5000, run_open(), run_drop())
+    opened()
+    feed(1, frame("CONNECT"), handled=NO_SESSION)
+    note("A line whose answer isn't the one that it's to have, and lines that nothing was kept for.")
+    say("| open", "done")
+    say("= #", "done")
+    say("run 5001 5003", "open: 5002")
+    for line in ("= 1", "run 1", "run x 2"):
+        say(line, "no such line")
+    say("run 1 2", "done")
+    new()
+
+
 def half():
     section("A COMMIT that is refused does nothing of its actions")
     connected()
@@ -154,6 +186,7 @@ def all_rows():
         part()
 
 
-def last_row():
-    """It takes the longest by far."""
+def last_rows():
+    """They take the longest by far."""
+    numbers()
     full()

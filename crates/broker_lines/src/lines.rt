@@ -1,20 +1,22 @@
-//! The broker that stands between two lines, and what a line asks of it.
+//! What stands between two lines, and what a line asks of it.
 
 use crate::cuts::hold_cut;
 use crate::fault::LineFault;
+use crate::kept::Kept;
 use crate::parts::push_all_accepted;
 use base::limits::MAX_QUEUED;
 use broker_core::{Broker, SessionId};
 use line_script::{Script, first_word, natural, push_octets, read_octets, size};
 use std::alloc::Global;
 use std::fmt::Write as _;
-use std::io;
 use std::io::Write;
+use std::{io, mem};
 
-/// A broker.
+/// A broker, and the lines that are kept for a run.
 #[derive(Drop)]
 pub struct Lines {
     broker: Broker<MAX_QUEUED>,
+    kept: Vec<Kept>,
 }
 
 /// The session of a number.
@@ -44,10 +46,11 @@ fn numbers_text(alloc: Global, numbers: &[u64]) -> Result<String, LineFault> {
 }
 
 impl Lines {
-    /// A broker with no session and no message.
+    /// A broker with no session and no message; nothing is kept.
     pub fn new(alloc: Global) -> Lines {
         Lines {
             broker: Broker::new(alloc),
+            kept: Vec::new(alloc),
         }
     }
 
@@ -127,12 +130,54 @@ impl Lines {
     }
 }
 
-impl Script for Lines {
-    type Answer = String;
+impl Lines {
+    /// Keeps a line.
+    fn keep(&mut self, alloc: Global, line: &str) -> Result<String, LineFault> {
+        let kept = Kept::new(alloc, line)?;
+        self.kept.push(kept)?;
+        Ok(String::from_str(alloc, "done")?)
+    }
 
-    type Fault = LineFault;
+    /// Keeps the answer of the line that was kept last.
+    fn keep_answer(&mut self, alloc: Global, answer: &str) -> Result<String, LineFault> {
+        let Some(kept) = self.kept.last_mut() else {
+            return Err(LineFault::Unknown);
+        };
+        kept.gives(alloc, answer)?;
+        Ok(String::from_str(alloc, "done")?)
+    }
 
-    fn answer(&mut self, alloc: Global, line: &str) -> Result<String, LineFault> {
+    /// Runs lines with a number: the first whose answer is another than it is to be.
+    fn run_with(
+        &mut self,
+        alloc: Global,
+        kept: &[Kept],
+        number: &str,
+    ) -> Result<Option<String>, LineFault> {
+        for one in kept {
+            let line = one.line(alloc, number)?;
+            let given = self.ask(alloc, line.as_str())?;
+            if given != one.answer(alloc, number)? {
+                return Ok(Some(format!(in alloc; "{line}: {given}")?));
+            }
+        }
+        Ok(None)
+    }
+
+    /// Runs the lines that are kept, with each of these numbers. They are kept no more.
+    fn run(&mut self, alloc: Global, first: u64, last: u64) -> Result<String, LineFault> {
+        let kept = mem::replace(&mut self.kept, Vec::new(alloc));
+        for number in first..=last {
+            let number = format!(in alloc; "{number}")?;
+            if let Some(text) = self.run_with(alloc, &kept, number.as_str())? {
+                return Ok(text);
+            }
+        }
+        Ok(String::from_str(alloc, "done")?)
+    }
+
+    /// The answer to a line that keeps nothing and runs nothing that is kept.
+    fn ask(&mut self, alloc: Global, line: &str) -> Result<String, LineFault> {
         match first_word(line) {
             ("cuts", text) => hold_cut(alloc, &read_octets(alloc, text)?),
             ("feed", rest) => self.feed(alloc, 1, rest),
@@ -142,6 +187,24 @@ impl Script for Lines {
             }
             (word, "") => self.answer_word(alloc, word),
             (word, number) => self.answer_session(alloc, word, session(number)?),
+        }
+    }
+}
+
+impl Script for Lines {
+    type Answer = String;
+
+    type Fault = LineFault;
+
+    fn answer(&mut self, alloc: Global, line: &str) -> Result<String, LineFault> {
+        match first_word(line) {
+            ("|", text) => self.keep(alloc, text),
+            ("=", text) => self.keep_answer(alloc, text),
+            ("run", numbers) => {
+                let (first, last) = first_word(numbers);
+                self.run(alloc, natural(first)?, natural(last)?)
+            }
+            _ => self.ask(alloc, line),
         }
     }
 

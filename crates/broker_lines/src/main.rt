@@ -16,6 +16,12 @@
 //! - `accepted`: the SENDs that were accepted since the last such line, or `none`;
 //! - `fresh`: the sessions for which octets were written since they were last named, or `none`.
 //!
+//! Lines that are run with many numbers:
+//! - `| LINE`: one of the lines above, which is kept, with `#` where a number is to stand; `= ANSWER`: the answer that it is to have, in
+//!   which `#` stands for the same number;
+//! - `run FIRST LAST`: the lines that are kept, in order, with FIRST, then all of them with the number behind it, and so on up to LAST:
+//!   `done` where each had its answer, or the first line that had another, and that one. They are kept no more.
+//!
 //! `cuts TEXT`: a session of a new broker is fed the text at once, then in two pieces, cut at every place, and octet by octet. The answer
 //! is what comes of it, which is the same each time: how many frames were handled, whether the session is closed or open, the SENDs that
 //! were accepted, the octets for the session. Where it isn't the same, the answer tells the cut and what came of it then.
@@ -27,6 +33,7 @@
 
 mod cuts;
 mod fault;
+mod kept;
 mod lines;
 mod parts;
 
