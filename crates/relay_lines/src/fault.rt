@@ -3,6 +3,7 @@
 use base::EntityFault;
 use endpoint::EndFault;
 use line_script::{Fault, WordFault};
+use reception::ReceptionFault;
 use relay::RelayFault;
 use std::alloc::{AllocError, AllocFailed};
 use stomp_client::ClientFault;
@@ -30,6 +31,9 @@ pub enum LineFault {
     /// The relay's fault.
     #[error("{0}")]
     Relay(#[from] RelayFault),
+    /// The reception's fault.
+    #[error("{0}")]
+    Reception(#[from] ReceptionFault),
     /// A growth was refused.
     #[error("out of memory")]
     Memory,
@@ -44,6 +48,7 @@ impl Fault for LineFault {
             LineFault::Client(fault) => fault.number() == 44,
             LineFault::End(fault) => fault.number() == 64,
             LineFault::Relay(fault) => matches!(fault.number(), 44 | 51 | 64),
+            LineFault::Reception(fault) => matches!(fault.number(), 44 | 51 | 64),
             LineFault::Unknown => false,
         }
     }

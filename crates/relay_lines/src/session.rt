@@ -2,8 +2,9 @@
 
 use crate::fault::LineFault;
 use crate::service::{Service, call_service, new_service};
-use crate::show::{fault_named, push_event, push_sent};
+use crate::show::{fault_named, push_drained, push_event, push_sent, push_taken};
 use line_script::{Script, first_word, push_octets, read_octets, size};
+use reception::{drain, take_frame};
 use relay::Relay;
 use std::alloc::Global;
 use std::io;
@@ -54,6 +55,28 @@ impl Session {
         push_event(out, &event)
     }
 
+    /// What the service does with a server's frame.
+    fn take(&mut self, alloc: Global, out: &mut String, text: &str) -> Result<(), LineFault> {
+        let frame = read_frame(alloc, text)?;
+        match take_frame(alloc, &mut self.service, &mut self.client, frame) {
+            Ok(taken) => push_taken(out, &taken),
+            Err(untaken) => Err(LineFault::Reception(untaken.fault)),
+        }
+    }
+
+    /// The service handles the first held letter whose turn has come.
+    fn drain(&mut self, alloc: Global, out: &mut String) -> Result<(), LineFault> {
+        let drained = drain(alloc, &mut self.service, &mut self.client)?;
+        push_drained(out, &drained)
+    }
+
+    /// The octets to be sent, which are taken away.
+    fn wrote(&mut self, out: &mut String) -> Result<(), LineFault> {
+        push_octets(out, self.client.out())?;
+        self.client.taken(self.client.out().len());
+        Ok(())
+    }
+
     /// Letters of the outbox are sent.
     fn fill(&mut self, out: &mut String, text: &str) -> Result<(), LineFault> {
         let limit = size(text)?;
@@ -72,6 +95,9 @@ impl Session {
         match word {
             "connect" => self.connect(alloc),
             "accept" => self.accept(alloc, out, rest),
+            "take" => self.take(alloc, out, rest),
+            "drain" => self.drain(alloc, out),
+            "wrote" => self.wrote(out),
             "fill" => self.fill(out, rest),
             "forget" => Ok(self.relay.forget()),
             "out" => push_octets(out, self.client.out()).map_err(LineFault::from),

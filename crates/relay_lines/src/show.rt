@@ -3,6 +3,7 @@
 use crate::fault::LineFault;
 use endpoint::EndFault;
 use line_script::{first_word, natural};
+use reception::{Drained, Taken};
 use relay::RelayFault;
 use std::alloc::{AllocError, Global};
 use stomp_client::{ClientEvent, ClientFault, ClientSession};
@@ -65,6 +66,36 @@ pub fn push_event(out: &mut String, event: &ClientEvent<u64>) -> Result<(), Line
         }
         ClientEvent::Error(text) => write!(out, "error {text}").map_err(LineFault::from),
     }
+}
+
+/// Appends what became of a frame.
+pub fn push_taken(out: &mut String, taken: &Taken) -> Result<(), LineFault> {
+    let text = match taken {
+        Taken::Connected => out.push_str("connected"),
+        Taken::Receipt(number) => write!(out, "receipt {number}"),
+        Taken::Handled(position) => write!(out, "handled {position}"),
+        Taken::Repeated(mark) => write!(out, "repeated {mark}"),
+        Taken::Held => out.push_str("held"),
+        Taken::Settled(mark) => write!(out, "settled {mark}"),
+        Taken::Error(text) => write!(out, "error {text}"),
+    };
+    text.map_err(LineFault::from)
+}
+
+/// Appends the held letter that was handled.
+pub fn push_drained(out: &mut String, drained: &Option<Drained>) -> Result<(), LineFault> {
+    let text = match drained {
+        Some(Drained { pair, number }) => {
+            write!(
+                out,
+                "drained {} {} {number}",
+                pair.from.text(),
+                pair.to.text()
+            )
+        }
+        None => out.push_str("idle"),
+    };
+    text.map_err(LineFault::from)
 }
 
 /// The fault of a client, or of an endpoint, with this number, as a relay tells it.
