@@ -1,0 +1,139 @@
+//! A hotel and a service of orders, each on one connection with a broker that is served in a thread: an order asks for a room, and gets its
+//! answer.
+#![tactic(auto)]
+
+mod connected;
+
+use activities::{Handler, OrderCommand};
+use anyhow::Context;
+use base::{Entity, Key, Pair};
+use broker_core::Broker;
+use broker_server::{Stop, serve};
+use connected::Connected;
+use endpoint::Endpoint;
+use hotel::Rooms;
+use keep::Keep;
+use keep_plain::PlainKeep;
+use mio::net::TcpListener;
+use purchasing::Orders;
+use reception::Taken;
+use std::alloc::Global;
+use std::net::{Ipv4Addr, Net, SocketAddr, TcpStream};
+use std::thread;
+
+/// How many turns each service has: none waits for more.
+const TURNS: u32 = 200;
+
+/// How many turns in which nothing happened end the run.
+const QUIET: u32 = 10;
+
+/// The service of rooms.
+type Hotel = Connected<Rooms, PlainKeep<Rooms>>;
+
+/// The service of orders.
+type Purchasing = Connected<Orders, PlainKeep<Orders>>;
+
+/// Prints what came to a service, but for receipts, which come when the broker likes.
+fn show<H, K>(rt: &impl Print, name: &str, service: &Connected<H, K>) -> anyhow::Result<()>
+where
+    H: Handler,
+    K: Keep<State = H::State, Command = H::Command> + Drop,
+{
+    for taken in service.taken.as_slice() {
+        if !matches!(taken, Taken::Receipt(_)) {
+            println!(rt; "{name}: {taken:?}")?;
+        }
+    }
+    Ok(())
+}
+
+/// Both have turns until nothing happens for a while, at most so many.
+fn talk(hotel: &mut Hotel, purchasing: &mut Purchasing) -> anyhow::Result<()> {
+    let mut quiet = 0;
+    for _ in 0..TURNS {
+        if hotel.turn()? | purchasing.turn()? {
+            quiet = 0;
+        } else if quiet == QUIET {
+            return Ok(());
+        } else {
+            quiet += 1;
+        }
+    }
+    Ok(())
+}
+
+/// Prints what the tables hold of an order and its room.
+fn show_tables(
+    rt: &impl Print,
+    alloc: Global,
+    hotel: &mut Hotel,
+    purchasing: &mut Purchasing,
+) -> anyhow::Result<()> {
+    let from = Entity::read(alloc, "order/o1")?;
+    let to = Entity::read(alloc, "stock/seven")?;
+    let room = hotel.endpoint.view(alloc, &to)?;
+    let is_promised = matches!(room, Some(hotel::Room::Promised(_)));
+    println!(rt; "hotel: the room is promised: {is_promised}")?;
+    let asked = Pair { from, to };
+    println!(rt; "hotel: handled {}", hotel.endpoint.handled(alloc, &asked)?)?;
+    println!(rt;
+        "purchasing: settled {}",
+        purchasing.endpoint.settled(alloc, &asked)?
+    )?;
+    let waits = hotel.endpoint.unsettled(alloc, &None, usize::MAX)?.len();
+    println!(rt; "hotel: letters in the outbox: {waits}")?;
+    Ok(())
+}
+
+/// The order that asks for a room for one.
+fn place(alloc: Global) -> anyhow::Result<OrderCommand> {
+    let stock = Key::read(alloc, "seven").context("no key")?;
+    let account = Key::read(alloc, "ann").context("no key")?;
+    Ok(OrderCommand::Place {
+        stock,
+        quantity: 1,
+        account,
+        amount: 500,
+    })
+}
+
+/// An order asks for a room.
+fn spend_a_day<R: Print + Net<Stream = TcpStream>>(
+    rt: &R,
+    alloc: Global,
+    address: SocketAddr,
+) -> anyhow::Result<()> {
+    let rooms = Endpoint::new(PlainKeep::new(alloc));
+    let mut orders: Endpoint<Orders, PlainKeep<Orders>> = Endpoint::new(PlainKeep::new(alloc));
+    let order = Entity::read(alloc, "order/o1")?;
+    let committed = orders.commit(alloc, 0, &order, place(alloc)?)?;
+    println!(rt; "purchasing: {committed:?}")?;
+    let mut hotel: Hotel = Connected::new(rt, alloc, rooms, address)?;
+    let mut purchasing: Purchasing = Connected::new(rt, alloc, orders, address)?;
+    talk(&mut hotel, &mut purchasing)?;
+    show(rt, "hotel", &hotel)?;
+    show(rt, "purchasing", &purchasing)?;
+    show_tables(rt, alloc, &mut hotel, &mut purchasing)
+}
+
+fn main(rt: HostRuntime) -> anyhow::Result<()> {
+    let listener = TcpListener::bind(&rt, SocketAddr::from((Ipv4Addr::LOCALHOST, 0)))?;
+    let address = listener.local_addr()?;
+    let stop = Stop::new();
+    let (served, spent) = thread::join(
+        &rt,
+        || {
+            let mut listener = listener;
+            let mut broker: Broker<4096> = Broker::new(rt.alloc());
+            serve(&rt, rt.alloc(), &mut broker, &mut listener, &stop)
+        },
+        || {
+            let spent = spend_a_day(&rt, rt.alloc(), address);
+            stop.ask();
+            spent
+        },
+    );
+    spent?;
+    served?;
+    Ok(())
+}
