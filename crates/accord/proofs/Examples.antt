@@ -123,10 +123,10 @@ forged_letters_are_held = (
 
 -- a store that has these tables, and one that failed, of which a stop leaves these or those
 abbrev only : {T : Type 0} → T → Seen T
-only t = record { tables = t; may_leave = λ x. x ≡ t; failures = 0; usable = true; doubt = 0 }
+only t = record { tables = t; may_leave = λ x. x ≡ t; failures = 0; usable = true; doubt = 0; armed = None }
 
 abbrev either : {T : Type 0} → T → T → Seen T
-either t u = record { tables = t; may_leave = λ x. (x ≡ t) ⊎ (x ≡ u); failures = 1; usable = false; doubt = 0 }
+either t u = record { tables = t; may_leave = λ x. (x ≡ t) ⊎ (x ≡ u); failures = 1; usable = false; doubt = 0; armed = None }
 
 abbrev sees : Seen OrderTables → Seen StockTables → Sight
 sees purchasing warehouse = record { purchasing = purchasing; warehouse = warehouse; billing = only empty }

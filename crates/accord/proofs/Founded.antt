@@ -51,7 +51,7 @@ module _ {S C : Type 0} (s : Service S C) (P : Envelope → Type 0) where
   ingest_is l here (Err TooEarly) x d may = nothing_is d may.0
   ingest_is l here (Err NumberLimit) x d may = nothing_is d may.0
   ingest_is l here (Err Memory) x d may = nothing_is d may
-  ingest_is l here (Err NotMine) x d may = nothing_is d may
+  ingest_is l here (Err NotMine) x d may = nothing_is d may.0
   ingest_is l here (Err Unusable) x d may = nothing_is d may
   ingest_is l here (Err (Business _)) x d may = absurd may
   ingest_is l here (Err NotSent) x d may = absurd may
@@ -62,7 +62,7 @@ module _ {S C : Type 0} (s : Service S C) (P : Envelope → Type 0) where
   settle_is p n here (Err StoreFailed) x d may = either may (nothing_is d) (λ is. subst (DeedIs P) (sym is) here)
   settle_is p n here (Err NotSent) x d may = nothing_is d may.0
   settle_is p n here (Err Memory) x d may = nothing_is d may
-  settle_is p n here (Err NotMine) x d may = nothing_is d may
+  settle_is p n here (Err NotMine) x d may = nothing_is d may.0
   settle_is p n here (Err Unusable) x d may = nothing_is d may
   settle_is p n here (Err (Business _)) x d may = absurd may
   settle_is p n here (Err TooEarly) x d may = absurd may
@@ -81,7 +81,7 @@ module _ {S C : Type 0} (s : Service S C) (P : Envelope → Type 0) where
   drain_is p (Err StoreFailed) x d held may = either may (nothing_is d) (held_is p x d held)
   drain_is p (Err NumberLimit) x d held may = nothing_is d may.0
   drain_is p (Err Memory) x d held may = nothing_is d may
-  drain_is p (Err NotMine) x d held may = nothing_is d may
+  drain_is p (Err NotMine) x d held may = nothing_is d may.0
   drain_is p (Err Unusable) x d held may = nothing_is d may
   drain_is p (Err (Business _)) x d held may = absurd may
   drain_is p (Err TooEarly) x d held may = absurd may

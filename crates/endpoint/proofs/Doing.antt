@@ -3,7 +3,8 @@ use Rattle.std.proofs.Common.{ℕ, ◌≤◌, ◌≡◌, ◌⊎◌, inl, inr, Li
 use Rattle.activities.specs.Service.{Service}
 use Rattle.activities.proofs.Sameness.{either}
 use Rattle.keep.specs.declared.change.Change.{Change}
-use Rattle.keep.specs.Law.{MoreFailures, Never, IsServed, IsCall, Reads, Writes}
+use Rattle.keep.specs.Law.{Never, IsServed, IsCall, Reads, Writes}
+use Rattle.keep.proofs.Arms.{stays_armed, then_served, then_failed}
 use Rattle.keep.specs.Seen.{Seen, IsSound, End, no_memory, failed, unusable, refused}
 use Rattle.keep.specs.Tables.{Tables, changed, ArePlaced}
 use Rattle.endpoint.specs.declared.fault.EndFault.{EndFault}
@@ -129,7 +130,7 @@ module _ {E S C : Type 0} (seen : E → Seen (Tables S C)) (sound : (k : E) → 
       (may : Result R EndFault → Kept C → Deed C → Type 0) → ((x : Kept C) → may (Err Memory) x Nothing) → (seen k).usable ≡ true
       → Works seen k k service Reason Q may (Err Memory)
   no_room k Reason Q may memory up = record {
-    call = (up, up, refl);
+    call = (up, up, refl, stays_armed (seen k).armed);
     doubt = omega arith;
     clean = λ clean good q. ((memory (kept (seen k).tables), refl), good);
   }
@@ -138,11 +139,11 @@ module _ {E S C : Type 0} (seen : E → Seen (Tables S C)) (sound : (k : E) → 
 
   module _ (old mid new : E) (Reason Wider : EndFault → Type 0) (wider : (f : EndFault) → Reason f → Wider f) where
     later : {R : Type 0} (end : End R EndFault) → IsServed seen old mid → IsCall seen mid new Reason end → IsCall seen old new Wider end
-    later (Ok r) served h = (served.0, h.1, h.2 ∙ served.2)
-    later (Err no_memory) served h = (served.0, h.1, h.2 ∙ served.2)
-    later (Err failed) served h = (served.0, h.1, subst (λ n. MoreFailures n (seen new).failures) served.2 h.2)
+    later (Ok r) served h = then_served seen old mid new served h
+    later (Err no_memory) served h = then_served seen old mid new served h
+    later (Err failed) served h = then_failed seen old mid new served h
     later (Err unusable) served h = absurd (true≢false (sym served.1 ∙ h.0))
-    later (Err (refused fault)) served h = ((served.0, h.0.1, h.0.2 ∙ served.2), wider fault h.1)
+    later (Err (refused fault)) served h = (then_served seen old mid new served h.0, wider fault h.1)
 
     pub read_then : {R V : Type 0} (P Q : Tables S C → Type 0) (may : Result R EndFault → Kept C → Deed C → Type 0)
         (gives : Tables S C → V → Type 0) (r : V) (result : Result R EndFault)

@@ -90,7 +90,7 @@ module _ {E S C : Type 0} (seen : E → Seen (Tables S C)) (sound : (k : E) → 
       (λ a. (TakesIn row, inr (inl refl), took t a))
   done next (Err Memory) call did = (refl, did.1)
   done next (Err Unusable) call did = (refl, did.1)
-  done next (Err NotMine) call did = (refl, did.1)
+  done next (Err NotMine) call did = absurd (call.0.1.0 mine)
   done next (Err NumberLimit) call did = ((refl, next, did.0.1), did.1)
   done next (Err (Business refusal)) call did = absurd call.0.1.1
   done next (Err TooEarly) call did = absurd did.0

@@ -1,5 +1,5 @@
 -- What an endpoint does with letters and settles that arrive: the deed that each answer tells, and what was the case before it.
-use Rattle.std.specs.Prelude.{◌≡◌, ◌⊎◌, ℕ, suc, ◌+◌, ◌≤◌, ◌<◌, max, length, Option, Some, None, Result, Ok, Err}
+use Rattle.std.specs.Prelude.{◌≡◌, ◌≢◌, ◌⊎◌, ℕ, suc, ◌+◌, ◌≤◌, ◌<◌, max, length, Option, Some, None, Result, Ok, Err}
 use Rattle.base.specs.declared.limits.TheConstants.{HELD_WINDOW}
 use Rattle.base.specs.declared.pair.Pair.{Pair}
 use Rattle.envelope.specs.declared.message.Message.{Message}
@@ -43,7 +43,7 @@ module _ {S C : Type 0} (service : Service S C) where
   IngestMay l (Err NumberLimit) x d = (d ≡ Nothing) × IsNextLetter x l × PassesLimit service.reactions x.journal (row_of_letter l)
   IngestMay l (Err StoreFailed) x d = (d ≡ Nothing) ⊎ (d ≡ TakesIn (row_of_letter l)) ⊎ (d ≡ Holds l)
   IngestMay l (Err Memory) x d = d ≡ Nothing
-  IngestMay l (Err NotMine) x d = d ≡ Nothing
+  IngestMay l (Err NotMine) x d = (d ≡ Nothing) × (l.pair.to.kind ≢ service.kind)
   IngestMay l (Err Unusable) x d = d ≡ Nothing
   IngestMay l (Err (Business _)) x d = ⊥
   IngestMay l (Err NotSent) x d = ⊥
@@ -60,7 +60,7 @@ module _ {S C : Type 0} (service : Service S C) where
       × ((m : Message) × HoldsNext x p m × PassesLimit service.reactions x.journal (row_of_letter (next_letter x p m)))
   DrainMay p (Err StoreFailed) x d = (d ≡ Nothing) ⊎ TakesHeld p x d
   DrainMay p (Err Memory) x d = d ≡ Nothing
-  DrainMay p (Err NotMine) x d = d ≡ Nothing
+  DrainMay p (Err NotMine) x d = (d ≡ Nothing) × (p.to.kind ≢ service.kind)
   DrainMay p (Err Unusable) x d = d ≡ Nothing
   DrainMay p (Err (Business _)) x d = ⊥
   DrainMay p (Err TooEarly) x d = ⊥
@@ -72,7 +72,7 @@ module _ {S C : Type 0} (service : Service S C) where
   SettleMay p n (Err NotSent) x d = (d ≡ Nothing) × (length (sent_of service.reactions x.journal p) < n)
   SettleMay p n (Err StoreFailed) x d = (d ≡ Nothing) ⊎ (d ≡ Settles p n)
   SettleMay p n (Err Memory) x d = d ≡ Nothing
-  SettleMay p n (Err NotMine) x d = d ≡ Nothing
+  SettleMay p n (Err NotMine) x d = (d ≡ Nothing) × (p.from.kind ≢ service.kind)
   SettleMay p n (Err Unusable) x d = d ≡ Nothing
   SettleMay p n (Err (Business _)) x d = ⊥
   SettleMay p n (Err TooEarly) x d = ⊥

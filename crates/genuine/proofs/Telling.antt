@@ -91,9 +91,9 @@ module _ {K S C : Type 0} (ok : Envelope → Type 0) (seen : K → Seen (Tables 
 
   -- what is settled behind a frame
   pub settles_ok : (f : Content) (r : Result Taken ReceptionFault) → ComesBy (through seen) old new service (TakeMay service f r)
-      → TellsOfUse (through seen) old new r → Settles ok f r
+      → TellsOfUse (through seen) service.kind f old new r → Settles ok f r
   settles_ok f (Ok (Handled position)) comes used = handled_ok f position comes
-  settles_ok f (Ok (Repeated number)) comes used = λ l read. (again_is f number comes used.1, again_ok f number comes l read)
+  settles_ok f (Ok (Repeated number)) comes used = λ l read. (again_is f number comes used.0.1, again_ok f number comes l read)
   settles_ok f (Ok Connected) comes used = tt
   settles_ok f (Ok (Receipt number)) comes used = tt
   settles_ok f (Ok Held) comes used = tt

@@ -94,8 +94,8 @@ the_store_is_asked_or_not : FailsUnasked seen (over (holds old) (in_calls 1 Old)
 the_store_is_asked_or_not = (
   ((refl, refl), refl),
   λ h. let e = ap (λ (s : Store). s.tables) h.1 in omega (arith, e),
-  (refl, (refl, refl, refl)),
-  (refl, (refl, refl, (omega arith, omega arith))),
+  (refl, (refl, refl, refl, refl)),
+  (refl, (refl, refl, (omega arith, omega arith), inl refl)),
   λ h. let e = h.1.1 in absurd (cc),
   λ h. let e = h.0 in omega (arith, e),
 )
@@ -107,7 +107,7 @@ a_read_fails_where_due : IsReadDue seen (over (holds old) (in_calls 1 New)) (dow
     × (IsReadDue seen (over (holds old) None) (downed (holds old) None) {R = ℕ} None (Err Failed) → ⊥)
 a_read_fails_where_due = (
   ((refl, refl), refl),
-  (refl, (refl, refl, refl)),
+  (refl, (refl, refl, refl, refl)),
   λ h. let e = h.0.0 in absurd (cc),
   λ h. let e = h.0 in omega (arith, e),
 )
@@ -121,7 +121,7 @@ a_transaction_fails_where_due : IsTransactionDue seen (over (holds old) (in_call
 a_transaction_fails_where_due = (
   ((refl, refl), refl),
   (refl, refl),
-  (refl, (refl, refl, refl)),
+  (refl, (refl, refl, refl, refl)),
   λ h. let e = ap (λ (s : Store). s.tables) h.1 in omega (arith, e),
   λ h. let e = h.0 in absurd (cc),
 )
@@ -140,12 +140,12 @@ reads_are_counted_down : ReadsDue seen (over (holds old) (in_calls 2 Old)) (over
     × (ReadsDue seen (over (holds old) None) (over (holds old) None) tenfold (Ok 20) → ⊥)
 reads_are_counted_down = (
   record {
-    reads = record { call = (refl, refl, refl); doubt = omega arith; clean = λ _. (refl, refl) };
+    reads = record { call = (refl, refl, refl, (refl, omega arith)); doubt = omega arith; clean = λ _. (refl, refl) };
     armed = refl;
-    fails = (refl, (refl, refl, refl));
+    fails = (refl, (refl, refl, refl, refl));
   },
   record {
-    reads = record { call = (refl, refl, (omega arith, omega arith)); doubt = omega arith; clean = λ _ t h. h };
+    reads = record { call = (refl, refl, (omega arith, omega arith), inl refl); doubt = omega arith; clean = λ _ t h. h };
     armed = refl;
     fails = ((refl, refl), refl);
   },
@@ -169,22 +169,22 @@ transactions_leave_what_was_chosen : WritesDue seen (over (holds old) None) (ove
     × (WritesDue seen (over (holds old) None) (over (holds old) None) fits_one double (Ok tt) → ⊥)
 transactions_leave_what_was_chosen = (
   record {
-    writes = record { call = (refl, refl, refl); doubt = omega arith; clean = λ _ _. refl };
+    writes = record { call = (refl, refl, refl, refl); doubt = omega arith; clean = λ _ _. refl };
     armed = refl;
-    fails = (refl, (refl, refl, refl));
+    fails = (refl, (refl, refl, refl, refl));
     left = λ _ _. tt;
   },
   record {
-    writes = record { call = (refl, refl, (omega arith, omega arith)); doubt = omega arith; clean = λ _ _ t h. inl h };
+    writes = record { call = (refl, refl, (omega arith, omega arith), inl refl); doubt = omega arith; clean = λ _ _ t h. inl h };
     armed = refl;
     fails = ((refl, refl), refl);
     left = λ _ _ t h. h;
   },
   record {
-    writes = record { call = (refl, refl, (omega arith, omega arith)); doubt = omega arith; clean = λ _ _ t h. inr h };
+    writes = record { call = (refl, refl, (omega arith, omega arith), inl refl); doubt = omega arith; clean = λ _ _ t h. inr h };
     armed = refl;
     fails = (refl, refl);
-    left = λ _ _. (Ok tt, (refl, refl, refl), λ t h. h);
+    left = λ _ _. (Ok tt, (refl, refl, refl, refl), λ t h. h);
   },
   λ h. let e = h.fails.0 in absurd (cc),
   λ h. let e = h.writes.clean refl refl in omega (arith, e),
@@ -199,14 +199,14 @@ a_reopening_passes : ReopensThrough seen (downed (holds old) (in_calls 2 New))
     × (ReopensThrough seen (downed (holds old) None) (over (holds old) None) (Ok tt) → ⊥)
 a_reopening_passes = (
   record {
-    reopens = record { call = (refl, refl); doubt = omega arith; clean = λ _. ∣ refl ∣₁ };
+    reopens = record { call = (refl, refl, refl); doubt = omega arith; clean = λ _. ∣ refl ∣₁ };
     armed = refl;
-    passes = (refl, (refl, refl));
+    passes = (refl, (refl, refl, refl));
   },
   record {
-    reopens = record { call = (refl, refl); doubt = omega arith; clean = λ _ t h. h };
+    reopens = record { call = (refl, refl, refl); doubt = omega arith; clean = λ _ t h. h };
     armed = refl;
-    passes = (refl, (refl, refl));
+    passes = (refl, (refl, refl, refl));
   },
   λ h. let e = h.passes.1.0 in absurd (cc),
   λ h. let e = h.armed in absurd (cc),

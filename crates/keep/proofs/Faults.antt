@@ -6,10 +6,11 @@ use Rattle.keep.specs.declared.fault.KeepFault.TheVariants.{Failed, Memory, Wron
 use Rattle.keep.specs.declared.faulty.Leaves.{Leaves}
 use Rattle.keep.specs.declared.faulty.Leaves.TheVariants.{Old, New}
 use Rattle.keep.specs.Law.{MoreFailures, LeavesEither, Never, IsCall, IsRead, IsTransaction, IsReopenCall, IsReopening, HasFailed, Reads}
-use Rattle.keep.specs.Law.{Writes, Reopens}
+use Rattle.keep.specs.Law.{StaysArmed, MayBeMet, Writes, Reopens}
 use Rattle.keep.specs.Seen.{Seen, IsSound, keep_end}
 use Rattle.keep.specs.Failing.{Failing, through, due, counted_down, LeavesNew, ReadsDue, WritesDue, ReopensThrough}
 use Rattle.keep.specs.Inside.{inside}
+use Rattle.keep.proofs.Arms.{unmet, counts_down}
 
 more_inside : (own before after : ℕ) → MoreFailures before after → MoreFailures (own + before) (own + after)
 more_inside own before after h = let k : min (before + 1) (2 ^ 64 - 1) ≤ after = h.1 in let stays = h.0 in
@@ -31,21 +32,21 @@ module _ {K T : Type 0} (seen : K → Seen T) (old new : Failing K) where
     more : (a b : ℕ) → MoreFailures a b → MoreFailures (old.failures + a) (new.failures + b)
     more a b m = subst (λ n. MoreFailures (old.failures + a) (n + b)) (sym own) (more_inside old.failures a b m)
 
-    -- a call inside is a call
-    call_inside : {R : Type 0} (r : Result R KeepFault) → IsCall seen old.keep new.keep Never (keep_end r)
-        → IsCall (through seen) old new Never (keep_end r)
-    call_inside (Ok _) h = (up old.is_down _ was h.0, up new.is_down _ is h.1, same _ _ h.2)
-    call_inside (Err Memory) h = (up old.is_down _ was h.0, up new.is_down _ is h.1, same _ _ h.2)
-    call_inside (Err Failed) h = (up old.is_down _ was h.0, down new.is_down _ h.1, more _ _ h.2)
-    call_inside (Err WrongFile) h = absurd h.1
+    -- a call inside is a call, where what is armed still is
+    call_inside : {R : Type 0} (r : Result R KeepFault) → StaysArmed old.armed new.armed
+        → IsCall seen old.keep new.keep Never (keep_end r) → IsCall (through seen) old new Never (keep_end r)
+    call_inside (Ok _) stays h = (up old.is_down _ was h.0, up new.is_down _ is h.1, same _ _ h.2, stays)
+    call_inside (Err Memory) stays h = (up old.is_down _ was h.0, up new.is_down _ is h.1, same _ _ h.2, stays)
+    call_inside (Err Failed) stays h = (up old.is_down _ was h.0, down new.is_down _ h.1, more _ _ h.2, inr stays)
+    call_inside (Err WrongFile) stays h = absurd h.1
 
     -- a reopening inside is a reopening
-    reopen_inside : (r : Result Unit KeepFault) → IsReopenCall seen old.keep new.keep (keep_end r)
+    reopen_inside : (r : Result Unit KeepFault) → new.armed ≡ old.armed → IsReopenCall seen old.keep new.keep (keep_end r)
         → IsReopenCall (through seen) old new (keep_end r)
-    reopen_inside (Ok _) h = (up new.is_down _ is h.0, same _ _ h.1)
-    reopen_inside (Err Memory) h = (down new.is_down _ h.0, same _ _ h.1)
-    reopen_inside (Err Failed) h = (down new.is_down _ h.0, more _ _ h.1)
-    reopen_inside (Err WrongFile) h = absurd h
+    reopen_inside (Ok _) stays h = (up new.is_down _ is h.0, same _ _ h.1, stays)
+    reopen_inside (Err Memory) stays h = (down new.is_down _ h.0, same _ _ h.1, stays)
+    reopen_inside (Err Failed) stays h = (down new.is_down _ h.0, more _ _ h.1, stays)
+    reopen_inside (Err WrongFile) stays h = absurd h
 
   -- and what it says of the tables stays
   read_clean : {R : Type 0} (gives : T → R → Type 0) (r : Result R KeepFault)
@@ -69,13 +70,17 @@ module _ {K T : Type 0} (seen : K → Seen T) (old new : Failing K) where
   reopen_clean (Err Failed) h = h
   reopen_clean (Err WrongFile) h = h
 
+  -- a call that isn't due to fail is counted, and what is armed still is
+  still : new.armed ≡ counted_down old.armed → due old.armed ≡ None → StaysArmed old.armed new.armed
+  still armed unarmed = subst (StaysArmed old.armed) (sym armed) (unmet old.armed unarmed)
+
   -- a call that the keep inside answers
   pub read_inside : {R : Type 0} (gives : T → R → Type 0) (r : Result R KeepFault) → old.is_down ≡ false → new.is_down ≡ false
       → new.failures ≡ old.failures
       → new.armed ≡ counted_down old.armed → due old.armed ≡ None → Reads seen old.keep new.keep gives (keep_end r)
       → ReadsDue seen old new gives r
   read_inside gives r was is own armed unarmed h = record {
-    reads = record { call = call_inside was is own r h.call; doubt = h.doubt; clean = λ e. read_clean gives r (h.clean e) };
+    reads = record { call = call_inside was is own r (still armed unarmed) h.call; doubt = h.doubt; clean = λ e. read_clean gives r (h.clean e) };
     armed = armed;
     fails = rw unarmed (own, h.call);
   }
@@ -85,7 +90,7 @@ module _ {K T : Type 0} (seen : K → Seen T) (old new : Failing K) where
       → new.armed ≡ counted_down old.armed → due old.armed ≡ None → Writes seen old.keep new.keep Fit to (keep_end r)
       → WritesDue seen old new Fit to r
   write_inside Fit to r was is own armed unarmed h = record {
-    writes = record { call = call_inside was is own r h.call; doubt = h.doubt; clean = λ e fit. write_clean to r (h.clean e fit) };
+    writes = record { call = call_inside was is own r (still armed unarmed) h.call; doubt = h.doubt; clean = λ e fit. write_clean to r (h.clean e fit) };
     armed = armed;
     fails = rw unarmed (own, h.call);
     left = rw unarmed (λ _ _. tt);
@@ -94,7 +99,7 @@ module _ {K T : Type 0} (seen : K → Seen T) (old new : Failing K) where
   pub reopened_inside : (r : Result Unit KeepFault) → old.is_down ≡ false → new.is_down ≡ false → new.failures ≡ old.failures
       → new.armed ≡ old.armed → Reopens seen old.keep new.keep (keep_end r) → ReopensThrough seen old new r
   reopened_inside r was is own armed h = record {
-    reopens = record { call = reopen_inside was is own r h.call; doubt = h.doubt; clean = λ e. reopen_clean r (h.clean e) };
+    reopens = record { call = reopen_inside was is own r armed h.call; doubt = h.doubt; clean = λ e. reopen_clean r (h.clean e) };
     armed = armed;
     passes = (own, h.call);
   }
@@ -123,8 +128,12 @@ module _ {K T : Type 0} (seen : K → Seen T) (old new : Failing K) where
     failed_call =
         let e : (seen new.keep).failures ≡ (seen old.keep).failures = ap (λ k. (seen k).failures) kept in
         let a = more_own.0 in
-        let b = more_own.1 in
-        (usable, down_now, (omega (arith, was_own, a, e), omega (arith, was_own, b, e)))
+        let b = more_own.1 in (
+          usable,
+          down_now,
+          (omega (arith, was_own, a, e), omega (arith, was_own, b, e)),
+          subst (MayBeMet old.armed) (sym armed_now) (counts_down old.armed),
+        )
 
     failed_doubt : (seen old.keep).doubt ≤ (seen new.keep).doubt
     failed_doubt = let e : (seen new.keep).doubt ≡ (seen old.keep).doubt = ap (λ k. (seen k).doubt) kept in omega (arith, e)
@@ -161,6 +170,9 @@ module _ {K T : Type 0} (seen : K → Seen T) (old new : Failing K) where
 
     hidden_keep : new.keep ≡ asked.keep
     hidden_keep = ap (λ (f : Failing K). f.keep) counted
+
+    hidden_armed : new.armed ≡ counted_down old.armed
+    hidden_armed = ap (λ (f : Failing K). f.armed) counted ∙ same_armed ∙ ap (λ (f : Failing K). f.armed) armed
 
     -- the keep inside counted as many or more
     rises : (answer : Result Unit KeepFault) → IsCall seen old.keep asked.keep Never (keep_end answer)
@@ -209,13 +221,14 @@ module _ {K T : Type 0} (seen : K → Seen T) (old new : Failing K) where
               usable,
               ap (λ (f : Failing K). not f.is_down && (seen f.keep).usable) counted,
               (omega (arith, own, a, e, rose), omega (arith, own, b, e, rose)),
+              subst (MayBeMet old.armed) (sym hidden_armed) (counts_down old.armed),
             );
             doubt = omega (arith, d, above);
             clean = later (λ k. (seen k).doubt ≡ 0 → Fit (seen old.keep).tables
                 → LeavesEither (seen old.keep).tables (to (seen old.keep).tables) (seen k).may_leave)
                 (λ clean fit. either_by to answer (left clean fit));
           };
-          armed = ap (λ (f : Failing K). f.armed) counted ∙ same_armed ∙ ap (λ (f : Failing K). f.armed) armed;
+          armed = hidden_armed;
           fails = rw due_is (refl, ap (λ (f : Failing K). f.failures) counted ∙ ap (λ n. min (n + 1) (2 ^ 64 - 1)) hidden_own);
           left = rw due_is (later (λ k. (seen k).doubt ≡ 0 → Fit (seen old.keep).tables → (answer : Result Unit KeepFault)
               × IsCall seen old.keep k Never (keep_end answer)

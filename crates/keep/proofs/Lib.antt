@@ -1,3 +1,4 @@
+pub mod Arms
 pub mod Faults
 pub mod Places
 pub mod Listings

@@ -31,7 +31,11 @@ counted_down (Some a) = if nat_le a.calls 1 then None else Some (record a { call
 
 -- what callers see of it, from what they see of the keep inside
 abbrev pub through : {K T : Type 0} → (K → Seen T) → Failing K → Seen T
-through seen f = record (seen f.keep) { failures = f.failures + (seen f.keep).failures; usable = not f.is_down && (seen f.keep).usable }
+through seen f = record (seen f.keep) {
+  failures = f.failures + (seen f.keep).failures;
+  usable = not f.is_down && (seen f.keep).usable;
+  armed = f.armed;
+}
 
 -- a stop leaves these tables and no others
 abbrev pub LeavesOnly : {T : Type 0} → T → (T → Type 0) → Type 0

@@ -1,10 +1,21 @@
 -- What a call does to what is seen of a store.
-use Rattle.std.specs.Prelude.{ℕ, ◌+◌, ◌-◌, ◌^◌, ◌≡◌, ◌≤◌, ◌⊎◌, min, true, false, Ok, Err, ⊤}
+use Rattle.std.specs.Prelude.{ℕ, ◌+◌, ◌-◌, ◌^◌, ◌≡◌, ◌≤◌, ◌⊎◌, min, true, false, Option, Some, None, Ok, Err, ⊤}
+use Rattle.keep.specs.declared.faulty.Arming.{Arming}
 use Rattle.keep.specs.Seen.{Seen, Cause, no_memory, failed, unusable, refused, End}
 
 -- a failure was counted, one at least: the count rose, but may stay at 2^64 - 1; it never falls
 abbrev pub MoreFailures : ℕ → ℕ → Type 0
 MoreFailures before after = (before ≤ after) × (min (before + 1) (2 ^ 64 - 1) ≤ after)
+
+-- what is armed behind calls none of which was to fail: nothing where nothing was, else the same failure, at no later call
+abbrev pub StaysArmed : Option Arming → Option Arming → Type 0
+StaysArmed None new = new ≡ None
+StaysArmed (Some was) None = ⊥
+StaysArmed (Some was) (Some now) = (now.leaves ≡ was.leaves) × (now.calls ≤ was.calls)
+
+-- and behind a failure: this was the one, or it still stands
+abbrev pub MayBeMet : Option Arming → Option Arming → Type 0
+MayBeMet old new = (new ≡ None) ⊎ StaysArmed old new
 
 -- a stop leaves the old tables or the new ones, whole
 abbrev pub LeavesEither : {T : Type 0} → T → T → (T → Type 0) → Type 0
@@ -16,13 +27,15 @@ Never _ = ⊥
 
 -- `E` are the stores, seen by `seen`; `old` and `new` are the store before the call and after it
 module _ {E T : Type 0} (seen : E → Seen T) (old new : E) where
-  -- the store was usable and is, and no failure was counted
+  -- the store was usable and is, no failure was counted, and what was armed still is
   abbrev pub IsServed : Type 0
   IsServed = ((seen old).usable ≡ true) × ((seen new).usable ≡ true) × ((seen new).failures ≡ (seen old).failures)
+      × StaysArmed (seen old).armed (seen new).armed
 
   -- the store was usable, and a failure was counted: it isn't usable until it is reopened
   abbrev pub HasFailed : Type 0
   HasFailed = ((seen old).usable ≡ true) × ((seen new).usable ≡ false) × MoreFailures (seen old).failures (seen new).failures
+      × MayBeMet (seen old).armed (seen new).armed
 
   -- the store wasn't usable, and is as it was
   abbrev pub IsRefusedUnusable : Type 0
@@ -64,16 +77,20 @@ module _ {E T : Type 0} (seen : E → Seen T) (old new : E) where
   IsTransaction to (Ok _) = (seen new).tables ≡ to (seen old).tables
   IsTransaction to (Err cause) = IsWriteCause to cause
 
+  -- a reopening neither arms nor disarms
+  abbrev pub LeavesArmed : Type 0
+  LeavesArmed = (seen new).armed ≡ (seen old).armed
+
   -- what the cause tells for which a reopening wasn't done: the store isn't usable
   abbrev pub IsReopenCause : {F : Type 0} → Cause F → Type 0
-  IsReopenCause no_memory = ((seen new).usable ≡ false) × ((seen new).failures ≡ (seen old).failures)
-  IsReopenCause failed = ((seen new).usable ≡ false) × MoreFailures (seen old).failures (seen new).failures
+  IsReopenCause no_memory = ((seen new).usable ≡ false) × ((seen new).failures ≡ (seen old).failures) × LeavesArmed
+  IsReopenCause failed = ((seen new).usable ≡ false) × MoreFailures (seen old).failures (seen new).failures × LeavesArmed
   IsReopenCause unusable = ⊥
   IsReopenCause (refused _) = ⊥
 
   -- what a reopening tells whatever the disk did
   abbrev pub IsReopenCall : {R F : Type 0} → End R F → Type 0
-  IsReopenCall (Ok _) = ((seen new).usable ≡ true) × ((seen new).failures ≡ (seen old).failures)
+  IsReopenCall (Ok _) = ((seen new).usable ≡ true) × ((seen new).failures ≡ (seen old).failures) × LeavesArmed
   IsReopenCall (Err cause) = IsReopenCause cause
 
   -- a reopening finds one of the tables that a stop may have left; where it isn't done a stop leaves no others

@@ -1,7 +1,8 @@
 -- What callers see of a keep, and how its calls end.
-use Rattle.std.specs.Prelude.{◌≡◌, ℕ, Bool, true, Result, Ok, Err}
+use Rattle.std.specs.Prelude.{◌≡◌, ℕ, Bool, true, Option, Result, Ok, Err}
 use Rattle.keep.specs.declared.fault.KeepFault.{KeepFault}
 use Rattle.keep.specs.declared.fault.KeepFault.TheVariants.{Failed, Memory, WrongFile}
+use Rattle.keep.specs.declared.faulty.Arming.{Arming}
 
 -- what callers see of a keep with tables `T`
 pub record Seen (T : Type 0) : Type 1 where
@@ -15,6 +16,8 @@ pub record Seen (T : Type 0) : Type 1 where
   pub usable : Bool
   -- 0 while the files below gave back what was written to them; in memory it is always 0
   pub doubt : ℕ
+  -- the failure that it was told to have, and that hasn't come yet; a keep that isn't told to fail has none
+  pub armed : Option Arming
 
 -- while no file is in doubt a stop leaves some tables, and of a usable keep the tables now and no others
 pub record IsSound {T : Type 0} (s : Seen T) : Type 0 where

@@ -2,7 +2,8 @@
 use Rattle.std.proofs.Common.{◌≤◌, ◌≡◌, arith, Result, Err, ◌∙◌, subst}
 use Rattle.keep.specs.declared.fault.KeepFault.{KeepFault}
 use Rattle.keep.specs.declared.fault.KeepFault.TheVariants.{Failed, Memory, WrongFile}
-use Rattle.keep.specs.Law.{MoreFailures, IsServed, IsCallCause, IsReadCause, Tells, Reads, ReadsOr}
+use Rattle.keep.specs.Law.{IsServed, IsCallCause, IsReadCause, Tells, Reads, ReadsOr}
+use Rattle.keep.proofs.Arms.{then_served, then_failed}
 use Rattle.keep.specs.Seen.{Seen, keep_end}
 use Rattle.outbox.specs.declared.fault.OutboxFault.{OutboxFault}
 use Rattle.outbox.specs.declared.fault.OutboxFault.TheVariants.{Store, NumberLimit}
@@ -26,18 +27,18 @@ module _ {E T : Type 0} (seen : E → Seen T) (old mid new : E) (served : IsServ
       → Tells seen mid new (IsCallCause seen mid new IsLimit (outbox_cause fault)) (IsReadCause seen mid new Why (outbox_cause fault))
       → Tells seen old new (IsCallCause seen old new IsLimit (outbox_cause fault)) (IsReadCause seen old new More (outbox_cause fault))
   read_later Why More (Store Memory) f h = let a = h.doubt in record {
-    call = (served.0, h.call.1, h.call.2 ∙ served.2);
+    call = then_served seen old mid new served h.call;
     doubt = omega (arith, doubt, a);
     clean = λ clean. h.clean clean ∙ same (omega (arith, clean, a));
   }
   read_later Why More (Store Failed) f h = let a = h.doubt in record {
-    call = (served.0, h.call.1, subst (λ n. MoreFailures n (seen new).failures) served.2 h.call.2);
+    call = then_failed seen old mid new served h.call;
     doubt = omega (arith, doubt, a);
     clean = λ clean t l. h.clean clean t l ∙ same (omega (arith, clean, a));
   }
   read_later Why More (Store WrongFile) f h = absurd h.call.1
   read_later Why More NumberLimit f h = let a = h.doubt in record {
-    call = ((served.0, h.call.0.1, h.call.0.2 ∙ served.2), tt);
+    call = (then_served seen old mid new served h.call.0, tt);
     doubt = omega (arith, doubt, a);
     clean = λ clean. let early : (seen mid).doubt ≡ 0 = omega (arith, clean, a) in let r = h.clean clean in (f early r.0, r.1 ∙ same early);
   }

@@ -78,6 +78,7 @@ fn number_out<K: Keep>(
 }
 
 /// Adds a letter for each message that an entity sends. One read of the store for each.
+#[tactic(auto, using(keep::proofs::Arms::stays_armed))]
 pub fn number_outs<H, K>(
     alloc: Global,
     keep: &mut K,

@@ -30,7 +30,7 @@ module _ {E S C : Type 0} (seen : E → Seen (Tables S C)) (service : Service S 
     pub rest : new ≡ record between { client = new.client; waiting = waiting_then result frame }
     pub answers : Answers service.kind frame between.client.client new.client.client result
     pub comes : ComesBy seen from to service (TakeMay service frame result)
-    pub used : TellsOfUse seen from to result
+    pub used : TellsOfUse seen service.kind frame from to result
 
   -- no whole frame came, a frame came, or what came is no frame; or memory was refused
   abbrev pub Takes : Result (Option Taken) ReceptionFault → Type 0

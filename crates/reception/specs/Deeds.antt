@@ -1,8 +1,11 @@
 -- What a service's store has of one frame that came, by what is told of it.
-use Rattle.std.specs.Prelude.{◌≡◌, ◌⊎◌, ℕ, Some, Result, Ok, Err, ⊤}
+use Rattle.std.specs.Prelude.{◌≡◌, ◌≢◌, ◌⊎◌, ℕ, Option, Some, None, Result, Ok, Err}
+use Rattle.base.specs.Entity.{Name}
+use Rattle.base.specs.declared.entity.Kind.{Kind}
 use Rattle.base.specs.declared.pair.Pair.{Pair}
 use Rattle.stomp_frame.specs.Frames.{Content}
 use Rattle.envelope.specs.Reading.{read_frame}
+use Rattle.envelope.specs.declared.message.Envelope.{Envelope}
 use Rattle.envelope.specs.declared.message.Envelope.TheVariants as envelope
 use Rattle.envelope.specs.declared.message.Letter.{Letter}
 use Rattle.activities.specs.Journal.{handled_of}
@@ -15,6 +18,7 @@ use Rattle.endpoint.specs.Faults.{end_cause}
 use Rattle.endpoint.specs.declared.answer.Ingested.{Ingested}
 use Rattle.endpoint.specs.declared.answer.Ingested.TheVariants as ingested
 use Rattle.endpoint.specs.declared.fault.EndFault.{EndFault}
+use Rattle.endpoint.specs.declared.fault.EndFault.TheVariants.{NotMine, TooEarly, NumberLimit, NotSent}
 use Rattle.reception.specs.Replies.{settled_again}
 use Rattle.reception.specs.declared.fault.ReceptionFault.{ReceptionFault}
 use Rattle.reception.specs.declared.fault.ReceptionFault.TheVariants.{End}
@@ -41,13 +45,34 @@ module _ {S C : Type 0} (service : Service S C) (f : Content) where
   TakeMay (Err (End fault)) x d = LetterMay (Err fault) x d ⊎ MarkMay (Err fault) x d
   TakeMay _ x d = d ≡ Nothing
 
+-- the entity that an envelope concerns: the receiver of a letter, the sender of what is settled
+abbrev pub concerned : Option Envelope → Option Name
+concerned (Some (envelope.Letter l)) = Some l.pair.to
+concerned (Some (envelope.Settle pair number)) = Some pair.from
+concerned None = None
+
+-- a frame concerns an entity of this kind, or one of another
+abbrev pub IsOurs : Kind → Content → Type 0
+IsOurs kind f = (e : Name) × (concerned (read_frame f) ≡ Some e) × (e.kind ≡ kind)
+
+abbrev pub IsAnothers : Kind → Content → Type 0
+IsAnothers kind f = (e : Name) × (concerned (read_frame f) ≡ Some e) × (e.kind ≢ kind)
+
+-- why the endpoint may refuse what a frame carries, whatever the disk did: that it's another service's, or something else of what is ours
+abbrev pub MayTurnBack : Kind → Content → EndFault → Type 0
+MayTurnBack kind f NotMine = IsAnothers kind f
+MayTurnBack kind f TooEarly = IsOurs kind f
+MayTurnBack kind f NumberLimit = IsOurs kind f
+MayTurnBack kind f NotSent = IsOurs kind f
+MayTurnBack kind f _ = ⊥
+
 -- What is told of the store's use, whatever the disk did: a fault of the endpoint says what became of it, a letter or a settle that was
--- taken was served, and else it wasn't called, or was read.
-abbrev pub TellsOfUse : {E T : Type 0} → (E → Seen T) → (old new : E) → Result Taken ReceptionFault → Type 0
-TellsOfUse seen old new (Ok (Handled _)) = IsServed seen old new
-TellsOfUse seen old new (Ok (Repeated _)) = IsServed seen old new
-TellsOfUse seen old new (Ok Held) = IsServed seen old new
-TellsOfUse seen old new (Ok (Settled _)) = IsServed seen old new
-TellsOfUse seen old new (Ok _) = new ≡ old
-TellsOfUse seen old new (Err (End fault)) = IsCallCause seen old new (λ (_ : EndFault). ⊤) (end_cause fault)
-TellsOfUse seen old new (Err _) = (new ≡ old) ⊎ IsServed seen old new
+-- taken was served and is ours, and else it wasn't called, or was read.
+abbrev pub TellsOfUse : {E T : Type 0} → (E → Seen T) → Kind → Content → (old new : E) → Result Taken ReceptionFault → Type 0
+TellsOfUse seen kind f old new (Ok (Handled _)) = IsServed seen old new × IsOurs kind f
+TellsOfUse seen kind f old new (Ok (Repeated _)) = IsServed seen old new × IsOurs kind f
+TellsOfUse seen kind f old new (Ok Held) = IsServed seen old new × IsOurs kind f
+TellsOfUse seen kind f old new (Ok (Settled _)) = IsServed seen old new × IsOurs kind f
+TellsOfUse seen kind f old new (Ok _) = new ≡ old
+TellsOfUse seen kind f old new (Err (End fault)) = IsCallCause seen old new (MayTurnBack kind f) (end_cause fault)
+TellsOfUse seen kind f old new (Err _) = (new ≡ old) ⊎ IsServed seen old new

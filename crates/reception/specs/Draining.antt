@@ -16,7 +16,7 @@ use Rattle.endpoint.specs.Arrivals.{DrainMay}
 use Rattle.endpoint.specs.Deeds.{Kept, Deed, Nothing}
 use Rattle.endpoint.specs.Faults.{end_cause}
 use Rattle.endpoint.specs.declared.fault.EndFault.{EndFault}
-use Rattle.endpoint.specs.declared.fault.EndFault.TheVariants.{StoreFailed, Memory, Unusable}
+use Rattle.endpoint.specs.declared.fault.EndFault.TheVariants.{NotMine, NumberLimit, StoreFailed, Memory, Unusable}
 use Rattle.reception.specs.Faults.{IsWant}
 use Rattle.reception.specs.Replies.{Writes}
 use Rattle.reception.specs.declared.fault.ReceptionFault.{ReceptionFault}
@@ -43,9 +43,15 @@ module _ {S C : Type 0} (service : Service S C) where
       ⊎ ((pair : Pair) × IsFirstHeld x (Some pair) × DrainMay service pair (Err fault) x d)
   DrainsMay (Err _) x d = d ≡ Nothing
 
+-- why a held letter may not be handled, whatever the disk did; that it is another service's is told of the tables, by the deed
+abbrev pub OfDraining : EndFault → Type 0
+OfDraining NotMine = ⊤
+OfDraining NumberLimit = ⊤
+OfDraining _ = ⊥
+
 -- what is told of the store's use, whatever the disk did
 abbrev pub TellsOfDraining : {E T R : Type 0} → (E → Seen T) → (old new : E) → Result R ReceptionFault → Type 0
-TellsOfDraining seen old new (Err (End fault)) = IsCallCause seen old new (λ (_ : EndFault). ⊤) (end_cause fault)
+TellsOfDraining seen old new (Err (End fault)) = IsCallCause seen old new OfDraining (end_cause fault)
 TellsOfDraining seen old new _ = IsServed seen old new
 
 -- why it isn't done: the endpoint tells, or memory was refused before the letter was touched

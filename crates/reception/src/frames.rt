@@ -97,7 +97,7 @@ where
     ensures doubt { (K.seen endpoint.old).doubt ≤ (K.seen endpoint.new).doubt }
     ensures matches { StillMatches K.seen endpoint.old endpoint.new H.service }
     ensures comes { ComesBy K.seen endpoint.old endpoint.new H.service (TakeMay H.service frame (taken_or result)) }
-    ensures used { TellsOfUse K.seen endpoint.old endpoint.new (taken_or result) }
+    ensures used { TellsOfUse K.seen H.service.kind frame endpoint.old endpoint.new (taken_or result) }
     ensures answers { Answers H.service.kind frame client.old.client client.new.client (taken_or result) }
     ensures waits { IfErr result (λ untaken. untaken.frame ≡ waiting_after untaken.fault frame) }
 {

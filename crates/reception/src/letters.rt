@@ -59,7 +59,7 @@ where
     ensures doubt { (K.seen endpoint.old).doubt ≤ (K.seen endpoint.new).doubt }
     ensures matches { StillMatches K.seen endpoint.old endpoint.new H.service }
     ensures comes { ComesBy K.seen endpoint.old endpoint.new H.service (KnownMay H.service letter.now handled result) }
-    ensures used { KnownUse K.seen endpoint.old endpoint.new result }
+    ensures used { KnownUse K.seen H.service.kind message.now endpoint.old endpoint.new result }
     ensures answers { Answers H.service.kind message.now client.old.client client.new.client result }
 {
     let settles = Settles::make(alloc, client, message, letter, handled)?;
@@ -99,7 +99,7 @@ where
     ensures doubt { (K.seen endpoint.old).doubt ≤ (K.seen endpoint.new).doubt }
     ensures matches { StillMatches K.seen endpoint.old endpoint.new H.service }
     ensures comes { ComesBy K.seen endpoint.old endpoint.new H.service (TakeMay H.service message.now result) }
-    ensures used { TellsOfUse K.seen endpoint.old endpoint.new result }
+    ensures used { TellsOfUse K.seen H.service.kind message.now endpoint.old endpoint.new result }
     ensures answers { Answers H.service.kind message.now client.old.client client.new.client result }
 {
     if client.transactions() == u64::MAX {
@@ -134,7 +134,7 @@ where
     ensures doubt { (K.seen endpoint.old).doubt ≤ (K.seen endpoint.new).doubt }
     ensures matches { StillMatches K.seen endpoint.old endpoint.new H.service }
     ensures comes { ComesBy K.seen endpoint.old endpoint.new H.service (TakeMay H.service message.now result) }
-    ensures used { TellsOfUse K.seen endpoint.old endpoint.new result }
+    ensures used { TellsOfUse K.seen H.service.kind message.now endpoint.old endpoint.new result }
     ensures answers { Answers H.service.kind message.now client.old.client client.new.client result }
 {
     let answers = Acknowledgements::make(alloc, client, message)?;
@@ -181,7 +181,7 @@ where
     ensures doubt { (K.seen endpoint.old).doubt ≤ (K.seen endpoint.new).doubt }
     ensures matches { StillMatches K.seen endpoint.old endpoint.new H.service }
     ensures comes { ComesBy K.seen endpoint.old endpoint.new H.service (TakeMay H.service message.now result) }
-    ensures used { TellsOfUse K.seen endpoint.old endpoint.new result }
+    ensures used { TellsOfUse K.seen H.service.kind message.now endpoint.old endpoint.new result }
     ensures answers { Answers H.service.kind message.now client.old.client client.new.client result }
 {
     match from_message(alloc, message) {

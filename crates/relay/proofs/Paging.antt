@@ -6,11 +6,12 @@ use Rattle.std.specs.Prelude.{⊤}
 use Rattle.base.specs.declared.pair.Pair.{Pair}
 use Rattle.envelope.specs.declared.message.Letter.{Letter}
 use Rattle.keep.specs.declared.change.Place.{Place}
-use Rattle.keep.specs.Law.{MoreFailures, Reads}
+use Rattle.keep.specs.Law.{Reads}
 use Rattle.keep.specs.Listing.{place_of, AreFirst}
 use Rattle.keep.specs.Pages.{place_behind}
 use Rattle.keep.specs.Seen.{Seen, Cause, End, no_memory, failed, unusable, refused}
 use Rattle.keep.specs.Tables.{Tables, Messages}
+use Rattle.keep.proofs.Arms.{then_served, then_failed}
 use Rattle.keep.proofs.PageLaws.{short_page_is_last}
 use Rattle.keep.proofs.Places.{place_cmp-Equal, place_cmp-Greater}
 use Rattle.keep.specs.Places.{place_cmp, place_cmp-total, IsBefore}
@@ -559,17 +560,17 @@ module _ {E S C : Type 0} (seen : E → Seen (Tables S C)) (old mid new : E) whe
   pub read_again : (R : Type 0) (end : End R EndFault) → HasRead seen old mid → Reads seen mid new Any end → Reads seen old new Any end
   read_again R end (inl same) h = subst (λ (k : E). Reads seen k new Any end) same h
   read_again R (Ok r) (inr had) h = record {
-    call = (had.0.call.0, h.call.1, h.call.2 ∙ had.0.call.2);
+    call = then_served seen old mid new had.0.call h.call;
     doubt = twice _ _ _ had.0.doubt h.doubt;
     clean = λ c. (tt, (h.clean c).1 ∙ (had.0.clean (earlier _ _ h.doubt c)).1);
   }
   read_again R (Err no_memory) (inr had) h = record {
-    call = (had.0.call.0, h.call.1, h.call.2 ∙ had.0.call.2);
+    call = then_served seen old mid new had.0.call h.call;
     doubt = twice _ _ _ had.0.doubt h.doubt;
     clean = λ c. h.clean c ∙ (had.0.clean (earlier _ _ h.doubt c)).1;
   }
   read_again R (Err failed) (inr had) h = record {
-    call = (had.0.call.0, h.call.1, subst (λ n. MoreFailures n (seen new).failures) had.0.call.2 h.call.2);
+    call = then_failed seen old mid new had.0.call h.call;
     doubt = twice _ _ _ had.0.doubt h.doubt;
     clean = λ c t l. h.clean c t l ∙ (had.0.clean (earlier _ _ h.doubt c)).1;
   }

@@ -79,7 +79,7 @@ abbrev Store : Type 0
 Store = Bool × ℕ
 
 abbrev seen : Store → Seen OrderTables
-seen k = record { tables = marked; may_leave = λ t. t ≡ marked; failures = 0; usable = k.0; doubt = k.1 }
+seen k = record { tables = marked; may_leave = λ t. t ≡ marked; failures = 0; usable = k.0; doubt = k.1; armed = None }
 
 abbrev gives : OrderTables → ℕ → Type 0
 gives t n = n ≡ length t.journal
@@ -96,7 +96,7 @@ module _ {H : Type 0} where
   services_are_read = (
     record {
       answer = Ok 1;
-      reads = record { call = (refl, refl, refl); doubt = omega arith; clean = λ clean. (refl, refl) };
+      reads = record { call = (refl, refl, refl, refl); doubt = omega arith; clean = λ clean. (refl, refl) };
       tells = refl;
       after = (refl, refl);
     },

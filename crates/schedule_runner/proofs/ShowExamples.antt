@@ -45,7 +45,7 @@ module _ {H S C : Type 0} where
       → ReadsSite {H = H} seen gives (Ok r) (site t) new_office (site t) new_office
   reads gives r t given = record {
     answer = Ok r;
-    reads = record { call = (refl, refl, refl); doubt = omega arith; clean = λ clean. (given, refl) };
+    reads = record { call = (refl, refl, refl, refl); doubt = omega arith; clean = λ clean. (given, refl) };
     tells = refl;
     after = (refl, refl);
   }
@@ -54,7 +54,7 @@ module _ {H S C : Type 0} where
       → ReadsSite {H = H} seen gives (Err (told.Refused 64)) (site t) new_office (site t) new_office
   no_memory gives t = record {
     answer = Err Memory;
-    reads = record { call = (refl, refl, refl); doubt = omega arith; clean = λ clean. refl };
+    reads = record { call = (refl, refl, refl, refl); doubt = omega arith; clean = λ clean. refl };
     tells = refl;
     after = (refl, refl);
   }

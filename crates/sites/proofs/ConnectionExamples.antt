@@ -214,7 +214,7 @@ module _ (c : Connection) (relay : Relay) (nothing : (p : Pair) → marks_of rel
         client = fresh.client;
         wrote = (tt, refl);
         comes = λ clean good t left. record { before = t; deed = Nothing; was = left; may = refl; did = refl };
-        used = (refl, refl, refl);
+        used = (refl, refl, refl, refl);
         tells = refl;
         meets = (refl, refl);
       }

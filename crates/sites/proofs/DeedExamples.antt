@@ -122,7 +122,7 @@ abbrev Store : Type 0
 Store = ℕ × OrderTables
 
 abbrev seen : Store → Seen OrderTables
-seen k = record { tables = k.1; may_leave = λ t. t ≡ k.1; failures = 0; usable = true; doubt = k.0 }
+seen k = record { tables = k.1; may_leave = λ t. t ≡ k.1; failures = 0; usable = true; doubt = k.0; armed = None }
 
 abbrev store : ℕ → OrderTables → Failing Store
 store doubt tables = record { keep = (doubt, tables); armed = None; is_down = false; failures = 0 }

@@ -132,7 +132,7 @@ not_taken (Err f) h = not_reception f h
 -- ---- a service of orders, whose store has empty tables and is usable or not
 
 abbrev pub seen : Bool → Seen OrderTables
-seen usable = record { tables = empty; may_leave = λ t. t ≡ empty; failures = 0; usable = usable; doubt = 0 }
+seen usable = record { tables = empty; may_leave = λ t. t ≡ empty; failures = 0; usable = usable; doubt = 0; armed = None }
 
 abbrev pub store : Bool → Failing Bool
 store usable = record { keep = usable; armed = None; is_down = false; failures = 0 }
@@ -171,7 +171,7 @@ stores_are_reopened : ReopensStore seen orders told.Reopened (site true None) ne
 stores_are_reopened = (
   record {
     result = Ok tt;
-    reopens = record { call = (refl, refl); doubt = omega arith; clean = λ clean. ∣ refl ∣₁ };
+    reopens = record { call = (refl, refl, refl); doubt = omega arith; clean = λ clean. ∣ refl ∣₁ };
     finds = λ clean t left. ∣ left ∣₁;
     tells = refl;
     after = (refl, refl);
@@ -180,7 +180,7 @@ stores_are_reopened = (
   record {
     result = Ok tt;
     opened = store true;
-    reopens = record { call = (refl, refl); doubt = omega arith; clean = λ clean. ∣ refl ∣₁ };
+    reopens = record { call = (refl, refl, refl); doubt = omega arith; clean = λ clean. ∣ refl ∣₁ };
     finds = λ clean t left. ∣ left ∣₁;
     tells = refl;
     cuts = record { between = new_office; zero = refl; one = refl; site = refl };
@@ -206,7 +206,7 @@ letters_are_drained = (
   record {
     result = Err (fault.Client client.Memory);
     comes = λ clean good t left. record { before = t; deed = Nothing; was = left; may = refl; did = refl };
-    used = (refl, refl, refl);
+    used = (refl, refl, refl, refl);
     tells = refl;
     meets = (refl, refl);
   },

@@ -1,10 +1,12 @@
 -- Examples: a letter and a settle that came are taken: what they do to the journal and to the outbox, and what is written for them.
-use Rattle.std.proofs.Common.{◌≡◌, ◌∙◌, ℕ, List, [], ◌∷◌, ◌++◌, length, Option, Some, Result, Ok, Err, true, refl, sym, ap, subst, arith}
+use Rattle.std.proofs.Common.{◌≡◌, ◌∙◌, ℕ, List, [], ◌∷◌, ◌++◌, length, Option, Some, None, Result, Ok, Err, true, refl, sym, ap, subst, arith}
 use Rattle.std.specs.Fmt.{digits}
 use Rattle.std.specs.Prelude.{codes}
 use Rattle.std.specs.Str.{is_utf8, chars}
 use Rattle.base.specs.Order.{same_entity, same_pair}
-use Rattle.base.specs.declared.entity.Kind.TheVariants.{Order}
+use Rattle.base.specs.Entity.{Name}
+use Rattle.base.specs.declared.entity.Kind.{Kind}
+use Rattle.base.specs.declared.entity.Kind.TheVariants.{Order, Stock}
 use Rattle.base.specs.declared.limits.TheConstants.{MAX_BODY}
 use Rattle.stomp_frame.specs.Frames.{Content, frame, header, canonical, escape, line_of}
 use Rattle.stomp_frame.specs.Streams.{AreFrames}
@@ -31,7 +33,7 @@ use Rattle.endpoint.proofs.Examples.{o1, bolts, from_order, placing}
 use Rattle.endpoint.proofs.CallExamples.{orders, OrderTables, after, taken_in}
 use Rattle.mail.specs.Offices.{new_office}
 use Rattle.outbox.specs.Numbering.{NumbersFit}
-use Rattle.reception.specs.Deeds.{TakeMay}
+use Rattle.reception.specs.Deeds.{TakeMay, IsOurs, IsAnothers, concerned}
 use Rattle.reception.specs.Replies.{answer, settling}
 use Rattle.reception.specs.declared.fault.ReceptionFault.{ReceptionFault}
 use Rattle.reception.specs.declared.taken.Taken.{Taken}
@@ -45,6 +47,11 @@ use Rattle.sites.specs.declared.channel.Channel.{Channel}
 use Rattle.sites.proofs.FrameExamples.{reception_is_refusal, client, channel}
 use Rattle.sites.proofs.Framing.{framed}
 use Rattle.sites.proofs.WorkExamples.{no_refusal, seen, store, site, only}
+
+-- the kind of an entity that is there
+abbrev kind_of : Option Name → Kind
+kind_of (Some e) = e.kind
+kind_of None = Order
 
 module _ (relay : Relay) where
   abbrev connected : Channel
@@ -97,7 +104,7 @@ module _ (relay : Relay) where
         did = subst (λ (x : OrderTables). Did orders (kept after) (Settles (from_order bolts) 1) (kept x)) (sym was)
             (refl, omega arith, refl);
       };
-      used = (refl, refl, refl);
+      used = ((refl, refl, refl, refl), ((from_order bolts).from, ap concerned it_is_read, refl));
       tells = refl;
       meets = (refl, refl);
     },
@@ -137,6 +144,18 @@ module _ (relay : Relay) where
   it_is_brought : read_frame brings ≡ Some (envelope.Letter letter)
   unfolding read_envelope digits is_utf8 chars lib.Utf8.encode
   it_is_brought = refl
+
+  -- the letter and the settle concern the order, so that purchasing never tells that they are another's; for the warehouse they are
+  both_concern_the_order : IsOurs Order brings × IsOurs Order settle × (IsAnothers Order brings → ⊥) × (IsAnothers Order settle → ⊥)
+      × IsAnothers Stock brings × (IsOurs Stock brings → ⊥)
+  both_concern_the_order = (
+    (o1, ap concerned it_is_brought, refl),
+    (o1, ap concerned it_is_read, refl),
+    λ h. h.2 (sym (ap kind_of h.1) ∙ ap (λ e. kind_of (concerned e)) it_is_brought),
+    λ h. h.2 (sym (ap kind_of h.1) ∙ ap (λ e. kind_of (concerned e)) it_is_read),
+    (o1, ap concerned it_is_brought, λ e. absurd (cc)),
+    λ h. let e : Order ≡ Stock = sym (ap (λ e. kind_of (concerned e)) it_is_brought) ∙ ap kind_of h.1 ∙ h.2 in absurd (cc),
+  )
 
   -- nothing is sent for it, so that no number is too large
   none_sent : (outs : List Out) → [] ≡ outs → NumbersFit (sent_counts order_reactions (placing ∷ [])) o1 outs
@@ -202,7 +221,7 @@ module _ (relay : Relay) where
         may = (letter, it_is_brought, (refl, refl));
         did = subst (λ (x : OrderTables). Did orders (kept after) (TakesIn row) (kept x)) (sym was) (it_may_follow, refl, refl);
       };
-      used = (refl, refl, refl);
+      used = ((refl, refl, refl, refl), (letter.pair.to, ap concerned it_is_brought, refl));
       tells = refl;
       meets = (refl, refl);
     },

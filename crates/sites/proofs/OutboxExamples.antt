@@ -138,7 +138,7 @@ module _ (before sent : Relay) (nothing : (p : Pair) → marks_of before p ≡ 0
     result = Ok 1;
     later = on sent busy;
     idle = tt;
-    reads = λ connected. record { call = (refl, refl, refl); doubt = omega arith; clean = λ clean. (tt, refl) };
+    reads = λ connected. record { call = (refl, refl, refl, refl); doubt = omega arith; clean = λ clean. (tt, refl) };
     keeps = λ clean t kept. kept;
     unused = λ unusable. absurd (cc);
     fills = λ connected. record {

@@ -61,7 +61,7 @@ abbrev before_or_after : OrderTables → Type 0
 before_or_after t = (t ≡ before) ⊎ (t ≡ after)
 
 abbrev pub seen : Store → Seen OrderTables
-seen k = record { tables = k.1; may_leave = λ t. MatchBool k.0 (t ≡ k.1) (before_or_after t); failures = 0; usable = k.0; doubt = 0 }
+seen k = record { tables = k.1; may_leave = λ t. MatchBool k.0 (t ≡ k.1) (before_or_after t); failures = 0; usable = k.0; doubt = 0; armed = None }
 
 abbrev pub store : Bool → OrderTables → Failing Store
 store usable tables = record { keep = (usable, tables); armed = None; is_down = false; failures = 0 }
@@ -96,7 +96,7 @@ a_command_is_taken_in = (placed, placed, λ h. stays h.result h.tells h.commits,
     placed = record {
       result = Ok (record { pos = 1 });
       commits = record {
-        call = ((refl, refl, refl), refl);
+        call = ((refl, refl, refl, refl), refl);
         doubt = omega arith;
         clean = λ clean good. (a_placed_order_is_committed, taken_in);
       };
@@ -139,7 +139,7 @@ a_store_is_opened_anew = (
     finds : (x : OrderTables) → before_or_after x → ((t : OrderTables) → t ≡ x → before_or_after t) → Finds (store true x)
     finds x is may = record {
       result = Ok tt;
-      reopens = record { call = (refl, refl); doubt = omega arith; clean = λ clean. ∣ is ∣₁ };
+      reopens = record { call = (refl, refl, refl); doubt = omega arith; clean = λ clean. ∣ is ∣₁ };
       finds = λ clean t left. ∣ may t left ∣₁;
       tells = refl;
       after = (refl, refl);
@@ -198,7 +198,7 @@ module _ (c : Connection) (relay : Relay) (octets : List ℕ) where
     record {
       result = Ok tt;
       opened = armed;
-      reopens = record { call = (refl, refl); doubt = omega arith; clean = λ clean. ∣ refl ∣₁ };
+      reopens = record { call = (refl, refl, refl); doubt = omega arith; clean = λ clean. ∣ refl ∣₁ };
       finds = λ clean t kept. ∣ kept ∣₁;
       tells = refl;
       cuts = record { between = left; zero = cut_leaves c relay octets; one = refl; site = refl };

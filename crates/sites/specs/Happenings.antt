@@ -173,7 +173,7 @@ module _ {H K S C : Type 0} (seen : K → Seen (Tables S C)) (service : Service 
     pub client : ClientWithRoom ℕ
     pub answers : Answers service.kind f l.connection.client.client client.client result
     pub comes : ComesBy (through seen) s.endpoint t.endpoint service (TakeMay service f result)
-    pub used : TellsOfUse (through seen) s.endpoint t.endpoint result
+    pub used : TellsOfUse (through seen) service.kind f s.endpoint t.endpoint result
     pub tells : outcome ≡ taken_told result
     pub meets : Meets (taken_fate result) number
         (over l (record l.connection { client = client; waiting = waiting_of result f })) (with_store t.endpoint s) from t to

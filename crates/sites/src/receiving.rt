@@ -33,7 +33,7 @@ where
     ensures doubt { (K.seen endpoint.old).doubt ≤ (K.seen endpoint.new).doubt }
     ensures matches { StillMatches K.seen endpoint.old endpoint.new H.service }
     ensures comes { ComesBy K.seen endpoint.old endpoint.new H.service (TakeMay H.service frame result) }
-    ensures used { TellsOfUse K.seen endpoint.old endpoint.new result }
+    ensures used { TellsOfUse K.seen H.service.kind frame endpoint.old endpoint.new result }
     ensures answers { Answers H.service.kind frame connection.old.client.client connection.new.client.client result }
     ensures rest { connection.new ≡ record connection.old { client = connection.new.client; waiting = waiting_of result frame } }
 {

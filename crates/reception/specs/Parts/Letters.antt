@@ -1,5 +1,6 @@
 -- The replies that are made before the endpoint is asked, and what is done with a letter whose pair was handled so far.
-use Rattle.std.specs.Prelude.{◌≡◌, ◌⊎◌, ℕ, suc, ◌≤◌, length, Option, Some, None, Result, Ok, Err, ⊤}
+use Rattle.std.specs.Prelude.{◌≡◌, ◌⊎◌, ℕ, suc, ◌≤◌, length, Option, Some, None, Result, Ok, Err}
+use Rattle.base.specs.declared.entity.Kind.{Kind}
 use Rattle.base.specs.declared.limits.TheConstants.{MAX_NUMBER}
 use Rattle.base.specs.declared.pair.Pair.{Pair}
 use Rattle.stomp_frame.specs.Frames.{Content}
@@ -13,7 +14,7 @@ use Rattle.endpoint.specs.Arrivals.{IngestMay, DrainMay}
 use Rattle.endpoint.specs.Deeds.{Kept, Deed, Nothing}
 use Rattle.endpoint.specs.Faults.{end_cause}
 use Rattle.endpoint.specs.declared.answer.Ingested.TheVariants as ingested
-use Rattle.endpoint.specs.declared.fault.EndFault.{EndFault}
+use Rattle.reception.specs.Deeds.{IsOurs, MayTurnBack}
 use Rattle.reception.specs.Replies.{answer, settling, settled_again, IsTextOf}
 use Rattle.reception.specs.declared.fault.ReceptionFault.{ReceptionFault}
 use Rattle.reception.specs.declared.fault.ReceptionFault.TheVariants.{End}
@@ -55,13 +56,13 @@ KnownMay service l handled (Err (End fault)) x d = IngestMay service l (Err faul
 KnownMay service l handled (Err _) x d = d ≡ Nothing
 
 -- what is told of the store's use
-abbrev pub KnownUse : {E T : Type 0} → (E → Seen T) → (old new : E) → Result Taken ReceptionFault → Type 0
-KnownUse seen old new (Ok (Handled _)) = IsServed seen old new
-KnownUse seen old new (Ok (Repeated _)) = IsServed seen old new
-KnownUse seen old new (Ok Held) = IsServed seen old new
-KnownUse seen old new (Ok _) = ⊥
-KnownUse seen old new (Err (End fault)) = IsCallCause seen old new (λ (_ : EndFault). ⊤) (end_cause fault)
-KnownUse seen old new (Err _) = new ≡ old
+abbrev pub KnownUse : {E T : Type 0} → (E → Seen T) → Kind → Content → (old new : E) → Result Taken ReceptionFault → Type 0
+KnownUse seen kind f old new (Ok (Handled _)) = IsServed seen old new × IsOurs kind f
+KnownUse seen kind f old new (Ok (Repeated _)) = IsServed seen old new × IsOurs kind f
+KnownUse seen kind f old new (Ok Held) = IsServed seen old new × IsOurs kind f
+KnownUse seen kind f old new (Ok _) = ⊥
+KnownUse seen kind f old new (Err (End fault)) = IsCallCause seen old new (MayTurnBack kind f) (end_cause fault)
+KnownUse seen kind f old new (Err _) = new ≡ old
 
 -- what is done with the next letter of a pair
 abbrev pub PairMay : {S C : Type 0} → Service S C → Pair → Result (Option Drained) ReceptionFault → Kept C → Deed C → Type 0

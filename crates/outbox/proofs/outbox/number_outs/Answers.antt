@@ -4,6 +4,7 @@ use Rattle.envelope.specs.declared.message.Letter.{Letter}
 use Rattle.base.specs.declared.limits.TheConstants.{MAX_NUMBER}
 use Rattle.outbox.specs.Numbering.{letter_to}
 use Rattle.outbox.specs.Numbering.{NumbersPass}
+use Rattle.keep.proofs.Arms.{still_armed}
 use Rattle.outbox.proofs.Letters.{read_later}
 use Rattle.outbox.proofs.Numbering.{items_more, fits_more, passes_at}
 use Rattle.outbox.proofs.outbox.number_outs.Goals as goal
@@ -22,6 +23,8 @@ loop-at-preserved g c =
     record {
       usable = c.in_ok-letter.ensures.call.1;
       counts = c.in_ok-letter.ensures.call.2 ∙ c.loop-at.invariant.counts;
+      armed = still_armed (g.K.Keep.seen c.args.keep.now).armed (g.K.Keep.seen c.loop-at.keep).armed
+          (g.K.Keep.seen c.number_out.new.keep).armed c.loop-at.invariant.armed c.in_ok-letter.ensures.call.3;
       doubt = omega (arith, c.loop-at.invariant.doubt, c.number_out.ensures.doubt);
       same = λ clean. (c.in_ok-letter.ensures.clean clean).1 ∙ c.loop-at.invariant.same (early clean);
       items = λ clean. c.in_ok-push.ensures.items
@@ -39,7 +42,7 @@ returns-in_err-letter g c =
     let e = c.args.entity.now in
     let i = c.loop-at.at in
     rw (p.1, p.2) (read_later g.K.Keep.seen c.args.keep.now c.loop-at.keep c.number_out.new.keep
-    (c.requires.usable, c.loop-at.invariant.usable, c.loop-at.invariant.counts) c.loop-at.invariant.doubt c.loop-at.invariant.same
+    (c.requires.usable, c.loop-at.invariant.usable, c.loop-at.invariant.counts, c.loop-at.invariant.armed) c.loop-at.invariant.doubt c.loop-at.invariant.same
     (λ t _. MAX_NUMBER < (letter_to t.sent e (take i outs) o).number) (λ t _. NumbersPass t.sent e outs) c.in_err-letter.field-0.0
     (λ early h. let sent = (g.K.Keep.seen c.args.keep.now).tables.sent in
     passes_at sent e outs i o c.loop-at-test.true c.index-outs-at.is

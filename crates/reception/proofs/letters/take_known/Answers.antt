@@ -2,6 +2,7 @@ use Rattle.std.proofs.Common.{◌+◌, ap}
 use Rattle.stomp_frame.specs.declared.command.Command.TheVariants.{Ack}
 use Rattle.stomp_client.specs.Clients.{counting}
 use Rattle.reception.specs.Replies.{answer, settling}
+use Rattle.reception.proofs.Composing.{letter_turned}
 use Rattle.reception.proofs.Spelling.{whole_at, writes_at}
 use Rattle.reception.proofs.letters.take_known.Goals as goal
 
@@ -56,3 +57,7 @@ returns-in-Ok-Held-clause-answers g c = (
       c.make.new.client.client c.write.new.client.client c.deref-in-Ok-Held.ensures.value c.requires.answers.ack c.make.ensures.same
       c.write.ensures,
 )
+
+pub returns-clause-used : goal.returns-clause-used
+returns-clause-used g c = letter_turned g.K.Keep.seen g.H.Handler.service.kind c.args.message.now c.args.endpoint.now c.ingest.new.self
+    c.args.letter.now c.requires.carries c.in-Err.fault c.in-Err.ensures.ingest.call.0

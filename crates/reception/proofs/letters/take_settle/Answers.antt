@@ -1,5 +1,6 @@
 use Rattle.stomp_frame.specs.declared.command.Command.TheVariants.{Ack}
 use Rattle.reception.specs.Replies.{answer}
+use Rattle.reception.proofs.Composing.{settle_turned}
 use Rattle.reception.proofs.Spelling.{whole_at, writes_at}
 use Rattle.reception.proofs.letters.take_settle.Goals as goal
 
@@ -17,3 +18,7 @@ returns-in-Ok-clause-answers g c = (
       c.make.new.client.client c.write.new.client.client c.deref.ensures.value c.in_ok-answers.ensures.texts.ack c.make.ensures.same
       c.write.ensures,
 )
+
+pub returns-clause-used : goal.returns-clause-used
+returns-clause-used g c = settle_turned g.K.Keep.seen g.H.Handler.service.kind c.args.message.now c.args.endpoint.now c.settle.new.self
+    c.args.pair.now c.args.number c.requires.carries c.in-Err.fault c.in-Err.ensures.settle.call.0
