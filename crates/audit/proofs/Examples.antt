@@ -14,7 +14,7 @@ use Rattle.endpoint.proofs.Examples.{o1, bolts, acme, placing, placed}
 use Rattle.accord.specs.Sight.{OrderTables, StockTables, AccountTables}
 use Rattle.audit.specs.Agree.{phase_in, stock_lines, account_lines, is_taken, is_given_back, go_one_way, phase_by, phases_at}
 use Rattle.audit.specs.Agree.{order_agrees, row_agrees, rows_agree, partners_agree}
-use Rattle.audit.specs.Looks.{Rests, Fails, LooksAtPartners, Looks}
+use Rattle.audit.specs.Looks.{StandsFor, Rests, Fails, LooksAtPartners, Looks}
 use Rattle.audit.specs.declared.fault.AuditFault.TheVariants.{Purchasing, Warehouse, Billing}
 
 -- an order that nobody placed
@@ -101,7 +101,7 @@ abbrev Store : Type 0 → Type 0
 Store T = Bool × ℕ × T
 
 abbrev seen : {T : Type 0} → Store T → Seen T
-seen e = record { tables = e.2; may_leave = λ t. t ≡ e.2; failures = e.1; usable = e.0; doubt = 0 }
+seen e = record { tables = e.2; may_leave = λ t. t ≡ e.2; failures = e.1; usable = e.0; doubt = 0; armed = None }
 
 abbrev stocks : Store StockTables
 stocks = (true, 4, stocks_with Done)
@@ -134,8 +134,8 @@ reads_fail : Fails seen stocks (false, 5, stocks_with Done) StoreFailed × Fails
     × Fails seen (false, 5, stocks_with Done) (false, 5, stocks_with Done) Unusable
     × (Fails seen stocks stocks StoreFailed → ⊥) × (Fails seen stocks (false, 5, stocks_with Done) Memory → ⊥)
 reads_fail = (
-  record { call = (refl, refl, (omega arith, omega arith)); doubt = omega arith; clean = λ _ t h. h },
-  record { call = (refl, refl, refl); doubt = omega arith; clean = λ _. refl },
+  record { call = (refl, refl, (omega arith, omega arith), inl refl); doubt = omega arith; clean = λ _ t h. h },
+  record { call = (refl, refl, refl, refl); doubt = omega arith; clean = λ _. refl },
   record { call = (refl, refl); doubt = omega arith; clean = λ _. tt },
   λ h. let usable = h.call.1 in absurd (cc),
   λ h. let usable = h.call.1 in absurd (cc),
@@ -144,6 +144,15 @@ reads_fail = (
 -- the store of the stock after it failed
 abbrev down : Store StockTables
 down = (false, 5, stocks_with Done)
+
+-- whatever is taken for the tables of a store that isn't usable stands for them; of a usable one its own tables alone
+any_stand_where_none_can_be_asked : StandsFor seen down (stocks_with Held) × StandsFor seen stocks (stocks_with Done)
+    × (StandsFor seen stocks (stocks_with Held) → ⊥)
+unfolding same_entity
+any_stand_where_none_can_be_asked = (λ usable. absurd (cc), λ usable. refl, λ h. other (h refl))
+  where
+    other : stocks_with Held ≡ stocks_with Done → ⊥
+    other same = let phase : Some Held ≡ Some Done = ap (λ (t : StockTables). phase_in o1 (stock_lines (t.entity bolts))) same in absurd (cc)
 
 abbrev agreement : OrderTables → StockTables → AccountTables → Bool → Type 0
 agreement o s a agree = agree ≡ partners_agree o s a
@@ -156,9 +165,14 @@ looks_are_told : Looks seen seen seen agreement (Ok false) orders orders stocks 
     × (LooksAtPartners seen seen {R = Bool} (λ _ _ _. ⊥) (Err (Purchasing Memory)) stocks stocks accounts accounts → ⊥)
 unfolding same_entity
 looks_are_told = (
-  (inl refl, inl refl, inl refl, λ _ _ _. refl),
-  λ h. let agrees = h.3 refl refl refl in absurd (cc),
+  (inl refl, inl refl, inl refl, λ _ _ _ x y z xo ys za. let told = stands_told x y z xo ys za in told),
+  λ h. let agrees = h.3 refl refl refl orders_placed (stocks_with Done) (accounts_with Released) (λ _. refl) (λ _. refl) (λ _. refl) in absurd (cc),
   (inl refl, reads_fail.0, inl refl),
   λ h. let usable = h.2.call.1 in absurd (cc),
   λ h. h,
 )
+  where
+    -- what stands for the tables of usable stores are these
+    stands_told : (x : OrderTables) (y : StockTables) (z : AccountTables) → StandsFor seen orders x → StandsFor seen stocks y
+        → StandsFor seen accounts z → false ≡ partners_agree x y z
+    stands_told x y z xo ys za = rw (xo refl, ys refl, za refl) refl

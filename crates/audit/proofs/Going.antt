@@ -8,10 +8,10 @@ use Rattle.activities.specs.declared.input.JournalRow.{JournalRow}
 use Rattle.activities.specs.declared.commands.OrderCommand.{OrderCommand}
 use Rattle.accord.specs.Sight.{OrderTables, StockTables, AccountTables}
 use Rattle.audit.specs.Agree.{row_agrees, rows_agree, partners_agree}
-use Rattle.audit.specs.Looks.{Rests, Looks}
+use Rattle.audit.specs.Looks.{StandsFor, Rests, Looks}
 use Rattle.audit.specs.declared.fault.AuditFault.{AuditFault}
 use Rattle.audit.specs.declared.fault.AuditFault.TheVariants.{Purchasing, Warehouse, Billing}
-use Rattle.audit.proofs.Resting.{rests_on, fails_on, rests_clean, rests_same}
+use Rattle.audit.proofs.Resting.{rests_on, fails_on, rests_clean, rests_stands}
 use Rattle.audit.proofs.Tallying.{take_whole}
 
 with_more : (a b c : Bool) → (a && b) ≡ true → (b ≡ true → c ≡ true) → (a && c) ≡ true
@@ -47,24 +47,23 @@ module _ {KO KS KA : Type 0} (orders : KO → Seen OrderTables) (stocks : KS →
     pub warehouse : Rests stocks s t
     pub billing : Rests accounts a b
     pub agree : (orders p).doubt ≡ 0 → (stocks t).doubt ≡ 0 → (accounts b).doubt ≡ 0
-        → rows_agree (orders o).tables (stocks s).tables (accounts a).tables rows ≡ true
+        → (x : OrderTables) (y : StockTables) (z : AccountTables) → StandsFor orders o x → StandsFor stocks s y → StandsFor accounts a z
+        → rows_agree x y z rows ≡ true
 
   pub none_gone : (o : KO) (s : KS) (a : KA) → FarIn [] o o s s a a
-  none_gone o s a = record { purchasing = inl refl; warehouse = inl refl; billing = inl refl; agree = λ _ _ _. refl }
+  none_gone o s a = record { purchasing = inl refl; warehouse = inl refl; billing = inl refl; agree = λ _ _ _ _ _ _ _ _ _. refl }
 
-  -- what is read of a row, in the tables at first
+  -- what is read of a row, in what stands for the tables at first
   of_row : (row : JournalRow OrderCommand) (rows : List (JournalRow OrderCommand)) (agrees : Bool) (o p q : KO) (s t u : KS) (a b c : KA)
       → FarIn rows o p s t a b
       → Looks orders stocks accounts (λ x y z (found : Bool). found ≡ row_agrees x y z row) (Ok agrees) p q t u b c
       → (orders q).doubt ≡ 0 → (stocks u).doubt ≡ 0 → (accounts c).doubt ≡ 0
-      → row_agrees (orders o).tables (stocks s).tables (accounts a).tables row ≡ agrees
-  of_row row rows agrees o p q s t u a b c far look co cs ca = sym (look.3 co cs ca
-      ∙ ap (λ x. row_agrees x (stocks t).tables (accounts b).tables row)
-      (rests_same orders o p far.purchasing (rests_clean orders p q look.0 co))
-      ∙ ap (λ y. row_agrees (orders o).tables y (accounts b).tables row)
-      (rests_same stocks s t far.warehouse (rests_clean stocks t u look.1 cs))
-      ∙ ap (λ z. row_agrees (orders o).tables (stocks s).tables z row)
-      (rests_same accounts a b far.billing (rests_clean accounts b c look.2 ca)))
+      → (x : OrderTables) (y : StockTables) (z : AccountTables) → StandsFor orders o x → StandsFor stocks s y → StandsFor accounts a z
+      → row_agrees x y z row ≡ agrees
+  of_row row rows agrees o p q s t u a b c far look co cs ca x y z xo ys za = sym (look.3 co cs ca x y z
+      (rests_stands orders o p x far.purchasing (rests_clean orders p q look.0 co) xo)
+      (rests_stands stocks s t y far.warehouse (rests_clean stocks t u look.1 cs) ys)
+      (rests_stands accounts a b z far.billing (rests_clean accounts b c look.2 ca) za))
 
   -- one more
   pub one_further : (row : JournalRow OrderCommand) (rows : List (JournalRow OrderCommand)) (agrees : Bool) (o p q : KO) (s t u : KS)
@@ -75,9 +74,9 @@ module _ {KO KS KA : Type 0} (orders : KO → Seen OrderTables) (stocks : KS →
     purchasing = rests_on orders o p q far.purchasing look.0;
     warehouse = rests_on stocks s t u far.warehouse look.1;
     billing = rests_on accounts a b c far.billing look.2;
-    agree = λ co cs ca. all_more (row_agrees (orders o).tables (stocks s).tables (accounts a).tables) rows row
-        (far.agree (rests_clean orders p q look.0 co) (rests_clean stocks t u look.1 cs) (rests_clean accounts b c look.2 ca))
-        (of_row row rows agrees o p q s t u a b c far look co cs ca ∙ is);
+    agree = λ co cs ca x y z xo ys za. all_more (row_agrees x y z) rows row
+        (far.agree (rests_clean orders p q look.0 co) (rests_clean stocks t u look.1 cs) (rests_clean accounts b c look.2 ca) x y z xo ys za)
+        (of_row row rows agrees o p q s t u a b c far look co cs ca x y z xo ys za ∙ is);
   }
 
   -- the row where they don't agree
@@ -90,8 +89,8 @@ module _ {KO KS KA : Type 0} (orders : KO → Seen OrderTables) (stocks : KS →
     rests_on orders o p q far.purchasing look.0,
     rests_on stocks s t u far.warehouse look.1,
     rests_on accounts a b c far.billing look.2,
-    λ co cs ca. sym (not_all (row_agrees (orders o).tables (stocks s).tables (accounts a).tables) rows i row d within at
-        (of_row row before agrees o p q s t u a b c far look co cs ca ∙ is)),
+    λ co cs ca x y z xo ys za. sym (not_all (row_agrees x y z) rows i row d within at
+        (of_row row before agrees o p q s t u a b c far look co cs ca x y z xo ys za ∙ is)),
   )
 
   -- a read that wasn't done ends it
@@ -115,23 +114,23 @@ module _ {KO KS KA : Type 0} (orders : KO → Seen OrderTables) (stocks : KS →
     far.purchasing,
     far.warehouse,
     far.billing,
-    λ co cs ca. sym (far.agree co cs ca)
-        ∙ ap (λ rs. rows_agree (orders o).tables (stocks s).tables (accounts a).tables rs) (take_whole rows i all),
+    λ co cs ca x y z xo ys za. sym (far.agree co cs ca x y z xo ys za) ∙ ap (λ rs. rows_agree x y z rs) (take_whole rows i all),
   )
 
   -- the rows are all of purchasing's journal, which was read before
   pub of_journal : (rows : List (JournalRow OrderCommand)) (result : Result Bool AuditFault) (o p q : KO) (s t : KS) (a b : KA)
-      → Rests orders o p → ((orders p).doubt ≡ 0 → rows ≡ (orders o).tables.journal)
+      → Rests orders o p → (orders o).usable ≡ true → ((orders p).doubt ≡ 0 → rows ≡ (orders o).tables.journal)
       → Looks orders stocks accounts (λ x y z (found : Bool). found ≡ rows_agree x y z rows) result p q s t a b
       → Looks orders stocks accounts (λ x y z (found : Bool). found ≡ partners_agree x y z) result o q s t a b
-  of_journal rows (Ok found) o p q s t a b rest whole look = (
+  of_journal rows (Ok found) o p q s t a b rest usable whole look = (
     rests_on orders o p q rest look.0,
     look.1,
     look.2,
-    λ co cs ca. look.3 co cs ca
-        ∙ ap (λ x. rows_agree x (stocks s).tables (accounts a).tables rows) (rests_same orders o p rest (rests_clean orders p q look.0 co))
-        ∙ ap (λ rs. rows_agree (orders o).tables (stocks s).tables (accounts a).tables rs) (whole (rests_clean orders p q look.0 co)),
+    λ co cs ca x y z xo ys za.
+        let clean = rests_clean orders p q look.0 co in
+        look.3 co cs ca x y z (rests_stands orders o p x rest clean xo) ys za
+        ∙ ap (λ rs. rows_agree x y z rs) (whole clean ∙ ap (λ (t : OrderTables). t.journal) (sym (xo usable))),
   )
-  of_journal rows (Err (Purchasing fault)) o p q s t a b rest whole look = (fails_on orders o p q fault rest look.0, look.1, look.2)
-  of_journal rows (Err (Warehouse fault)) o p q s t a b rest whole look = (rests_on orders o p q rest look.0, look.1, look.2)
-  of_journal rows (Err (Billing fault)) o p q s t a b rest whole look = (rests_on orders o p q rest look.0, look.1, look.2)
+  of_journal rows (Err (Purchasing fault)) o p q s t a b rest usable whole look = (fails_on orders o p q fault rest look.0, look.1, look.2)
+  of_journal rows (Err (Warehouse fault)) o p q s t a b rest usable whole look = (rests_on orders o p q rest look.0, look.1, look.2)
+  of_journal rows (Err (Billing fault)) o p q s t a b rest usable whole look = (rests_on orders o p q rest look.0, look.1, look.2)

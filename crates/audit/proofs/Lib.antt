@@ -1,5 +1,6 @@
 pub mod Resting
 pub mod Tallying
 pub mod Going
+pub mod Finding
 pub mod Lawful
 mod Examples

@@ -1,11 +1,12 @@
 -- Reads of one store, one after another.
 use Rattle.std.proofs.Common.{ℕ, ◌≡◌, ◌≤◌, inl, inr, true≢false, Ok, Err, sym, ◌∙◌, ap, subst, arith}
 use Rattle.std.specs.Prelude.{⊤, Result, IsErrAnd}
-use Rattle.keep.specs.Law.{Reads, MoreFailures}
+use Rattle.keep.specs.Law.{Reads}
+use Rattle.keep.proofs.Arms.{then_served, then_failed}
 use Rattle.keep.specs.Seen.{Seen, no_memory, failed, unusable, refused, End}
 use Rattle.endpoint.specs.Faults.{end_cause}
 use Rattle.endpoint.specs.declared.fault.EndFault.{EndFault}
-use Rattle.audit.specs.Looks.{Rests, Fails}
+use Rattle.audit.specs.Looks.{StandsFor, Rests, Fails}
 
 abbrev Any : {T R : Type 0} → T → R → Type 0
 Any _ _ = ⊤
@@ -22,17 +23,17 @@ module _ {E T : Type 0} (seen : E → Seen T) where
       → Reads seen old new Any end
   read_again old mid new end (inl same) h = subst (λ (k : E). Reads seen k new Any end) same h
   read_again old mid new (Ok r) (inr had) h = record {
-    call = (had.call.0, h.call.1, h.call.2 ∙ had.call.2);
+    call = then_served seen old mid new had.call h.call;
     doubt = twice _ _ _ had.doubt h.doubt;
     clean = λ c. (tt, (h.clean c).1 ∙ (had.clean (earlier _ _ h.doubt c)).1);
   }
   read_again old mid new (Err no_memory) (inr had) h = record {
-    call = (had.call.0, h.call.1, h.call.2 ∙ had.call.2);
+    call = then_served seen old mid new had.call h.call;
     doubt = twice _ _ _ had.doubt h.doubt;
     clean = λ c. h.clean c ∙ (had.clean (earlier _ _ h.doubt c)).1;
   }
   read_again old mid new (Err failed) (inr had) h = record {
-    call = (had.call.0, h.call.1, subst (λ n. MoreFailures n (seen new).failures) had.call.2 h.call.2);
+    call = then_failed seen old mid new had.call h.call;
     doubt = twice _ _ _ had.doubt h.doubt;
     clean = λ c t l. h.clean c t l ∙ (had.clean (earlier _ _ h.doubt c)).1;
   }
@@ -50,9 +51,10 @@ module _ {E T : Type 0} (seen : E → Seen T) where
   rests_clean old new (inl same) clean = ap (λ (k : E). (seen k).doubt) (sym same) ∙ clean
   rests_clean old new (inr had) clean = earlier _ _ had.doubt clean
 
-  pub rests_same : (old new : E) → Rests seen old new → (seen new).doubt ≡ 0 → (seen new).tables ≡ (seen old).tables
-  rests_same old new (inl same) clean = ap (λ (k : E). (seen k).tables) same
-  rests_same old new (inr had) clean = (had.clean clean).1
+  -- what stands for its tables still does
+  pub rests_stands : (old new : E) (t : T) → Rests seen old new → (seen new).doubt ≡ 0 → StandsFor seen old t → StandsFor seen new t
+  rests_stands old new t (inl same) clean stands usable = subst (λ (k : E). StandsFor seen k t) (sym same) stands usable
+  rests_stands old new t (inr had) clean stands usable = stands had.call.0 ∙ sym (had.clean clean).1
 
 -- what holds where a fault is told holds of an answer that tells it
 pub err_told : {R F : Type 0} (P : Result R F → Type 0) (r : Result R F) (fault : F) → IsErrAnd r (λ y. y ≡ fault) → P (Err fault) → P r

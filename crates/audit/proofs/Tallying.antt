@@ -8,10 +8,10 @@ use Rattle.activities.specs.declared.phase.LinePhase.{LinePhase}
 use Rattle.activities.specs.Orders.{Partner}
 use Rattle.accord.specs.Sight.{StockTables, AccountTables}
 use Rattle.audit.specs.Agree.{phase_by, phases_at, go_one_way, is_taken, is_given_back}
-use Rattle.audit.specs.Looks.{Rests, LooksAtPartners}
+use Rattle.audit.specs.Looks.{StandsFor, Rests, LooksAtPartners}
 use Rattle.audit.specs.declared.fault.AuditFault.{AuditFault}
 use Rattle.audit.specs.declared.fault.AuditFault.TheVariants.{Purchasing, Warehouse, Billing}
-use Rattle.audit.proofs.Resting.{rests_on, fails_on, rests_clean, rests_same}
+use Rattle.audit.proofs.Resting.{rests_on, fails_on, rests_clean, rests_stands}
 
 pub any_more : {A B : Type 0} (p : B → Bool) (f : A → B) (xs : List A) (x : A)
     → list_any p (map f (xs ++ x ∷ [])) ≡ (list_any p (map f xs) || p (f x))
@@ -34,13 +34,13 @@ module _ {KS KA : Type 0} (stocks : KS → Seen StockTables) (accounts : KA → 
   pub record SoFar (order : Name) (partners : List Partner) (taken given_back : Bool) (s t : KS) (a b : KA) : Type 0 where
     pub warehouse : Rests stocks s t
     pub billing : Rests accounts a b
-    pub all_taken : (stocks t).doubt ≡ 0 → (accounts b).doubt ≡ 0
-        → taken ≡ list_any is_taken (phases_at (stocks s).tables (accounts a).tables order partners)
-    pub all_given_back : (stocks t).doubt ≡ 0 → (accounts b).doubt ≡ 0
-        → given_back ≡ list_any is_given_back (phases_at (stocks s).tables (accounts a).tables order partners)
+    pub all_taken : (stocks t).doubt ≡ 0 → (accounts b).doubt ≡ 0 → (y : StockTables) (z : AccountTables) → StandsFor stocks s y
+        → StandsFor accounts a z → taken ≡ list_any is_taken (phases_at y z order partners)
+    pub all_given_back : (stocks t).doubt ≡ 0 → (accounts b).doubt ≡ 0 → (y : StockTables) (z : AccountTables) → StandsFor stocks s y
+        → StandsFor accounts a z → given_back ≡ list_any is_given_back (phases_at y z order partners)
 
   pub none_yet : (order : Name) (s : KS) (a : KA) → SoFar order [] false false s s a a
-  none_yet order s a = record { warehouse = inl refl; billing = inl refl; all_taken = λ _ _. refl; all_given_back = λ _ _. refl }
+  none_yet order s a = record { warehouse = inl refl; billing = inl refl; all_taken = λ _ _ _ _ _ _. refl; all_given_back = λ _ _ _ _ _ _. refl }
 
   -- one more
   pub one_more : (order : Name) (partners : List Partner) (p : Partner) (phase : Option LinePhase) (taken given_back : Bool) (s t u : KS)
@@ -50,25 +50,22 @@ module _ {KS KA : Type 0} (stocks : KS → Seen StockTables) (accounts : KA → 
   one_more order partners p phase taken given_back s t u a b c far look = record {
     warehouse = rests_on stocks s t u far.warehouse look.0;
     billing = rests_on accounts a b c far.billing look.1;
-    all_taken = λ cs ca. more is_taken taken (far.all_taken (rests_clean stocks t u look.0 cs) (rests_clean accounts b c look.1 ca)) cs ca;
-    all_given_back = λ cs ca. more is_given_back given_back
-        (far.all_given_back (rests_clean stocks t u look.0 cs) (rests_clean accounts b c look.1 ca)) cs ca;
+    all_taken = λ cs ca y z ys za. more is_taken taken y z
+        (far.all_taken (rests_clean stocks t u look.0 cs) (rests_clean accounts b c look.1 ca) y z ys za) (here cs ca y z ys za);
+    all_given_back = λ cs ca y z ys za. more is_given_back given_back y z
+        (far.all_given_back (rests_clean stocks t u look.0 cs) (rests_clean accounts b c look.1 ca) y z ys za) (here cs ca y z ys za);
   } where
-    here : (stocks u).doubt ≡ 0 → (accounts c).doubt ≡ 0
-        → phase ≡ phase_by (stocks s).tables (accounts a).tables order p.entity.kind p.entity
-    here cs ca = look.2 cs ca
-        ∙ ap (λ x. phase_by x (accounts b).tables order p.entity.kind p.entity)
-        (rests_same stocks s t far.warehouse (rests_clean stocks t u look.0 cs))
-        ∙ ap (λ y. phase_by (stocks s).tables y order p.entity.kind p.entity)
-        (rests_same accounts a b far.billing (rests_clean accounts b c look.1 ca))
+    here : (stocks u).doubt ≡ 0 → (accounts c).doubt ≡ 0 → (y : StockTables) (z : AccountTables) → StandsFor stocks s y
+        → StandsFor accounts a z → phase ≡ phase_by y z order p.entity.kind p.entity
+    here cs ca y z ys za = look.2 cs ca y z (rests_stands stocks s t y far.warehouse (rests_clean stocks t u look.0 cs) ys)
+        (rests_stands accounts a b z far.billing (rests_clean accounts b c look.1 ca) za)
 
-    more : (test : Option LinePhase → Bool) (so_far : Bool)
-        → so_far ≡ list_any test (phases_at (stocks s).tables (accounts a).tables order partners)
-        → (stocks u).doubt ≡ 0 → (accounts c).doubt ≡ 0
-        → (so_far || test phase) ≡ list_any test (phases_at (stocks s).tables (accounts a).tables order (partners ++ p ∷ []))
-    more test so_far e cs ca = ap (λ x. x || test phase) e
-        ∙ ap (λ x. list_any test (phases_at (stocks s).tables (accounts a).tables order partners) || test x) (here cs ca)
-        ∙ sym (any_more test (λ (q : Partner). phase_by (stocks s).tables (accounts a).tables order q.entity.kind q.entity) partners p)
+    more : (test : Option LinePhase → Bool) (so_far : Bool) (y : StockTables) (z : AccountTables)
+        → so_far ≡ list_any test (phases_at y z order partners) → phase ≡ phase_by y z order p.entity.kind p.entity
+        → (so_far || test phase) ≡ list_any test (phases_at y z order (partners ++ p ∷ []))
+    more test so_far y z e found = ap (λ x. x || test phase) e
+        ∙ ap (λ x. list_any test (phases_at y z order partners) || test x) found
+        ∙ sym (any_more test (λ (q : Partner). phase_by y z order q.entity.kind q.entity) partners p)
 
   -- a read that wasn't done ends it
   pub stopped : {R : Type 0} (gives : StockTables → AccountTables → R → Type 0) {Q : Type 0} (wants : StockTables → AccountTables → Q → Type 0)
@@ -101,8 +98,8 @@ module _ {KS KA : Type 0} (stocks : KS → Seen StockTables) (accounts : KA → 
   finished order partners i taken given_back both s t a b all is far = (
     far.warehouse,
     far.billing,
-    λ cs ca. ap not (is ∙ ap (λ x. x && given_back) (far.all_taken cs ca)
-        ∙ ap (λ x. list_any is_taken (phases_at (stocks s).tables (accounts a).tables order (take i partners)) && x) (far.all_given_back cs ca)
-        ∙ ap (λ ps. list_any is_taken (phases_at (stocks s).tables (accounts a).tables order ps)
-        && list_any is_given_back (phases_at (stocks s).tables (accounts a).tables order ps)) (take_whole partners i all)),
+    λ cs ca y z ys za. ap not (is ∙ ap (λ x. x && given_back) (far.all_taken cs ca y z ys za)
+        ∙ ap (λ x. list_any is_taken (phases_at y z order (take i partners)) && x) (far.all_given_back cs ca y z ys za)
+        ∙ ap (λ ps. list_any is_taken (phases_at y z order ps) && list_any is_given_back (phases_at y z order ps))
+        (take_whole partners i all)),
   )

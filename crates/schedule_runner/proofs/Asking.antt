@@ -1,5 +1,7 @@
 -- What asking all three stores does to the world.
-use Rattle.std.proofs.Common.{◌≡◌, ◌≤◌, Bool, Option, inl, inr, refl, sym, ◌∙◌, ap, subst, arith}
+use Rattle.std.proofs.Common.{◌≡◌, ◌≤◌, Bool, true, false, Option, inl, inr, refl, sym, ◌∙◌, ap, subst, arith, true≢false}
+use Rattle.std.proofs.Math.Logic.{∥∥₁_elim, ∥∥₁_map}
+use Rattle.std.proofs.Props.{props}
 use Rattle.std.specs.Prelude.{Result, Ok, Err, ⊤}
 use Rattle.envelope.specs.declared.message.Envelope.{Envelope}
 use Rattle.keep.specs.Failing.{through}
@@ -9,7 +11,7 @@ use Rattle.keep.specs.Seen.{Seen, IsSound, End, no_memory, failed, unusable, ref
 use Rattle.keep.specs.Tables.{Tables}
 use Rattle.endpoint.specs.Faults.{end_cause}
 use Rattle.endpoint.specs.declared.fault.EndFault.{EndFault}
-use Rattle.audit.specs.Looks.{Rests, Fails, Looks}
+use Rattle.audit.specs.Looks.{StandsFor, Rests, Fails, Looks}
 use Rattle.audit.specs.declared.fault.AuditFault.{AuditFault}
 use Rattle.audit.specs.declared.fault.AuditFault.TheVariants.{Purchasing, Warehouse, Billing}
 use Rattle.accord.specs.Sight.{AllTables, OrderTables, StockTables, AccountTables, MayLeave}
@@ -55,6 +57,15 @@ module _ {E T : Type 0} (seen : E → Seen T) (old new : E) (was : IsSound (seen
       subst (seen old).may_leave (sym (h.clean clean t l)) (was.stays (omega (arith, d, clean)) h.call.0)
   read_leaves (Err unusable) h clean t l = subst (λ k. (seen k).may_leave t) h.call.1 l
   read_leaves (Err (refused fault)) h clean t l = absurd h.call.1
+
+-- tables that a stop may leave, and that stand for those of the store: its own while it is usable, and else any
+module _ {E T : Type 0} (seen : E → Seen T) (store : E) (sound : IsSound (seen store)) (clean : (seen store).doubt ≡ 0) where
+  by_use : (usable : Bool) → (seen store).usable ≡ usable → ∥ ((t : T) × StandsFor seen store t × (seen store).may_leave t) ∥₁
+  by_use true is = ∣ ((seen store).tables, λ _. refl, sound.stays clean is) ∣₁
+  by_use false is = ∥∥₁_map (sound.leaves clean) (λ one. (one.0, λ up. absurd (true≢false (sym up ∙ is)), one.1))
+
+  pub stands_left : ∥ ((t : T) × StandsFor seen store t × (seen store).may_leave t) ∥₁
+  stands_left = by_use (seen store).usable refl
 
 module _ {H K S C : Type 0} (seen : K → Seen (Tables S C)) (whole : (k : K) → IsSound (seen k)) (s t : Site H K S C) where
   of_read : (end : End (Unit {0}) EndFault)
@@ -161,19 +172,11 @@ module _ {KO KS KA : Type 0} (orders : KO → Seen OrderTables) (stocks : KS →
       (purchasing_rest did.0 (with_stores old new) new did.3) (warehouse_rest did.0 (with_stores old new) new did.3)
       (billing_rest did.0 (with_stores old new) new did.3) did
 
-  pub passes_agreement : (result : Result Bool EndFault) (o : Outcome) (old new : W) → o ≡ agreement_told result
-      → Passes orders stocks accounts (FindsAgreement orders stocks accounts result)
-      (Both (FindsAgreement orders stocks accounts result) Same) old new
-      → Passes orders stocks accounts (TellsAgreement orders stocks accounts o) (Both (TellsAgreement orders stocks accounts o) Same) old new
-  passes_agreement result o old new is = passes_map orders stocks accounts (FindsAgreement orders stocks accounts result)
-      (TellsAgreement orders stocks accounts o) (Both (FindsAgreement orders stocks accounts result) Same)
-      (Both (TellsAgreement orders stocks accounts o) Same) old new (λ did. (result, did, is)) (λ a b h. ((result, h.0, is), h.1))
-
-  -- the tables now are some that a stop may leave, and their journals are lawful
+  -- of a good world's stores some tables that a stop may leave stand for theirs, and their journals are lawful
   pub agrees_where_good : (result : Result Bool EndFault) (old new : W) → FindsAgreement orders stocks accounts result old new
       → AgreesWhereGood orders stocks accounts result old new
-  agrees_where_good (Err fault) old new did clean match good usable = tt
-  agrees_where_good (Ok agree) old new did clean match good usable =
+  agrees_where_good (Err fault) old new did clean match good = tt
+  agrees_where_good (Ok agree) old new did clean match good =
       let stay = all_stay (Ok agree) old new did.0 in
       let p = stay.0.doubt in
       let q = stay.1.doubt in
@@ -181,19 +184,29 @@ module _ {KO KS KA : Type 0} (orders : KO → Seen OrderTables) (stocks : KS →
       let x = clean.0 in
       let y = clean.1 in
       let z = clean.2 in
-      let t : AllTables = record {
-        purchasing = (through orders old.purchasing.endpoint).tables;
-        warehouse = (through stocks old.warehouse.endpoint).tables;
-        billing = (through accounts old.billing.endpoint).tables;
-      } in
-      let m : MayLeave (sight orders stocks accounts old) t = record {
-        purchasing = (sound_through orders old.purchasing.endpoint (sound_o old.purchasing.endpoint.keep)).stays (omega (arith, p, x)) usable.0;
-        warehouse = (sound_through stocks old.warehouse.endpoint (sound_s old.warehouse.endpoint.keep)).stays (omega (arith, q, y)) usable.1;
-        billing = (sound_through accounts old.billing.endpoint (sound_a old.billing.endpoint.keep)).stays (omega (arith, r, z)) usable.2;
-      } in
-      did.0.3 clean.0 clean.1 clean.2
+      let by_orders = stands_left (through orders) old.purchasing.endpoint
+      (sound_through orders old.purchasing.endpoint (sound_o old.purchasing.endpoint.keep)) (omega (arith, p, x)) in
+      let by_stocks = stands_left (through stocks) old.warehouse.endpoint
+      (sound_through stocks old.warehouse.endpoint (sound_s old.warehouse.endpoint.keep)) (omega (arith, q, y)) in
+      let by_accounts = stands_left (through accounts) old.billing.endpoint
+      (sound_through accounts old.billing.endpoint (sound_a old.billing.endpoint.keep)) (omega (arith, r, z)) in
+      ∥∥₁_elim by_orders (hlevel props) (λ o. ∥∥₁_elim by_stocks (hlevel props) (λ s. ∥∥₁_elim by_accounts (hlevel props) (λ a.
+      let t : AllTables = record { purchasing = o.0; warehouse = s.0; billing = a.0 } in
+      let m : MayLeave (sight orders stocks accounts old) t = record { purchasing = o.2; warehouse = s.2; billing = a.2 } in
+      did.0.3 clean.0 clean.1 clean.2 o.0 s.0 a.0 o.1 s.1 a.1
       ∙ all_agree t (match.0 t.purchasing m.purchasing) (match.1 t.warehouse m.warehouse) (match.2 t.billing m.billing)
-      (good_agrees (sight orders stocks accounts old) good.services t m)
+      (good_agrees (sight orders stocks accounts old) good.services t m))))
+
+  pub passes_agreement : (result : Result Bool EndFault) (o : Outcome) (old new : W) → o ≡ agreement_told result
+      → Passes orders stocks accounts (FindsAgreement orders stocks accounts result)
+      (Both (FindsAgreement orders stocks accounts result) Same) old new
+      → Passes orders stocks accounts (TellsAgreement orders stocks accounts o) (Both (TellsAgreement orders stocks accounts o) Same) old new
+  passes_agreement result o old new is = passes_map orders stocks accounts (FindsAgreement orders stocks accounts result)
+      (TellsAgreement orders stocks accounts o) (Both (FindsAgreement orders stocks accounts result) Same)
+      (Both (TellsAgreement orders stocks accounts o) Same) old new (told old new) (λ a b h. (told a.world b.world h.0, h.1))
+    where
+      told : (a b : W) → FindsAgreement orders stocks accounts result a b → TellsAgreement orders stocks accounts o a b
+      told a b found = (result, found, agrees_where_good result a b found, is)
 
   -- behind a fault the service's connections may be cut
   pub found_purchasing : (fault : EndFault) (old mid : W) (site : Site Orders KO (Option OrderState) OrderCommand) (mail : Office)

@@ -5,7 +5,9 @@ use Rattle.endpoint.specs.declared.fault.EndFault.{EndFault}
 use Rattle.endpoint.specs.declared.fault.EndFault.TheVariants.{StoreFailed, Memory, Unusable}
 use Rattle.endpoint.specs.Deeds.{Nothing, TakesIn}
 use Rattle.endpoint.proofs.Examples.{placing}
-use Rattle.keep.specs.Failing.{Failing}
+use Rattle.keep.specs.Failing.{Failing, through}
+use Rattle.audit.specs.Agree.{partners_agree}
+use Rattle.audit.specs.Looks.{StandsFor}
 use Rattle.keep.specs.Seen.{Seen}
 use Rattle.keep.specs.Tables.{empty}
 use Rattle.accord.specs.Sight.{OrderTables, StockTables, AccountTables, AllTables, all_empty, orders_service}
@@ -20,7 +22,7 @@ use Rattle.sites.specs.SiteEvents.{Cuts}
 use Rattle.schedule_runner.specs.declared.acting.ServiceEvent.TheVariants.{Cut}
 use Rattle.schedule_runner.specs.declared.world.World.{World}
 use Rattle.schedule_runner.specs.Agreeing.{agreement_told, with_stores, fault_of, AfterFault, LooksAtAll, AsksAll, FindsAgreement}
-use Rattle.schedule_runner.specs.Agreeing.{TellsAgreement, AreUsable}
+use Rattle.schedule_runner.specs.Agreeing.{TellsAgreement}
 use Rattle.schedule_runner.specs.Deeds.{moment, Moves, InPurchasing, In, Same, Turn}
 use Rattle.schedule_runner.specs.Sight.{StaysClean, StaysMatching}
 use Rattle.schedule_runner.specs.Steps.{again, SendsAgain, IsNewBroker, AtMail, BeginsAnew, AtPurchasing, At, Happened}
@@ -74,7 +76,7 @@ module _ (later : Office) (other : later.earlier ≡ [] → ⊥) where
   Stores T = Bool × ℕ × T
 
   abbrev seen : {T : Type 0} → Stores T → Seen T
-  seen k = record { tables = k.2; may_leave = λ t. t ≡ k.2; failures = 0; usable = k.0; doubt = k.1 }
+  seen k = record { tables = k.2; may_leave = λ t. t ≡ k.2; failures = 0; usable = k.0; doubt = k.1; armed = None }
 
   abbrev store : {T : Type 0} → Stores T → Failing (Stores T)
   store k = record { keep = k; armed = None; is_down = false; failures = 0 }
@@ -129,23 +131,24 @@ module _ (later : Office) (other : later.earlier ≡ [] → ⊥) where
         × (FindsAgreement seen seen seen (Ok true) w (world true empty 0 later) → ⊥)
         × (TellsAgreement seen seen seen told.Pumped w w → ⊥)
     stores_are_asked = (
-      (inl refl, inl refl, inl refl, λ _ _ _. refl),
-      ((inl refl, inl refl, inl refl, λ _ _ _. refl), refl),
-      ((inl refl, inl refl, inl refl, λ _ _ _. refl), refl),
-      (Ok true, ((inl refl, inl refl, inl refl, λ _ _ _. refl), refl), refl),
-      λ h. let agree = h.3 refl refl refl in absurd (cc),
+      (inl refl, inl refl, inl refl, λ _ _ _ x y z xo ys za. told_true x y z xo),
+      ((inl refl, inl refl, inl refl, λ _ _ _ x y z xo ys za. told_true x y z xo), refl),
+      ((inl refl, inl refl, inl refl, λ _ _ _ x y z xo ys za. told_true x y z xo), refl),
+      (Ok true, ((inl refl, inl refl, inl refl, λ _ _ _ x y z xo ys za. told_true x y z xo), refl), λ _ _ _. refl, refl),
+      λ h. let agree = h.3 refl refl refl empty empty empty (λ _. refl) (λ _. refl) (λ _. refl) in absurd (cc),
       λ h. more_mail (ap (λ (v : TheWorld). v.mail) h.1),
       λ h. more_mail (ap (λ (v : TheWorld). v.mail) h.1),
-      λ h. no_pump h.0 h.2,
+      λ h. no_pump h.0 h.3,
     )
       where
+        -- no order is placed, whatever the partners have
+        told_true : (x : OrderTables) (y : StockTables) (z : AccountTables) → StandsFor (through seen) (store (true, 0, empty)) x
+            → true ≡ partners_agree x y z
+        told_true x y z xo = ap (λ (t : OrderTables). partners_agree t y z) (sym (xo refl))
+
         no_pump : (r : Result Bool EndFault) → told.Pumped ≡ agreement_told r → ⊥
         no_pump (Ok agree) tells = absurd (cc)
         no_pump (Err f) tells = absurd (cc)
-
-    -- one store that isn't usable is enough
-    stores_are_usable : AreUsable seen seen seen w × (AreUsable seen seen seen (world false empty 0 new_office) → ⊥)
-    stores_are_usable = ((refl, refl, refl), λ h. let usable = h.0 in absurd (cc))
 
     -- no file is in doubt that was, and tables match that did
     worlds_stay_clean : StaysClean seen seen seen w w × (StaysClean seen seen seen (world true empty 1 new_office) w → ⊥)

@@ -59,16 +59,12 @@ module _ {KO KS KA : Type 0} (orders : KO → Seen OrderTables) (stocks : KS →
   FindsAgreement (Ok agree) a b = AsksAll (Ok agree) a b
   FindsAgreement (Err fault) a b = (at : AuditFault) × LooksAtAll (Err at) a b × (fault ≡ fault_of at) × AfterFault at (with_stores a b) b
 
-  -- the outcome that tells it
-  abbrev pub TellsAgreement : Outcome → (a b : World KO KS KA) → Type 0
-  TellsAgreement o a b = (result : Result Bool EndFault) × FindsAgreement result a b × (o ≡ agreement_told result)
-
-  -- all three stores are usable
-  abbrev pub AreUsable : World KO KS KA → Type 0
-  AreUsable w = ((through orders w.purchasing.endpoint).usable ≡ true) × ((through stocks w.warehouse.endpoint).usable ≡ true)
-      × ((through accounts w.billing.endpoint).usable ≡ true)
-
-  -- in a good world whose stores are usable an answer is that partners agree
+  -- in a good world, whatever became of its stores, an answer is that partners agree
   abbrev pub AgreesWhereGood : Result Bool EndFault → (a b : World KO KS KA) → Type 0
   AgreesWhereGood result a b = AreClean (sight orders stocks accounts b) → AreMatching (sight orders stocks accounts a)
-      → IsGoodWorld orders stocks accounts a → AreUsable a → IfOk result (λ agree. agree ≡ true)
+      → IsGoodWorld orders stocks accounts a → IfOk result (λ agree. agree ≡ true)
+
+  -- the outcome that tells it
+  abbrev pub TellsAgreement : Outcome → (a b : World KO KS KA) → Type 0
+  TellsAgreement o a b = (result : Result Bool EndFault) × FindsAgreement result a b × AgreesWhereGood result a b
+      × (o ≡ agreement_told result)

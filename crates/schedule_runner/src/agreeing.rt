@@ -44,7 +44,7 @@ where
     }
 
     /// Whether the partners of each order agree: of no order that has a row in purchasing's journal is one partner's line shipped or billed
-    /// while another's is released or refused. Nothing changes but what a read that fails leaves.
+    /// while another's is released or refused. Nothing changes but what a read that fails leaves. In a good world the answer is true.
     ///
     /// # Errors
     /// Of the service whose read wasn't done: `StoreFailed`, whose connections are both cut then, `Memory` or `Unusable`.
