@@ -1,0 +1,396 @@
+"""What the pages of bin/theorem have: their words, their sections by the names of definitions, the signs, and the examples."""
+
+# ---- the promise
+
+# which clause carries each word of the promise that README has in one sentence
+PROMISE = [
+    ("no schedule", "`World::run` asks nothing of `events`: each list of them is one. `Event` says what they are, and `did`"
+     " what each does, by its outcome."),
+    ("cut connections", "`Cut`, at each octet, since `Carry` says how many go over. What was on its way is lost, and no more"
+     " (`Happened`)."),
+    ("lost, reordered", "What is on its way is lost where the connection is cut, and all that a broker has where it stops"
+     " (`StopBroker`). `Carry` and `Take` come in any order, on two connections of each service."),
+    ("repeated", "`Resend`, a connection that is opened anew, and `Repeat`, which sends again what was ever accepted."),
+    ("store failures", "`Fail`, at each read and each transaction, which leaves the old or the new tables. `MayLeave` is"
+     " what may be found behind that, of each store by itself; `matching`, `goes`, `told`, `good` and `agree` speak of all of it."),
+    ("stops", "`Stop`, `Reopen` and `StopBroker`."),
+    ("loses", "What was answered committed stays in its journal, at its row (`told`). What a journal sends stands in the"
+     " outbox until it is marked as settled (`TablesMatchJournal`, by `matching`), and what is marked so its receiver's journal"
+     " has (`IsGood.settled`, by `good`)."),
+    ("doubles, overtakes", "Of each pair, what the receiver's journal has is a beginning of what the sender's journal sends:"
+     " each once, in its order, none left out (`HandlesPrefixes`, in `IsGood.lawful`, by `good`)."),
+    ("a message", "Each letter that is held, on its way or kept by the broker is what its sender's journal sends under that"
+     " number (`IsGenuine`, by `good`), so that none is made up."),
+    ("and so", "the partners of each order agree, and stock and credit are conserved (`AllAgree`, by `agree`)."),
+]
+
+SIGHT, GOOD, WORLD_GOOD = ("accord", "specs/Sight"), ("accord", "specs/Good"), ("schedule_runner", "specs/Good")
+PREMISES = (
+    "Nothing is promised of a world in which one of these fails. Those with a place are asked by the clauses themselves; `World::run` has no"
+    " `requires`, so that it may be called with any events and in any world.",
+    [
+        ("Files keep their word: of no store did a file that it rests on give back anything but what was written to it, up to the end of the"
+         " run. That is asked at the end alone, since doubt never falls (`clean`). A store in memory has no file, and no doubt.",
+         [(*SIGHT, "AreClean"), ("keep", "specs/Seen", "Seen")]),
+        ("Before the call the tables of each service matched its journal, also those that a stop might leave.", [(*SIGHT, "AreMatching")]),
+        ("Before the call the world was good. So is one that is opened over empty tables (`unused`), or over those that an earlier run left"
+         " (`good`).", [(*WORLD_GOOD, "IsGoodWorld"), ("schedule_runner", "world", "World::open")]),
+        ("Each of the three stores keeps the laws of a store: a transaction is taken in whole or not at all, and a read tells what the"
+         " tables have.", [("keep", "store", "Keep")]),
+        ("The prover, the compiler and the processor do what is said of them.", []),
+    ],
+    "Not promised: that a letter arrives or that an order is ever decided, that nobody is kept waiting, how long anything takes, and"
+    " anything about envelopes that somebody else puts on a wire.")
+
+READING = [
+    "Written by `bin/theorem`, and compared by the gate: don't edit it. Each contract and each definition stands as in the source, with its"
+    " own comment, behind the file that it is in, below `crates/`. Left out are the words `abbrev`, `unfoldable` and `pub` of definitions,"
+    " which change no meaning, imports, attributes, and invariants of types, which hold of every value. Code, lemmas and proofs aren't here:"
+    " the gate checks that the code meets its contracts, and a reader checks that the contracts say what he wants.",
+]
+
+# ---- signs, each with the text by which it is found
+
+SIGNS = [
+    ("--", r"", "What follows on the line is a comment; in contracts of Rust `//` and `///` are."),
+    ("x : T", r" : ", "`x` is of the type `T`; said of a proposition `T`, `x` is a proof of it."),
+    ("f a b", r"", "The function `f` at `a` and `b`; `f (g a)` has brackets, `f a b` has none."),
+    ("Type 0", r"Type 0", "The type of types and of propositions: what ends in `→ Type 0` says something that holds or doesn't."),
+    ("Type 1", r"Type 1", "The type of what has such types in it."),
+    ("≡", r"≡", "Both are equal."),
+    ("≢", r"≢", "They aren't equal."),
+    ("×", r"×", "Both hold; between types, a pair of both. `x.0` is its first part, `x.1` its second."),
+    ("(x : A) × ..", r"\) ×", "There is such an `x`, and of it the rest holds."),
+    ("⊎", r"⊎", "One of both holds, or both do."),
+    ("A → B", r"→", "Where `A` holds, `B` does; between types, the functions from `A` to `B`."),
+    ("(x : A) → ..", r"\) →", "For each `x` of `A` the rest holds."),
+    ("{x : A} → ..", r"\{[^}]* : [^}]*\} ?→|\{[^}]* : [^}]*\}", "The same; which `x` is meant follows from the rest, so that it needn't be"
+     " written."),
+    ("⊥", r"⊥", "Never holds; `A → ⊥` says that `A` doesn't hold."),
+    ("⊤", r"⊤", "Always holds."),
+    ("¬", r"¬", "It doesn't hold."),
+    ("∥ A ∥₁", r"∥", "`A` holds; which one was found isn't told."),
+    ("ℕ", r"ℕ", "The numbers 0, 1, 2, .. without an end."),
+    ("≤", r"≤", "Is at most."),
+    ("<", r" < ", "Is less than."),
+    ("+ - ^", r" [-+^] ", "Sum, difference (0 where it would be less than 0) and power of numbers."),
+    ("==", r" == ", "Whether two numbers are equal, as `true` or `false`."),
+    ("&& ||", r"&&|\|\|", "And, or, of `true` and `false`."),
+    ("[]", r"\[\]", "The empty list."),
+    ("x ∷ xs", r"∷", "The list that begins with `x` and goes on as `xs`; `a ∷ b ∷ []` has two items."),
+    ("xs ++ ys", r"\+\+", "The list of the items of `xs`, and behind them those of `ys`."),
+    ("\"..\"", r"\"", "A text; `codes` makes of it the list of its octets."),
+    ("λ x. ..", r"λ", "The function that takes an `x` to what stands behind the point."),
+    ("_", r"\b_\b", "Whatever it is: it isn't used, or follows from the rest."),
+    ("record T where", r"\brecord \w", "A type whose values have all of the fields that follow, or a proposition that holds where all of them do;"
+     " `x.field` is one of them."),
+    ("record { a = ..; b = .. }", r"record \{", "The value with these fields."),
+    ("record x { a = .. }", r"record [\w.]+ \{|record \([^)]*\) \{", "The value `x` with this field changed."),
+    ("data T where", r"\bdata \w", "A type whose values are made in the ways that follow, and in no other."),
+    ("f pattern = ..", r" = ", "What `f` is at arguments of this form; the first line that fits counts."),
+    ("module _ .. where", r"module _", "The definitions that are indented below it take these arguments too, before their own."),
+    ("if b then x else y", r"\bif ", "`x` where `b` is `true`, else `y`."),
+    ("let x = .. in", r"\blet ", "`x` stands for that in what follows."),
+    ("requires", r"\brequires\b", "A clause of a contract: what a caller has to make true first."),
+    ("ensures name { .. }", r"\bensures\b", "A clause of a contract, by its name: what is true when the call has ended."),
+    ("x.old, x.new, x.now", r"\.(old|new|now)\b", "In contracts: a mutable argument before the call and after it, and one that is only read."),
+    ("result", r"\bresult\b", "In contracts: what the call answered."),
+    ("impl Model for T", r"impl Model", "Contracts see a `T` as its `Value`, which `view` makes of it."),
+    ("ghost", r"\bghost\b", "Is seen by contracts and proofs alone, and not there when the program runs."),
+    ("KO.seen", r"\bK\w?\.seen|\bseen\b", "What contracts see of a store of the type `KO`."),
+]
+
+WORDS = [
+    ("Bool", "The type of `true` and `false`."),
+    ("suc", "The number behind this one: `suc n` is `n + 1`."),
+    ("zero", "The number 0."),
+    ("Option", "`Some x`, or `None`: an `x`, or nothing."),
+    ("IsSome", "There is one."),
+    ("IsNone", "There is none."),
+    ("is_none", "The same as `true` or `false`."),
+    ("option_map", "The function at what there is, if there is anything."),
+    ("option_and_then", "The same, where the function itself may give nothing."),
+    ("Result", "`Ok x`, or `Err why`: a call's answer, or why it wasn't done."),
+    ("IsOk", "It is an `Ok`."),
+    ("IfOk", "It is an `Ok`, and of its value this holds."),
+    ("OnOk", "Where it is an `Ok`, this holds."),
+    ("List", "Lists of items of one type."),
+    ("length", "How many items a list has."),
+    ("take", "The first so many items of a list."),
+    ("drop", "A list without its first so many items."),
+    ("map", "The list of what the function makes of each item."),
+    ("filter", "The list of the items of which the test is `true`."),
+    ("find", "The first item of which the test is `true`, where there is one."),
+    ("fold", "What a function makes of a list, item by item."),
+    ("sum_by", "The sum of what the function makes of each item."),
+    ("take_while", "The items before the first of which the test is `false`."),
+    ("list_any", "Whether the test is `true` of one of the items."),
+    ("slice_get", "The item at this place, counted from 0, where there is one."),
+    ("Contains", "The list has this item."),
+    ("AllByRecursion", "It holds of each item of the list."),
+    ("IsStrictlySortedBy", "Each item is greater than the one before it, in this order."),
+    ("min", "The smaller of two numbers."),
+    ("max", "The greater of two numbers."),
+    ("not", "`true` of `false`, and `false` of `true`."),
+    ("nat_lt", "Whether a number is less than another."),
+    ("nat_le", "Whether a number is at most another."),
+    ("nat_cmp", "How two numbers compare: `Less`, `Equal` or `Greater`."),
+    ("slice_cmp", "How two lists compare, by their first items that differ."),
+    ("then_cmp", "The first order, and where both are equal in it the second."),
+    ("on", "How two things compare by what the function makes of them."),
+    ("is_lt", "Whether a comparison gave `Less`."),
+    ("Ordering", "`Less`, `Equal` or `Greater`."),
+    ("codes", "The octets of a text."),
+    ("decimal", "The digits of a number, as octets."),
+    ("digits_value", "The number that digits say, where they are digits."),
+    ("is_ascii_digit", "Whether an octet is one of `0` to `9`."),
+    ("is_utf8", "Whether octets are UTF-8."),
+    ("bytes_eq", "Whether two lists of octets are equal."),
+    ("string_bytes", "The octets of a `String`."),
+]
+
+# ---- examples: of a definition (crate, file, name), the lemma of one that holds and of one that doesn't (crate, file of proofs/, lemma)
+
+ACTIVITIES, AGREEMENT, ACCORD = ("activities", "Examples"), ("agreement", "Examples"), ("accord", "Examples")
+TOLD, PATH, WORLDS = (("schedule_runner", f"{it}Examples") for it in ("Told", "Path", "Good"))
+EXAMPLES = [
+    ("activities", "specs/Journal", "state_of", (*ACTIVITIES, "states_are_by_order"), None),
+    ("activities", "specs/Journal", "sent_of", (*ACTIVITIES, "letters_are_by_pair"), None),
+    ("activities", "specs/Journal", "handled_of", (*ACTIVITIES, "handled_letters_are_counted"), None),
+    ("activities", "specs/Journal", "IsLegal", (*ACTIVITIES, "placed_and_answered"), (*ACTIVITIES, "a_repeated_letter_is_not_legal")),
+    ("activities", "specs/Follow", "MayFollow", (*ACTIVITIES, "the_next_letter_may_follow"), (*ACTIVITIES, "no_other_seat_may_command")),
+    ("agreement", "specs/Journals", "HandlesPrefixes", None, (*AGREEMENT, "nobody_asked")),
+    ("agreement", "specs/Envelopes", "IsAuthentic", (*AGREEMENT, "a_request_is_authentic"), (*AGREEMENT, "others_are_not_authentic")),
+    ("agreement", "specs/Envelopes", "SettledAreHandled", None, (*AGREEMENT, "a_mark_is_not_ahead")),
+    ("agreement", "specs/Agreement", "PartnersAgree", None, (*AGREEMENT, "shipped_and_released")),
+    ("endpoint", "specs/Matches", "TablesMatchJournal", ("endpoint", "CallExamples", "before_matches"), None),
+    ("accord", "specs/Sight", "AreMatching", (*ACCORD, "the_tables_match"), (*ACCORD, "the_tables_match")),
+    ("accord", "specs/Sight", "MayLeave", (*ACCORD, "each_leaves_its_own"), (*ACCORD, "each_leaves_its_own")),
+    ("accord", "specs/Good", "IsGenuine", (*ACCORD, "sent_letters_are_genuine"), (*ACCORD, "sent_letters_are_genuine")),
+    ("accord", "specs/Good", "IsGood", (*ACCORD, "others_are_not_good"), (*ACCORD, "others_are_not_good")),
+    ("accord", "specs/Good", "AllAgree", (*ACCORD, "all_agree_at_the_end"), (*ACCORD, "released_and_billed")),
+    ("schedule_runner", "specs/Good", "IsGoodWorld", (*WORLDS, "worlds_are_good"), (*WORLDS, "services_are_not_good")),
+    ("schedule_runner", "specs/Told", "AreTold", (*TOLD, "commands_are_told_in_order"), (*TOLD, "commands_are_told_in_order")),
+    ("schedule_runner", "specs/Told", "RecordsTold", (*TOLD, "journals_are_told"), (*TOLD, "journals_are_told")),
+    ("schedule_runner", "specs/Paths", "IsPath", (*PATH, "events_are_a_path"), (*PATH, "nothing_is_lost")),
+]
+
+# ---- the pages
+
+SHOWS = ("Tells", "RowOf", "ListOf", "ShowsPair")
+# what pages leave to those behind them
+OF_EVENTS = [("schedule_runner", "specs/Steps", "Happened"), ("schedule_runner", "specs/Deeds", "Step"), ("sites", "site", "Site"),
+             ("mail", "mail", "Mail"), ("mail", "connection", "Connection"), ("mail", "specs/Connecting", "TakesNext"),
+             ("sites", "specs/Cursors", "AreRight")]
+OF_MAIL = [("genuine", "specs/Three", "Genuine")]
+OF_STORE = [("keep", "store", "Keep")]
+OF_SERVICE = [("endpoint", "endpoint", "Endpoint"), ("keep", "faulty", "Faulty"), ("keep", "specs/Failing", "through")]
+OF_SHOWS = [("schedule_runner", "specs/Shows", it) for it in SHOWS] + [("schedule_runner", "specs/Agreeing", "TellsAgreement")]
+
+CORE = {
+    "file": "docs/THEOREM.md",
+    "title": "The theorem",
+    "said": [
+        "What services that send each other letters promise, as far as it is proved today: what holds after every schedule, what a schedule"
+        " may do, and what is asked. Three services, purchasing, warehouse and billing, take in commands of seats and letters of each other."
+        " Each writes what it takes in as a row of its journal, in one transaction with what follows of it: the state of the entity, and the"
+        " letters that this sends, which stand in an outbox until their receiver is known to have handled them. What holds is therefore said"
+        " of the three journals.",
+        "Of the words: an entity is an order, a stock or an account; a letter is a message with its pair, which is its sender and its receiver, and with its number; a letter is sent when it stands"
+        " in the outbox, and settled when its sender knows that it was handled; a settle is the envelope by which a receiver tells that; an envelope is a letter or a settle; a store and a keep are one"
+        " thing; a content is what a store's tables are, or may be found to be after a stop; a line is an order's at a stock or an account.",
+        "Behind this page stand others: [THEOREM-STORE.md](THEOREM-STORE.md), the laws of a store;"
+        " [THEOREM-SERVICE.md](THEOREM-SERVICE.md), what one service promises alone; [THEOREM-EVENTS.md](THEOREM-EVENTS.md), what each"
+        " single event does, with the octets on their way; [THEOREM-MAIL.md](THEOREM-MAIL.md), what it is for a mail to be genuine;"
+        " [THEOREM-JOURNALS.md](THEOREM-JOURNALS.md), the theorem over three journals alone; [THEOREM-PROGRAM.md](THEOREM-PROGRAM.md), what"
+        " the program prints; and [THEOREM-BROKER.md](THEOREM-BROKER.md), the broker's promises, which can be read without this one.",
+    ],
+    "signs": True,
+    "cut": OF_EVENTS + OF_MAIL + OF_STORE + OF_SERVICE,
+    "sections": [
+        ("What holds after every schedule",
+         ["The one call that runs a schedule is `World::run`, and its contract is the theorem. Whatever the events, and also where memory was"
+          " refused between them, when it has ended:",
+          "- `matching`: the tables of each service match its journal, so that all that they hold follows from it (`TablesMatchJournal`);",
+          "- `told`: each journal begins with what it was, and the commands behind that are, in order, those that were answered committed,"
+          " each at its row; of those that were answered 63, that the store failed, each stands there once at most (`RecordsTold`);",
+          "- `good`: the journals are legal, and what each receiver handled is a beginning of what was sent to it (`HandlesPrefixes`); what is"
+          " marked as settled was handled (`SettledAreHandled`); each letter that is held or on its way is what its sender's journal sends,"
+          " and no settle is ahead of the handling (`IsGenuine`);",
+          "- `agree`: so the partners of each order agree (`PartnersAgree`), and of each stock and each account's limit nothing is lost or"
+          " used twice (`AreSound`);",
+          "- `did` and `goes`: each outcome did what it says, and nothing else, to the world and to the tables (`Happened`, `Step`);",
+          "- `clean`: where no file is in doubt afterwards, none was before.",
+          "All but `clean` and `did` are so in each combination of what failed stores may leave. Each name is defined below, or on the page"
+          " that the end of this one names."],
+         [("schedule_runner", "running", "World::run")], True),
+        "promise",
+        ("What an adversary may do",
+         ["He chooses the events, each of them one line of a schedule: any list of them, of any length and in any order, is a schedule, and"
+          " the theorem asks nothing of it. He cuts connections at any octet (`Cut`, behind a `Carry` of so many octets), loses what is on its"
+          " way, sends again what was ever accepted (`Resend`, `Repeat`), lets chosen reads and transactions of a store fail and leave the old"
+          " tables or the new ones (`Fail`), stops services and the broker at any time (`Stop`, `StopBroker`), and lets one move and"
+          " others wait for as long as he likes. What he may not: put octets of his own on a wire, or change a store's tables behind its"
+          " back."],
+         [("schedules", "event", "Event")]),
+        "premises",
+        ("A world at the beginning", ["The call that opens a world, over stores that may have tables already."],
+         [("schedule_runner", "world", "World::open")], True),
+        ("What a journal is", ["A row says which entity took in what: a seat's command, or a letter with its sender and its number. A"
+                               " service's journal is a list of rows, to which only the end is added."],
+         [("activities", "input", "JournalRow")]),
+        ("What a journal means",
+         ["The state of an entity, what it has sent and what it has handled follow of the rows alone: each row is reacted to in its turn, and"
+          " a reaction gives the next state and the letters that are sent. Which reactions an order, a stock and an account have stands further"
+          " below."],
+         [("activities", "specs/Journal", it) for it in ("state_of", "sent_of", "handled_of", "IsLegal")]),
+        ("Three journals that fit each other",
+         ["The reactions of orders, stocks and accounts come first, since what each of them has sent is said by these."],
+         [("activities", "specs/Orders", "order_reactions"), ("activities", "specs/Stocks", "stock_reactions"),
+          ("activities", "specs/Accounts", "account_reactions"), ("agreement", "specs/Journals", "HandlesPrefixes"),
+          ("agreement", "specs/Journals", "AreLawful"),
+          ("agreement", "specs/Envelopes", "IsAuthentic"), ("agreement", "specs/Envelopes", "SettledAreHandled")]),
+        ("Partners that agree",
+         ["What follows for each order: it asks two partners, a stock and an account, and either both of them do it or none does."],
+         [("agreement", "specs/Agreement", it) for it in ("states_in", "PartnersAgree", "AreSound")]),
+        ("Tables, and when they match a journal", ["What a service's store keeps, beside the journal. Each of it follows of the journal, but"
+                                                   " the settled marks and the letters that came too early."],
+         [("keep", "specs/Tables", "Tables"), ("endpoint", "specs/Matches", "TablesMatchJournal"), ("endpoint", "specs/Matches", "AllMatch")]),
+        ("What may be found after a stop",
+         ["A store that failed may leave its tables as they were or as they were to be. What is promised is said of each content that a stop"
+          " may leave, and of each combination of such contents of the three."],
+         [("keep", "specs/Seen", "Seen"), *[(*SIGHT, it) for it in ("Sight", "AreClean", "AreMatching", "MayLeave")]]),
+        ("Services that are good", ["What always holds of the three, whatever a stop leaves."],
+         [(*GOOD, it) for it in ("IsGenuine", "IsGood", "AllAgree")]),
+        ("A world that is good", ["The same of a world, with what is on its way and with what its relays know. Each of these names a clause of"
+                                  " `World::run`."],
+         [("schedule_runner", "specs/Sight", it) for it in ("sight", "StaysClean", "StaysMatching")]
+         + [(*WORLD_GOOD, it) for it in ("IsGoodWorld", "StaysGood", "Agrees")]),
+        ("Commands that were told", ["What a seat was answered, and what the journals have."],
+         [("schedule_runner", "outcome", "Outcome")][:0]
+         + [("schedule_runner", "specs/Told", it) for it in ("TellsCommand", "AreTold", "RecordsTold", "AllTold", "Told")]),
+        ("A run, event by event", ["One event after another, each with its outcome; what an event does is on"
+                                   " [THEOREM-EVENTS.md](THEOREM-EVENTS.md)."],
+         [("schedule_runner", "specs/Paths", "IsPath"), ("schedule_runner", "specs/Paths", "Makes"), ("schedule_runner", "specs/Runs", "Ran"),
+          ("schedule_runner", "specs/Deeds", "Goes")]),
+    ],
+}
+
+STORE = {
+    "file": "docs/THEOREM-STORE.md",
+    "title": "The laws of a store",
+    "said": ["What [THEOREM.md](THEOREM.md) asks of each of the three stores, as the trait `Keep`: what each call tells of the tables, and what"
+             " a stop may leave behind a call that failed. What is defined on that page isn't printed again."],
+    "behind": ["docs/THEOREM.md"],
+    "sections": [("What keeps the tables of a service", ["In memory or in files."], OF_STORE)],
+}
+
+SERVICE = {
+    "file": "docs/THEOREM-SERVICE.md",
+    "title": "One service",
+    "said": ["What one service promises, with any handler and any store. It stands behind [THEOREM.md](THEOREM.md) and"
+             " [THEOREM-STORE.md](THEOREM-STORE.md): what is defined there isn't printed again."],
+    "behind": ["docs/THEOREM.md", "docs/THEOREM-STORE.md"],
+    "cut": OF_EVENTS,
+    "sections": [
+        ("A command is taken in whole or not at all", ["What `commit` does to the journal, to every table, and to what a stop may leave."],
+         [("endpoint", "endpoint", "Endpoint::commit")]),
+        ("A letter is handled once and in its turn", ["The same service where a letter of another one comes, early, late or again, and where"
+                                                      " a settle tells what the receiver has handled."],
+         [("endpoint", "incoming", f"Endpoint::{it}") for it in ("ingest", "drain_held", "settle")]),
+        ("A store that fails on purpose", ["What a schedule's `Fail` arms: a store, with the read or the transaction that is to fail."],
+         OF_SERVICE[1:]),
+    ],
+}
+
+EVENTS = {
+    "file": "docs/THEOREM-EVENTS.md",
+    "title": "What each event does",
+    "said": ["The definitions that the clauses `did` and `goes` of [THEOREM.md](THEOREM.md) name: what each event of a schedule does to the"
+             " service that it names and to the mail, octet by octet. It stands behind that page, and behind"
+             " [THEOREM-SERVICE.md](THEOREM-SERVICE.md): what is defined there isn't printed again."],
+    "behind": ["docs/THEOREM.md", "docs/THEOREM-STORE.md", "docs/THEOREM-SERVICE.md"],
+    "cut": OF_SHOWS,
+    "sections": [
+        ("One event alone", ["The same promises of one event."], [("schedule_runner", "running", "World::step")], True),
+        ("What a world is made of", ["Of each service its endpoint and two channels, and the mail, which is the broker with what it ever"
+                                     " accepted."],
+         [("sites", "site", "Site"), ("mail", "mail", "Mail")]),
+        ("What each event does to the world", ["By an event and its outcome, of two worlds, before it and after it."],
+         [("schedule_runner", "specs/Steps", "Happened")]),
+        ("What each event does to the tables", ["The same, with tables of each service that a stop may leave."],
+         [("schedule_runner", "specs/Deeds", "Step")]),
+        ("What relays know of an outbox",
+         ["A relay has a cursor, so that it needn't go over the outbox from the first row each time: up to there all was sent. It is right of"
+          " each content that a stop may leave, and stays so, whichever event comes."],
+         [("sites", "specs/Cursors", "AreRight"), ("sites", "laws", "cursors_stay_right")]),
+    ],
+}
+
+MAIL = {
+    "file": "docs/THEOREM-MAIL.md",
+    "title": "What is on its way",
+    "said": ["The definition that the clause `good` of [THEOREM.md](THEOREM.md) names for the mail. It stands behind that page and behind"
+             " [THEOREM-EVENTS.md](THEOREM-EVENTS.md): what is defined there isn't printed again."],
+    "behind": ["docs/THEOREM.md", "docs/THEOREM-STORE.md", "docs/THEOREM-SERVICE.md", "docs/THEOREM-EVENTS.md"],
+    "sections": [
+        ("What is on its way is genuine",
+         ["Of three services over one broker: each envelope in the broker, in what it accepted, and in the octets to and from each connection"
+          " has a property, `ok`. It's a parameter here: [THEOREM.md](THEOREM.md) takes for it that the envelope is genuine (`IsGenuine`)."],
+         OF_MAIL),
+    ],
+}
+
+JOURNALS = {
+    "file": "docs/THEOREM-JOURNALS.md",
+    "title": "Three journals agree",
+    "said": ["The theorem over the reactions alone, with no code of a service, a store or a broker: whatever is lost, repeated or reordered."
+             " It stands behind [THEOREM.md](THEOREM.md), which has what a journal means and when three of them fit each other: what is defined"
+             " there isn't printed again."],
+    "behind": ["docs/THEOREM.md", "docs/THEOREM-STORE.md", "docs/THEOREM-SERVICE.md", "docs/THEOREM-EVENTS.md"],
+    "sections": [
+        ("Three journals agree", ["Each of these is a lemma that is called: its contract is what it proves."],
+         [("agreement", "laws", it) for it in ("a_row_keeps_the_laws", "a_mark_keeps_the_laws", "stays_lawful", "stays_authentic", "agree",
+                                               "refused_are_left_alone")]),
+    ],
+}
+
+PROGRAM = {
+    "file": "docs/THEOREM-PROGRAM.md",
+    "title": "What the program prints",
+    "said": ["How `outbox-schedule` reads a schedule, runs it over three services, and tells what became of it. It stands behind"
+             " [THEOREM.md](THEOREM.md): what is defined there isn't printed again."],
+    "behind": ["docs/THEOREM.md", "docs/THEOREM-STORE.md", "docs/THEOREM-SERVICE.md", "docs/THEOREM-EVENTS.md", "docs/THEOREM-MAIL.md"],
+    "sections": [
+        ("A schedule is run as its text says",
+         ["The program's one public call, and the run of a text that it ends in: what is printed are the lines of the outcomes of its events."],
+         [("programs", "command_line", "run_schedule"), ("programs", "schedule", "run_text")]),
+        ("What shows print", ["The lines that tell what the store of a service holds, between two worlds, before and after."], OF_SHOWS[:-1]),
+        ("Whether all partners agree",
+         ["Asked of the three stores, which stay: what is answered is what their tables say, and in a good world that they agree."],
+         [("schedule_runner", "agreeing", "World::agreement"), ("schedule_runner", "specs/Agreeing", "TellsAgreement")]),
+    ],
+}
+
+BROKER = {
+    "file": "docs/THEOREM-BROKER.md",
+    "title": "The broker's theorem",
+    "said": ["What a broker of STOMP 1.2 promises to its clients. What the services promise that use one is on [THEOREM.md](THEOREM.md); either"
+             " page can be read without the other, and what both rest on stands on both."],
+    "signs": True,
+    "sections": [
+        ("A broker loses nothing and lets nothing overtake",
+         ["Over any calls of a broker, by any sessions, also where memory was refused. `Lives` says which: `calls.rt` of `broker_laws` has"
+          " each call with the contract that it is one of these."],
+         [("broker_laws", "laws", it) for it in ("no_message_is_lost", "messages_were_sent", "accepted_sends_are_told_once",
+                                                 "no_message_overtakes", "frames_are_handled_in_order_all_life")]),
+        ("What a client reads was sent", ["The broker between its clients, over wires that cut what is written in any pieces."],
+         [("broker_texts", "laws", it) for it in ("what_a_client_wrote_is_handled", "each_message_was_sent", "each_receipt_was_asked_for",
+                                                  "a_client_refuses_nothing")]),
+        ("Frames come out of a text however it is cut",
+         ["The decoder's two calls, and what follows of every way to cut a text into pieces."],
+         [("stomp_frame", "decoder", "Decoder::feed"), ("stomp_frame", "decoder", "Decoder::next"), ("stomp_frame", "stream_laws", "*")]),
+    ],
+}
+
+PAGES = [CORE, STORE, SERVICE, EVENTS, MAIL, JOURNALS, PROGRAM, BROKER]
