@@ -3,7 +3,7 @@ import functools
 import re
 
 from theorem_layout import indent_of, laid_def
-from theorem_sources import WORD, exists, fail, plain, read, uses_in
+from theorem_sources import WORD, exists, fail, parts_of, plain, read, spec, target_of, uses_in
 
 
 class Proofs:
@@ -14,12 +14,17 @@ class Proofs:
         if not exists(file):
             fail(f"there is no {file}, which has an example")
         text = read(file)
-        self.names, self.own, self.nearest, self.blocks, self.others = {}, {}, {}, {}, {}
+        self.names, self.own, self.nearest, self.blocks, self.others, self.specs = {}, {}, {}, {}, {}, {}
         for path, names, _ in uses_in("\n".join(it for it in text.split("\n") if it.startswith("use "))):
             words = path.split(".")
             other = f"crates/{words[1]}/proofs/{'/'.join(words[3:])}.antt"
-            if words[2:3] == ["proofs"] and words[-1].endswith("Examples") and names and exists(other):
+            if words[0] == "Rattle" and words[2:3] == ["proofs"] and names and exists(other):
                 self.others.update((name.split(" as ")[-1].strip(), (other, name.split(" as ")[0])) for name in names)
+            if words[0] == "Rattle" and words[2:3] == ["specs"]:
+                for name in names or ():
+                    name, _, alias = name.partition(" as ")
+                    for part in parts_of(alias or name):
+                        self.specs[part] = target_of(path, name, file)
         self.scan(text)
 
     @staticmethod
@@ -42,7 +47,7 @@ class Proofs:
                 head = next(at for at, it in enumerate(code) if it.rstrip().endswith(" where")) + 1
                 blocks += (code[0].rstrip() if head == 1 else "\n".join(code[:head]),)
                 code = code[head:]
-            head = re.match(r"\s*(?:(?:abbrev|unfoldable|opaque|pub)\s+)*([^\s:]+)\s*:", code[0]) if code else None
+            head = re.match(r"\s*(?:(?:abbrev|unfoldable|opaque|pub|record|data)\s+)*([^\s:]+)[^:]*:", code[0]) if code else None
             if not head or indent_of(code[0]) > 2 * len(blocks):
                 continue
             self.names[head.group(1)] = code
@@ -81,5 +86,16 @@ class Proofs:
                     todo.append(other)
         return found
 
+    def rests_of(self, lines):
+        """The definitions and items of the sources that lines of the examples name."""
+        found = []
+        for word in WORD.findall(plain("\n".join(lines))):
+            kind, file, name = self.specs.get(word, ("foreign", None, None))
+            if kind == "def" and name in spec(file).owner:
+                found.append((kind, file, spec(file).owner[name]))
+            elif kind == "item":
+                found.append((kind, file, name))
+        return found
+
     def is_word(self, name):
-        return name in self.names and re.match(r"\s*(abbrev|unfoldable|opaque)\b", self.names[name][0])
+        return name in self.names and re.match(r"\s*(pub )?(abbrev|unfoldable|opaque|record|data)\b", self.names[name][0])

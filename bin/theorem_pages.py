@@ -49,6 +49,13 @@ READING = [
     " the gate checks that the code meets its contracts, and a reader checks that the contracts say what he wants.",
 ]
 
+# what is said where a page has examples
+WITH_EXAMPLES = [
+    "Beside some definitions stand examples, which are proved by the gate as lemmas: each with its name, its file, its comment and what it"
+    " says. One that ends in `→ ⊥` says that what stands before the arrow doesn't hold. The names that examples use, as `o1` or `rows`, stand"
+    " at the end of the page, by the file of the example.",
+]
+
 # ---- signs, each with the text by which it is found
 
 SIGNS = [
@@ -81,6 +88,8 @@ SIGNS = [
     ("xs ++ ys", r"\+\+", "The list of the items of `xs`, and behind them those of `ys`."),
     ("\"..\"", r"\"", "A text; `codes` makes of it the list of its octets."),
     ("λ x. ..", r"λ", "The function that takes an `x` to what stands behind the point."),
+    ("Phase.Refused", r"\b[A-Za-z_]+\.[A-Z]\w+", "The name behind the point, of the type or the module before it: it tells the name from others that"
+     " are spelled so."),
     ("_", r"\b_\b", "Whatever it is: it isn't used, or follows from the rest."),
     ("record T where", r"\brecord \w", "A type whose values have all of the fields that follow, or a proposition that holds where all of them do;"
      " `x.field` is one of them."),
@@ -91,6 +100,10 @@ SIGNS = [
     ("module _ .. where", r"module _", "The definitions that are indented below it take these arguments too, before their own."),
     ("if b then x else y", r"\bif ", "`x` where `b` is `true`, else `y`."),
     ("let x = .. in", r"\blet ", "`x` stands for that in what follows."),
+    ("do", r"= do\b", "The lines below it one after another; `x ← ..` goes on with what is there as `x`, and where nothing is, all of it is"
+     " nothing."),
+    ("x ← ..", r"←", "See `do`."),
+    ("a ◌+◌ b", r"◌", "Where an operator is defined, each of these stands for one of its arguments."),
     ("requires", r"\brequires\b", "A clause of a contract: what a caller has to make true first."),
     ("ensures name { .. }", r"\bensures\b", "A clause of a contract, by its name: what is true when the call has ended."),
     ("x.old, x.new, x.now", r"\.(old|new|now)\b", "In contracts: a mutable argument before the call and after it, and one that is only read."),
@@ -180,7 +193,8 @@ EXAMPLES = [
 SHOWS = ("Tells", "RowOf", "ListOf", "ShowsPair")
 # what pages leave to those behind them
 OF_EVENTS = [("schedule_runner", "specs/Steps", "Happened"), ("schedule_runner", "specs/Deeds", "Step"), ("sites", "site", "Site"),
-             ("mail", "mail", "Mail"), ("mail", "connection", "Connection"), ("mail", "specs/Connecting", "TakesNext"),
+             ("mail", "mail", "Mail"), ("mail", "specs/Offices", "new_office"), ("mail", "specs/Offices", "Office"),
+             ("mail", "connection", "Connection"), ("mail", "specs/Connecting", "TakesNext"),
              ("sites", "specs/Cursors", "AreRight")]
 OF_MAIL = [("genuine", "specs/Three", "Genuine")]
 OF_STORE = [("keep", "store", "Keep")]
@@ -232,7 +246,9 @@ CORE = {
           " tables or the new ones (`Fail`), stops services and the broker at any time (`Stop`, `StopBroker`), and lets one move and"
           " others wait for as long as he likes. What he may not: put octets of his own on a wire, or change a store's tables behind its"
           " back."],
-         [("schedules", "event", "Event")]),
+         [("schedules", "event", "Event")], True),
+        ("What events speak of", ["The seats, services, connections and commands that stand in an event."],
+         [("schedules", "event", "Event"), *[("base", "specs/Entity", it) for it in ("order_of", "stock_of", "account_of")]]),
         "premises",
         ("A world at the beginning", ["The call that opens a world, over stores that may have tables already."],
          [("schedule_runner", "world", "World::open")], True),
@@ -267,8 +283,7 @@ CORE = {
          [("schedule_runner", "specs/Sight", it) for it in ("sight", "StaysClean", "StaysMatching")]
          + [(*WORLD_GOOD, it) for it in ("IsGoodWorld", "StaysGood", "Agrees")]),
         ("Commands that were told", ["What a seat was answered, and what the journals have."],
-         [("schedule_runner", "outcome", "Outcome")][:0]
-         + [("schedule_runner", "specs/Told", it) for it in ("TellsCommand", "AreTold", "RecordsTold", "AllTold", "Told")]),
+         [("schedule_runner", "specs/Told", it) for it in ("TellsCommand", "AreTold", "RecordsTold", "AllTold", "Told")]),
         ("A run, event by event", ["One event after another, each with its outcome; what an event does is on"
                                    " [THEOREM-EVENTS.md](THEOREM-EVENTS.md)."],
          [("schedule_runner", "specs/Paths", "IsPath"), ("schedule_runner", "specs/Paths", "Makes"), ("schedule_runner", "specs/Runs", "Ran"),
@@ -315,7 +330,7 @@ EVENTS = {
         ("One event alone", ["The same promises of one event."], [("schedule_runner", "running", "World::step")], True),
         ("What a world is made of", ["Of each service its endpoint and two channels, and the mail, which is the broker with what it ever"
                                      " accepted."],
-         [("sites", "site", "Site"), ("mail", "mail", "Mail")]),
+         [("sites", "site", "Site"), ("mail", "mail", "Mail"), ("mail", "specs/Offices", "new_office")]),
         ("What each event does to the world", ["By an event and its outcome, of two worlds, before it and after it."],
          [("schedule_runner", "specs/Steps", "Happened")]),
         ("What each event does to the tables", ["The same, with tables of each service that a stop may leave."],
