@@ -45,7 +45,7 @@ class Proofs:
             blocks = tuple(it for it in blocks if indent_of(it) < indent_of(code[0]))
             while code and re.match(r"\s*module _ ", code[0]):
                 head = next(at for at, it in enumerate(code) if it.rstrip().endswith(" where")) + 1
-                blocks += (code[0].rstrip() if head == 1 else "\n".join(code[:head]),)
+                blocks += ("\n".join(code[:head]),)
                 code = code[head:]
             head = re.match(r"\s*(?:(?:abbrev|unfoldable|opaque|pub|record|data)\s+)*([^\s:]+)[^:]*:", code[0]) if code else None
             if not head or indent_of(code[0]) > 2 * len(blocks):

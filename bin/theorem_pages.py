@@ -26,8 +26,9 @@ PROMISE = [
 
 SIGHT, GOOD, WORLD_GOOD = ("accord", "specs/Sight"), ("accord", "specs/Good"), ("schedule_runner", "specs/Good")
 PREMISES = (
-    "Nothing is promised of a world in which one of these fails. Those with a place are asked by the clauses themselves; `World::run` has no"
-    " `requires`, so that it may be called with any events and in any world.",
+    "`World::run` has no `requires`: it may be called with any events and in any world, and its clauses themselves ask for what they need."
+    " `clean` and `did` ask for nothing, `matching`, `goes` and `told` for the first two premises below, `good` and `agree` for the first"
+    " three. The rest is asked of the types of the stores, and of the tools.",
     [
         ("Files keep their word: of no store did a file that it rests on give back anything but what was written to it, up to the end of the"
          " run. That is asked at the end alone, since doubt never falls (`clean`). A store in memory has no file, and no doubt.",
@@ -210,9 +211,15 @@ CORE = {
         " Each writes what it takes in as a row of its journal, in one transaction with what follows of it: the state of the entity, and the"
         " letters that this sends, which stand in an outbox until their receiver is known to have handled them. What holds is therefore said"
         " of the three journals.",
-        "Of the words: an entity is an order, a stock or an account; a letter is a message with its pair, which is its sender and its receiver, and with its number; a letter is sent when it stands"
-        " in the outbox, and settled when its sender knows that it was handled; a settle is the envelope by which a receiver tells that; an envelope is a letter or a settle; a store and a keep are one"
-        " thing; a content is what a store's tables are, or may be found to be after a stop; a line is an order's at a stock or an account.",
+        "Of the words:",
+        "- an entity is an order, of purchasing, a stock, of warehouse, or an account, of billing; a seat is one of sixteen places from which"
+        " commands come;",
+        "- a pair is a sender and a receiver, both entities; a letter is a message with its pair, and with its number among the letters of"
+        " that pair;",
+        "- a letter is sent when it stands in the outbox, and settled when its sender knows that it was handled; a settle is what the receiver"
+        " tells the sender for that; an envelope is a letter or a settle;",
+        "- the partners of an order are the stock and the account that it asks; its line at one of them is what that has of it;",
+        "- a store and a keep are one thing; a content is what a store's tables are, or may be found to be after a stop.",
         "Behind this page stand others: [THEOREM-STORE.md](THEOREM-STORE.md), the laws of a store;"
         " [THEOREM-SERVICE.md](THEOREM-SERVICE.md), what one service promises alone; [THEOREM-EVENTS.md](THEOREM-EVENTS.md), what each"
         " single event does, with the octets on their way; [THEOREM-MAIL.md](THEOREM-MAIL.md), what it is for a mail to be genuine;"
@@ -240,12 +247,18 @@ CORE = {
          [("schedule_runner", "running", "World::run")], True),
         "promise",
         ("What an adversary may do",
-         ["He chooses the events, each of them one line of a schedule: any list of them, of any length and in any order, is a schedule, and"
-          " the theorem asks nothing of it. He cuts connections at any octet (`Cut`, behind a `Carry` of so many octets), loses what is on its"
-          " way, sends again what was ever accepted (`Resend`, `Repeat`), lets chosen reads and transactions of a store fail and leave the old"
-          " tables or the new ones (`Fail`), stops services and the broker at any time (`Stop`, `StopBroker`), and lets one move and"
-          " others wait for as long as he likes. What he may not: put octets of his own on a wire, or change a store's tables behind its"
-          " back."],
+         ["An adversary chooses the events, each of them one line of a schedule. Any list of them, of any length and in any order, is a"
+          " schedule: the theorem asks nothing of it. So an adversary",
+          "- gives any commands from any seats (`Event::Order`, `Event::Stock`, `Event::Account`);",
+          "- lets a service write what stands in its outbox (`Fill`), moves as many octets as it likes between one end of a connection and the"
+          " other (`Carry`), and lets frames be handled (`Take`, `Drain`); or lets any of that wait for as long as it likes;",
+          "- cuts connections at any octet (`Cut`), behind which what was on its way is lost, and opens them anew (`Open`);",
+          "- lets what is sent be sent again: by a service (`Resend`), or by the broker, of all that it ever accepted (`Repeat`);",
+          "- lets chosen reads and transactions of a store fail, and leave the old tables or the new ones (`Fail`);",
+          "- stops services and the broker at any time (`Stop`, `StopBroker`), and opens stores anew (`Reopen`).",
+          "It has no event that puts octets of its own on a wire, or changes the tables of a store behind its back. The events that are left"
+          " only run many of these at once (`Pump`) or look (`Show` and those behind it). How a line is spelled is on"
+          " [THEOREM-PROGRAM.md](THEOREM-PROGRAM.md)."],
          [("schedules", "event", "Event")], True),
         ("What events speak of", ["The seats, services, connections and commands that stand in an event."],
          [("schedules", "event", "Event"), *[("base", "specs/Entity", it) for it in ("order_of", "stock_of", "account_of")]]),

@@ -153,7 +153,7 @@ class Spec:
             blocks = [it for it in blocks if indent_of(it) < indent_of(code[0])]
             while code and re.match(r"\s*module _ ", code[0]):
                 head = next(at for at, it in enumerate(code) if it.rstrip().endswith(" where")) + 1
-                blocks = blocks + [" ".join([code[0].rstrip(), *map(str.strip, code[1:head])])]
+                blocks = blocks + ["\n".join(it.rstrip() for it in code[:head])]
                 lines = lines[lines.index(code[head - 1]) + 1:]
                 code = code[head:]
             if not code:
