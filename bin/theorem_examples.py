@@ -33,13 +33,13 @@ class Proofs:
         return Proofs(file)
 
     def scan(self, text):
-        blocks, comment = (), []
+        blocks, comment, last = (), [], None
         for para in re.split(r"\n[ ]*\n", text):
             lines = [it for it in para.split("\n") if it.strip() and not it.startswith("use ")]
             said = [it for it in lines if it.strip().startswith("--") and not it.strip().startswith("-- ----")]
             code = [it for it in lines if not it.strip().startswith("--")]
             if said or any(it.strip().startswith("-- ----") for it in lines):
-                comment = said
+                comment, last = said, None
             if not code:
                 continue
             blocks = tuple(it for it in blocks if indent_of(it) < indent_of(code[0]))
@@ -52,7 +52,8 @@ class Proofs:
                 continue
             self.names[head.group(1)] = code
             self.own[head.group(1)] = said
-            self.nearest[head.group(1)] = comment
+            last = last or head.group(1)
+            self.nearest[head.group(1)] = comment, last
             self.blocks[head.group(1)] = blocks
 
     def statement(self, lemma):
@@ -65,7 +66,12 @@ class Proofs:
             if found and indent_of(line) == deep and re.match(rf"\s*(unfolding\b|{re.escape(lemma)}\b)", line):
                 break
             found.append(line)
-        return [it[min(deep, indent_of(it)):] for it in self.nearest[lemma] + laid_def(found)]
+        return [it[min(deep, indent_of(it)):] for it in self.comment_of(lemma, found) + laid_def(found)]
+
+    def comment_of(self, lemma, statement):
+        """A lemma's comment; where it has none that above it, unless that is of a word that the lemma doesn't use."""
+        comment, of = self.nearest[lemma]
+        return comment if of == lemma or not self.is_word(of) or of in WORD.findall(plain("\n".join(statement))) else []
 
     def definition(self, name):
         """A word of the examples, whole, and the blocks that it stands in."""

@@ -4,23 +4,23 @@
 
 # which clause carries each word of the promise that README has in one sentence
 PROMISE = [
-    ("no schedule", "`World::run` asks nothing of `events`: each list of them is one. `Event` says what they are, and `did`"
-     " what each does, by its outcome."),
+    ("no schedule", "`World::run` asks nothing of `events`: each list of them is one. `Event` says what they are, and `did` what each"
+     " does, by its outcome."),
     ("cut connections", "`Cut`, at each octet, since `Carry` says how many go over. What was on its way is lost, and no more"
      " (`Happened`)."),
-    ("lost, reordered", "What is on its way is lost where the connection is cut, and all that a broker has where it stops"
-     " (`StopBroker`). `Carry` and `Take` come in any order, on two connections of each service."),
+    ("lost, reordered", "What is on its way is lost where the connection is cut, and all that a broker has where it stops (`StopBroker`)."
+     " `Carry` and `Take` come in any order, on two connections of each service."),
     ("repeated", "`Resend`, a connection that is opened anew, and `Repeat`, which sends again what was ever accepted."),
-    ("store failures", "`Fail`, at each read and each transaction, which leaves the old or the new tables. `MayLeave` is"
-     " what may be found behind that, of each store by itself; `matching`, `goes`, `told`, `good` and `agree` speak of all of it."),
+    ("store failures", "`Fail`, at each read and each transaction, which leaves the old or the new tables. `MayLeave` is what may be found"
+     " behind that, of each store by itself; `matching`, `goes`, `told`, `good` and `agree` speak of all of it."),
     ("stops", "`Stop`, `Reopen` and `StopBroker`."),
-    ("loses", "What was answered committed stays in its journal, at its row (`told`). What a journal sends stands in the"
-     " outbox until it is marked as settled (`TablesMatchJournal`, by `matching`), and what is marked so its receiver's journal"
-     " has (`IsGood.settled`, by `good`)."),
-    ("doubles, overtakes", "Of each pair, what the receiver's journal has is a beginning of what the sender's journal sends:"
-     " each once, in its order, none left out (`HandlesPrefixes`, in `IsGood.lawful`, by `good`)."),
-    ("a message", "Each letter that is held, on its way or kept by the broker is what its sender's journal sends under that"
-     " number (`IsGenuine`, by `good`), so that none is made up."),
+    ("loses", "What was answered committed stays in its journal, at its row (`told`). What a journal sends stands in the outbox until it"
+     " is marked as settled (`TablesMatchJournal`, by `matching`), and what is marked so its receiver's journal has (`IsGood.settled`, by"
+     " `good`)."),
+    ("doubles, overtakes", "Of each pair, what the receiver's journal has is a beginning of what the sender's journal sends: each once, in"
+     " its order, none left out (`HandlesPrefixes`, in `IsGood.lawful`, by `good`)."),
+    ("a message", "Each letter that is held, on its way or kept by the broker is what its sender's journal sends under that number"
+     " (`IsGenuine`, by `good`), so that none is made up."),
     ("and so", "the partners of each order agree, and stock and credit are conserved (`AllAgree`, by `agree`)."),
 ]
 
@@ -30,12 +30,12 @@ PREMISES = (
     " `clean` and `did` ask for nothing, `matching`, `goes` and `told` for the first two premises below, `good` and `agree` for the first"
     " three. The rest is asked of the types of the stores, and of the tools.",
     [
-        ("Files keep their word: of no store did a file that it rests on give back anything but what was written to it, up to the end of the"
-         " run. That is asked at the end alone, since doubt never falls (`clean`). A store in memory has no file, and no doubt.",
+        ("Files keep their word: of no store did a file that it rests on give back anything but what was written to it, up to the end of"
+         " the run. That is asked at the end alone, since doubt never falls (`clean`). A store in memory has no file, and no doubt.",
          [(*SIGHT, "AreClean"), ("keep", "specs/Seen", "Seen")]),
         ("Before the call the tables of each service matched its journal, also those that a stop might leave.", [(*SIGHT, "AreMatching")]),
-        ("Before the call the world was good. So is one that is opened over empty tables (`unused`), or over those that an earlier run left"
-         " (`good`).", [(*WORLD_GOOD, "IsGoodWorld"), ("schedule_runner", "world", "World::open")]),
+        ("Before the call the world was good. So is one that is opened over empty tables (`unused`), or over those that an earlier run"
+         " left (`good`).", [(*WORLD_GOOD, "IsGoodWorld"), ("schedule_runner", "world", "World::open")]),
         ("Each of the three stores keeps the laws of a store: a transaction is taken in whole or not at all, and a read tells what the"
          " tables have.", [("keep", "store", "Keep")]),
         ("The prover, the compiler and the processor do what is said of them.", []),
@@ -44,17 +44,17 @@ PREMISES = (
     " anything about envelopes that somebody else puts on a wire.")
 
 READING = [
-    "Written by `bin/theorem`, and compared by the gate: don't edit it. Each contract and each definition stands as in the source, with its"
-    " own comment, behind the file that it is in, below `crates/`. Left out are the words `abbrev`, `unfoldable` and `pub` of definitions,"
-    " which change no meaning, imports, attributes, and invariants of types, which hold of every value. Code, lemmas and proofs aren't here:"
-    " the gate checks that the code meets its contracts, and a reader checks that the contracts say what he wants.",
+    "Written by `bin/theorem`, and compared by the gate: don't edit it. Each contract and each definition stands as in the source, with"
+    " its own comment, behind the file that it is in, below `crates/`. Left out are the words `abbrev`, `unfoldable` and `pub` of"
+    " definitions, which change no meaning, imports, attributes, and invariants of types, which hold of every value. Code, lemmas and"
+    " proofs aren't here: the gate checks that the code meets its contracts, and a reader checks that the contracts say what he wants.",
 ]
 
 # what is said where a page has examples
 WITH_EXAMPLES = [
     "Beside some definitions stand examples, which are proved by the gate as lemmas: each with its name, its file, its comment and what it"
-    " says. One that ends in `→ ⊥` says that what stands before the arrow doesn't hold. The names that examples use, as `o1` or `rows`, stand"
-    " at the end of the page, by the file of the example.",
+    " says. One that ends in `→ ⊥` says that what stands before the arrow doesn't hold. The names that examples use, as `o1` or `rows`,"
+    " stand at the end of the page, by the file of the example.",
 ]
 
 # ---- signs, each with the text by which it is found
@@ -72,7 +72,7 @@ SIGNS = [
     ("⊎", r"⊎", "One of both holds, or both do."),
     ("A → B", r"→", "Where `A` holds, `B` does; between types, the functions from `A` to `B`."),
     ("(x : A) → ..", r"\) →", "For each `x` of `A` the rest holds."),
-    ("{x : A} → ..", r"\{[^}]* : [^}]*\} ?→|\{[^}]* : [^}]*\}", "The same; which `x` is meant follows from the rest, so that it needn't be"
+    ("{x : A} → ..", r"\{[^}]* : [^}]*\} ?→|\{[^}]* : [^}]*\}", "For each `x` of `A`; which one is meant follows from the rest, so that it needn't be"
      " written."),
     ("⊥", r"⊥", "Never holds; `A → ⊥` says that `A` doesn't hold."),
     ("⊤", r"⊤", "Always holds."),
@@ -89,11 +89,11 @@ SIGNS = [
     ("xs ++ ys", r"\+\+", "The list of the items of `xs`, and behind them those of `ys`."),
     ("\"..\"", r"\"", "A text; `codes` makes of it the list of its octets."),
     ("λ x. ..", r"λ", "The function that takes an `x` to what stands behind the point."),
-    ("Phase.Refused", r"\b[A-Za-z_]+\.[A-Z]\w+", "The name behind the point, of the type or the module before it: it tells the name from others that"
-     " are spelled so."),
+    ("Phase.Refused", r"\b[A-Za-z_]+\.[A-Z]\w+", "The name behind the point, of the type or the module before it: it tells the name from"
+     " others that are spelled so."),
     ("_", r"\b_\b", "Whatever it is: it isn't used, or follows from the rest."),
-    ("record T where", r"\brecord \w", "A type whose values have all of the fields that follow, or a proposition that holds where all of them do;"
-     " `x.field` is one of them."),
+    ("record T where", r"\brecord \w", "A type whose values have all of the fields that follow, or a proposition that holds where all of"
+     " them do; `x.field` is one of them."),
     ("record { a = ..; b = .. }", r"record \{", "The value with these fields."),
     ("record x { a = .. }", r"record [\w.]+ \{|record \([^)]*\) \{", "The value `x` with this field changed."),
     ("data T where", r"\bdata \w", "A type whose values are made in the ways that follow, and in no other."),
@@ -101,13 +101,14 @@ SIGNS = [
     ("module _ .. where", r"module _", "The definitions that are indented below it take these arguments too, before their own."),
     ("if b then x else y", r"\bif ", "`x` where `b` is `true`, else `y`."),
     ("let x = .. in", r"\blet ", "`x` stands for that in what follows."),
-    ("do", r"= do\b", "The lines below it one after another; `x ← ..` goes on with what is there as `x`, and where nothing is, all of it is"
-     " nothing."),
+    ("do", r"= do\b", "The lines below it one after another; `x ← ..` goes on with what is there as `x`, and where nothing is, all of it"
+     " is nothing."),
     ("x ← ..", r"←", "See `do`."),
     ("a ◌+◌ b", r"◌", "Where an operator is defined, each of these stands for one of its arguments."),
     ("requires", r"\brequires\b", "A clause of a contract: what a caller has to make true first."),
     ("ensures name { .. }", r"\bensures\b", "A clause of a contract, by its name: what is true when the call has ended."),
-    ("x.old, x.new, x.now", r"\.(old|new|now)\b", "In contracts: a mutable argument before the call and after it, and one that is only read."),
+    ("x.old, x.new, x.now", r"\.(old|new|now)\b", "In contracts: a mutable argument before the call and after it, and one that is only"
+     " read."),
     ("result", r"\bresult\b", "In contracts: what the call answered."),
     ("impl Model for T", r"impl Model", "Contracts see a `T` as its `Value`, which `view` makes of it."),
     ("ghost", r"\bghost\b", "Is seen by contracts and proofs alone, and not there when the program runs."),
@@ -121,9 +122,9 @@ WORDS = [
     ("Option", "`Some x`, or `None`: an `x`, or nothing."),
     ("IsSome", "There is one."),
     ("IsNone", "There is none."),
-    ("is_none", "The same as `true` or `false`."),
-    ("option_map", "The function at what there is, if there is anything."),
-    ("option_and_then", "The same, where the function itself may give nothing."),
+    ("is_none", "Whether there is none, as `true` or `false`."),
+    ("option_map", "What the function makes of what there is; nothing where there is nothing."),
+    ("option_and_then", "What the function makes of what there is, which may be nothing; nothing where there is nothing."),
     ("Result", "`Ok x`, or `Err why`: a call's answer, or why it wasn't done."),
     ("IsOk", "It is an `Ok`."),
     ("IfOk", "It is an `Ok`, and of its value this holds."),
@@ -177,7 +178,7 @@ EXAMPLES = [
     ("agreement", "specs/Envelopes", "IsAuthentic", (*AGREEMENT, "a_request_is_authentic"), (*AGREEMENT, "others_are_not_authentic")),
     ("agreement", "specs/Envelopes", "SettledAreHandled", None, (*AGREEMENT, "a_mark_is_not_ahead")),
     ("agreement", "specs/Agreement", "PartnersAgree", None, (*AGREEMENT, "shipped_and_released")),
-    ("endpoint", "specs/Matches", "TablesMatchJournal", ("endpoint", "CallExamples", "before_matches"), None),
+    ("endpoint", "specs/Matches", "TablesMatchJournal", (*ACCORD, "empty_matches"), None),
     ("accord", "specs/Sight", "AreMatching", (*ACCORD, "the_tables_match"), (*ACCORD, "the_tables_match")),
     ("accord", "specs/Sight", "MayLeave", (*ACCORD, "each_leaves_its_own"), (*ACCORD, "each_leaves_its_own")),
     ("accord", "specs/Good", "IsGenuine", (*ACCORD, "sent_letters_are_genuine"), (*ACCORD, "sent_letters_are_genuine")),
@@ -206,58 +207,59 @@ CORE = {
     "file": "docs/THEOREM.md",
     "title": "The theorem",
     "said": [
-        "What services that send each other letters promise, as far as it is proved today: what holds after every schedule, what a schedule"
-        " may do, and what is asked. Three services, purchasing, warehouse and billing, take in commands of seats and letters of each other."
-        " Each writes what it takes in as a row of its journal, in one transaction with what follows of it: the state of the entity, and the"
-        " letters that this sends, which stand in an outbox until their receiver is known to have handled them. What holds is therefore said"
-        " of the three journals.",
+        "What services that send each other letters promise, as far as it is proved today: what holds after every schedule, what a"
+        " schedule may do, and what is asked. Three services, purchasing, warehouse and billing, take in commands of seats and letters of"
+        " each other. Each writes what it takes in as a row of its journal, in one transaction with what follows of it: the state of the"
+        " entity, and the letters that this sends, which stand in an outbox until their receiver is known to have handled them. What holds"
+        " is therefore said of the three journals.",
         "Of the words:",
-        "- an entity is an order, of purchasing, a stock, of warehouse, or an account, of billing; a seat is one of sixteen places from which"
-        " commands come;",
+        "- an entity is an order, of purchasing, a stock, of warehouse, or an account, of billing; a seat is one of sixteen places from"
+        " which commands come;",
         "- a pair is a sender and a receiver, both entities; a letter is a message with its pair, and with its number among the letters of"
         " that pair;",
-        "- a letter is sent when it stands in the outbox, and settled when its sender knows that it was handled; a settle is what the receiver"
-        " tells the sender for that; an envelope is a letter or a settle;",
+        "- a letter is sent when it stands in the outbox, and settled when its sender knows that it was handled; a settle is what the"
+        " receiver tells the sender for that; an envelope is a letter or a settle;",
         "- the partners of an order are the stock and the account that it asks; its line at one of them is what that has of it;",
         "- a store and a keep are one thing; a content is what a store's tables are, or may be found to be after a stop.",
         "Behind this page stand others: [THEOREM-STORE.md](THEOREM-STORE.md), the laws of a store;"
         " [THEOREM-SERVICE.md](THEOREM-SERVICE.md), what one service promises alone; [THEOREM-EVENTS.md](THEOREM-EVENTS.md), what each"
         " single event does, with the octets on their way; [THEOREM-MAIL.md](THEOREM-MAIL.md), what it is for a mail to be genuine;"
-        " [THEOREM-JOURNALS.md](THEOREM-JOURNALS.md), the theorem over three journals alone; [THEOREM-PROGRAM.md](THEOREM-PROGRAM.md), what"
-        " the program prints; and [THEOREM-BROKER.md](THEOREM-BROKER.md), the broker's promises, which can be read without this one.",
+        " [THEOREM-JOURNALS.md](THEOREM-JOURNALS.md), the theorem over three journals alone; [THEOREM-PROGRAM.md](THEOREM-PROGRAM.md),"
+        " what the program prints; and [THEOREM-BROKER.md](THEOREM-BROKER.md), the broker's promises, which can be read without this one.",
     ],
     "signs": True,
     "cut": OF_EVENTS + OF_MAIL + OF_STORE + OF_SERVICE,
     "sections": [
         ("What holds after every schedule",
-         ["The one call that runs a schedule is `World::run`, and its contract is the theorem. Whatever the events, and also where memory was"
-          " refused between them, when it has ended:",
-          "- `matching`: the tables of each service match its journal, so that all that they hold follows from it (`TablesMatchJournal`);",
+         ["The one call that runs a schedule is `World::run`, and its contract is the theorem. Whatever the events, and also where memory"
+          " was refused between them, when it has ended:",
+          "- `matching`: the tables of each service match its journal, so that what they hold of states, of letters sent and of letters"
+          " handled follows from it (`TablesMatchJournal`);",
           "- `told`: each journal begins with what it was, and the commands behind that are, in order, those that were answered committed,"
           " each at its row; of those that were answered 63, that the store failed, each stands there once at most (`RecordsTold`);",
-          "- `good`: the journals are legal, and what each receiver handled is a beginning of what was sent to it (`HandlesPrefixes`); what is"
-          " marked as settled was handled (`SettledAreHandled`); each letter that is held or on its way is what its sender's journal sends,"
-          " and no settle is ahead of the handling (`IsGenuine`);",
+          "- `good`: the journals are legal, and what each receiver handled is a beginning of what was sent to it (`HandlesPrefixes`);"
+          " what is marked as settled was handled (`SettledAreHandled`); each letter that is held or on its way is what its sender's"
+          " journal sends, and no settle is ahead of the handling (`IsGenuine`);",
           "- `agree`: so the partners of each order agree (`PartnersAgree`), and of each stock and each account's limit nothing is lost or"
           " used twice (`AreSound`);",
           "- `did` and `goes`: each outcome did what it says, and nothing else, to the world and to the tables (`Happened`, `Step`);",
           "- `clean`: where no file is in doubt afterwards, none was before.",
-          "All but `clean` and `did` are so in each combination of what failed stores may leave. Each name is defined below, or on the page"
-          " that the end of this one names."],
+          "All but `clean` and `did` are so in each combination of what failed stores may leave. Each name is defined below, or on the"
+          " page that the end of this one names."],
          [("schedule_runner", "running", "World::run")], True),
         "promise",
         ("What an adversary may do",
          ["An adversary chooses the events, each of them one line of a schedule. Any list of them, of any length and in any order, is a"
           " schedule: the theorem asks nothing of it. So an adversary",
           "- gives any commands from any seats (`Event::Order`, `Event::Stock`, `Event::Account`);",
-          "- lets a service write what stands in its outbox (`Fill`), moves as many octets as it likes between one end of a connection and the"
-          " other (`Carry`), and lets frames be handled (`Take`, `Drain`); or lets any of that wait for as long as it likes;",
+          "- lets a service write what stands in its outbox (`Fill`), moves as many octets as it likes between one end of a connection and"
+          " the other (`Carry`), and lets frames be handled (`Take`, `Drain`); or lets any of that wait for as long as it likes;",
           "- cuts connections at any octet (`Cut`), behind which what was on its way is lost, and opens them anew (`Open`);",
           "- lets what is sent be sent again: by a service (`Resend`), or by the broker, of all that it ever accepted (`Repeat`);",
           "- lets chosen reads and transactions of a store fail, and leave the old tables or the new ones (`Fail`);",
           "- stops services and the broker at any time (`Stop`, `StopBroker`), and opens stores anew (`Reopen`).",
-          "It has no event that puts octets of its own on a wire, or changes the tables of a store behind its back. The events that are left"
-          " only run many of these at once (`Pump`) or look (`Show` and those behind it). How a line is spelled is on"
+          "It has no event that puts octets of its own on a wire, or changes the tables of a store behind its back. The events that are"
+          " left only run many of these at once (`Pump`) or look (`Show` and those behind it). How a line is spelled is on"
           " [THEOREM-PROGRAM.md](THEOREM-PROGRAM.md)."],
          [("schedules", "event", "Event")], True),
         ("What events speak of", ["The seats, services, connections and commands that stand in an event."],
@@ -269,9 +271,9 @@ CORE = {
                                " service's journal is a list of rows, to which only the end is added."],
          [("activities", "input", "JournalRow")]),
         ("What a journal means",
-         ["The state of an entity, what it has sent and what it has handled follow of the rows alone: each row is reacted to in its turn, and"
-          " a reaction gives the next state and the letters that are sent. Which reactions an order, a stock and an account have stands further"
-          " below."],
+         ["The state of an entity, what it has sent and what it has handled follow of the rows alone: each row is reacted to in its turn,"
+          " and a reaction gives the next state and the letters that are sent. Which reactions an order, a stock and an account have"
+          " stands further below."],
          [("activities", "specs/Journal", it) for it in ("state_of", "sent_of", "handled_of", "IsLegal")]),
         ("Three journals that fit each other",
          ["The reactions of orders, stocks and accounts come first, since what each of them has sent is said by these."],
@@ -282,24 +284,26 @@ CORE = {
         ("Partners that agree",
          ["What follows for each order: it asks two partners, a stock and an account, and either both of them do it or none does."],
          [("agreement", "specs/Agreement", it) for it in ("states_in", "PartnersAgree", "AreSound")]),
-        ("Tables, and when they match a journal", ["What a service's store keeps, beside the journal. Each of it follows of the journal, but"
-                                                   " the settled marks and the letters that came too early."],
-         [("keep", "specs/Tables", "Tables"), ("endpoint", "specs/Matches", "TablesMatchJournal"), ("endpoint", "specs/Matches", "AllMatch")]),
+        ("Tables, and when they match a journal", ["What a service's store keeps, beside the journal. Each of it follows of the journal,"
+                                                   " but the settled marks and the letters that came too early."],
+         [("keep", "specs/Tables", "Tables"), ("endpoint", "specs/Matches", "TablesMatchJournal"), ("endpoint", "specs/Matches",
+          "AllMatch")]),
         ("What may be found after a stop",
-         ["A store that failed may leave its tables as they were or as they were to be. What is promised is said of each content that a stop"
-          " may leave, and of each combination of such contents of the three."],
+         ["A store that failed may leave its tables as they were or as they were to be. What is promised is said of each content that a"
+          " stop may leave, and of each combination of such contents of the three."],
          [("keep", "specs/Seen", "Seen"), *[(*SIGHT, it) for it in ("Sight", "AreClean", "AreMatching", "MayLeave")]]),
         ("Services that are good", ["What always holds of the three, whatever a stop leaves."],
          [(*GOOD, it) for it in ("IsGenuine", "IsGood", "AllAgree")]),
-        ("A world that is good", ["The same of a world, with what is on its way and with what its relays know. Each of these names a clause of"
-                                  " `World::run`."],
+        ("A world that is good", ["The same of a world, with what is on its way and with what its relays know. The clauses of `World::run`"
+                                  " are `StaysClean`, `StaysMatching`, `StaysGood` and `Agrees`."],
          [("schedule_runner", "specs/Sight", it) for it in ("sight", "StaysClean", "StaysMatching")]
          + [(*WORLD_GOOD, it) for it in ("IsGoodWorld", "StaysGood", "Agrees")]),
         ("Commands that were told", ["What a seat was answered, and what the journals have."],
          [("schedule_runner", "specs/Told", it) for it in ("TellsCommand", "AreTold", "RecordsTold", "AllTold", "Told")]),
         ("A run, event by event", ["One event after another, each with its outcome; what an event does is on"
                                    " [THEOREM-EVENTS.md](THEOREM-EVENTS.md)."],
-         [("schedule_runner", "specs/Paths", "IsPath"), ("schedule_runner", "specs/Paths", "Makes"), ("schedule_runner", "specs/Runs", "Ran"),
+         [("schedule_runner", "specs/Paths", "IsPath"), ("schedule_runner", "specs/Paths", "Makes"), ("schedule_runner", "specs/Runs",
+          "Ran"),
           ("schedule_runner", "specs/Deeds", "Goes")]),
     ],
 }
@@ -307,8 +311,8 @@ CORE = {
 STORE = {
     "file": "docs/THEOREM-STORE.md",
     "title": "The laws of a store",
-    "said": ["What [THEOREM.md](THEOREM.md) asks of each of the three stores, as the trait `Keep`: what each call tells of the tables, and what"
-             " a stop may leave behind a call that failed. What is defined on that page isn't printed again."],
+    "said": ["What [THEOREM.md](THEOREM.md) asks of each of the three stores, as the trait `Keep`: what each call tells of the tables, and"
+             " what a stop may leave behind a call that failed. What is defined on that page isn't printed again."],
     "behind": ["docs/THEOREM.md"],
     "sections": [("What keeps the tables of a service", ["In memory or in files."], OF_STORE)],
 }
@@ -323,8 +327,8 @@ SERVICE = {
     "sections": [
         ("A command is taken in whole or not at all", ["What `commit` does to the journal, to every table, and to what a stop may leave."],
          [("endpoint", "endpoint", "Endpoint::commit")]),
-        ("A letter is handled once and in its turn", ["The same service where a letter of another one comes, early, late or again, and where"
-                                                      " a settle tells what the receiver has handled."],
+        ("A letter is handled once and in its turn", ["The same service where a letter of another one comes, early, late or again, and"
+                                                      " where a settle tells what the receiver has handled."],
          [("endpoint", "incoming", f"Endpoint::{it}") for it in ("ingest", "drain_held", "settle")]),
         ("A store that fails on purpose", ["What a schedule's `Fail` arms: a store, with the read or the transaction that is to fail."],
          OF_SERVICE[1:]),
@@ -334,8 +338,8 @@ SERVICE = {
 EVENTS = {
     "file": "docs/THEOREM-EVENTS.md",
     "title": "What each event does",
-    "said": ["The definitions that the clauses `did` and `goes` of [THEOREM.md](THEOREM.md) name: what each event of a schedule does to the"
-             " service that it names and to the mail, octet by octet. It stands behind that page, and behind"
+    "said": ["The definitions that the clauses `did` and `goes` of [THEOREM.md](THEOREM.md) name: what each event of a schedule does to"
+             " the service that it names and to the mail, octet by octet. It stands behind that page, and behind"
              " [THEOREM-SERVICE.md](THEOREM-SERVICE.md): what is defined there isn't printed again."],
     "behind": ["docs/THEOREM.md", "docs/THEOREM-STORE.md", "docs/THEOREM-SERVICE.md"],
     "cut": OF_SHOWS,
@@ -349,8 +353,8 @@ EVENTS = {
         ("What each event does to the tables", ["The same, with tables of each service that a stop may leave."],
          [("schedule_runner", "specs/Deeds", "Step")]),
         ("What relays know of an outbox",
-         ["A relay has a cursor, so that it needn't go over the outbox from the first row each time: up to there all was sent. It is right of"
-          " each content that a stop may leave, and stays so, whichever event comes."],
+         ["A relay has a cursor, so that it needn't go over the outbox from the first row each time: up to there all was sent. It is right"
+          " of each content that a stop may leave, and stays so, whichever event comes."],
          [("sites", "specs/Cursors", "AreRight"), ("sites", "laws", "cursors_stay_right")]),
     ],
 }
@@ -363,8 +367,9 @@ MAIL = {
     "behind": ["docs/THEOREM.md", "docs/THEOREM-STORE.md", "docs/THEOREM-SERVICE.md", "docs/THEOREM-EVENTS.md"],
     "sections": [
         ("What is on its way is genuine",
-         ["Of three services over one broker: each envelope in the broker, in what it accepted, and in the octets to and from each connection"
-          " has a property, `ok`. It's a parameter here: [THEOREM.md](THEOREM.md) takes for it that the envelope is genuine (`IsGenuine`)."],
+         ["Of three services over one broker: each envelope in the broker, in what it accepted, and in the octets to and from each"
+          " connection has a property, `ok`. It's a parameter here: [THEOREM.md](THEOREM.md) takes for it that the envelope is genuine"
+          " (`IsGenuine`)."],
          OF_MAIL),
     ],
 }
@@ -372,9 +377,9 @@ MAIL = {
 JOURNALS = {
     "file": "docs/THEOREM-JOURNALS.md",
     "title": "Three journals agree",
-    "said": ["The theorem over the reactions alone, with no code of a service, a store or a broker: whatever is lost, repeated or reordered."
-             " It stands behind [THEOREM.md](THEOREM.md), which has what a journal means and when three of them fit each other: what is defined"
-             " there isn't printed again."],
+    "said": ["The theorem over the reactions alone, with no code of a service, a store or a broker: whatever is lost, repeated or"
+             " reordered. It stands behind [THEOREM.md](THEOREM.md), which has what a journal means and when three of them fit each other:"
+             " what is defined there isn't printed again."],
     "behind": ["docs/THEOREM.md", "docs/THEOREM-STORE.md", "docs/THEOREM-SERVICE.md", "docs/THEOREM-EVENTS.md"],
     "sections": [
         ("Three journals agree", ["Each of these is a lemma that is called: its contract is what it proves."],
@@ -391,9 +396,11 @@ PROGRAM = {
     "behind": ["docs/THEOREM.md", "docs/THEOREM-STORE.md", "docs/THEOREM-SERVICE.md", "docs/THEOREM-EVENTS.md", "docs/THEOREM-MAIL.md"],
     "sections": [
         ("A schedule is run as its text says",
-         ["The program's one public call, and the run of a text that it ends in: what is printed are the lines of the outcomes of its events."],
+         ["The program's one public call, and the run of a text that it ends in: what is printed are the lines of the outcomes of its"
+          " events."],
          [("programs", "command_line", "run_schedule"), ("programs", "schedule", "run_text")]),
-        ("What shows print", ["The lines that tell what the store of a service holds, between two worlds, before and after."], OF_SHOWS[:-1]),
+        ("What shows print", ["The lines that tell what the store of a service holds, between two worlds, before and after."],
+         OF_SHOWS[:-1]),
         ("Whether all partners agree",
          ["Asked of the three stores, which stay: what is answered is what their tables say, and in a good world that they agree."],
          [("schedule_runner", "agreeing", "World::agreement"), ("schedule_runner", "specs/Agreeing", "TellsAgreement")]),
@@ -403,8 +410,8 @@ PROGRAM = {
 BROKER = {
     "file": "docs/THEOREM-BROKER.md",
     "title": "The broker's theorem",
-    "said": ["What a broker of STOMP 1.2 promises to its clients. What the services promise that use one is on [THEOREM.md](THEOREM.md); either"
-             " page can be read without the other, and what both rest on stands on both."],
+    "said": ["What a broker of STOMP 1.2 promises to its clients. What the services promise that use one is on [THEOREM.md](THEOREM.md);"
+             " either page can be read without the other, and what both rest on stands on both."],
     "signs": True,
     "sections": [
         ("A broker loses nothing and lets nothing overtake",
