@@ -98,7 +98,8 @@ SIGNS = [
     ("record x { a = .. }", r"record [\w.]+ \{|record \([^)]*\) \{", "The value `x` with this field changed."),
     ("data T where", r"\bdata \w", "A type whose values are made in the ways that follow, and in no other."),
     ("f pattern = ..", r" = ", "What `f` is at arguments of this form; the first line that fits counts."),
-    ("module _ .. where", r"module _", "The definitions that are indented below it take these arguments too, before their own."),
+    ("module _ .. where", r"module _", "The definitions that are indented below it take these arguments too, before"
+     " their own; they don't name them where they use each other."),
     ("if b then x else y", r"\bif ", "`x` where `b` is `true`, else `y`."),
     ("let x = .. in", r"\blet ", "`x` stands for that in what follows."),
     ("do", r"= do\b", "The lines below it one after another; `x ← ..` goes on with what is there as `x`, and where nothing is, all of it"
@@ -127,7 +128,7 @@ WORDS = [
     ("option_and_then", "What the function makes of what there is, which may be nothing; nothing where there is nothing."),
     ("Result", "`Ok x`, or `Err why`: a call's answer, or why it wasn't done."),
     ("IsOk", "It is an `Ok`."),
-    ("IfOk", "It is an `Ok`, and of its value this holds."),
+    ("IfOk", "Where it is an `Ok`, of its value this holds."),
     ("OnOk", "Where it is an `Ok`, this holds."),
     ("List", "Lists of items of one type."),
     ("length", "How many items a list has."),
