@@ -285,14 +285,15 @@ CORE = {
         ("Partners that agree",
          ["What follows for each order: it asks two partners, a stock and an account, and either both of them do it or none does."],
          [("agreement", "specs/Agreement", it) for it in ("states_in", "PartnersAgree", "AreSound")]),
-        ("Tables, and when they match a journal", ["What a service's store keeps, beside the journal. Each of it follows of the journal,"
-                                                   " but the settled marks and the letters that came too early."],
-         [("keep", "specs/Tables", "Tables"), ("endpoint", "specs/Matches", "TablesMatchJournal"), ("endpoint", "specs/Matches",
-          "AllMatch")]),
+        ("Tables, and when they match a journal",
+         ["A service's store keeps the journal, and beside it what the service reads instead of going over the journal anew. All of that"
+          " follows of the journal, but the settled marks and the letters that came too early."],
+         [("keep", "specs/Tables", "Tables"), ("keep", "specs/Tables", "empty"), ("endpoint", "specs/Matches", "TablesMatchJournal"),
+          ("endpoint", "specs/Matches", "AllMatch")]),
         ("What may be found after a stop",
          ["A store that failed may leave its tables as they were or as they were to be. What is promised is said of each content that a"
           " stop may leave, and of each combination of such contents of the three."],
-         [("keep", "specs/Seen", "Seen"), *[(*SIGHT, it) for it in ("Sight", "AreClean", "AreMatching", "MayLeave")]]),
+         [("keep", "specs/Seen", "Seen"), *[(*SIGHT, it) for it in ("Sight", "all_empty", "AreClean", "AreMatching", "MayLeave")]]),
         ("Services that are good", ["What always holds of the three, whatever a stop leaves."],
          [(*GOOD, it) for it in ("IsGenuine", "IsGood", "AllAgree")]),
         ("A world that is good", ["The same of a world, with what is on its way and with what its relays know. The clauses of `World::run`"
