@@ -72,7 +72,8 @@ SIGNS = [
     ("⊎", r"⊎", "One of both holds, or both do."),
     ("A → B", r"→", "Where `A` holds, `B` does; between types, the functions from `A` to `B`."),
     ("(x : A) → ..", r"\) →", "For each `x` of `A` the rest holds."),
-    ("{x : A} → ..", r"\{[^}]* : [^}]*\} ?→|\{[^}]* : [^}]*\}", "For each `x` of `A`; which one is meant follows from the rest, so that it needn't be"
+    ("{x : A} → ..", r"\{[^}]* : [^}]*\}",
+     "For each `x` of `A`; which one is meant follows from the rest, so that it needn't be"
      " written."),
     ("⊥", r"⊥", "Never holds; `A → ⊥` says that `A` doesn't hold."),
     ("⊤", r"⊤", "Always holds."),
@@ -232,8 +233,8 @@ CORE = {
     "cut": OF_EVENTS + OF_MAIL + OF_STORE + OF_SERVICE,
     "sections": [
         ("What holds after every schedule",
-         ["The one call that runs a schedule is `World::run`, and its contract is the theorem. Whatever the events, and also where memory"
-          " was refused between them, when it has ended:",
+         ["The one call that runs a schedule is `World::run`, and its contract is the theorem. Under the premises that stand further"
+          " below, whatever the events, and also where memory was refused between them, when it has ended:",
           "- `matching`: the tables of each service match its journal, so that what they hold of states, of letters sent and of letters"
           " handled follows from it (`TablesMatchJournal`);",
           "- `told`: each journal begins with what it was, and the commands behind that are, in order, those that were answered committed,"
@@ -276,11 +277,14 @@ CORE = {
           " and a reaction gives the next state and the letters that are sent. Which reactions an order, a stock and an account have"
           " stands further below."],
          [("activities", "specs/Journal", it) for it in ("state_of", "sent_of", "handled_of", "IsLegal")]),
-        ("Three journals that fit each other",
-         ["The reactions of orders, stocks and accounts come first, since what each of them has sent is said by these."],
+        ("What orders, stocks and accounts do with what they take in",
+         ["The reactions by which a journal of each of the three services is read."],
          [("activities", "specs/Orders", "order_reactions"), ("activities", "specs/Stocks", "stock_reactions"),
-          ("activities", "specs/Accounts", "account_reactions"), ("agreement", "specs/Journals", "HandlesPrefixes"),
-          ("agreement", "specs/Journals", "AreLawful"),
+          ("activities", "specs/Accounts", "account_reactions")]),
+        ("Three journals that fit each other",
+         ["What each sender's journal sends, its receiver's journal handles in that order, and no further; and what is said of a journal,"
+          " by an envelope or by a mark, is true of it."],
+         [("agreement", "specs/Journals", "HandlesPrefixes"), ("agreement", "specs/Journals", "AreLawful"),
           ("agreement", "specs/Envelopes", "IsAuthentic"), ("agreement", "specs/Envelopes", "SettledAreHandled")]),
         ("Partners that agree",
          ["What follows for each order: it asks two partners, a stock and an account, and either both of them do it or none does."],
