@@ -6,11 +6,12 @@ use Rattle.schedules.specs.declared.event.Event.{Event}
 use Rattle.schedules.specs.declared.outcome.Outcome.{Outcome}
 use Rattle.schedule_runner.specs.Paths.{IsPath, Makes}
 use Rattle.schedule_runner.specs.Runs.{Ran}
-use Rattle.accord.specs.Sight.{AllTables, MayLeave, AreMatching, orders_service, stocks_service, accounts_service}
+use Rattle.accord.specs.Sight.{AllTables, MayLeave, AreMatching, all_empty, orders_service, stocks_service, accounts_service}
 use Rattle.schedule_runner.specs.Sight.{StaysMatching, sight}
-use Rattle.schedule_runner.specs.Steps.{Happened}
+use Rattle.schedule_runner.specs.Good.{IsGoodWorld, StaysGood, Agrees}
+use Rattle.schedule_runner.specs.Passing.{Passed}
 use Rattle.schedule_runner.specs.Told.{AllTold, Told}
-use Rattle.programs.specs.Runs.{plain, PlainWorld, plain_tables, no_tables, IsBeginning, AllTablesMatch, HasBegun}
+use Rattle.programs.specs.Runs.{plain, PlainWorld, plain_tables, no_tables, IsBeginning, IsGoodPlain, AllTablesMatch, HasBegun}
 
 -- what is appended to nothing is all
 pub all_appended : {E : Type 0} (Made : List Event → List Outcome → Type 0) (events : List Event) (old new : List Outcome)
@@ -39,30 +40,39 @@ joined a b one two three =
 left_is : (world : PlainWorld) (t : AllTables) → MayLeave (sight plain plain plain world) t → t ≡ plain_tables world
 left_is world t left = joined t (plain_tables world) left.purchasing left.warehouse left.billing
 
--- the beginning matches
-begins_matching : (first : PlainWorld) → plain_tables first ≡ no_tables → AllTablesMatch no_tables
-    → AreMatching (sight plain plain plain first)
-begins_matching first none empty =
-    let all : AllTablesMatch (plain_tables first) = subst AllTablesMatch (sym none) empty in (
-      λ t left. subst (TablesMatchJournal orders_service) (sym left) all.0,
-      λ t left. subst (TablesMatchJournal stocks_service) (sym left) all.1,
-      λ t left. subst (TablesMatchJournal accounts_service) (sym left) all.2,
-    )
+-- all tables that may be left match where the tables do
+left_matching : (world : PlainWorld) → AllTablesMatch (plain_tables world) → AreMatching (sight plain plain plain world)
+left_matching world all = (
+  λ t left. subst (TablesMatchJournal orders_service) (sym left) all.0,
+  λ t left. subst (TablesMatchJournal stocks_service) (sym left) all.1,
+  λ t left. subst (TablesMatchJournal accounts_service) (sym left) all.2,
+)
 
-pub has_begun : (events : List Event) (outcomes : List Outcome) (first last : PlainWorld) → IsBeginning first → AllTablesMatch no_tables
-    → StaysMatching plain plain plain first last
-    → IsPath (Makes (Happened plain plain plain)) (take (length outcomes) events) outcomes first last
+-- a world that begins is good, where the opened one is that did nothing
+pub begins_good : (world : PlainWorld) → plain_tables world ≡ no_tables → AllTablesMatch no_tables
+    → (((t : AllTables) → MayLeave (sight plain plain plain world) t → t ≡ all_empty) → IsGoodWorld plain plain plain world)
+    → IsGoodPlain world
+begins_good world none empty unused = record {
+  matching = subst AllTablesMatch (sym none) empty;
+  good = unused (λ t left. left_is world t left ∙ none);
+}
+
+pub has_begun : (events : List Event) (outcomes : List Outcome) (first last : PlainWorld) → IsBeginning first → IsGoodPlain first
+    → StaysMatching plain plain plain first last → StaysGood plain plain plain first last → Agrees plain plain plain first last
+    → IsPath (Makes (Passed plain plain plain)) (take (length outcomes) events) outcomes first last
     → Told plain plain plain (take (length outcomes) events) outcomes first last
     → HasBegun events outcomes
-has_begun events outcomes first last began empty stays path told =
-    let matching = begins_matching first began.tables empty in
+has_begun events outcomes first last began good stays better agrees path told =
+    let matching = left_matching first good.matching in
     let after = stays (refl, refl, refl) matching in
     record {
       first = first;
       last = last;
       began = began;
-      happened = path;
-      matching = (after.0 _ refl, after.1 _ refl, after.2 _ refl);
+      began_good = good;
+      passed = path;
+      good = record { matching = (after.0 _ refl, after.1 _ refl, after.2 _ refl); good = better (refl, refl, refl) matching good.good };
+      agree = agrees (refl, refl, refl) matching good.good;
       told = ∥∥₁_map (told (refl, refl, refl) matching (plain_tables last) (plain_left last)) (λ led.
           let before : led.before ≡ no_tables = left_is first led.before led.was ∙ began.tables in
           subst (λ (b : AllTables). AllTold (take (length outcomes) events) outcomes b (plain_tables last)) before led.leads);

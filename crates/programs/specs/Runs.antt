@@ -20,7 +20,10 @@ use Rattle.schedules.specs.declared.outcome.Outcome.{Outcome}
 use Rattle.mail.specs.Offices.{new_office}
 use Rattle.schedule_runner.specs.Paths.{IsPath, Makes}
 use Rattle.accord.specs.Sight.{AllTables, orders_service, stocks_service, accounts_service}
-use Rattle.schedule_runner.specs.Steps.{Happened}
+use Rattle.accord.specs.Good.{AllAgree}
+use Rattle.schedule_runner.specs.Good.{IsGoodWorld}
+use Rattle.schedule_runner.specs.Passing.{Passed}
+use Rattle.schedule_runner.specs.Sight.{sight}
 use Rattle.schedule_runner.specs.Told.{AllTold}
 use Rattle.schedule_runner.specs.declared.world.World.{World}
 
@@ -64,14 +67,24 @@ abbrev pub AllTablesMatch : AllTables → Type 0
 AllTablesMatch t = TablesMatchJournal orders_service t.purchasing × TablesMatchJournal stocks_service t.warehouse
     × TablesMatchJournal accounts_service t.billing
 
--- These events were made one after another, each with its outcome: what happened is what the outcomes say, step by step. In the end the
--- tables match the journals, and the commands that stand in these are those that the outcomes tell.
+-- the tables of each service match its journal, and the world is good: what was handled begins what was sent, what is marked as settled
+-- was handled, each letter that is held or on its way is what its sender's journal sent, and each relay knows what it hasn't sent
+pub record IsGoodPlain (world : PlainWorld) : Type 0 where
+  pub matching : AllTablesMatch (plain_tables world)
+  pub good : IsGoodWorld plain plain plain world
+
+-- These events were made one after another, each with its outcome: what happened is what the outcomes say, step by step, and what held
+-- before a step holds behind it. In the end as at the beginning the tables match the journals and the world is good; the partners of each
+-- order agree, and of each stock and each account nothing is lost or used twice; and the commands that stand in the journals are those
+-- that the outcomes tell.
 pub record HasRun (events : List Event) (outcomes : List Outcome) : Type 0 where
   pub first : PlainWorld
   pub last : PlainWorld
   pub began : IsBeginning first
-  pub happened : IsPath (Makes (Happened plain plain plain)) events outcomes first last
-  pub matching : AllTablesMatch (plain_tables last)
+  pub began_good : IsGoodPlain first
+  pub passed : IsPath (Makes (Passed plain plain plain)) events outcomes first last
+  pub good : IsGoodPlain last
+  pub agree : AllAgree (sight plain plain plain last)
   pub told : ∥ AllTold events outcomes no_tables (plain_tables last) ∥₁
 
 -- so many of the first events were made as there are outcomes

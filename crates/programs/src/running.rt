@@ -1,7 +1,7 @@
 //! Events, made one by one in the world of three services over tables in memory.
 
 ghost use Rattle.std.specs.Prelude.{◌≡◌, [], length, OnOk};
-ghost use Rattle.programs.specs.Runs.{IsBeginning, HasBegun};
+ghost use Rattle.programs.specs.Runs.{IsBeginning, IsGoodPlain, HasBegun};
 
 use billing::Accounts;
 use endpoint::{Endpoint, empty_tables_match};
@@ -16,10 +16,15 @@ use warehouse::Stocks;
 /// Three services over tables in memory, and the mail between them.
 pub type PlainWorld = World<PlainKeep<Orders>, PlainKeep<Stocks>, PlainKeep<Accounts>>;
 
-/// The world where a schedule begins: empty tables, stores that are usable, no connection. It takes no memory.
+/// The world where a schedule begins: empty tables that match their journals, stores that are usable, no connection; it is good. It takes
+/// no memory.
 pub fn open_world(alloc: Global) -> PlainWorld
-    ensures { IsBeginning result }
+    ensures beginning { IsBeginning result }
+    ensures good { IsGoodPlain result }
 {
+    empty_tables_match::<Orders>();
+    empty_tables_match::<Stocks>();
+    empty_tables_match::<Accounts>();
     let purchasing = Endpoint::new(Faulty::new(PlainKeep::new(alloc)));
     let warehouse = Endpoint::new(Faulty::new(PlainKeep::new(alloc)));
     let billing = Endpoint::new(Faulty::new(PlainKeep::new(alloc)));
@@ -39,9 +44,6 @@ pub(crate) fn run_events(
     ensures begun { HasBegun events.now outcomes.new.items }
     ensures all { OnOk result (length outcomes.new.items ≡ length events.now) }
 {
-    empty_tables_match::<Orders>();
-    empty_tables_match::<Stocks>();
-    empty_tables_match::<Accounts>();
     let mut world = open_world(alloc);
     world.run(events, outcomes)
 }

@@ -6,11 +6,10 @@ use Rattle.schedules.specs.declared.event.Event.{Event}
 use Rattle.schedules.specs.declared.outcome.Outcome.{Outcome}
 use Rattle.schedule_runner.specs.declared.world.World.{World}
 use Rattle.schedule_runner.specs.Deeds.{Moment, Goes, Step}
-use Rattle.schedule_runner.specs.Passing.{Passes}
+use Rattle.schedule_runner.specs.Passing.{Passes, Passed}
 use Rattle.schedule_runner.specs.Paths.{IsPath, Makes}
 use Rattle.schedule_runner.specs.Runs.{Ran}
 use Rattle.accord.specs.Sight.{OrderTables, StockTables, AccountTables}
-use Rattle.schedule_runner.specs.Steps.{Happened}
 use Rattle.schedule_runner.specs.Told.{Told}
 use Rattle.schedule_runner.proofs.Composing.{goes_none, passes_then}
 use Rattle.schedule_runner.proofs.Following.{path_append, path_one}
@@ -21,7 +20,7 @@ module _ {KO KS KA : Type 0} (orders : KO → Seen OrderTables) (stocks : KS →
   W = World KO KS KA
 
   abbrev H : Event → Outcome → W → W → Type 0
-  H = Happened orders stocks accounts
+  H = Passed orders stocks accounts
 
   abbrev S : Event → Outcome → Moment KO KS KA → Moment KO KS KA → Type 0
   S = Step orders stocks accounts

@@ -10,13 +10,14 @@ use Rattle.schedules.specs.declared.outcome.Outcome.{Outcome}
 use Rattle.schedules.specs.declared.outcome.Outcome.TheVariants.{Pumped}
 use Rattle.schedule_runner.specs.declared.world.World.{World}
 use Rattle.schedule_runner.specs.Deeds.{Moment, moment, GoesBy, Step}
-use Rattle.schedule_runner.specs.Passing.{Passes, PassesAll}
-use Rattle.schedule_runner.specs.Paths.{Leads, Makes}
+use Rattle.schedule_runner.specs.Passing.{Passes, Passed, PassesAll}
+use Rattle.schedule_runner.specs.Paths.{Leads, Makes, MakesApart}
 use Rattle.schedule_runner.specs.Rounds.{takes, round_events, all_rounds}
 use Rattle.accord.specs.Sight.{OrderTables, StockTables, AccountTables}
 use Rattle.schedule_runner.specs.Sight.{StaysClean, StaysMatching}
 use Rattle.schedule_runner.specs.Steps.{Happened}
 use Rattle.schedule_runner.proofs.Following.{leads_append, leads_none, leads_one}
+use Rattle.schedule_runner.proofs.Righting.{good_agree}
 
 module _ {KO KS KA : Type 0} (orders : KO → Seen OrderTables) (stocks : KS → Seen StockTables) (accounts : KA → Seen AccountTables) where
   abbrev W : Type 0
@@ -73,8 +74,12 @@ module _ {KO KS KA : Type 0} (orders : KO → Seen OrderTables) (stocks : KS →
 
   -- ---- events, whatever their outcomes were
 
+  -- what an event does alone, and what holds behind it
+  abbrev A : Event → Outcome → W → W → Type 0
+  A = Happened orders stocks accounts
+
   abbrev H : Event → Outcome → W → W → Type 0
-  H = Happened orders stocks accounts
+  H = Passed orders stocks accounts
 
   abbrev S : Event → Outcome → M → M → Type 0
   S = Step orders stocks accounts
@@ -93,10 +98,14 @@ module _ {KO KS KA : Type 0} (orders : KO → Seen OrderTables) (stocks : KS →
     goes = goes_none (Leads S []) (leads_none S) w;
   }
 
-  pub passes_one : (e : Event) (o : Outcome) (old new : W) → Passes orders stocks accounts (H e o) (S e o) old new
+  -- an event that was made has passed
+  passed : (e : Event) (o : Outcome) (old new : W) → Passes orders stocks accounts (A e o) (S e o) old new → H e o old new
+  passed e o old new p = (p, good_agree orders stocks accounts old new p.good)
+
+  pub passes_one : (e : Event) (o : Outcome) (old new : W) → Passes orders stocks accounts (A e o) (S e o) old new
       → PassesAll orders stocks accounts (e ∷ []) old new
-  passes_one e o old new = passes_map (H e o) (Leads H (e ∷ [])) (S e o) (Leads S (e ∷ [])) old new (leads_one H e o old new)
-      (leads_one S e o)
+  passes_one e o old new p = passes_map (A e o) (Leads H (e ∷ [])) (S e o) (Leads S (e ∷ [])) old new
+      (λ did. leads_one H e o old new (passed e o old new p)) (leads_one S e o) p
 
   -- one frame more, and one round more
   pub takes_more : (n k : ℕ) (c : ConnectionName) (old mid new : W) → k ≡ suc n → PassesAll orders stocks accounts (takes n c) old mid
@@ -113,6 +122,17 @@ module _ {KO KS KA : Type 0} (orders : KO → Seen OrderTables) (stocks : KS →
 
   -- a pump is its rounds
   pub passes_pump : (n : ℕ) (old new : W) → PassesAll orders stocks accounts (all_rounds n) old new
-      → Passes orders stocks accounts (Makes H (Pump n) Pumped) (Makes S (Pump n) Pumped) old new
-  passes_pump n old new = passes_map (Leads H (all_rounds n)) (Makes H (Pump n) Pumped) (Leads S (all_rounds n)) (Makes S (Pump n) Pumped)
-      old new (λ did. (refl, did)) (λ a b leads. (refl, leads))
+      → Passes orders stocks accounts (MakesApart H A (Pump n) Pumped) (Makes S (Pump n) Pumped) old new
+  passes_pump n old new = passes_map (Leads H (all_rounds n)) (MakesApart H A (Pump n) Pumped) (Leads S (all_rounds n))
+      (Makes S (Pump n) Pumped) old new (λ did. (refl, did)) (λ a b leads. (refl, leads))
+
+  -- any event, whichever it is: each step that it makes has passed
+  pub makes_passed : (e : Event) (o : Outcome) (old new : W) → Passes orders stocks accounts (MakesApart H A e o) (Makes S e o) old new
+      → Makes H e o old new
+  makes_passed (Pump n) o old new p = p.did
+  makes_passed e o old new p = passed e o old new p
+
+  pub passes_made : (e : Event) (o : Outcome) (old new : W) → Passes orders stocks accounts (MakesApart H A e o) (Makes S e o) old new
+      → Passes orders stocks accounts (Makes H e o) (Makes S e o) old new
+  passes_made e o old new p = passes_map (MakesApart H A e o) (Makes H e o) (Makes S e o) (Makes S e o) old new
+      (λ did. makes_passed e o old new p) (λ a b leads. leads) p

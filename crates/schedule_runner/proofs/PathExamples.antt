@@ -46,7 +46,7 @@ abbrev pub Store : Type 0 → Type 0
 Store T = T
 
 abbrev pub seen : {T : Type 0} → Store T → Seen T
-seen t = record { tables = t; may_leave = λ u. u ≡ t; failures = 0; usable = true; doubt = 0 }
+seen t = record { tables = t; may_leave = λ u. u ≡ t; failures = 0; usable = true; doubt = 0; armed = None }
 
 abbrev pub store : {T : Type 0} → Store T → Failing (Store T)
 store t = record { keep = t; armed = None; is_down = false; failures = 0 }
@@ -128,7 +128,7 @@ module _ (any : TheWorld) where
     record {
       result = Ok (record { pos = 1 });
       commits = record {
-        call = ((refl, refl, refl), refl);
+        call = ((refl, refl, refl, refl), refl);
         doubt = omega arith;
         clean = λ clean match. (a_placed_order_is_committed, taken_in);
       };
@@ -145,7 +145,7 @@ module _ (any : TheWorld) where
     record {
       result = Err (Business AlreadyPlaced);
       commits = record {
-        call = (((refl, refl, refl), (refl, tt)), tt);
+        call = (((refl, refl, refl, refl), (refl, tt)), tt);
         doubt = omega arith;
         clean = λ clean match. (it_is_placed_once, refl);
       };

@@ -2,12 +2,13 @@
 use Rattle.std.specs.Prelude.{List}
 use Rattle.keep.specs.Seen.{Seen}
 use Rattle.schedules.specs.declared.event.Event.{Event}
+use Rattle.schedules.specs.declared.outcome.Outcome.{Outcome}
 use Rattle.schedule_runner.specs.declared.world.World.{World}
 use Rattle.schedule_runner.specs.Deeds.{Moment, GoesBy, Step}
 use Rattle.schedule_runner.specs.Paths.{Leads}
 use Rattle.accord.specs.Sight.{OrderTables, StockTables, AccountTables}
 use Rattle.schedule_runner.specs.Sight.{StaysClean, StaysMatching}
-use Rattle.schedule_runner.specs.Good.{StaysGood}
+use Rattle.schedule_runner.specs.Good.{StaysGood, Agrees}
 use Rattle.schedule_runner.specs.Steps.{Happened}
 
 -- the world goes so, and the tables so
@@ -25,6 +26,12 @@ module _ {KO KS KA : Type 0} (orders : KO → Seen OrderTables) (stocks : KS →
     pub did : Whole old new
     pub goes : GoesBy orders stocks accounts Leading old new
 
-  -- by all these events, whatever their outcomes were
+  -- One event: what it does and tells; and where no file is in doubt behind it and the tables of all services matched, they match behind
+  -- it, a world that was good is good, and its services agree.
+  abbrev pub Passed : Event → Outcome → (old new : World KO KS KA) → Type 0
+  Passed e o old new = Passes (Happened orders stocks accounts e o) (Step orders stocks accounts e o) old new
+      × Agrees orders stocks accounts old new
+
+  -- all these events, whatever their outcomes were
   abbrev pub PassesAll : List Event → (old new : World KO KS KA) → Type 0
-  PassesAll events old new = Passes (Leads (Happened orders stocks accounts) events) (Leads (Step orders stocks accounts) events) old new
+  PassesAll events old new = Passes (Leads Passed events) (Leads (Step orders stocks accounts) events) old new

@@ -22,3 +22,8 @@ module _ {Z : Type 0} (Step : Event → Outcome → Z → Z → Type 0) where
   abbrev pub Makes : Event → Outcome → Z → Z → Type 0
   Makes (Pump rounds) outcome a b = (outcome ≡ Pumped) × Leads (all_rounds rounds) a b
   Makes event outcome a b = Step event outcome a b
+
+  -- the same, where an event that is no pump is told otherwise
+  abbrev pub MakesApart : (Event → Outcome → Z → Z → Type 0) → Event → Outcome → Z → Z → Type 0
+  MakesApart Alone (Pump rounds) outcome a b = (outcome ≡ Pumped) × Leads (all_rounds rounds) a b
+  MakesApart Alone event outcome a b = Alone event outcome a b

@@ -3,10 +3,10 @@
 ghost use Rattle.std.specs.Prelude.{◌∷◌, []};
 ghost use Rattle.schedule_runner.specs.Deeds.{Goes};
 ghost use Rattle.schedule_runner.specs.Good.{StaysGood, Agrees};
+ghost use Rattle.schedule_runner.specs.Passing.{Passed};
 ghost use Rattle.schedule_runner.specs.Paths.{IsPath, Makes};
 ghost use Rattle.schedule_runner.specs.Runs.{Ran};
 ghost use Rattle.schedule_runner.specs.Sight.{StaysClean, StaysMatching};
-ghost use Rattle.schedule_runner.specs.Steps.{Happened};
 ghost use Rattle.schedule_runner.specs.Told.{Told};
 
 use crate::World;
@@ -31,7 +31,7 @@ where
         ensures matching { StaysMatching KO.seen KS.seen KA.seen self.old self.new }
         ensures good { StaysGood KO.seen KS.seen KA.seen self.old self.new }
         ensures agree { Agrees KO.seen KS.seen KA.seen self.old self.new }
-        ensures did { Makes (Happened KO.seen KS.seen KA.seen) event.now result self.old self.new }
+        ensures did { Makes (Passed KO.seen KS.seen KA.seen) event.now result self.old self.new }
         ensures goes { Goes KO.seen KS.seen KA.seen (event.now ∷ []) (result ∷ []) self.old self.new }
     {
         self.happen(event)
@@ -47,7 +47,7 @@ where
         ensures matching { StaysMatching KO.seen KS.seen KA.seen self.old self.new }
         ensures good { StaysGood KO.seen KS.seen KA.seen self.old self.new }
         ensures agree { Agrees KO.seen KS.seen KA.seen self.old self.new }
-        ensures did { Ran (λ es os. IsPath (Makes (Happened KO.seen KS.seen KA.seen)) es os self.old self.new)
+        ensures did { Ran (λ es os. IsPath (Makes (Passed KO.seen KS.seen KA.seen)) es os self.old self.new)
             events.now outcomes.old.items outcomes.new.items result }
         ensures goes { Ran (λ es os. Goes KO.seen KS.seen KA.seen es os self.old self.new)
             events.now outcomes.old.items outcomes.new.items result }

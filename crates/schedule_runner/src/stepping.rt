@@ -1,8 +1,8 @@
 //! One event.
 
 ghost use Rattle.schedule_runner.specs.Deeds.{In, InPurchasing, InWarehouse, InBilling, Same, Step};
-ghost use Rattle.schedule_runner.specs.Passing.{Both, Passes};
-ghost use Rattle.schedule_runner.specs.Paths.{Makes};
+ghost use Rattle.schedule_runner.specs.Passing.{Both, Passes, Passed};
+ghost use Rattle.schedule_runner.specs.Paths.{Makes, MakesApart};
 ghost use Rattle.schedule_runner.specs.Steps.{At, AtPurchasing, AtWarehouse, AtBilling, AtMail, SendsAgain, BeginsAnew, Happened};
 ghost use Rattle.sites.specs.SiteEvents.{Commits};
 
@@ -93,7 +93,8 @@ where
 
     /// Makes an event.
     pub(crate) fn happen(&mut self, event: &Event) -> Outcome
-        ensures { Passes KO.seen KS.seen KA.seen (Makes (Happened KO.seen KS.seen KA.seen) event.now result)
+        ensures { Passes KO.seen KS.seen KA.seen
+            (MakesApart (Passed KO.seen KS.seen KA.seen) (Happened KO.seen KS.seen KA.seen) event.now result)
             (Makes (Step KO.seen KS.seen KA.seen) event.now result) self.old self.new }
     {
         match event {

@@ -1,5 +1,6 @@
 use Rattle.std.proofs.Common.{◌≡◌, ◌+◌, ◌++◌, ◌∷◌, [], take, length, arith, ap, sym, ◌∙◌, refl, subst}
 use Rattle.std.proofs.lemmas.List.{take_more, append-nil}
+use Rattle.schedule_runner.proofs.Composing.{passes_made}
 use Rattle.schedule_runner.proofs.Advancing.{SoFar, far_none, far_more, ran_did, ran_goes, ran_told}
 use Rattle.schedule_runner.proofs.world.World.run.Goals as goal
 
@@ -17,7 +18,9 @@ loop-event-preserved g c =
     far_more g.KO.Keep.seen g.KS.Keep.seen g.KA.Keep.seen events e c.happen-outcome.result i (i + 1) c.args.outcomes.now.items
     c.loop-event.outcomes.items c.push_reserved.new.self.items c.args.self.now c.loop-event.self c.happen-outcome.new.self refl more
     (c.push_reserved.ensures.items ∙ ap (λ l. l ++ c.happen-outcome.result ∷ []) c.reserve.ensures.items)
-    c.loop-event.invariant c.happen-outcome.ensures
+    c.loop-event.invariant
+    (passes_made g.KO.Keep.seen g.KS.Keep.seen g.KA.Keep.seen e c.happen-outcome.result c.loop-event.self c.happen-outcome.new.self
+    c.happen-outcome.ensures)
 
 pub returns-in-Err-clause-did : goal.returns-in-Err-clause-did
 returns-in-Err-clause-did g c = ran_did g.KO.Keep.seen g.KS.Keep.seen g.KA.Keep.seen c.args.events.now c.loop-event.event-index

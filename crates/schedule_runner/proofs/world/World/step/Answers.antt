@@ -1,9 +1,13 @@
 use Rattle.std.proofs.Common.{[], ◌∷◌}
 use Rattle.schedule_runner.specs.Deeds.{Step}
 use Rattle.schedule_runner.specs.Paths.{IsPath, Makes}
-use Rattle.schedule_runner.proofs.Composing.{goes_map}
+use Rattle.schedule_runner.proofs.Composing.{goes_map, makes_passed}
 use Rattle.schedule_runner.proofs.Following.{path_one}
 use Rattle.schedule_runner.proofs.world.World.step.Goals as goal
+
+pub returns-clause-did : goal.returns-clause-did
+returns-clause-did g c = makes_passed g.KO.Keep.seen g.KS.Keep.seen g.KA.Keep.seen c.args.event.now c.happen.result c.args.self.now
+    c.happen.new.self c.happen.ensures
 
 pub returns-clause-goes : goal.returns-clause-goes
 returns-clause-goes g c =
