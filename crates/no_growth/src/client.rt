@@ -1,0 +1,182 @@
+//! A client's session, the relay that sends letters on it, and a frame.
+
+use crate::answer::Answer;
+use crate::fault::LineFault;
+use activities::OrderCommand;
+use base::{Entity, Key};
+use endpoint::Endpoint;
+use keep_plain::PlainKeep;
+use purchasing::Orders;
+use relay::Relay;
+use std::alloc::Global;
+use stomp_client::{ClientEvent, ClientSession};
+use stomp_frame::{Command, Frame};
+use stomp_session::ServerSession;
+
+/// A client's session, the relay that sends letters on it, a RECEIPT that comes, and a SEND.
+#[derive(Drop)]
+pub struct ClientCalls {
+    client: ClientSession<u64>,
+    relay: Relay,
+    receipt: Option<Frame>,
+    send: Option<Frame>,
+}
+
+/// So many orders, each of which asks a stock and an account.
+fn place_all(
+    alloc: Global,
+    service: &mut Endpoint<Orders, PlainKeep<Orders>>,
+    count: usize,
+) -> Result<(), LineFault> {
+    for number in 0..count {
+        let name = format!(in alloc; "order/o{number}")?;
+        let order = Entity::read(alloc, name.as_str())?;
+        let command = OrderCommand::Place {
+            stock: Key::read(alloc, "bolt")?,
+            quantity: 1,
+            account: Key::read(alloc, "ann")?,
+            amount: 1,
+        };
+        service.commit(alloc, 0, &order, command)?;
+    }
+    Ok(())
+}
+
+/// A frame with a header.
+fn frame(alloc: Global, command: Command, name: &str, value: &str) -> Result<Frame, LineFault> {
+    let mut frame = Frame::new(alloc, command);
+    frame.push_header(name, value)?;
+    Ok(frame)
+}
+
+/// A SEND with so many headers of its own.
+fn send(alloc: Global, count: usize) -> Result<Frame, LineFault> {
+    let mut send = frame(alloc, Command::Send, "destination", "/queue/a")?;
+    for _ in 0..count {
+        send.push_header("h", "value")?;
+    }
+    send.set_body(b"hi")?;
+    Ok(send)
+}
+
+impl ClientCalls {
+    /// Nothing.
+    pub fn new(alloc: Global) -> ClientCalls {
+        ClientCalls {
+            client: ClientSession::new(alloc),
+            relay: Relay::new(alloc),
+            receipt: None,
+            send: None,
+        }
+    }
+
+    /// All that `prepare` says of them.
+    pub fn prepared(alloc: Global, count: usize) -> Result<ClientCalls, LineFault> {
+        let mut service = Endpoint::new(PlainKeep::new(alloc));
+        place_all(alloc, &mut service, count)?;
+        let mut calls = ClientCalls::new(alloc);
+        calls.client.connect()?;
+        let connected = Frame::new(alloc, Command::Connected);
+        let _ = calls.client.accept(connected)?;
+        let _ = calls.relay.fill(&mut calls.client, &mut service, 64)?;
+        calls.client.room(13)?;
+        calls.receipt = Some(frame(alloc, Command::Receipt, "receipt-id", "1")?);
+        calls.send = Some(send(alloc, count)?);
+        Ok(calls)
+    }
+
+    /// The text of a DISCONNECT is appended.
+    #[tactic(auto, using(crate::proofs::Texts::disconnect_is_whole))]
+    fn append(&mut self) -> Result<(), LineFault> {
+        Ok(self.client.append(b"DISCONNECT\n\n\0")?)
+    }
+
+    /// What the RECEIPT told.
+    fn accept(&mut self) -> Result<Answer, LineFault> {
+        let Some(receipt) = self.receipt.take() else {
+            return Ok(Answer::None);
+        };
+        match self.client.accept(receipt)? {
+            ClientEvent::Receipt(_, tag) => Ok(Answer::Number(tag)),
+            _ => Err(LineFault::Unknown),
+        }
+    }
+
+    /// The number of the next transaction.
+    fn count(&mut self) -> Result<Answer, LineFault> {
+        if self.client.transactions() == u64::MAX {
+            return Err(LineFault::Unknown);
+        }
+        self.client.count_transaction();
+        Ok(Answer::Number(self.client.transactions()))
+    }
+
+    /// The answer of the client's session.
+    pub fn answer(&mut self, word: &str) -> Result<Answer, LineFault> {
+        match word {
+            "out" => return Ok(Answer::count(self.client.out().len())),
+            "append" => self.append()?,
+            "taken" => {
+                let count = self.client.out().len();
+                self.client.taken(count);
+            }
+            "count" => return self.count(),
+            "accept" => return self.accept(),
+            _ => return Err(LineFault::Unknown),
+        }
+        Ok(Answer::Done)
+    }
+
+    /// The answer of the relay.
+    pub fn answer_relay(&mut self, word: &str) -> Result<Answer, LineFault> {
+        match word {
+            "forget" => self.relay.forget(),
+            "anew" => self.relay.look_anew(),
+            _ => return Err(LineFault::Unknown),
+        }
+        Ok(Answer::Done)
+    }
+
+    /// The SEND gives its parts, and takes them back.
+    fn parts(&mut self, alloc: Global) -> Result<Answer, LineFault> {
+        let Some(frame) = self.send.take() else {
+            return Ok(Answer::None);
+        };
+        let (command, headers, body) = frame.into_parts();
+        match Frame::from_parts(alloc, command, headers, body) {
+            Ok(frame) => self.send = Some(frame),
+            Err(refused) => return Err(LineFault::Frame(refused.fault)),
+        }
+        Ok(Answer::Done)
+    }
+
+    /// A server's session takes the SEND.
+    fn taken_by_server(&mut self) -> Result<Answer, LineFault> {
+        let Some(frame) = self.send.take() else {
+            return Ok(Answer::None);
+        };
+        match ServerSession::connected().accept(frame) {
+            Ok(_) => Ok(Answer::Done),
+            Err(refused) => Err(LineFault::Session(refused.fault)),
+        }
+    }
+
+    /// The answer of the SEND.
+    pub fn answer_frame(
+        &mut self,
+        alloc: Global,
+        word: &str,
+        rest: &str,
+    ) -> Result<Answer, LineFault> {
+        match (word, &self.send) {
+            ("get", Some(frame)) => Ok(match frame.get(rest) {
+                Some(value) => Answer::count(value.len()),
+                None => Answer::None,
+            }),
+            ("get", None) => Ok(Answer::None),
+            ("parts", _) => self.parts(alloc),
+            ("accept", _) => self.taken_by_server(),
+            _ => Err(LineFault::Unknown),
+        }
+    }
+}
