@@ -27,8 +27,8 @@ PROMISE = [
 SIGHT, GOOD, WORLD_GOOD = ("accord", "specs/Sight"), ("accord", "specs/Good"), ("schedule_runner", "specs/Good")
 PREMISES = (
     "`World::run` has no `requires`: it may be called with any events and in any world, and its clauses themselves ask for what they need."
-    " `clean` and `did` ask for nothing, `matching`, `goes` and `told` for the first two premises below, `good` and `agree` for the first"
-    " three. The rest is asked of the types of the stores, and of the tools.",
+    " `clean` asks for nothing, `did` only inside itself, event by event (`Passed`); `matching`, `goes` and `told` ask for the first two"
+    " premises below, `good` and `agree` for the first three. The rest is asked of the types of the stores, and of the tools.",
     [
         ("Files keep their word: of no store did a file that it rests on give back anything but what was written to it, up to the end of"
          " the run. That is asked at the end alone, since doubt never falls (`clean`). A store in memory has no file, and no doubt.",
@@ -244,7 +244,9 @@ CORE = {
           " journal sends, and no settle is ahead of the handling (`IsGenuine`);",
           "- `agree`: so the partners of each order agree (`PartnersAgree`), and of each stock and each account's limit nothing is lost or"
           " used twice (`AreSound`);",
-          "- `did` and `goes`: each outcome did what it says, and nothing else, to the world and to the tables (`Happened`, `Step`);",
+          "- `did`: each outcome did what it says, and nothing else, to the world (`Happened`); and behind each event, those of a pump"
+          " among them, and not only behind the last, `clean`, `matching`, `good` and `agree` hold again (`Passed`); `goes`: the same of"
+          " the tables (`Step`);",
           "- `clean`: where no file is in doubt afterwards, none was before.",
           "All but `clean` and `did` are so in each combination of what failed stores may leave. Each name is defined below, or on the"
           " page that the end of this one names."],
