@@ -289,7 +289,9 @@ CORE = {
          [("agreement", "specs/Journals", "HandlesPrefixes"), ("agreement", "specs/Journals", "AreLawful"),
           ("agreement", "specs/Envelopes", "IsAuthentic"), ("agreement", "specs/Envelopes", "SettledAreHandled")]),
         ("Partners that agree",
-         ["What follows for each order: it asks two partners, a stock and an account, and either both of them do it or none does."],
+         ["What follows for each order: it asks two partners, a stock and an account. Neither of them has shipped or billed while the other"
+          " has released or refused. One may have done it while the other still holds what it was asked for: it can't refuse any more, but"
+          " that it ever hears of it isn't promised."],
          [("agreement", "specs/Agreement", it) for it in ("states_in", "PartnersAgree", "AreSound")]),
         ("Tables, and when they match a journal",
          ["A service's store keeps the journal, and beside it what the service reads instead of going over the journal anew. All of that"
