@@ -39,9 +39,7 @@ PREMISES = (
         ("Each of the three stores keeps the laws of a store: a transaction is taken in whole or not at all, and a read tells what the"
          " tables have.", [("keep", "store", "Keep")]),
         ("The prover, the compiler and the processor do what is said of them.", []),
-    ],
-    "Not promised: that a letter arrives or that an order is ever decided, that nobody is kept waiting, how long anything takes, and"
-    " anything about envelopes that somebody else puts on a wire.")
+    ])
 
 READING = [
     "Written by `bin/theorem`, and compared by the gate: don't edit it. Each contract and each definition stands as in the source, with"
@@ -269,6 +267,17 @@ CORE = {
         ("What events speak of", ["The seats, services, connections and commands that stand in an event."],
          [("schedules", "event", "Event"), *[("base", "specs/Entity", it) for it in ("order_of", "stock_of", "account_of")]]),
         "premises",
+        ("What isn't promised",
+         ["That a letter arrives or that an order is ever decided, that nobody is kept waiting, how long anything takes, and anything about"
+          " envelopes that somebody else puts on a wire. The clauses say what is true of what was done, and none says that something gets"
+          " done:",
+          "- a `World::run` that always answered `Err` before its first event, as for want of memory, and did nothing would meet each of"
+          " them; and a command may be answered 64, that memory was refused, however often. Whether more is done where there is memory is"
+          " seen where it runs, and isn't proved;",
+          "- where at the end a file is in doubt, nothing is left but those parts of `did` that hold whatever a disk did, as that a store"
+          " that failed isn't used until it is opened again;",
+          "- where the world wasn't good before the call, as with a letter on its way that nobody sent, `good` and `agree` say nothing."],
+         []),
         ("A world at the beginning", ["The call that opens a world, over stores that may have tables already."],
          [("schedule_runner", "world", "World::open")], True),
         ("What a journal is", ["A row says which entity took in what: a seat's command, or a letter with its sender and its number. A"
