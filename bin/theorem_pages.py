@@ -28,16 +28,21 @@ SIGHT, GOOD, WORLD_GOOD = ("accord", "specs/Sight"), ("accord", "specs/Good"), (
 PREMISES = (
     "`World::run` has no `requires`: it may be called with any events and in any world, and its clauses themselves ask for what they need."
     " `clean` asks for nothing, `did` only inside itself, event by event (`Passed`); `matching`, `goes` and `told` ask for the first two"
-    " premises below, `good` and `agree` for the first three. The rest is asked of the types of the stores, and of the tools.",
+    " premises below, `good` and `agree` for the first three. The rest is asked of the types of the stores, and of the tools. Of README's"
+    " four premises *Honest files* is the first here, and *A good start* the next two. *An honest wire* and *Only our parties* are in no"
+    " clause, since no event of a world breaks them: they say what has to be so of a network and a broker for a world to be like them.",
     [
         ("Files keep their word: of no store did a file that it rests on give back anything but what was written to it, up to the end of"
          " the run. That is asked at the end alone, since doubt never falls (`clean`). A store in memory has no file, and no doubt.",
          [(*SIGHT, "AreClean"), ("keep", "specs/Seen", "Seen")]),
-        ("Before the call the tables of each service matched its journal, also those that a stop might leave.", [(*SIGHT, "AreMatching")]),
+        ("Before the call the tables of each service matched its journal, also those that a stop might leave. Empty tables do, and so do"
+         " those that an earlier run left (`matching`).", [(*SIGHT, "AreMatching")]),
         ("Before the call the world was good. So is one that is opened over empty tables (`unused`), or over those that an earlier run"
          " left (`good`).", [(*WORLD_GOOD, "IsGoodWorld"), ("schedule_runner", "world", "World::open")]),
-        ("Each of the three stores keeps the laws of a store: a transaction is taken in whole or not at all, and a read tells what the"
-         " tables have.", [("keep", "store", "Keep")]),
+        ("Each of the three stores keeps the laws of a store: a transaction is taken in whole or not at all, a read tells what the tables"
+         " have, and while no file is in doubt there is a content that a stop may leave (`IsSound`), so that what is said of each isn't said"
+         " of none.",
+         [("keep", "store", "Keep")]),
         ("The prover, the compiler and the processor do what is said of them.", []),
     ])
 
@@ -309,7 +314,9 @@ CORE = {
           ("endpoint", "specs/Matches", "AllMatch")]),
         ("What may be found after a stop",
          ["A store that failed may leave its tables as they were or as they were to be. What is promised is said of each content that a"
-          " stop may leave, and of each combination of such contents of the three."],
+          " stop may leave, and of each combination of such contents of the three. While no file is in doubt there is one at least, and of"
+          " a store that may be used that is what its tables are now (`IsSound`, a law of each store): so what is said of each content is"
+          " said of the tables too."],
          [("keep", "specs/Seen", "Seen"), *[(*SIGHT, it) for it in ("Sight", "all_empty", "AreClean", "AreMatching", "MayLeave")]]),
         ("Services that are good", ["What always holds of the three, whatever a stop leaves."],
          [(*GOOD, it) for it in ("IsGenuine", "IsGood", "AllAgree")]),
