@@ -238,21 +238,23 @@ CORE = {
         ("What holds after every schedule",
          ["The one call that runs a schedule is `World::run`, and its contract is the theorem. Under the premises that stand further"
           " below, whatever the events, and also where memory was refused between them, when it has ended:",
-          "- `matching`: the tables of each service match its journal, so that what they hold of states, of letters sent and of letters"
-          " handled follows from it (`TablesMatchJournal`);",
-          "- `told`: each journal begins with what it was, and the commands behind that are, in order, those that were answered committed,"
-          " each at its row; of those that were answered 63, that the store failed, each stands there once at most (`RecordsTold`);",
-          "- `good`: the journals are legal, and what each receiver handled is a beginning of what was sent to it (`HandlesPrefixes`);"
-          " what is marked as settled was handled (`SettledAreHandled`); each letter that is held or on its way is what its sender's"
-          " journal sends, and no settle is ahead of the handling (`IsGenuine`);",
-          "- `agree`: so the partners of each order agree (`PartnersAgree`), and of each stock and each account's limit nothing is lost or"
-          " used twice (`AreSound`);",
-          "- `did`: each outcome did what it says, and nothing else, to the world (`Happened`); and behind each event, those of a pump"
-          " among them, and not only behind the last, `clean`, `matching`, `good` and `agree` hold again (`Passed`); `goes`: the same of"
-          " the tables (`Step`);",
-          "- `clean`: where no file is in doubt afterwards, none was before.",
-          "All but `clean` and `did` are so in each combination of what failed stores may leave. Each name is defined below, or on the"
-          " page that the end of this one names."],
+          "- `matching`, which is `StaysMatching`: the tables of each service match its journal, so that what they hold of states, of letters"
+          " sent and of letters handled follows from it (`TablesMatchJournal`);",
+          "- `told`, `Told`: each journal begins with what it was, and the commands behind that are, in order, those that were answered"
+          " committed, each at its row; of those that were answered 63, that the store failed, each stands there once at most"
+          " (`RecordsTold`; [FORMATS.md](FORMATS.md) has the numbers of faults);",
+          "- `good`, `StaysGood`: the journals are legal (`IsLegal`), and what each receiver handled is a beginning of what was sent to it"
+          " (`HandlesPrefixes`); what is marked as settled was handled (`SettledAreHandled`); each letter that is held or on its way is what"
+          " its sender's journal sends, and no settle is ahead of the handling (`IsGenuine`);",
+          "- `agree`, `Agrees`: so the partners of each order agree (`PartnersAgree`), and of each stock and each account's limit nothing is"
+          " lost or used twice (`AreSound`);",
+          "- `did`, `Passed` for each event: each outcome did what it says, and nothing else, to the world (`Happened`); and behind each"
+          " event, those of a pump among them, and not only behind the last, `clean`, `matching`, `good` and `agree` hold again; `goes`,"
+          " `Goes`: the same of the tables (`Step`);",
+          "- `clean`, `StaysClean`: where no file is in doubt afterwards, none was before.",
+          "All but `clean` and `did` are so in each combination of what failed stores may leave. `Ran`, around `did`, `goes` and `told`, says"
+          " of which events they speak: of those that were made, each of which has appended one outcome, and where the answer is `Ok` these"
+          " are all. Each name is defined below, or on the page that the end of this one names."],
          [("schedule_runner", "running", "World::run")], True),
         "promise",
         ("What an adversary may do",
