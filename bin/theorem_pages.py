@@ -222,10 +222,20 @@ CORE = {
         " which commands come;",
         "- a pair is a sender and a receiver, both entities; a letter is a message with its pair, and with its number among the letters of"
         " that pair;",
-        "- a letter is sent when it stands in the outbox, and settled when its sender knows that it was handled; a settle is what the"
-        " receiver tells the sender for that; an envelope is a letter or a settle;",
+        "- a letter is sent as soon as it stands in the outbox, whether or not a connection has had it, and settled when its sender knows"
+        " that it was handled; a settle is what the receiver tells the sender for that; an envelope is a letter or a settle;",
+        "- a mark of a pair is a number up to which its letters are settled, which the sender keeps, or handled, which the receiver keeps; a"
+        " letter that comes too early is held until those before it were handled;",
         "- the partners of an order are the stock and the account that it asks; its line at one of them is what that has of it;",
-        "- a store and a keep are one thing; a content is what a store's tables are, or may be found to be after a stop.",
+        "- a row, where nothing else is said, is one of a journal; the row of an entity is its state in the tables, and a row of the outbox"
+        " a letter that stands there;",
+        "- a store and a keep are one thing; a content is what a store's tables are, or may be found to be after a stop; a file is in doubt"
+        " once it gave back what wasn't written to it;",
+        "- a world is one program: the three services, two connections of each with the broker, whose octets wait in memory until they are"
+        " moved, and the mail, which is the broker and all that it ever accepted; no socket, no thread and no clock is in it, and nothing"
+        " moves but by an event;",
+        "- an endpoint is a service over its store; a frame is what STOMP puts on a connection; a relay sends what stands in the outbox on"
+        " one connection, and knows what was sent there.",
         "Behind this page stand others: [THEOREM-STORE.md](THEOREM-STORE.md), the laws of a store;"
         " [THEOREM-SERVICE.md](THEOREM-SERVICE.md), what one service promises alone; [THEOREM-EVENTS.md](THEOREM-EVENTS.md), what each"
         " single event does, with the octets on their way; [THEOREM-MAIL.md](THEOREM-MAIL.md), what it is for a mail to be genuine;"
