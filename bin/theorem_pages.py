@@ -65,19 +65,22 @@ WITH_EXAMPLES = [
 SIGNS = [
     ("--", r"", "What follows on the line is a comment; in contracts of Rust `//` and `///` are."),
     ("x : T", r" : ", "`x` is of the type `T`; said of a proposition `T`, `x` is a proof of it."),
-    ("f a b", r"", "The function `f` at `a` and `b`; `f (g a)` has brackets, `f a b` has none."),
+    ("f a b", r"", "The function `f` at `a` and `b`; `f (g a)` has brackets, `f a b` has none. So do variants of an `enum` stand with their"
+     " fields, named or not, in the order in which these are declared."),
     ("Type 0", r"Type 0", "The type of types and of propositions: what ends in `→ Type 0` says something that holds or doesn't."),
     ("Type 1", r"Type 1", "The type of what has such types in it."),
     ("≡", r"≡", "Both are equal."),
     ("≢", r"≢", "They aren't equal."),
     ("×", r"×", "Both hold; between types, a pair of both. `x.0` is its first part, `x.1` its second."),
+    ("(a, b)", r"\([^()]*, [^()]*\)", "The pair of `a` and `b`."),
     ("(x : A) × ..", r"\) ×", "There is such an `x`, and of it the rest holds."),
     ("⊎", r"⊎", "One of both holds, or both do."),
     ("A → B", r"→", "Where `A` holds, `B` does; between types, the functions from `A` to `B`."),
-    ("(x : A) → ..", r"\) →", "For each `x` of `A` the rest holds."),
+    ("(x : A) → ..", r"\) →", "For each `x` of `A` the rest holds; `(x y : A) (z : B) → ..` is of each three."),
     ("{x : A} → ..", r"\{[^}]* : [^}]*\}",
      "For each `x` of `A`; which one is meant follows from the rest, so that it needn't be"
      " written."),
+    ("f {A} x, f {S = S} x", r"\w \{\w+( = [^};]+)?\}", "Such an argument where it is written all the same, alone or behind its name."),
     ("⊥", r"⊥", "Never holds; `A → ⊥` says that `A` doesn't hold."),
     ("⊤", r"⊤", "Always holds."),
     ("¬", r"¬", "It doesn't hold."),
@@ -115,7 +118,11 @@ SIGNS = [
     ("x.old, x.new, x.now", r"\.(old|new|now)\b", "In contracts: a mutable argument before the call and after it, and one that is only"
      " read."),
     ("result", r"\bresult\b", "In contracts: what the call answered."),
-    ("impl Model for T", r"impl Model", "Contracts see a `T` as its `Value`, which `view` makes of it."),
+    ("impl Model for T", r"impl Model", "Contracts see a `T` as its `Value`, which `view` makes of it. Of a type without that they see"
+     " the fields or the variants, each part as contracts see it, and an unsigned number as one of `ℕ`."),
+    ("Inside", r"\bInside\b", "What the type whose view it is has as its own fields."),
+    ("x.items", r"\.items\b", "The list of what the `Vec` `x` has."),
+    ("Unit", r"\bUnit\b", "The type of `()`."),
     ("ghost", r"\bghost\b", "Is seen by contracts and proofs alone, and not there when the program runs."),
     ("KO.seen", r"\bK\w?\.seen|\bseen\b", "What contracts see of a store of the type `KO`."),
 ]
