@@ -345,11 +345,13 @@ CORE = {
          + [(*WORLD_GOOD, it) for it in ("IsGoodWorld", "StaysGood", "Agrees")]),
         ("Commands that were told", ["What a seat was answered, and what the journals have."],
          [("schedule_runner", "specs/Told", it) for it in ("TellsCommand", "AreTold", "RecordsTold", "AllTold", "Told")]),
-        ("A run, event by event", ["One event after another, each with its outcome; what an event does is on"
-                                   " [THEOREM-EVENTS.md](THEOREM-EVENTS.md)."],
+        ("A run, event by event",
+         ["One event after another, each with its outcome; what an event does is on [THEOREM-EVENTS.md](THEOREM-EVENTS.md). `IsPath`"
+          " takes what one step is as an argument: `did` gives it `Passed`, from a world to the next, and `goes` the `Step` of that page,"
+          " from a world with tables to the next."],
          [("schedule_runner", "specs/Paths", "IsPath"), ("schedule_runner", "specs/Paths", "Makes"), ("schedule_runner", "specs/Runs",
           "Ran"),
-          ("schedule_runner", "specs/Deeds", "Goes")]),
+          ("schedule_runner", "specs/Deeds", "Goes"), ("schedule_runner", "specs/Passing", "Passed")]),
     ],
 }
 
