@@ -253,8 +253,8 @@ CORE = {
     "cut": OF_EVENTS + OF_MAIL + OF_STORE + OF_SERVICE,
     "sections": [
         ("What holds after every schedule",
-         ["The one call that runs a schedule is `World::run`, and its contract is the theorem. Under the premises that stand further"
-          " below, whatever the events, and also where memory was refused between them, when it has ended:",
+         ["The one call that runs a schedule is `World::run`, and its contract is the theorem. Under the premises that stand below,"
+          " whatever the events, and also where memory was refused between them, when it has ended:",
           "- `matching`, which is `StaysMatching`: the tables of each service match its journal, so that what they hold of states, of letters"
           " sent and of letters handled follows from it (`TablesMatchJournal`);",
           "- `told`, `Told`: each journal begins with what it was, and the commands behind that are, in order, those that were answered"
@@ -274,6 +274,18 @@ CORE = {
           " are all. Each name is defined below, or on the page that the end of this one names."],
          [("schedule_runner", "running", "World::run")], True),
         "promise",
+        "premises",
+        ("What isn't promised",
+         ["That a letter arrives or that an order is ever decided, that nobody is kept waiting, how long anything takes, and anything about"
+          " envelopes that somebody else puts on a wire. The clauses say what is true of what was done, and none says that something gets"
+          " done:",
+          "- a `World::run` that always answered `Err` before its first event, as for want of memory, and did nothing would meet each of"
+          " them; and a command may be answered 64, that memory was refused, however often. Whether more is done where there is memory is"
+          " seen where it runs, and isn't proved;",
+          "- where at the end a file is in doubt, nothing is left but those parts of `did` that hold whatever a disk did, as that a store"
+          " that failed isn't used until it is opened again;",
+          "- where the world wasn't good before the call, as with a letter on its way that nobody sent, `good` and `agree` say nothing."],
+         []),
         ("What an adversary may do",
          ["An adversary chooses the events, each of them one line of a schedule. Any list of them, of any length and in any order, is a"
           " schedule: the theorem asks nothing of it. So an adversary",
@@ -290,18 +302,6 @@ CORE = {
          [("schedules", "event", "Event")], True),
         ("What events speak of", ["The seats, services, connections and commands that stand in an event."],
          [("schedules", "event", "Event"), *[("base", "specs/Entity", it) for it in ("order_of", "stock_of", "account_of")]]),
-        "premises",
-        ("What isn't promised",
-         ["That a letter arrives or that an order is ever decided, that nobody is kept waiting, how long anything takes, and anything about"
-          " envelopes that somebody else puts on a wire. The clauses say what is true of what was done, and none says that something gets"
-          " done:",
-          "- a `World::run` that always answered `Err` before its first event, as for want of memory, and did nothing would meet each of"
-          " them; and a command may be answered 64, that memory was refused, however often. Whether more is done where there is memory is"
-          " seen where it runs, and isn't proved;",
-          "- where at the end a file is in doubt, nothing is left but those parts of `did` that hold whatever a disk did, as that a store"
-          " that failed isn't used until it is opened again;",
-          "- where the world wasn't good before the call, as with a letter on its way that nobody sent, `good` and `agree` say nothing."],
-         []),
         ("A world at the beginning", ["The call that opens a world, over stores that may have tables already."],
          [("schedule_runner", "world", "World::open")], True),
         ("What a journal is", ["A row says which entity took in what: a seat's command, or a letter with its sender and its number. A"
