@@ -9,7 +9,8 @@ PROMISE = [
     ("cut connections", "`Cut`, at each octet, since `Carry` says how many go over. What was on its way is lost, and no more"
      " (`Happened`)."),
     ("lost, reordered", "What is on its way is lost where the connection is cut, and all that a broker has where it stops (`StopBroker`)."
-     " `Carry` and `Take` come in any order, on two connections of each service."),
+     " What one connection has stays in its order, and so letters come out of theirs where an earlier one was lost, comes again, or waits"
+     " on the other of a service's two connections; `Carry` and `Take` come in any order on both."),
     ("repeated", "`Resend`, a connection that is opened anew, and `Repeat`, which sends again what was ever accepted."),
     ("store failures", "`Fail`, at each read and each transaction, which leaves the old or the new tables. `MayLeave` is what may be found"
      " behind that, of each store by itself; `matching`, `goes`, `told`, `good` and `agree` speak of all of it."),
@@ -294,10 +295,10 @@ CORE = {
           " the other (`Carry`), and lets frames be handled (`Take`, `Drain`); or lets any of that wait for as long as it likes;",
           "- cuts connections at any octet (`Cut`), behind which what was on its way is lost, and opens them anew (`Open`);",
           "- lets what is sent be sent again: by a service (`Resend`), or by the broker, of all that it ever accepted (`Repeat`);",
-          "- lets chosen reads and transactions of a store fail, and leave the old tables or the new ones (`Fail`);",
+          "- lets chosen reads fail, and chosen transactions fail and leave the old tables or the new ones (`Fail`);",
           "- stops services and the broker at any time (`Stop`, `StopBroker`), and opens stores anew (`Reopen`).",
-          "It has no event that puts octets of its own on a wire, or changes the tables of a store behind its back. The events that are"
-          " left only run many of these at once (`Pump`) or look (`Show` and those behind it). How a line is spelled is on"
+          "It has no event that puts octets of its own on a wire, changes one of those that are there, or their order, or changes the"
+          " tables of a store behind its back. The events that are left only run many of these at once (`Pump`) or look (`Show` and those behind it). How a line is spelled is on"
           " [THEOREM-PROGRAM.md](THEOREM-PROGRAM.md)."],
          [("schedules", "event", "Event")], True),
         ("What events speak of", ["The seats, services, connections and commands that stand in an event."],
