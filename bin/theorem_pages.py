@@ -198,8 +198,15 @@ EXAMPLES = [
     ("accord", "specs/Good", "IsGood", (*ACCORD, "others_are_not_good"), (*ACCORD, "others_are_not_good")),
     ("accord", "specs/Good", "AllAgree", (*ACCORD, "all_agree_at_the_end"), (*ACCORD, "released_and_billed")),
     ("schedule_runner", "specs/Good", "IsGoodWorld", (*WORLDS, "worlds_are_good"), (*WORLDS, "services_are_not_good")),
+    ("schedule_runner", "specs/Sight", "StaysMatching", (*PATH, "tables_stay_matching"), (*PATH, "tables_stay_matching")),
+    ("schedule_runner", "specs/Good", "Agrees", (*WORLDS, "worlds_stay_good"), (*WORLDS, "worlds_stay_good")),
+    ("schedule_runner", "specs/Told", "TellsCommand", (*TOLD, "commands_are_told"), (*TOLD, "commands_are_told")),
     ("schedule_runner", "specs/Told", "AreTold", (*TOLD, "commands_are_told_in_order"), (*TOLD, "commands_are_told_in_order")),
     ("schedule_runner", "specs/Told", "RecordsTold", (*TOLD, "journals_are_told"), (*TOLD, "journals_are_told")),
+    ("schedule_runner", "specs/Told", "Told", (*PATH, "they_are_told"), (*PATH, "a_lost_row_is_not_told")),
+    ("schedule_runner", "specs/Deeds", "Goes", (*PATH, "they_go"), (*PATH, "no_row_goes_away")),
+    ("endpoint", "specs/Matches", "MayBeHeld", ("endpoint", "CallExamples", "letters_may_be_held"),
+     ("endpoint", "CallExamples", "letters_may_be_held")),
     ("schedule_runner", "specs/Paths", "IsPath", (*PATH, "events_are_a_path"), (*PATH, "nothing_is_lost")),
 ]
 
