@@ -92,6 +92,15 @@ class Proofs:
                     todo.append(other)
         return found
 
+    def brought(self, lines):
+        """The words of other files of examples that lines of this one name, file by file."""
+        found = {}
+        for word in WORD.findall(plain("\n".join(lines))):
+            other = None if word in self.names else self.others.get(word)
+            if other and Proofs.of(other[0]).is_word(other[1]) and word not in found.setdefault(other[0], []):
+                found[other[0]].append(word)
+        return {file: words for file, words in sorted(found.items()) if words}
+
     def rests_of(self, lines):
         """The definitions and items of the sources that lines of the examples name."""
         found = []

@@ -58,7 +58,7 @@ READING = [
 WITH_EXAMPLES = [
     "Beside some definitions stand examples, which are proved by the gate as lemmas: each with its name, its file, its comment and what it"
     " says. One that ends in `→ ⊥` says that what stands before the arrow doesn't hold. The names that examples use, as `o1` or `rows`,"
-    " stand at the end of the page, by the file of the example.",
+    " stand at the end of the page, by the file of the example; what that has of other files is named there too.",
 ]
 
 # ---- signs, each with the text by which it is found
