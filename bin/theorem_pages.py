@@ -41,8 +41,8 @@ PREMISES = (
         ("Before the call the world was good. So is one that is opened over empty tables (`unused`), or over those that an earlier run"
          " left (`good`).", [(*WORLD_GOOD, "IsGoodWorld"), ("schedule_runner", "world", "World::open")]),
         ("Each of the three stores keeps the laws of a store: a transaction is taken in whole or not at all, a read tells what the tables"
-         " have, and while no file is in doubt there is a content that a stop may leave (`IsSound`), so that what is said of each isn't said"
-         " of none.",
+         " have, and while no file is in doubt there is a content that a stop may leave (`IsSound`), so that what is said of each isn't"
+         " said of none.",
          [("keep", "store", "Keep")]),
         ("The prover, the compiler and the processor do what is said of them.", []),
     ])
@@ -239,8 +239,8 @@ CORE = {
         " that pair;",
         "- a letter is sent as soon as it stands in the outbox, whether or not a connection has had it, and settled when its sender knows"
         " that it was handled; a settle is what the receiver tells the sender for that; an envelope is a letter or a settle;",
-        "- a mark of a pair is a number up to which its letters are settled, which the sender keeps, or handled, which the receiver keeps; a"
-        " letter that comes too early is held until those before it were handled;",
+        "- a mark of a pair is a number up to which its letters are settled, which the sender keeps, or handled, which the receiver"
+        " keeps; a letter that comes too early is held until those before it were handled;",
         "- the partners of an order are the stock and the account that it asks; its line at one of them is what that has of it;",
         "- a row, where nothing else is said, is one of a journal; the row of an entity is its state in the tables, and a row of the outbox"
         " a letter that stands there;",
@@ -263,23 +263,23 @@ CORE = {
         ("What holds after every schedule",
          ["The one call that runs a schedule is `World::run`, and its contract is the theorem. Under the premises that stand below,"
           " whatever the events, and also where memory was refused between them, when it has ended:",
-          "- `matching`, which is `StaysMatching`: the tables of each service match its journal, so that what they hold of states, of letters"
-          " sent and of letters handled follows from it (`TablesMatchJournal`);",
+          "- `matching`, which is `StaysMatching`: the tables of each service match its journal, so that what they hold of states, of"
+          " letters sent and of letters handled follows from it (`TablesMatchJournal`);",
           "- `told`, `Told`: each journal begins with what it was, and the commands behind that are, in order, those that were answered"
           " committed, each at its row; of those that were answered 63, that the store failed, each stands there once at most"
           " (`RecordsTold`; [FORMATS.md](FORMATS.md) has the numbers of faults);",
           "- `good`, `StaysGood`: the journals are legal (`IsLegal`), and what each receiver handled is a beginning of what was sent to it"
-          " (`HandlesPrefixes`); what is marked as settled was handled (`SettledAreHandled`); each letter that is held or on its way is what"
-          " its sender's journal sends, and no settle is ahead of the handling (`IsGenuine`);",
-          "- `agree`, `Agrees`: so the partners of each order agree (`PartnersAgree`), and of each stock and each account's limit nothing is"
-          " lost or used twice (`AreSound`);",
+          " (`HandlesPrefixes`); what is marked as settled was handled (`SettledAreHandled`); each letter that is held or on its way is"
+          " what its sender's journal sends, and no settle is ahead of the handling (`IsGenuine`);",
+          "- `agree`, `Agrees`: so the partners of each order agree (`PartnersAgree`), and of each stock and each account's limit nothing"
+          " is lost or used twice (`AreSound`);",
           "- `did`, `Passed` for each event: each outcome did what it says, and nothing else, to the world (`Happened`); and behind each"
           " event, those of a pump among them, and not only behind the last, `clean`, `matching`, `good` and `agree` hold again; `goes`,"
           " `Goes`: the same of the tables (`Step`);",
           "- `clean`, `StaysClean`: where no file is in doubt afterwards, none was before.",
-          "All but `clean` and `did` are so in each combination of what failed stores may leave. `Ran`, around `did`, `goes` and `told`, says"
-          " of which events they speak: of those that were made, each of which has appended one outcome, and where the answer is `Ok` these"
-          " are all. Each name is defined below, or on the page that the end of this one names."],
+          "All but `clean` and `did` are so in each combination of what failed stores may leave. `Ran`, around `did`, `goes` and `told`,"
+          " says of which events they speak: of those that were made, each of which has appended one outcome, and where the answer is"
+          " `Ok` these are all. Each name is defined below, or on the page that the end of this one names."],
          [("schedule_runner", "running", "World::run")], True),
         "promise",
         "premises",
@@ -305,8 +305,8 @@ CORE = {
           "- lets chosen reads fail, and chosen transactions fail and leave the old tables or the new ones (`Fail`);",
           "- stops services and the broker at any time (`Stop`, `StopBroker`), and opens stores anew (`Reopen`).",
           "It has no event that puts octets of its own on a wire, changes one of those that are there, or their order, or changes the"
-          " tables of a store behind its back. The events that are left only run many of these at once (`Pump`) or look (`Show` and those behind it). How a line is spelled is on"
-          " [THEOREM-PROGRAM.md](THEOREM-PROGRAM.md)."],
+          " tables of a store behind its back. The events that are left only run many of these at once (`Pump`) or look (`Show` and those"
+          " behind it). How a line is spelled is on [THEOREM-PROGRAM.md](THEOREM-PROGRAM.md)."],
          [("schedules", "event", "Event")], True),
         ("What events speak of", ["The seats, services, connections and commands that stand in an event."],
          [("schedules", "event", "Event"), *[("base", "specs/Entity", it) for it in ("order_of", "stock_of", "account_of")]]),
