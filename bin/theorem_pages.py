@@ -310,7 +310,8 @@ CORE = {
          [("schedules", "event", "Event")], True),
         ("What events speak of", ["The seats, services, connections and commands that stand in an event."],
          [("schedules", "event", "Event"), *[("base", "specs/Entity", it) for it in ("order_of", "stock_of", "account_of")]]),
-        ("A world at the beginning", ["The call that opens a world, over stores that may have tables already."],
+        ("A world at the beginning", ["The call that opens a world, over stores that may have tables already. Each store stands in one"
+                                     " that fails where `Fail` has told it to (`Faulty`), and else does what the store in it does."],
          [("schedule_runner", "world", "World::open")], True),
         ("What a journal is", ["A row says which entity took in what: a seat's command, or a letter with its sender and its number. A"
                                " service's journal is a list of rows, to which only the end is added."],
@@ -351,7 +352,11 @@ CORE = {
                                   " are `StaysClean`, `StaysMatching`, `StaysGood` and `Agrees`."],
          [("schedule_runner", "specs/Sight", it) for it in ("sight", "StaysClean", "StaysMatching")]
          + [(*WORLD_GOOD, it) for it in ("IsGoodWorld", "StaysGood", "Agrees")]),
-        ("Commands that were told", ["What a seat was answered, and what the journals have."],
+        ("Commands that were told",
+         ["What a seat was answered, and what the journals have. It is told of each content that a stop may leave behind the run: there is"
+          " one that a stop might have left before it, with which it fits (`GoesBy`). What it is to fit `LedBy` takes as an argument: here"
+          " it is that the commands behind the old journals are those that were answered (`AllTold`), and in `Goes`, further below, that"
+          " the events lead from the one to the other."],
          [("schedule_runner", "specs/Told", it) for it in ("TellsCommand", "AreTold", "RecordsTold", "AllTold", "Told")]),
         ("A run, event by event",
          ["One event after another, each with its outcome; what an event does is on [THEOREM-EVENTS.md](THEOREM-EVENTS.md). `IsPath`"
