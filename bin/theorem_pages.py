@@ -14,7 +14,7 @@ PROMISE = [
     ("repeated", "`Resend`, a connection that is opened anew, and `Repeat`, which sends again what was ever accepted."),
     ("store failures", "`Fail`, at each read and each transaction, which leaves the old or the new tables. `MayLeave` is what may be found"
      " behind that, of each store by itself; `matching`, `goes`, `told`, `good` and `agree` speak of all of it."),
-    ("stops", "`Stop`, `Reopen` and `StopBroker`."),
+    ("stops", "`Stop`, `Reopen` and `StopBroker`, between any two events; amid one, where it calls its store, `Fail`."),
     ("loses", "What was answered committed stays in its journal, at its row (`told`). What a journal sends stands in the outbox until it"
      " is marked as settled (`TablesMatchJournal`, by `matching`), and what is marked so its receiver's journal has (`IsGood.settled`, by"
      " `good`)."),
@@ -303,7 +303,10 @@ CORE = {
           "- cuts connections at any octet (`Cut`), behind which what was on its way is lost, and opens them anew (`Open`);",
           "- lets what is sent be sent again: by a service (`Resend`), or by the broker, of all that it ever accepted (`Repeat`);",
           "- lets chosen reads fail, and chosen transactions fail and leave the old tables or the new ones (`Fail`);",
-          "- stops services and the broker at any time (`Stop`, `StopBroker`), and opens stores anew (`Reopen`).",
+          "- stops services and the broker between any two events (`Stop`, `StopBroker`), behind which a service has its store alone and a"
+          " broker nothing, and opens stores anew (`Reopen`). What a stop amid an event would leave of its transaction, the old tables or"
+          " the new ones, is what `Fail` leaves.",
+          "That memory is refused is no event: it may be at any growth, and no clause asks that it isn't.",
           "It has no event that puts octets of its own on a wire, changes one of those that are there, or their order, or changes the"
           " tables of a store behind its back. The events that are left only run many of these at once (`Pump`) or look (`Show` and those"
           " behind it). How a line is spelled is on [THEOREM-PROGRAM.md](THEOREM-PROGRAM.md)."],
