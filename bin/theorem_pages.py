@@ -349,10 +349,11 @@ CORE = {
           " a store that may be used that is what its tables are now (`IsSound`, a law of each store): so what is said of each content is"
           " said of the tables too."],
          [("keep", "specs/Seen", "Seen"), *[(*SIGHT, it) for it in ("Sight", "all_empty", "AreClean", "AreMatching", "MayLeave")]]),
-        ("Services that are good", ["What always holds of the three, whatever a stop leaves."],
+        ("Services that are good", ["What it is for the three to be good, whatever a stop leaves: in a good world they are, and it stays"
+                                      " one."],
          [(*GOOD, it) for it in ("IsGenuine", "IsGood", "AllAgree")]),
-        ("A world that is good", ["The same of a world, with what is on its way and with what its relays know. The clauses of `World::run`"
-                                  " are `StaysClean`, `StaysMatching`, `StaysGood` and `Agrees`."],
+        ("A world that is good", ["The same of a world, with what is on its way and with what its relays know; and four of the clauses of"
+                                  " `World::run`: `StaysClean`, `StaysMatching`, `StaysGood` and `Agrees`."],
          [("schedule_runner", "specs/Sight", it) for it in ("sight", "StaysClean", "StaysMatching")]
          + [(*WORLD_GOOD, it) for it in ("IsGoodWorld", "StaysGood", "Agrees")]),
         ("Commands that were told",
