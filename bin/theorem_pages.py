@@ -66,8 +66,8 @@ WITH_EXAMPLES = [
 SIGNS = [
     ("--", r"", "What follows on the line is a comment; in contracts of Rust `//` and `///` are."),
     ("x : T", r" : ", "`x` is of the type `T`; said of a proposition `T`, `x` is a proof of it."),
-    ("f a b", r"", "The function `f` at `a` and `b`; `f (g a)` has brackets, `f a b` has none. So do variants of an `enum` stand with their"
-     " fields, named or not, in the order in which these are declared."),
+    ("f a b", r"", "The function `f` at `a` and `b`; `f (g a)` has brackets, `f a b` has none. So do variants of an `enum` stand with"
+     " their fields, named or not, in the order in which these are declared."),
     ("Type 0", r"Type 0", "The type of types and of propositions: what ends in `→ Type 0` says something that holds or doesn't."),
     ("Type 1", r"Type 1", "The type of what has such types in it."),
     ("≡", r"≡", "Both are equal."),
@@ -242,10 +242,10 @@ CORE = {
         "- a mark of a pair is a number up to which its letters are settled, which the sender keeps, or handled, which the receiver"
         " keeps; a letter that comes too early is held until those before it were handled;",
         "- the partners of an order are the stock and the account that it asks; its line at one of them is what that has of it;",
-        "- a row, where nothing else is said, is one of a journal; the row of an entity is its state in the tables, and a row of the outbox"
-        " a letter that stands there;",
-        "- a store and a keep are one thing; a content is what a store's tables are, or may be found to be after a stop; a file is in doubt"
-        " once it gave back what wasn't written to it;",
+        "- a row, where nothing else is said, is one of a journal; the row of an entity is its state in the tables, and a row of the"
+        " outbox a letter that stands there;",
+        "- a store and a keep are one thing; a content is what a store's tables are, or may be found to be after a stop; a file is in"
+        " doubt once it gave back what wasn't written to it;",
         "- a world is one program: the three services, two connections of each with the broker, whose octets wait in memory until they are"
         " moved, and the mail, which is the broker and all that it ever accepted; no socket, no thread and no clock is in it, and nothing"
         " moves but by an event;",
@@ -284,9 +284,9 @@ CORE = {
         "promise",
         "premises",
         ("What isn't promised",
-         ["That a letter arrives or that an order is ever decided, that nobody is kept waiting, how long anything takes, and anything about"
-          " envelopes that somebody else puts on a wire. The clauses say what is true of what was done, and none says that something gets"
-          " done:",
+         ["That a letter arrives or that an order is ever decided, that nobody is kept waiting, how long anything takes, and anything"
+          " about envelopes that somebody else puts on a wire. The clauses say what is true of what was done, and none says that"
+          " something gets done:",
           "- a `World::run` that always answered `Err` before its first event, as for want of memory, and did nothing would meet each of"
           " them; and a command may be answered 64, that memory was refused, however often. Whether more is done where there is memory is"
           " seen where it runs, and isn't proved;",
@@ -334,9 +334,9 @@ CORE = {
          [("agreement", "specs/Journals", "HandlesPrefixes"), ("agreement", "specs/Journals", "AreLawful"),
           ("agreement", "specs/Envelopes", "IsAuthentic"), ("agreement", "specs/Envelopes", "SettledAreHandled")]),
         ("Partners that agree",
-         ["What follows for each order: it asks two partners, a stock and an account. Neither of them has shipped or billed while the other"
-          " has released or refused. One may have done it while the other still holds what it was asked for: it can't refuse any more, but"
-          " that it ever hears of it isn't promised."],
+         ["What follows for each order: it asks two partners, a stock and an account. Neither of them has shipped or billed while the"
+          " other has released or refused. One may have done it while the other still holds what it was asked for: it can't refuse any"
+          " more, but that it ever hears of it isn't promised."],
          [("agreement", "specs/Agreement", it) for it in ("states_in", "PartnersAgree", "AreSound")]),
         ("Tables, and when they match a journal",
          ["A service's store keeps the journal, and beside it what the service reads instead of going over the journal anew. All of that"
