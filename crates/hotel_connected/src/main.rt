@@ -53,7 +53,7 @@ fn talk(hotel: &mut Hotel, purchasing: &mut Purchasing) -> anyhow::Result<()> {
     for _ in 0..TURNS {
         if hotel.turn()? | purchasing.turn()? {
             quiet = 0;
-        } else if quiet == QUIET {
+        } else if quiet >= QUIET {
             return Ok(());
         } else {
             quiet += 1;
