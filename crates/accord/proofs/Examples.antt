@@ -178,6 +178,11 @@ empty_matches service = record {
   held = λ p n some. let no : false ≡ true = some in cc;
 }
 
+-- a journal's row without the order's state beside it doesn't match
+a_row_alone_does_not_match : TablesMatchJournal orders_service orders_placed → ⊥
+unfolding same_entity
+a_row_alone_does_not_match h = let row = h.entities o1 in absurd (cc)
+
 -- a placed order's tables match where its state and its letters stand beside the journal's row, and not with the row alone, also where
 -- only a stop leaves that
 the_tables_match : AreMatching (sees (either before after) (only empty)) × (AreMatching (sees (only orders_placed) (only empty)) → ⊥)

@@ -1,5 +1,5 @@
 -- Examples: rows that a service adds, what the laws deny, and steps.
-use Rattle.std.proofs.Common.{◌≡◌, ℕ, [], ◌∷◌, length, refl, ap, arith, inl, inr, Some}
+use Rattle.std.proofs.Common.{◌≡◌, ℕ, [], ◌∷◌, length, take, refl, ap, arith, inl, inr, Some}
 use Rattle.std.specs.Prelude.{codes, Contains, if◌then◌else◌}
 use Rattle.base.specs.Entity.{Name}
 use Rattle.base.specs.Order.{same_entity, same_pair}
@@ -20,10 +20,12 @@ use Rattle.activities.specs.Lines.{is_before}
 use Rattle.agreement.specs.Agreement.{states_in, line_at, HasRefused, PartnersAgree, RefusedAreLeftAlone}
 use Rattle.agreement.specs.Envelopes.{IsAuthentic, SettledAreHandled, Raises}
 use Rattle.agreement.specs.Growth.{IsFrom, AddsRow, AddsOrder, AddsStock, AddsAccount}
-use Rattle.agreement.specs.Journals.{Journals, HandlesPrefixes}
+use Rattle.agreement.specs.Journals.{Journals, HandlesPrefixes, handled_in}
 use Rattle.agreement.specs.Steps.{start, ConfigurationStep, Writes, Sends, IsConfigurationPath, IsGoodConfiguration}
-use Rattle.agreement.proofs.ConfirmedExamples.{order, stock, account, from_to, after_first, order_at}
-use Rattle.agreement.proofs.Machine.{ToStock, act, arrives, with_mark, mark_raises}
+use Rattle.agreement.proofs.Agreement.{partners_agree}
+use Rattle.agreement.proofs.ConfirmedExamples.{order, stock, account, from_to, schedule, after_first, order_at}
+use Rattle.agreement.proofs.Machine.{ToStock, act, acts_reach, arrives, with_mark, mark_raises}
+use Rattle.agreement.proofs.Steps.{start_good, reached_good}
 
 -- ---- rows
 
@@ -124,6 +126,25 @@ shipped_and_refused h = h.one_way stock account (inl refl) (inr (inl refl)) refl
 shipped_and_released : PartnersAgree ((states_in (apart 500)).orders order) (line_at (states_in (apart 500)) order) → ⊥
 unfolding same_entity
 shipped_and_released h = h.one_way stock account (inl refl) (inr (inl refl)) refl (inl refl)
+
+-- ---- journals that fit each other: those of the order that comes to be confirmed
+
+good_after : (count : ℕ) → IsGoodConfiguration (after_first count)
+good_after count = reached_good start (after_first count) (acts_reach (take count schedule) start) start_good
+
+-- the order has sent a request to each of its partners; the stock has handled its own, and the account has handled nothing yet
+beginnings_are_handled : HandlesPrefixes (after_first 5).journals
+beginnings_are_handled = (good_after 5).lawful.prefixes
+
+-- the stock is known to have handled two letters, and has handled two
+marks_are_of_what_was_handled : SettledAreHandled (after_first 18).journals (after_first 18).settled
+    × ((after_first 18).settled (from_to order stock) ≡ 2) × (handled_in (after_first 18).journals (from_to order stock) ≡ 2)
+unfolding same_entity same_pair is_before
+marks_are_of_what_was_handled = ((good_after 18).settled, refl, refl)
+
+-- the stock has shipped, and the account holds what it was asked for: it will bill, and can't release or refuse
+shipped_and_held : PartnersAgree ((states_in (after_first 14).journals).orders order) (line_at (states_in (after_first 14).journals) order)
+shipped_and_held = partners_agree (after_first 14).journals (good_after 14).lawful.prefixes order refl
 
 -- an order that knows that its account refused has told its stock to cancel; it may not have told the account too
 the_refused_is_left_alone : RefusedAreLeftAlone (order_at Cancelled Phase.Cancelled Phase.Refused)
