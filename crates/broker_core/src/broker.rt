@@ -114,7 +114,7 @@ impl<const FULL: usize> Broker<FULL> {
     }
 
     /// Takes a session away: its subscriptions end, what is out to them is ready again, and its transactions and octets are gone. It deals
-    /// nothing, and takes no memory.
+    /// nothing, and does the same where memory is refused.
     pub fn drop_session(&mut self, session: SessionId)
         ensures { self.new ≡ dropped session self.old (session_of session self.old) }
     {

@@ -171,7 +171,7 @@ impl Parts {
         }
     }
 
-    /// Undoes the steps of a transaction that began when `last` was the last message's number. It takes no memory.
+    /// Undoes the steps of a transaction that began when `last` was the last message's number. It does the same where memory is refused.
     fn undo(&mut self, last: u64, journal: &mut Journal)
         ensures { Undoes (holding_of self.old) last journal.old.answers.items (holding_of self.new) }
     {

@@ -63,7 +63,7 @@ impl Parts {
     }
 
     /// Ends a session's subscription of this name: what is out to it is ready again, in its old place. Where there is none, nothing
-    /// changes. It takes no memory.
+    /// changes. It does the same where memory is refused.
     pub fn release(&mut self, session: u64, id: &Text)
         ensures { ReleasesNamed (holding_of self.old) session id.now (holding_of self.new) }
     {
@@ -95,7 +95,7 @@ impl Parts {
         }
     }
 
-    /// Ends all subscriptions of a session: what is out to them is ready again, in its old place. It takes no memory.
+    /// Ends all subscriptions of a session: what is out to them is ready again, in its old place. It does the same where memory is refused.
     pub fn end(&mut self, session: u64)
         ensures { EndsAll (holding_of self.old) session (holding_of self.new) }
     {

@@ -154,7 +154,7 @@ impl Parts {
     }
 
     /// Takes back the deliveries of a subscriber for which an answer to the delivery `answered` counts, without an answer all: their
-    /// messages are ready again, or else gone. It takes no memory.
+    /// messages are ready again, or else gone. It does the same where memory is refused.
     pub fn answer(&mut self, age: u64, age_key: usize, answered: Option<u64>, again: bool)
         ensures { TurnsAll (holding_of self.old) age answered again (holding_of self.new) }
     {
@@ -215,7 +215,7 @@ impl Parts {
         self.first_held(self.sessions.get(session), ack)
     }
 
-    /// An ACK of a session, or a NACK where the messages are to be ready again. It takes no memory.
+    /// An ACK of a session, or a NACK where the messages are to be ready again. It does the same where memory is refused.
     ///
     /// # Errors
     /// Where no delivery of this number is out to the session; then nothing has changed.

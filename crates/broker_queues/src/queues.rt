@@ -92,14 +92,15 @@ impl<const FULL: usize> Queues<FULL> {
         self.shelf.count_of(session)
     }
 
-    /// Ends a session's subscription of this name: what is out to it is ready again, in its old place. It takes no memory.
+    /// Ends a session's subscription of this name: what is out to it is ready again, in its old place. It does the same where memory is
+    /// refused.
     pub fn release(&mut self, session: u64, id: &Text)
         ensures { self.new ≡ released self.old session id.now }
     {
         self.shelf.release(session, id)
     }
 
-    /// Ends all subscriptions of a session: what is out to them is ready again, in its old place. It takes no memory.
+    /// Ends all subscriptions of a session: what is out to them is ready again, in its old place. It does the same where memory is refused.
     pub fn end(&mut self, session: u64)
         ensures { self.new ≡ ended self.old session }
     {
@@ -114,7 +115,7 @@ impl<const FULL: usize> Queues<FULL> {
     }
 
     /// An ACK of a session (STOMP 1.2, section "ACK"): the message that is out as this delivery is gone, and in mode `client` those of the
-    /// subscription's earlier deliveries. It takes no memory.
+    /// subscription's earlier deliveries. It does the same where memory is refused.
     ///
     /// # Errors
     /// `NoSuchAck` where no such delivery is out to the session, and then nothing has changed.
@@ -125,7 +126,7 @@ impl<const FULL: usize> Queues<FULL> {
     }
 
     /// A NACK of a session (STOMP 1.2, section "NACK"): the message that is out as this delivery is ready again, in its old place, and in
-    /// mode `client` those of the subscription's earlier deliveries. It takes no memory.
+    /// mode `client` those of the subscription's earlier deliveries. It does the same where memory is refused.
     ///
     /// # Errors
     /// `NoSuchAck` where no such delivery is out to the session, and then nothing has changed.

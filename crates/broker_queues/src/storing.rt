@@ -130,7 +130,8 @@ impl Parts {
         }
     }
 
-    /// An ACK of a session, or a NACK where the messages are to be ready again; what is gone then is taken out. It takes no memory.
+    /// An ACK of a session, or a NACK where the messages are to be ready again; what is gone then is taken out. It does the same where
+    /// memory is refused.
     ///
     /// # Errors
     /// Where no delivery of this number is out to the session; then nothing has changed.
