@@ -186,6 +186,7 @@ EXAMPLES = [
     ("activities", "specs/Journal", "sent_of", (*ACTIVITIES, "letters_are_by_pair"), None),
     ("activities", "specs/Journal", "handled_of", (*ACTIVITIES, "handled_letters_are_counted"), None),
     ("activities", "specs/Journal", "IsLegal", (*ACTIVITIES, "placed_and_answered"), (*ACTIVITIES, "a_repeated_letter_is_not_legal")),
+    ("activities", "specs/Orders", "order_reactions", (*ACTIVITIES, "all_have_to_hold"), None),
     ("activities", "specs/Follow", "MayFollow", (*ACTIVITIES, "the_next_letter_may_follow"), (*ACTIVITIES, "no_other_seat_may_command")),
     ("agreement", "specs/Journals", "HandlesPrefixes", (*AGREEMENT, "beginnings_are_handled"), (*AGREEMENT, "nobody_asked")),
     ("agreement", "specs/Envelopes", "IsAuthentic", (*AGREEMENT, "a_request_is_authentic"), (*AGREEMENT, "others_are_not_authentic")),
@@ -335,8 +336,8 @@ CORE = {
          [("agreement", "specs/Journals", "HandlesPrefixes"), ("agreement", "specs/Journals", "AreLawful"),
           ("agreement", "specs/Envelopes", "IsAuthentic"), ("agreement", "specs/Envelopes", "SettledAreHandled")]),
         ("Partners that agree",
-         ["What follows for each order: it asks two partners, a stock and an account. Neither of them has shipped or billed while the"
-          " other has released or refused. One may have done it while the other still holds what it was asked for: it can't refuse any"
+         ["What follows for each order: it asks one to eight stocks and an account, its partners. None of them has shipped or billed while"
+          " another has released or refused. One may have done it while another still holds what it was asked for: it can't refuse any"
           " more, but that it ever hears of it isn't promised."],
          [("agreement", "specs/Agreement", it) for it in ("states_in", "PartnersAgree", "AreSound")]),
         ("Tables, and when they match a journal",

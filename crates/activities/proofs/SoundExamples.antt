@@ -11,7 +11,7 @@ use Rattle.activities.specs.declared.phase.Phase.{Phase}
 use Rattle.activities.specs.declared.phase.Status.TheVariants.{Open}
 use Rattle.activities.specs.Accounts.{AccountState}
 use Rattle.activities.specs.Lines.{Line}
-use Rattle.activities.specs.Sound.{IsInvariant, AreStocksThenAccount, IsOrderSound, AreLinesSound, IsStockSound, IsAccountSound}
+use Rattle.activities.specs.Sound.{IsInvariant, AreStocksThenAccount, ArePartners, IsOrderSound, AreLinesSound, IsStockSound, IsAccountSound}
 use Rattle.activities.specs.Stocks.{StockState, stock_reactions}
 use Rattle.activities.proofs.LineLists.{lines_sound-none}
 
@@ -45,7 +45,7 @@ stocks_and_then_an_account : AreStocksThenAccount (bolts ∷ acme ∷ []) × Are
 stocks_and_then_an_account = (
   (refl, (λ e. apart e, tt), refl),
   (refl, (λ e. others e, (λ e. apart e, tt)), (refl, (λ e. apart_too e, tt), refl)),
-  (refl, (λ e. apart e, tt), refl),
+  record { in_order = (refl, (λ e. apart e, tt), refl); some = omega arith; few = omega arith },
 )
   where
     first : Name → ℕ
@@ -60,7 +60,7 @@ stocks_and_then_an_account = (
     others : bolts ≡ nuts → ⊥
     others e = omega (arith, ap first e)
 
--- it asks somebody, an account at the end and nowhere else, no stock twice, and no order
+-- it asks a stock at least and eight at most, none twice, an account at the end and nowhere else, and no order
 other_partners :
     (AreStocksThenAccount [] → ⊥)
     × (AreStocksThenAccount (bolts ∷ []) → ⊥)
@@ -70,6 +70,9 @@ other_partners :
     × (AreStocksThenAccount (bolts ∷ nuts ∷ bolts ∷ acme ∷ []) → ⊥)
     × (AreStocksThenAccount (o1 ∷ acme ∷ []) → ⊥)
     × (IsOrderSound (Some (record { status = Open; partners = record { entity = bolts; n = 3; phase = Phase.Requested } ∷ [] })) → ⊥)
+    × (IsOrderSound (Some (record { status = Open; partners = record { entity = acme; n = 500; phase = Phase.Requested } ∷ [] })) → ⊥)
+    × (ArePartners (stock_of (codes "1") ∷ stock_of (codes "2") ∷ stock_of (codes "3") ∷ stock_of (codes "4") ∷ stock_of (codes "5")
+    ∷ stock_of (codes "6") ∷ stock_of (codes "7") ∷ stock_of (codes "8") ∷ stock_of (codes "9") ∷ acme ∷ []) → ⊥)
 other_partners = (
   λ h. h,
   λ h. absurd (cc),
@@ -78,7 +81,9 @@ other_partners = (
   λ h. h.1.0 refl,
   λ h. h.1.1.0 refl,
   λ h. let e = h.0 in absurd (cc),
-  λ h. absurd (cc),
+  λ h. let e = h.some in omega (arith, e),
+  λ h. let e = h.some in omega (arith, e),
+  λ h. let e = h.few in omega (arith, e),
 )
 
 -- ---- stocks and accounts

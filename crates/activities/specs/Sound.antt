@@ -1,12 +1,12 @@
 -- What always holds of an order, of a stock and of an account.
-use Rattle.std.specs.Prelude.{◌≡◌, ◌≢◌, ◌+◌, ◌≤◌, List, [], ◌∷◌, map, Option, Some, None, IfOk, ⊤}
+use Rattle.std.specs.Prelude.{◌≡◌, ◌≢◌, ◌+◌, ◌≤◌, ◌<◌, suc, length, List, [], ◌∷◌, map, Option, Some, None, IfOk, ⊤}
 use Rattle.std.specs.Cmp.Lexicographic.{slice_cmp}
 use Rattle.std.specs.List.{AllByRecursion}
 use Rattle.std.specs.List.Sorted.{IsStrictlySortedBy}
 use Rattle.std.specs.Ordering.{nat_cmp}
 use Rattle.base.specs.Entity.{Name}
 use Rattle.base.specs.declared.entity.Kind.TheVariants.{Order, Stock, Account}
-use Rattle.base.specs.declared.limits.TheConstants.{MAX_NUMBER}
+use Rattle.base.specs.declared.limits.TheConstants.{MAX_LINES, MAX_NUMBER}
 use Rattle.activities.specs.declared.input.Input.{Input}
 use Rattle.activities.specs.declared.phase.LinePhase.TheVariants.{Held, Done}
 use Rattle.activities.specs.Accounts.{AccountState}
@@ -26,10 +26,16 @@ AreStocksThenAccount [] = ⊥
 AreStocksThenAccount (e ∷ []) = e.kind ≡ Account
 AreStocksThenAccount (e ∷ es) = (e.kind ≡ Stock) × AllByRecursion (λ other. e ≢ other) es × AreStocksThenAccount es
 
--- of an order that was placed: so are its partners
+-- the partners of an order: one to eight stocks, each once, and then one account
+pub record ArePartners (es : List Name) : Type 0 where
+  pub in_order : AreStocksThenAccount es
+  pub some : 1 < length es
+  pub few : length es ≤ suc MAX_LINES
+
+-- of an order that was placed: its partners are such
 abbrev pub IsOrderSound : Option OrderState → Type 0
 IsOrderSound None = ⊤
-IsOrderSound (Some o) = AreStocksThenAccount (map (λ (p : Partner). p.entity) o.partners)
+IsOrderSound (Some o) = ArePartners (map (λ (p : Partner). p.entity) o.partners)
 
 -- no order has two lines
 abbrev pub HasOneLineEach : List Line → Type 0

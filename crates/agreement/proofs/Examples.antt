@@ -16,6 +16,7 @@ use Rattle.activities.specs.declared.input.Input.{Input}
 use Rattle.activities.specs.declared.input.Input.TheVariants.{FromSeat, FromEntity}
 use Rattle.activities.specs.declared.phase.Phase.{Phase}
 use Rattle.activities.specs.declared.phase.Status.TheVariants.{Cancelled}
+use Rattle.activities.specs.Items.{item}
 use Rattle.activities.specs.Lines.{is_before}
 use Rattle.agreement.specs.Agreement.{states_in, line_at, HasRefused, PartnersAgree, RefusedAreLeftAlone}
 use Rattle.agreement.specs.Envelopes.{IsAuthentic, SettledAreHandled, Raises}
@@ -111,7 +112,7 @@ a_line_of_no_partner h = let none = h.nowhere_else stock (λ no. no) in absurd (
 -- the stock has shipped, and the account has refused or released
 abbrev apart : ℕ → Journals
 apart limit = record {
-  orders = record { entity = order; input = FromSeat 0 (Place (codes "bolts") 3 (codes "acme") 500) } ∷ [];
+  orders = record { entity = order; input = FromSeat 0 (Place (item (codes "bolts") 3 ∷ []) (codes "acme") 500) } ∷ [];
   stocks = record { entity = stock; input = FromSeat 0 (Receive 10) } ∷ record { entity = stock; input = FromEntity order 1 (Request 3) }
       ∷ record { entity = stock; input = FromEntity order 2 Confirm } ∷ [];
   accounts = record { entity = account; input = FromSeat 0 (SetLimit limit) }

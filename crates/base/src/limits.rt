@@ -6,6 +6,9 @@ pub const MAX_KEY: usize = 64;
 /// The greatest number of a letter, a journal position, a quantity or an amount: 2^40.
 pub const MAX_NUMBER: u64 = 1_099_511_627_776;
 
+/// Stock lines of an order: 1 to this many.
+pub const MAX_LINES: usize = 8;
+
 /// Seats of a service, numbered from 0.
 pub const SEATS: u8 = 16;
 

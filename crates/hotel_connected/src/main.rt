@@ -4,7 +4,7 @@
 
 mod connected;
 
-use activities::{Handler, OrderCommand};
+use activities::{Handler, Items, OrderCommand};
 use anyhow::Context;
 use base::{Entity, Key, Pair};
 use broker_core::Broker;
@@ -90,8 +90,7 @@ fn place(alloc: Global) -> anyhow::Result<OrderCommand> {
     let stock = Key::read(alloc, "seven").context("no key")?;
     let account = Key::read(alloc, "ann").context("no key")?;
     Ok(OrderCommand::Place {
-        stock,
-        quantity: 1,
+        lines: Items::of_one(alloc, stock, 1)?,
         account,
         amount: 500,
     })

@@ -2,7 +2,7 @@
 
 use crate::answer::Answer;
 use crate::fault::LineFault;
-use activities::OrderCommand;
+use activities::{Items, OrderCommand};
 use base::{Entity, Key};
 use endpoint::Endpoint;
 use keep_plain::PlainKeep;
@@ -31,9 +31,9 @@ fn place_all(
     for number in 0..count {
         let name = format!(in alloc; "order/o{number}")?;
         let order = Entity::read(alloc, name.as_str())?;
+        let bolt = Key::read(alloc, "bolt")?;
         let command = OrderCommand::Place {
-            stock: Key::read(alloc, "bolt")?,
-            quantity: 1,
+            lines: Items::of_one(alloc, bolt, 1)?,
             account: Key::read(alloc, "ann")?,
             amount: 1,
         };

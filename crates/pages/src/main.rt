@@ -4,7 +4,7 @@
 mod examples;
 mod hotel_day;
 
-use activities::{Handler, OrderCommand, Outs};
+use activities::{Handler, Items, OrderCommand, Outs};
 use anyhow::Result;
 use base::{Entity, Key, Number, Pair};
 use billing::Accounts;
@@ -154,8 +154,7 @@ fn take_in(alloc: Global) -> Result<u64> {
     let account = Key::read(alloc, "ann")?;
     let order = Entity::read(alloc, "order/o1")?;
     let command = OrderCommand::Place {
-        stock,
-        quantity: 3,
+        lines: Items::of_one(alloc, stock, 3)?,
         account,
         amount: 500,
     };
@@ -173,9 +172,9 @@ fn room_pair(alloc: Global) -> Result<Pair> {
 fn cancelled(alloc: Global) -> Result<Endpoint<Orders, PlainKeep<Orders>>> {
     let mut purchasing: Endpoint<Orders, PlainKeep<Orders>> = Endpoint::new(PlainKeep::new(alloc));
     let order = Entity::read(alloc, "order/o1")?;
+    let seven = Key::read(alloc, "seven")?;
     let command = OrderCommand::Place {
-        stock: Key::read(alloc, "seven")?,
-        quantity: 2,
+        lines: Items::of_one(alloc, seven, 2)?,
         account: Key::read(alloc, "ann")?,
         amount: 500,
     };

@@ -22,7 +22,9 @@ const VERSION: &str = "0.1.0";
 /// What a schedule may hold and what it tells, for `--help`.
 const LINES: &str = "\
 Lines of a schedule:
-  place SEAT KEY STOCK N ACCOUNT AMOUNT  an order asks for N of a stock and AMOUNT of an account
+  place SEAT KEY STOCK N .. ACCOUNT AMOUNT
+                                         an order asks for N of each of one to eight stocks, and for
+                                         AMOUNT of an account
   cancel SEAT KEY                        cancels an order
   receive SEAT KEY N                     N of a stock came in
   limit SEAT KEY N                       the limit of an account is N from now on
@@ -65,6 +67,7 @@ What a line is answered, where nothing is shown:
   refused 61 71                          NotOpen: the order isn't open
   refused 61 72                          OutOfRange: a number is out of range
   refused 61 73                          BelowUse: the limit is below what is billed and held
+  refused 61 74                          BadLines: no line, more than eight, or one stock twice
   refused 63                             StoreFailed: both connections of the service are cut
   refused 65                             Unusable: the store failed, and wasn't opened anew
   refused 32, 36, 45, 66                 a queue is full, or no number is left

@@ -7,7 +7,9 @@ ghost use Rattle.activities.specs.Orders.{order_reactions};
 ghost use Rattle.activities.specs.Reaction.{react};
 
 use crate::Order;
-use activities::{Handler, HandlerFault, Input, OrderCommand, Outs, Reacting, Refusal, take_in};
+use activities::{
+    Handler, HandlerFault, Input, Items, OrderCommand, Outs, Reacting, Refusal, take_in,
+};
 use base::{Entity, Key, Kind, Number};
 use envelope::Message;
 use std::alloc::{AllocError, Global};
@@ -60,13 +62,11 @@ impl Handler for Orders {
     {
         match command {
             OrderCommand::Place {
-                stock,
-                quantity,
+                lines,
                 account,
                 amount,
             } => Ok(OrderCommand::Place {
-                stock: stock.copy(alloc)?,
-                quantity: *quantity,
+                lines: lines.copy(alloc)?,
                 account: account.copy(alloc)?,
                 amount: *amount,
             }),
@@ -106,11 +106,10 @@ impl Reacting for Orders {
     ) -> Result<(), HandlerFault> {
         match command {
             OrderCommand::Place {
-                stock,
-                quantity,
+                lines,
                 account,
                 amount,
-            } => place(alloc, state, stock, *quantity, account, *amount, outs),
+            } => place(alloc, state, lines, account, *amount, outs),
             OrderCommand::CancelOrder => cancel(alloc, state, outs),
         }
     }
@@ -133,29 +132,33 @@ impl Reacting for Orders {
     }
 }
 
-/// Places the order and asks its partners, if it wasn't placed before and both numbers are in range.
+/// Places the order and asks its partners, if it wasn't placed before, has one to eight lines, each of another stock, and its numbers
+/// are in range.
+#[tactic(auto, using(crate::proofs::Lists::placing_sends))]
 fn place(
     alloc: Global,
     state: &mut Option<Order>,
-    stock: &Key,
-    quantity: u64,
+    lines: &Items,
     account: &Key,
     amount: u64,
     outs: &mut Outs,
 ) -> Result<(), HandlerFault>
-    ensures { IsAnswered (order_reactions.on_command state.old (OrderCommand.Place stock.now quantity account.now amount))
+    ensures { IsAnswered (order_reactions.on_command state.old (OrderCommand.Place lines.now account.now amount))
         state.old outs.old state.new outs.new result }
 {
     if state.is_some() {
         return Err(HandlerFault::Business(Refusal::AlreadyPlaced));
     }
-    let Some(quantity) = number_in_range(quantity) else {
+    if !lines.are_lines() {
+        return Err(HandlerFault::Business(Refusal::BadLines));
+    }
+    if !lines.are_numbers() {
         return Err(HandlerFault::Business(Refusal::OutOfRange));
-    };
+    }
     let Some(amount) = number_in_range(amount) else {
         return Err(HandlerFault::Business(Refusal::OutOfRange));
     };
-    let order = Order::open(alloc, stock, quantity, account, amount)?;
+    let order = Order::open(alloc, lines, account, amount)?;
     order.request(alloc, outs)?;
     *state = Some(order);
     Ok(())

@@ -9,6 +9,7 @@ use Rattle.activities.specs.declared.commands.OrderCommand.{OrderCommand}
 use Rattle.activities.specs.declared.commands.OrderCommand.TheVariants.{Place}
 use Rattle.activities.specs.declared.handler.Refusal.TheVariants.{AlreadyPlaced}
 use Rattle.activities.specs.declared.input.JournalRow.{JournalRow}
+use Rattle.activities.specs.Items.{item}
 use Rattle.activities.specs.Numbered.{nth}
 use Rattle.activities.specs.Service.{Service}
 use Rattle.activities.proofs.Legal.{legal-none}
@@ -56,7 +57,7 @@ TheWorld = World (Store OrderTables) (Store StockTables) (Store AccountTables)
 
 -- seat 0 places the order
 abbrev asked : SeatCommand OrderCommand
-asked = record { seat = 0; entity = o1; command = Place (codes "bolts") 3 (codes "acme") 500 }
+asked = record { seat = 0; entity = o1; command = Place (item (codes "bolts") 3 ∷ []) (codes "acme") 500 }
 
 -- the tables of services that did nothing match
 no_message : (n : ℕ) → nth [] n ≡ None

@@ -10,6 +10,7 @@ use Rattle.activities.specs.declared.commands.AccountCommand.{AccountCommand}
 use Rattle.activities.specs.declared.commands.AccountCommand.TheVariants.{SetLimit}
 use Rattle.activities.specs.declared.input.Input.TheVariants.{FromEntity}
 use Rattle.activities.specs.declared.input.JournalRow.{JournalRow}
+use Rattle.activities.specs.Items.{item}
 use Rattle.endpoint.proofs.Examples.{o1, bolts, acme, placing}
 use Rattle.keep.specs.Tables.{empty}
 use Rattle.accord.specs.Sight.{AllTables, all_empty}
@@ -22,7 +23,7 @@ use Rattle.schedule_runner.specs.Told.{AllTold}
 
 -- seat 0 places an order, books stock and sets a limit
 abbrev placed : SeatCommand OrderCommand
-placed = record { seat = 0; entity = o1; command = Place (codes "bolts") 3 (codes "acme") 500 }
+placed = record { seat = 0; entity = o1; command = Place (item (codes "bolts") 3 ∷ []) (codes "acme") 500 }
 
 abbrev received : SeatCommand StockCommand
 received = record { seat = 0; entity = bolts; command = Receive 10 }

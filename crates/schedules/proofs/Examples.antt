@@ -7,6 +7,7 @@ use Rattle.activities.specs.declared.commands.OrderCommand.{OrderCommand}
 use Rattle.activities.specs.declared.commands.OrderCommand.TheVariants.{Place, CancelOrder}
 use Rattle.activities.specs.declared.commands.StockCommand.TheVariants.{Receive}
 use Rattle.activities.specs.declared.commands.AccountCommand.TheVariants.{SetLimit}
+use Rattle.activities.specs.Items.{item}
 use Rattle.schedules.specs.declared.event.Event.{Event}
 use Rattle.schedules.specs.declared.event.Event.TheVariants.{Order, Stock, Account, Open, Cut, Fill, Resend, Carry, Take, Drain}
 use Rattle.schedules.specs.declared.event.Event.TheVariants.{Repeat, Fail, Reopen, Stop, StopBroker, Pump, Show, Pair, Frames, Journal, Agreement}
@@ -90,12 +91,21 @@ abbrev last : ConnectionName
 last = record { service = Billing; number = One }
 
 -- seat, key, stock, quantity, account, amount; seat, key; and seat, key, number
-commands_are_read : Says (codes "place 0 o1 bolts 3 acme 500") (Order (asks_order 0 (Place (codes "bolts") 3 (codes "acme") 500)))
+commands_are_read : Says (codes "place 0 o1 bolts 3 acme 500")
+    (Order (asks_order 0 (Place (item (codes "bolts") 3 ∷ []) (codes "acme") 500)))
     × Says (codes "cancel 15 o1") (Order (asks_order 15 CancelOrder))
     × Says (codes "receive 1 bolts 10") (Stock (record { seat = 1; entity = stock_of (codes "bolts"); command = Receive 10 }))
     × Says (codes "limit 2 acme 0") (Account (record { seat = 2; entity = account_of (codes "acme"); command = SetLimit 0 }))
 unfolding is_utf8 chars lib.Utf8.encode
 commands_are_read = (refl, refl, refl, refl)
+
+-- a stock and a quantity for each line, in their order; that there are one to eight the order sees to
+lines_are_read : Says (codes "place 0 o1 nuts 4 bolts 3 acme 500")
+    (Order (asks_order 0 (Place (item (codes "nuts") 4 ∷ item (codes "bolts") 3 ∷ []) (codes "acme") 500)))
+    × Says (codes "place 0 o1 acme 500") (Order (asks_order 0 (Place [] (codes "acme") 500)))
+    × (Is (codes "place 0 o1 bolts 3 nuts acme 500") None) × (Is (codes "place 0 o1 acme") None) × (Is (codes "place 0 o1") None)
+unfolding is_utf8 chars lib.Utf8.encode
+lines_are_read = (refl, refl, refl, refl, refl)
 
 -- a service and the number of its connection, and what the event needs beside
 connections_are_read : Says (codes "open purchasing 0") (Open first) × Says (codes "cut billing 1") (Cut last)

@@ -1,5 +1,6 @@
 pub mod Cuts
 pub mod Joins
+pub mod Pairs
 pub mod Steps
 pub mod Numerals
 pub mod Named

@@ -18,6 +18,7 @@ use Rattle.base.specs.declared.pair.Pair.{Pair}
 use Rattle.activities.specs.declared.commands.OrderCommand.{OrderCommand}
 use Rattle.activities.specs.declared.commands.StockCommand.{StockCommand}
 use Rattle.activities.specs.declared.commands.AccountCommand.{AccountCommand}
+use Rattle.activities.specs.declared.items.Item.{Item}
 use Rattle.schedules.specs.declared.event.SeatCommand.{SeatCommand}
 use Rattle.schedules.specs.declared.event.Event.{Event}
 use Rattle.schedules.specs.declared.event.Event.TheVariants as event
@@ -36,7 +37,7 @@ use Rattle.schedules.specs.Words.{◌>>=◌, meant_by, octet_then, unescaped, wo
 use Rattle.schedules.specs.Numbers.{numeral_value, seat_number, ordinal_number, rounds_number}
 use Rattle.schedules.specs.Arguments.{seat_of, ordinal_of, rounds_of, key_of, named, entity_of, service_of, connection_number}
 use Rattle.schedules.specs.Arguments.{way_of, leaves_of}
-use Rattle.schedules.specs.Commands.{placing_of, place_of, cancel_of, receive_of, limit_of}
+use Rattle.schedules.specs.Commands.{item_of, pairs_of, placing_of, place_of, cancel_of, receive_of, limit_of}
 use Rattle.schedules.specs.Verbs.{verbs, verb_of}
 use Rattle.schedules.specs.Events.{alone, connection_of, fill_of, carry_of, fail_of, stopped_of, pair_of, agreement_of, event_by, event_of}
 use Rattle.schedules.specs.Schedules.{Language, is_quiet, found_on}
@@ -180,38 +181,46 @@ entity_size word e is =
 abbrev pub AreWithin : List (List ℕ) → ℕ → ℕ → Type 0
 AreWithin words octets most = (widest words ≤ octets) × (length words ≤ most)
 
-placing_size : (words : List (List ℕ)) (command : OrderCommand) → placing_of words ≡ Some command → AreWithin words 340 4
-placing_size [] command e = absurd cc
-placing_size (a ∷ []) command e = absurd cc
-placing_size (a ∷ b ∷ []) command e = absurd cc
-placing_size (a ∷ b ∷ c ∷ []) command e = absurd cc
-placing_size (stock ∷ n ∷ account ∷ amount ∷ []) command e =
-    let first = bound (key_of stock) _ command e in
-    let second = bound (numeral_value n) _ command first.2 in
-    let third = bound (key_of account) _ command second.2 in
-    let fourth = bound (numeral_value amount) _ command third.2 in (
-      omega (
-        arith,
-        key_size stock first.0 first.1,
-        number_size n second.0 second.1,
-        key_size account third.0 third.1,
-        number_size amount fourth.0 fourth.1,
-      ),
-      omega arith,
-    )
-placing_size (a ∷ b ∷ c ∷ d ∷ more ∷ rest) command e = absurd cc
+item_size : (words : List (List ℕ)) (item : Item) → item_of words ≡ Some item → AreWithin words 170 2
+item_size [] item e = absurd cc
+item_size (stock ∷ []) item e = absurd cc
+item_size (stock ∷ n ∷ []) item e =
+    let first = bound (key_of stock) _ item e in
+    let second = bound (numeral_value n) _ item first.2 in
+    (omega (arith, key_size stock first.0 first.1, number_size n second.0 second.1), omega arith)
+item_size (stock ∷ n ∷ more ∷ rest) item e = absurd cc
 
-place_size : (words : List (List ℕ)) (asked : SeatCommand OrderCommand) → place_of words ≡ Some asked → AreWithin words 510 6
+-- two words, of whatever is asked, spell 170 octets at most
+pairs_size : (words : List (List ℕ)) (command : OrderCommand) → pairs_of words ≡ Some command → 2 * widest words ≤ 170 * length words
+pairs_size [] command e = absurd cc
+pairs_size (a ∷ []) command e = absurd cc
+pairs_size (account ∷ amount ∷ []) command e =
+    let first = bound (key_of account) _ command e in
+    let second = bound (numeral_value amount) _ command first.2 in
+    omega (arith, key_size account first.0 first.1, number_size amount second.0 second.1)
+pairs_size (stock ∷ n ∷ other ∷ words) command e =
+    let first = bound (item_of (stock ∷ n ∷ [])) _ command e in
+    let second = bound (pairs_of (other ∷ words)) _ command first.2 in
+    let pair : AreWithin (stock ∷ n ∷ []) 170 2 = item_size (stock ∷ n ∷ []) first.0 first.1 in
+    omega (arith, pair.0, pairs_size (other ∷ words) second.0 second.1)
+
+placing_size : (words : List (List ℕ)) (command : OrderCommand) → placing_of words ≡ Some command → AreWithin words 2890 34
+placing_size words command e = elim (chosen (leb (length words) 34) (pairs_of words) None command e) [
+  | inl found ↦ let few : length words ≤ 34 = leb-true _ _ found.0 in (omega (arith, few, pairs_size words command found.1), few)
+  | inr none ↦ absurd cc
+]
+
+place_size : (words : List (List ℕ)) (asked : SeatCommand OrderCommand) → place_of words ≡ Some asked → AreWithin words 3060 36
 place_size [] asked e = absurd cc
 place_size (seat ∷ []) asked e = absurd cc
 place_size (seat ∷ key ∷ arguments) asked e =
     let first = bound (seat_of seat) _ asked e in
     let second = bound (key_of key) _ asked first.2 in
     let third = bound (placing_of arguments) _ asked second.2 in
-    let rest : AreWithin arguments 340 4 = placing_size arguments third.0 third.1 in
+    let rest : AreWithin arguments 2890 34 = placing_size arguments third.0 third.1 in
     (omega (arith, seat_size seat first.0 first.1, key_size key second.0 second.1, rest.0), omega (arith, rest.1))
 
-cancel_size : (words : List (List ℕ)) (asked : SeatCommand OrderCommand) → cancel_of words ≡ Some asked → AreWithin words 510 6
+cancel_size : (words : List (List ℕ)) (asked : SeatCommand OrderCommand) → cancel_of words ≡ Some asked → AreWithin words 3060 36
 cancel_size [] asked e = absurd cc
 cancel_size (seat ∷ []) asked e = absurd cc
 cancel_size (seat ∷ key ∷ []) asked e =
@@ -220,7 +229,7 @@ cancel_size (seat ∷ key ∷ []) asked e =
     (omega (arith, seat_size seat first.0 first.1, key_size key second.0 second.1), omega arith)
 cancel_size (seat ∷ key ∷ more ∷ rest) asked e = absurd cc
 
-receive_size : (words : List (List ℕ)) (asked : SeatCommand StockCommand) → receive_of words ≡ Some asked → AreWithin words 510 6
+receive_size : (words : List (List ℕ)) (asked : SeatCommand StockCommand) → receive_of words ≡ Some asked → AreWithin words 3060 36
 receive_size [] asked e = absurd cc
 receive_size (seat ∷ []) asked e = absurd cc
 receive_size (seat ∷ key ∷ []) asked e = absurd cc
@@ -231,7 +240,7 @@ receive_size (seat ∷ key ∷ n ∷ []) asked e =
     (omega (arith, seat_size seat first.0 first.1, key_size key second.0 second.1, number_size n third.0 third.1), omega arith)
 receive_size (seat ∷ key ∷ n ∷ more ∷ rest) asked e = absurd cc
 
-limit_size : (words : List (List ℕ)) (asked : SeatCommand AccountCommand) → limit_of words ≡ Some asked → AreWithin words 510 6
+limit_size : (words : List (List ℕ)) (asked : SeatCommand AccountCommand) → limit_of words ≡ Some asked → AreWithin words 3060 36
 limit_size [] asked e = absurd cc
 limit_size (seat ∷ []) asked e = absurd cc
 limit_size (seat ∷ key ∷ []) asked e = absurd cc
@@ -312,7 +321,7 @@ stopped_size word it e =
 -- ---- arguments
 
 alone_size : {A : Type 0} (meant : List ℕ → Option A) → ((word : List ℕ) (x : A) → meant word ≡ Some x → length word ≤ 72)
-    → (words : List (List ℕ)) (x : A) → alone meant words ≡ Some x → AreWithin words 510 6
+    → (words : List (List ℕ)) (x : A) → alone meant words ≡ Some x → AreWithin words 3060 36
 alone_size meant short [] x e = absurd cc
 alone_size meant short (word ∷ []) x e = (omega (arith, short word x e), omega arith)
 alone_size meant short (word ∷ more ∷ rest) x e = absurd cc
@@ -326,11 +335,12 @@ connection_size (service ∷ number ∷ []) connection e =
     (omega (arith, service_size service first.0 first.1, connection_number_size number second.0 second.1), omega arith)
 connection_size (service ∷ number ∷ more ∷ rest) connection e = absurd cc
 
-any_connection_size : (words : List (List ℕ)) (connection : ConnectionName) → connection_of words ≡ Some connection → AreWithin words 510 6
+any_connection_size : (words : List (List ℕ)) (connection : ConnectionName) → connection_of words ≡ Some connection
+    → AreWithin words 3060 36
 any_connection_size words connection e =
     let few : AreWithin words 24 2 = connection_size words connection e in (omega (arith, few.0), omega (arith, few.1))
 
-fill_size : (words : List (List ℕ)) (event : Event) → fill_of words ≡ Some event → AreWithin words 510 6
+fill_size : (words : List (List ℕ)) (event : Event) → fill_of words ≡ Some event → AreWithin words 3060 36
 fill_size [] event e = absurd cc
 fill_size (service ∷ []) event e = absurd cc
 fill_size (service ∷ number ∷ []) event e = absurd cc
@@ -341,7 +351,7 @@ fill_size (service ∷ number ∷ limit ∷ []) event e =
     (omega (arith, few.0, number_size limit second.0 second.1), omega arith)
 fill_size (service ∷ number ∷ limit ∷ more ∷ rest) event e = absurd cc
 
-carry_size : (words : List (List ℕ)) (event : Event) → carry_of words ≡ Some event → AreWithin words 510 6
+carry_size : (words : List (List ℕ)) (event : Event) → carry_of words ≡ Some event → AreWithin words 3060 36
 carry_size [] event e = absurd cc
 carry_size (service ∷ []) event e = absurd cc
 carry_size (service ∷ number ∷ []) event e = absurd cc
@@ -354,7 +364,7 @@ carry_size (service ∷ number ∷ way ∷ most ∷ []) event e =
     (omega (arith, few.0, way_size way second.0 second.1, number_size most third.0 third.1), omega arith)
 carry_size (service ∷ number ∷ way ∷ most ∷ more ∷ rest) event e = absurd cc
 
-fail_size : (words : List (List ℕ)) (event : Event) → fail_of words ≡ Some event → AreWithin words 510 6
+fail_size : (words : List (List ℕ)) (event : Event) → fail_of words ≡ Some event → AreWithin words 3060 36
 fail_size [] event e = absurd cc
 fail_size (service ∷ []) event e = absurd cc
 fail_size (service ∷ n ∷ []) event e = absurd cc
@@ -372,7 +382,7 @@ fail_size (service ∷ n ∷ leaves ∷ []) event e =
     )
 fail_size (service ∷ n ∷ leaves ∷ more ∷ rest) event e = absurd cc
 
-pair_size : (words : List (List ℕ)) (pair : Pair) → pair_of words ≡ Some pair → AreWithin words 510 6
+pair_size : (words : List (List ℕ)) (pair : Pair) → pair_of words ≡ Some pair → AreWithin words 3060 36
 pair_size [] pair e = absurd cc
 pair_size (from ∷ []) pair e = absurd cc
 pair_size (from ∷ to ∷ []) pair e =
@@ -387,10 +397,10 @@ no_arguments (more ∷ rest) event e = absurd cc
 
 -- what is made of arguments that are within the sizes
 made_size : {A E : Type 0} (make : A → E) (found : Option A) (words : List (List ℕ)) (event : E)
-    → ((x : A) → found ≡ Some x → AreWithin words 510 6) → option_map make found ≡ Some event → AreWithin words 510 6
+    → ((x : A) → found ≡ Some x → AreWithin words 3060 36) → option_map make found ≡ Some event → AreWithin words 3060 36
 made_size make found words event within e = let x = mapped make found event e in within x.0 x.1
 
-arguments_size : (of : Verb) (words : List (List ℕ)) (event : Event) → event_by of words ≡ Some event → AreWithin words 510 6
+arguments_size : (of : Verb) (words : List (List ℕ)) (event : Event) → event_by of words ≡ Some event → AreWithin words 3060 36
 arguments_size verb.Place words it e = made_size event.Order (place_of words) words it (place_size words) e
 arguments_size verb.Cancel words it e = made_size event.Order (cancel_of words) words it (cancel_size words) e
 arguments_size verb.Receive words it e = made_size event.Stock (receive_of words) words it (receive_size words) e
@@ -443,16 +453,16 @@ verb_most _ = 7
 
 -- each event of a language has few and short words
 abbrev pub Fits : {E : Type 0} → Language E → Type 0
-Fits {E} event_of = (words : List (List ℕ)) (it : E) → event_of words ≡ Some it → AreWithin words 525 7
+Fits {E} event_of = (words : List (List ℕ)) (it : E) → event_of words ≡ Some it → AreWithin words 3075 37
 
 -- the word of a verb alone, or with its arguments
 said_size : (of : Verb) (name : List ℕ) (arguments : List (List ℕ)) (it : Event) → length name ≤ verb_most of
-    → event_by of arguments ≡ Some it → AreWithin (name ∷ arguments) 525 7
+    → event_by of arguments ≡ Some it → AreWithin (name ∷ arguments) 3075 37
 said_size verb.Agreement name arguments it short e =
     let none : AreWithin arguments 0 0 = no_arguments arguments it e in
     (omega (arith, short, none.0), omega (arith, none.1))
 said_size of name arguments it short e =
-    let rest : AreWithin arguments 510 6 = arguments_size of arguments it e in
+    let rest : AreWithin arguments 3060 36 = arguments_size of arguments it e in
     (omega (arith, short, rest.0), omega (arith, rest.1))
 
 pub events_fit : Fits event_of
@@ -464,10 +474,10 @@ events_fit (name ∷ arguments) it e =
 
 -- the line of an event has at most so many octets, and so many words
 line_size : {E : Type 0} (event_of : Language E) → Fits event_of → (line : List ℕ) (event : E) → (words_of line >>= event_of) ≡ Some event
-    → (length line ≤ 524) × (length (slice_split (λ o. eqb o 32) line) ≤ 7)
+    → (length line ≤ 3074) × (length (slice_split (λ o. eqb o 32) line) ≤ 37)
 line_size event_of fits line event e =
     let words = bound (words_of line) event_of event e in
-    let event_is : AreWithin words.0 525 7 = fits words.0 event words.2 in
+    let event_is : AreWithin words.0 3075 37 = fits words.0 event words.2 in
     let parts = words_size (slice_split (λ o. eqb o 32) line) words.0 words.1 in
     (omega (arith, split_size line, parts.0, event_is.0), omega (arith, parts.1, event_is.1))
 
@@ -483,11 +493,11 @@ above a b p e = elim (cases_Bool (ltb a b)) [
 
 -- a line with more octets, or with as many spaces as an event may have words, has no event
 pub no_event : {E : Type 0} (event_of : Language E) → Fits event_of → (line : List ℕ)
-    → (ltb 524 (length line) || leb 7 (count_by (λ o. eqb o 32) line)) ≡ true → (words_of line >>= event_of) ≡ None
+    → (ltb 3074 (length line) || leb 37 (count_by (λ o. eqb o 32) line)) ≡ true → (words_of line >>= event_of) ≡ None
 no_event event_of fits line long =
     none_of (words_of line >>= event_of) (λ it is.
     let size = line_size event_of fits line it is in
-    elim (above 524 (length line) (leb 7 (count_by (λ o. eqb o 32) line)) long) [
+    elim (above 3074 (length line) (leb 37 (count_by (λ o. eqb o 32) line)) long) [
       | inl octets ↦ omega (arith, size.0, octets)
       | inr spaces ↦ omega (arith, size.1, leb-true _ _ spaces, length-slice_split (λ o. eqb o 32) line)
     ])
@@ -501,6 +511,6 @@ event_words true false (Some x) it e = cc
 event_words false quiet found it e = absurd cc
 
 pub event_line_size : (line : List ℕ) (it : Event) → found_on event_of line ≡ Some (Some it)
-    → (length line ≤ 524) × (length (slice_split (λ o. eqb o 32) line) ≤ 7)
+    → (length line ≤ 3074) × (length (slice_split (λ o. eqb o 32) line) ≤ 37)
 event_line_size line it is =
     line_size event_of events_fit line it (event_words (is_utf8 line) (is_quiet line) (words_of line >>= event_of) it is)

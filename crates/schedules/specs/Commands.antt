@@ -1,5 +1,5 @@
 -- The commands of seats, as words say them.
-use Rattle.std.specs.Prelude.{ℕ, List, [], ◌∷◌, Option, Some, None}
+use Rattle.std.specs.Prelude.{ℕ, nat_le, List, [], ◌∷◌, ◌++◌, length, Option, Some, None, if◌then◌else◌}
 use Rattle.base.specs.Entity.{order_of, stock_of, account_of}
 use Rattle.activities.specs.declared.commands.OrderCommand.{OrderCommand}
 use Rattle.activities.specs.declared.commands.OrderCommand.TheVariants.{Place, CancelOrder}
@@ -7,22 +7,43 @@ use Rattle.activities.specs.declared.commands.StockCommand.{StockCommand}
 use Rattle.activities.specs.declared.commands.StockCommand.TheVariants.{Receive}
 use Rattle.activities.specs.declared.commands.AccountCommand.{AccountCommand}
 use Rattle.activities.specs.declared.commands.AccountCommand.TheVariants.{SetLimit}
+use Rattle.activities.specs.declared.items.Item.{Item}
+use Rattle.activities.specs.Items.{item}
 use Rattle.schedules.specs.declared.event.SeatCommand.{SeatCommand}
 use Rattle.schedules.specs.Arguments.{seat_of, key_of}
 use Rattle.schedules.specs.Numbers.{numeral_value}
 use Rattle.schedules.specs.Words.{◌>>=◌}
 
--- STOCK N ACCOUNT AMOUNT
-abbrev pub placing_of : List (List ℕ) → Option OrderCommand
-placing_of (stock ∷ n ∷ account ∷ amount ∷ []) = do
+-- STOCK N
+abbrev pub item_of : List (List ℕ) → Option Item
+item_of (stock ∷ n ∷ []) = do
   stock ← key_of stock
   n ← numeral_value n
+  Some (item stock n)
+item_of _ = None
+
+-- what is asked for once these items are, before the others
+abbrev pub asked_first : List Item → OrderCommand → OrderCommand
+asked_first items (Place others account amount) = Place (items ++ others) account amount
+asked_first items CancelOrder = CancelOrder
+
+-- ACCOUNT AMOUNT, behind STOCK N for each stock
+abbrev pub pairs_of : List (List ℕ) → Option OrderCommand
+pairs_of (account ∷ amount ∷ []) = do
   account ← key_of account
   amount ← numeral_value amount
-  Some (Place stock n account amount)
-placing_of _ = None
+  Some (Place [] account amount)
+pairs_of (stock ∷ n ∷ words) = do
+  item ← item_of (stock ∷ n ∷ [])
+  others ← pairs_of words
+  Some (asked_first (item ∷ []) others)
+pairs_of _ = None
 
--- SEAT KEY STOCK N ACCOUNT AMOUNT
+-- the same, for 16 stocks at most
+abbrev pub placing_of : List (List ℕ) → Option OrderCommand
+placing_of words = if nat_le (length words) 34 then pairs_of words else None
+
+-- SEAT KEY STOCK N .. ACCOUNT AMOUNT
 abbrev pub place_of : List (List ℕ) → Option (SeatCommand OrderCommand)
 place_of (seat ∷ key ∷ arguments) = do
   seat ← seat_of seat

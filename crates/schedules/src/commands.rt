@@ -1,36 +1,58 @@
 //! The commands of seats, read from words.
 
-ghost use Rattle.schedules.specs.Commands.{placing_of, place_of, cancel_of, receive_of, limit_of};
+ghost use Rattle.schedules.specs.Commands.{item_of, placing_of, place_of, cancel_of, receive_of, limit_of};
 ghost use Rattle.schedules.specs.Reading.{Reads};
 
 use crate::arguments::{key_at, number_at, seat_at};
 use crate::event::SeatCommand;
 use crate::fault::LineFault;
 use crate::words::Word;
-use activities::{AccountCommand, OrderCommand, StockCommand};
+use activities::{AccountCommand, Item, Items, OrderCommand, StockCommand};
 use base::{Entity, Kind};
 use std::alloc::Global;
 
-/// `STOCK N ACCOUNT AMOUNT`: asks both partners.
-fn read_placing(alloc: Global, words: &[Word]) -> Result<OrderCommand, LineFault>
-    ensures { Reads (λ command. command) result (placing_of words.now) }
+/// The most words behind `SEAT KEY`: 16 pairs `STOCK N`, and `ACCOUNT AMOUNT`.
+const MOST_WORDS: usize = 34;
+
+/// `STOCK N`: so much of a stock.
+fn read_item(alloc: Global, words: &[Word]) -> Result<Item, LineFault>
+    ensures { Reads (λ item. item) result (item_of words.now) }
 {
-    let [stock, quantity, account, amount] = words else {
+    let [stock, quantity] = words else {
         return Err(LineFault::Bad);
     };
     let stock = key_at(alloc, stock)?;
     let quantity = number_at(quantity)?;
+    Ok(Item { stock, quantity })
+}
+
+/// `STOCK N .. ACCOUNT AMOUNT`: asks each stock, and the account.
+fn read_placing(alloc: Global, words: &[Word]) -> Result<OrderCommand, LineFault>
+    ensures { Reads (λ command. command) result (placing_of words.now) }
+{
+    if words.len() > MOST_WORDS {
+        return Err(LineFault::Bad);
+    }
+    let mut items = Vec::new(alloc);
+    let mut rest = words;
+    while rest.len() > 2 {
+        let (pair, others) = rest.split_at(2);
+        items.push(read_item(alloc, pair)?)?;
+        rest = others;
+    }
+    let [account, amount] = rest else {
+        return Err(LineFault::Bad);
+    };
     let account = key_at(alloc, account)?;
     let amount = number_at(amount)?;
     Ok(OrderCommand::Place {
-        stock,
-        quantity,
+        lines: Items::from_vec(items),
         account,
         amount,
     })
 }
 
-/// `SEAT KEY STOCK N ACCOUNT AMOUNT`: places an order.
+/// `SEAT KEY STOCK N .. ACCOUNT AMOUNT`: places an order.
 pub(crate) fn read_place(
     alloc: Global,
     words: &[Word],

@@ -31,8 +31,8 @@ pub fn written_lines_are_read_again()
         × (text ≡ ended lines ++ last) }
 {}
 
-/// The line of an event has at most 524 octets and 7 words.
+/// The line of an event has at most 3,074 octets and 37 words.
 pub fn an_event_has_few_words()
     ensures { (line : List ℕ) (event : Event) → found_on event_of line ≡ Some (Some event)
-        → (length line ≤ 524) × (length (slice_split (λ o. o == 32) line) ≤ 7) }
+        → (length line ≤ 3074) × (length (slice_split (λ o. o == 32) line) ≤ 37) }
 {}

@@ -14,10 +14,10 @@ use crate::words::read_words;
 use std::alloc::{AllocError, Global};
 
 /// The most octets of an event's line, were each octet of its words escaped.
-const LONGEST_LINE: usize = 524;
+const LONGEST_LINE: usize = 3_074;
 
 /// The most words of an event: those of `place`.
-const MOST_WORDS: usize = 7;
+const MOST_WORDS: usize = 37;
 
 /// Whether a line has nothing to run: it's empty, or a comment.
 fn is_quiet(line: &str) -> bool

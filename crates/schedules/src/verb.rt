@@ -6,7 +6,7 @@ ghost use Rattle.schedules.specs.Verbs.{verb_of};
 /// The first word of a line, which names its event.
 #[derive(Clone, Copy)]
 pub(crate) enum Verb {
-    /// `place SEAT KEY STOCK N ACCOUNT AMOUNT`
+    /// `place SEAT KEY STOCK N .. ACCOUNT AMOUNT`
     Place,
     /// `cancel SEAT KEY`
     Cancel,

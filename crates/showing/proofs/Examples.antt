@@ -7,6 +7,7 @@ use Rattle.base.specs.declared.pair.Pair.{Pair}
 use Rattle.stomp_frame.specs.Frames.{canonical, line_of, escape}
 use Rattle.envelope.specs.declared.message.Message.TheVariants as message
 use Rattle.envelope.specs.declared.message.Letter.{Letter}
+use Rattle.activities.specs.Items.{item}
 use Rattle.activities.specs.Orders.{OrderState}
 use Rattle.activities.specs.Stocks.{StockState}
 use Rattle.activities.specs.Accounts.{AccountState}
@@ -71,7 +72,7 @@ marks_are_shown = refl
 
 -- seat 0 places `o1` for 3 bolts, and 500 from acme
 abbrev placing : JournalRow OrderCommand
-placing = record { entity = o1; input = FromSeat 0 (Place (codes "bolts") 3 (codes "acme") 500) }
+placing = record { entity = o1; input = FromSeat 0 (Place (item (codes "bolts") 3 ∷ []) (codes "acme") 500) }
 
 -- a command with its seat, and a letter with its sender and number
 rows_are_shown : (journal_line shown_order_command 2 (record { entity = o1; input = FromSeat 15 CancelOrder })
@@ -82,7 +83,7 @@ rows_are_shown : (journal_line shown_order_command 2 (record { entity = o1; inpu
     ≡ codes "1 stock/bolts seat 0 receive 10\n")
     × (journal_line shown_account_command 3 (record { entity = acme; input = FromSeat 1 (SetLimit 500) })
     ≡ codes "3 account/acme seat 1 set_limit 500\n")
-    × (shown_order_command (Place (codes "a b") 3 (codes "acme") 500) ≡ codes "place a\\sb 3 acme 500")
+    × (shown_order_command (Place (item (codes "a b") 3 ∷ []) (codes "acme") 500) ≡ codes "place a\\sb 3 acme 500")
 unfolding digits
 rows_are_shown = (refl, refl, refl, refl, refl)
 

@@ -13,6 +13,7 @@ use Rattle.envelope.specs.Written.{send_of}
 use Rattle.stomp_frame.specs.Frames.{canonical}
 use Rattle.activities.specs.declared.commands.OrderCommand.{OrderCommand}
 use Rattle.activities.specs.declared.commands.OrderCommand.TheVariants.{Place, CancelOrder}
+use Rattle.activities.specs.declared.items.Item.{Item}
 use Rattle.activities.specs.declared.commands.StockCommand.{StockCommand}
 use Rattle.activities.specs.declared.commands.StockCommand.TheVariants.{Receive}
 use Rattle.activities.specs.declared.commands.AccountCommand.{AccountCommand}
@@ -59,9 +60,13 @@ abbrev pub pair_line : Pair → ℕ → ℕ → ℕ → List ℕ
 pair_line pair sent settled handled = codes "pair " ++ shown_pair pair ++ told_number (codes " sent ") sent
     ++ told_number (codes " settled ") settled ++ told_number (codes " handled ") handled ++ 10 ∷ []
 
+-- so much of a stock
+abbrev pub shown_item : Item → List ℕ
+shown_item i = codes " " ++ escaped i.stock ++ told_number (codes " ") i.quantity
+
 -- an order's command as the journal shows it
 abbrev pub shown_order_command : OrderCommand → List ℕ
-shown_order_command (Place stock n account amount) = codes "place " ++ escaped stock ++ told_number (codes " ") n ++ codes " " ++ escaped account
+shown_order_command (Place items account amount) = codes "place" ++ flat_map shown_item items ++ codes " " ++ escaped account
     ++ told_number (codes " ") amount
 shown_order_command CancelOrder = codes "cancel_order"
 

@@ -1,14 +1,35 @@
 //! The rows of a journal: what entities took in.
 
 ghost use Rattle.std.specs.Prelude.{◌≡◌, ◌++◌, ◌∷◌, [], OnOk, IfOk};
-ghost use Rattle.showing.specs.Printed.{shown_order_command, shown_stock_command, shown_account_command};
+ghost use Rattle.std.specs.List.{flat_map};
+ghost use Rattle.showing.specs.Printed.{shown_item, shown_order_command, shown_stock_command, shown_account_command};
 ghost use Rattle.showing.specs.Printed.{shown_message, shown_input, journal_line, journal_lines};
 
 use crate::services::Shown;
 use crate::words::{push_entity, push_escaped, push_numbered, push_text};
-use activities::{AccountCommand, Input, JournalRow, OrderCommand, StockCommand};
+use activities::{AccountCommand, Input, Item, JournalRow, OrderCommand, StockCommand};
 use envelope::Message;
 use std::alloc::{AllocError, Global};
+
+/// Appends so much of each stock.
+fn push_items(line: &mut Vec<u8>, items: &[Item]) -> Result<(), AllocError>
+    ensures { OnOk result (line.new.items ≡ line.old.items ++ flat_map shown_item items.now) }
+{
+    for item in items {
+        push_item(line, item)?;
+    }
+    Ok(())
+}
+
+/// Appends so much of a stock.
+#[tactic(auto, using(std::proofs::Common::append_assoc))]
+fn push_item(line: &mut Vec<u8>, item: &Item) -> Result<(), AllocError>
+    ensures { OnOk result (line.new.items ≡ line.old.items ++ shown_item item.now) }
+{
+    push_text(line, " ")?;
+    push_escaped(line, item.stock.as_str())?;
+    push_numbered(line, " ", item.quantity)
+}
 
 /// Appends an order's command.
 #[tactic(auto, using(std::proofs::Common::append_assoc))]
@@ -20,14 +41,12 @@ pub(crate) fn push_order_command(
 {
     match command {
         OrderCommand::Place {
-            stock,
-            quantity,
+            lines,
             account,
             amount,
         } => {
-            push_text(line, "place ")?;
-            push_escaped(line, stock.as_str())?;
-            push_numbered(line, " ", *quantity)?;
+            push_text(line, "place")?;
+            push_items(line, lines.as_slice())?;
             push_text(line, " ")?;
             push_escaped(line, account.as_str())?;
             push_numbered(line, " ", *amount)

@@ -1,5 +1,5 @@
 -- Examples: what events of a service do and tell.
-use Rattle.std.proofs.Common.{◌≡◌, ℕ, Option, Some, None, Result, Ok, Err, Bool, true, false, refl, ap, arith}
+use Rattle.std.proofs.Common.{◌≡◌, ℕ, [], ◌∷◌, Option, Some, None, Result, Ok, Err, Bool, true, false, refl, ap, arith}
 use Rattle.std.specs.Prelude.{codes}
 use Rattle.base.specs.declared.entity.Kind.TheVariants.{Order, Stock}
 use Rattle.stomp_frame.specs.Frames.{Content}
@@ -9,6 +9,7 @@ use Rattle.stomp_client.specs.declared.fault.ClientFault.TheVariants as client
 use Rattle.activities.specs.declared.commands.OrderCommand.{OrderCommand}
 use Rattle.activities.specs.declared.commands.OrderCommand.TheVariants.{Place}
 use Rattle.activities.specs.declared.input.JournalRow.{JournalRow}
+use Rattle.activities.specs.Items.{item}
 use Rattle.activities.specs.Orders.{OrderState}
 use Rattle.keep.specs.Failing.{Failing}
 use Rattle.keep.specs.Seen.{Seen}
@@ -43,7 +44,7 @@ use Rattle.sites.specs.declared.site.Site.{Site}
 -- ---- plain parts
 
 abbrev pub asked : SeatCommand OrderCommand
-asked = record { seat = 0; entity = o1; command = Place (codes "bolts") 3 (codes "acme") 500 }
+asked = record { seat = 0; entity = o1; command = Place (item (codes "bolts") 3 ∷ []) (codes "acme") 500 }
 
 -- a seat's command is the row that the journal takes; that of a command for another entity isn't
 rows_are_of_commands : (command_row asked ≡ placing) × (leaves_of failure.Old ≡ OldTables) × (leaves_of failure.New ≡ NewTables)

@@ -34,9 +34,10 @@
 //! - a PAIR is two entities, the sender and the receiver, as `order/o1 stock/bolt`;
 //! - LEAVES is `old` or `new`: the tables that a transaction leaves which fails;
 //! - a MESSAGE is `Request N`, `Tentative`, `Refused`, `Confirm` or `Cancel`;
-//! - a COMMAND is `place STOCK N ACCOUNT N`, by their keys, or `cancel`;
+//! - a COMMAND is `place STOCK N .. ACCOUNT N`, by their keys, with STOCK N as often as one likes, or `cancel`;
 //! - an INPUT is `seat N COMMAND`, or `from ENTITY N MESSAGE`, with the letter's number;
-//! - an ORDER is `none`, or as `Open stock/bolt 3 Requested account/ann 500 Tentative`;
+//! - an ORDER is `none`, or as `Open stock/bolt 3 Requested stock/nut 4 Tentative account/ann 500 Tentative`: one to eight stocks, each
+//!   once, and then an account;
 //! - a CHANGE is `journal N ENTITY INPUT`, at position N, `state ENTITY ORDER`, `no-state ENTITY`, `sent PAIR N MESSAGE`,
 //!   `settled PAIR N`, `handled PAIR N`, `held PAIR N MESSAGE` or `not-held PAIR N`.
 #![tactic(auto)]

@@ -47,13 +47,17 @@ impl fmt::Display for LettersText<'_> {
 fn write_command<W: Write>(out: &mut fmt::Formatter<W>, command: &OrderCommand) -> fmt::Result {
     match command {
         OrderCommand::Place {
-            stock,
-            quantity,
+            lines,
             account,
             amount,
         } => {
-            let (stock, account) = (stock.as_str(), account.as_str());
-            write!(out, "place {stock} {quantity} {account} {amount}")
+            out.write_str("place")?;
+            for item in lines.as_slice() {
+                let (stock, quantity) = (item.stock.as_str(), item.quantity);
+                write!(out, " {stock} {quantity}")?;
+            }
+            let account = account.as_str();
+            write!(out, " {account} {amount}")
         }
         OrderCommand::CancelOrder => out.write_str("cancel"),
     }

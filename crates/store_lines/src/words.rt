@@ -3,7 +3,7 @@
 ghost use Rattle.std.specs.Prelude.{◌<◌, IfOk};
 
 use crate::fault::LineFault;
-use activities::{Input, OrderCommand, Phase, Status};
+use activities::{Input, Item, Items, OrderCommand, Phase, Status};
 use base::limits::SEATS;
 use base::{Entity, Key, Number, Pair};
 use envelope::{Letter, Message};
@@ -66,24 +66,30 @@ pub fn letter(alloc: Global, text: &str) -> Result<Letter, LineFault> {
     })
 }
 
-/// A command that places an order: `STOCK N ACCOUNT N`.
+/// A command that places an order: `STOCK N` for each line, and then `ACCOUNT N`.
 fn placing(alloc: Global, text: &str) -> Result<OrderCommand, LineFault> {
-    let (stock, rest) = first_word(text);
-    let (quantity, rest) = first_word(rest);
-    let (account, amount) = first_word(rest);
-    let quantity = natural(quantity)?;
-    let amount = natural(amount)?;
-    let stock = Key::read(alloc, stock)?;
-    let account = Key::read(alloc, account)?;
-    Ok(OrderCommand::Place {
-        stock,
-        quantity,
-        account,
-        amount,
-    })
+    let mut pairs = Vec::new(alloc);
+    let mut key = None;
+    for word in text.split(' ') {
+        match key.take() {
+            None => key = Some(Key::read(alloc, word)?),
+            Some(stock) => {
+                let quantity = natural(word)?;
+                pairs.push(Item { stock, quantity })?;
+            }
+        }
+    }
+    match (key, pairs.pop()) {
+        (None, Some(last)) => Ok(OrderCommand::Place {
+            lines: Items::from_vec(pairs),
+            account: last.stock,
+            amount: last.quantity,
+        }),
+        _ => Err(LineFault::Unknown),
+    }
 }
 
-/// A command of a seat: `place STOCK N ACCOUNT N`, by their keys, or `cancel`.
+/// A command of a seat: `place STOCK N .. ACCOUNT N`, by their keys, or `cancel`.
 pub fn command(alloc: Global, text: &str) -> Result<OrderCommand, LineFault> {
     let (word, rest) = first_word(text);
     match word {
@@ -141,34 +147,37 @@ fn phase(text: &str) -> Result<Phase, LineFault> {
     }
 }
 
-/// The partner of an order with which a text begins: `ENTITY N PHASE`.
-fn partner(alloc: Global, text: &str) -> Result<Partner, LineFault> {
-    let (entity, rest) = first_word(text);
-    let (asked, rest) = first_word(rest);
-    let (far, _) = first_word(rest);
+/// A partner of an order: `ENTITY N PHASE`.
+fn partner(alloc: Global, words: &[&str]) -> Result<Partner, LineFault> {
+    let [entity, asked, far] = words else {
+        return Err(LineFault::Unknown);
+    };
     let number = number(asked)?;
     let phase = phase(far)?;
     Ok(Partner::new(Entity::read(alloc, entity)?, number, phase))
 }
 
-/// What follows three words.
-fn behind_three(text: &str) -> &str {
-    let (_, rest) = first_word(text);
-    let (_, rest) = first_word(rest);
-    let (_, rest) = first_word(rest);
-    rest
+/// Partners of an order: `ENTITY N PHASE` of each.
+fn partners(alloc: Global, text: &str) -> Result<Vec<Partner>, LineFault> {
+    let mut words = Vec::new(alloc);
+    for word in text.split(' ') {
+        words.push(word)?;
+    }
+    let mut partners = Vec::new(alloc);
+    for three in words.chunks(3) {
+        partners.push(partner(alloc, three)?)?;
+    }
+    Ok(partners)
 }
 
-/// An order: `none`, or `STATUS STOCK N PHASE ACCOUNT N PHASE`. Its partners are a stock and an account.
+/// An order: `none`, or `STATUS ENTITY N PHASE ..`. Its partners are one to eight stocks, each once, and then an account.
 pub fn order(alloc: Global, text: &str) -> Result<Option<Order>, LineFault> {
     if text == "none" {
         return Ok(None);
     }
-    let (far, partners) = first_word(text);
+    let (far, named) = first_word(text);
     let status = status(far)?;
-    let stock = partner(alloc, partners)?;
-    let account = partner(alloc, behind_three(partners))?;
-    match Order::from_parts(status, stock, account) {
+    match Order::from_parts(status, partners(alloc, named)?) {
         None => Err(LineFault::Unknown),
         order => Ok(order),
     }
