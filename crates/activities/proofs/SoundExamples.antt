@@ -11,7 +11,8 @@ use Rattle.activities.specs.declared.phase.Phase.{Phase}
 use Rattle.activities.specs.declared.phase.Status.TheVariants.{Open}
 use Rattle.activities.specs.Accounts.{AccountState}
 use Rattle.activities.specs.Lines.{Line}
-use Rattle.activities.specs.Sound.{IsInvariant, AreStocksThenAccount, ArePartners, IsOrderSound, AreLinesSound, IsStockSound, IsAccountSound}
+use Rattle.activities.specs.Sound.{IsInvariant, AreStocksThenAccount, ArePartners, IsOrderSound, AreLinesSound, IsStockSound}
+use Rattle.activities.specs.Sound.{IsAccountSound}
 use Rattle.activities.specs.Stocks.{StockState, stock_reactions}
 use Rattle.activities.proofs.LineLists.{lines_sound-none}
 

@@ -1,5 +1,6 @@
 -- What an order asks of stocks, and what of it can be asked.
-use Rattle.std.specs.Prelude.{ℕ, Bool, true, false, ◌&&◌, ◌||◌, not, nat_lt, nat_le, List, [], ◌∷◌, length}
+use Rattle.std.specs.Prelude.{ℕ, Bool, true, ◌&&◌, not, nat_lt, nat_le, List, [], ◌∷◌, length}
+use Rattle.std.specs.List.{list_any, list_all}
 use Rattle.std.specs.Str.{bytes_eq}
 use Rattle.base.specs.Number.{is_number}
 use Rattle.base.specs.declared.limits.TheConstants.{MAX_LINES}
@@ -11,8 +12,7 @@ item stock n = record { stock = stock; quantity = n }
 
 -- whether one of these items is of this stock
 abbrev pub has_stock : List ℕ → List Item → Bool
-has_stock stock [] = false
-has_stock stock (i ∷ is) = bytes_eq i.stock stock || has_stock stock is
+has_stock stock is = list_any (λ (i : Item). bytes_eq i.stock stock) is
 
 -- whether each item is of another stock
 abbrev pub are_apart : List Item → Bool
@@ -25,5 +25,4 @@ are_lines is = nat_lt 0 (length is) && nat_le (length is) MAX_LINES && are_apart
 
 -- whether each quantity is from 1 to 2^40
 abbrev pub are_numbers : List Item → Bool
-are_numbers [] = true
-are_numbers (i ∷ is) = is_number i.quantity && are_numbers is
+are_numbers is = list_all (λ (i : Item). is_number i.quantity) is

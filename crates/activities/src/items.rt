@@ -116,12 +116,9 @@ fn copy_all(alloc: Global, items: &[Item]) -> Result<Vec<Item>, AllocError>
 fn has_stock(stock: &Key, items: &[Item]) -> bool
     ensures { result ≡ has_stock stock.now items.now }
 {
-    for item in items {
-        if item.stock.as_str() == stock.as_str() {
-            return true;
-        }
-    }
-    false
+    items
+        .iter()
+        .any(|item| item.stock.as_str() == stock.as_str())
 }
 
 /// Whether each item is of another stock.
@@ -142,10 +139,7 @@ fn are_apart(items: &[Item]) -> bool
 fn are_numbers(items: &[Item]) -> bool
     ensures { result ≡ are_numbers items.now }
 {
-    for item in items {
-        if Number::new(item.quantity).is_none() {
-            return false;
-        }
-    }
-    true
+    items
+        .iter()
+        .all(|item| Number::new(item.quantity).is_some())
 }

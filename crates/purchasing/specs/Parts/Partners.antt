@@ -1,5 +1,6 @@
 -- Whether these can be the partners of an order.
-use Rattle.std.specs.Prelude.{Bool, true, false, ◌&&◌, ◌||◌, not, nat_lt, nat_le, suc, List, [], ◌∷◌, length, map}
+use Rattle.std.specs.Prelude.{Bool, true, false, ◌&&◌, not, nat_lt, nat_le, suc, List, [], ◌∷◌, length, map}
+use Rattle.std.specs.List.{list_any}
 use Rattle.base.specs.Entity.{Name}
 use Rattle.base.specs.Order.{same_entity}
 use Rattle.base.specs.declared.entity.Kind.{Kind}
@@ -13,8 +14,7 @@ names ps = map (λ (p : Partner). p.entity) ps
 
 -- whether the entity is one of these
 abbrev pub stands_in : Name → List Name → Bool
-stands_in e [] = false
-stands_in e (o ∷ os) = same_entity e o || stands_in e os
+stands_in e es = list_any (same_entity e) es
 
 -- whether a kind is that of stocks, or of accounts
 abbrev pub is_stock : Kind → Bool
