@@ -152,7 +152,8 @@ unfolding same_entity
 any_stand_where_none_can_be_asked = (λ usable. absurd (cc), λ usable. refl, λ h. other (h refl))
   where
     other : stocks_with Held ≡ stocks_with Done → ⊥
-    other same = let phase : Some Held ≡ Some Done = ap (λ (t : StockTables). phase_in o1 (stock_lines (t.entity bolts))) same in absurd (cc)
+    other same = let phase : Some Held ≡ Some Done = ap (λ (t : StockTables). phase_in o1 (stock_lines (t.entity bolts)))
+        same in absurd (cc)
 
 abbrev agreement : OrderTables → StockTables → AccountTables → Bool → Type 0
 agreement o s a agree = agree ≡ partners_agree o s a
@@ -166,7 +167,8 @@ looks_are_told : Looks seen seen seen agreement (Ok false) orders orders stocks 
 unfolding same_entity
 looks_are_told = (
   (inl refl, inl refl, inl refl, λ _ _ _ x y z xo ys za. let told = stands_told x y z xo ys za in told),
-  λ h. let agrees = h.3 refl refl refl orders_placed (stocks_with Done) (accounts_with Released) (λ _. refl) (λ _. refl) (λ _. refl) in absurd (cc),
+  λ h. let agrees = h.3 refl refl refl orders_placed (stocks_with Done) (accounts_with Released) (λ _. refl) (λ _. refl) (λ _. refl)
+      in absurd (cc),
   (inl refl, reads_fail.0, inl refl),
   λ h. let usable = h.2.call.1 in absurd (cc),
   λ h. h,

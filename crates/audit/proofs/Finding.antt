@@ -45,7 +45,8 @@ module _ {KO KS KA : Type 0} (orders : KO → Seen OrderTables) (stocks : KS →
 
   -- a row whose entity is an order
   pub row_looked : (row : JournalRow OrderCommand) (result : Result Bool AuditFault) → row.entity.kind ≡ Order
-      → Looks orders stocks accounts (λ x y z (agrees : Bool). agrees ≡ order_agrees y z row.entity (x.entity row.entity)) result o p s t a b
+      → Looks orders stocks accounts (λ x y z (agrees : Bool). agrees ≡ order_agrees y z row.entity (x.entity row.entity))
+      result o p s t a b
       → Looks orders stocks accounts (λ x y z (agrees : Bool). agrees ≡ row_agrees x y z row) result o p s t a b
   row_looked row (Ok agrees) is look = (
     look.0,

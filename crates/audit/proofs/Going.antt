@@ -1,5 +1,6 @@
 -- What was found at the rows of purchasing's journal so far.
-use Rattle.std.proofs.Common.{ℕ, zero, suc, ◌≡◌, ◌<◌, ◌++◌, List, [], ◌∷◌, take, length, get_or, Bool, true, false, ◌&&◌, inl, refl, sym, ◌∙◌}
+use Rattle.std.proofs.Common.{ℕ, zero, suc, ◌≡◌, ◌<◌, ◌++◌, List, [], ◌∷◌, take, length, get_or, Bool, true, false, ◌&&◌, inl, refl, sym}
+use Rattle.std.proofs.Common.{◌∙◌}
 use Rattle.std.proofs.Common.{ap, subst, arith}
 use Rattle.std.specs.Prelude.{Result, Ok, Err}
 use Rattle.std.specs.List.{list_all}
@@ -75,7 +76,8 @@ module _ {KO KS KA : Type 0} (orders : KO → Seen OrderTables) (stocks : KS →
     warehouse = rests_on stocks s t u far.warehouse look.1;
     billing = rests_on accounts a b c far.billing look.2;
     agree = λ co cs ca x y z xo ys za. all_more (row_agrees x y z) rows row
-        (far.agree (rests_clean orders p q look.0 co) (rests_clean stocks t u look.1 cs) (rests_clean accounts b c look.2 ca) x y z xo ys za)
+        (far.agree (rests_clean orders p q look.0 co) (rests_clean stocks t u look.1 cs) (rests_clean accounts b c look.2 ca)
+        x y z xo ys za)
         (of_row row rows agrees o p q s t u a b c far look co cs ca x y z xo ys za ∙ is);
   }
 
@@ -99,12 +101,24 @@ module _ {KO KS KA : Type 0} (orders : KO → Seen OrderTables) (stocks : KS →
       (o p q : KO) (s t u : KS) (a b c : KA)
       → FarIn rows o p s t a b → Looks orders stocks accounts gives (Err fault) p q t u b c
       → Looks orders stocks accounts wants (Err fault) o q s u a c
-  stopped_at gives wants rows (Purchasing fault) o p q s t u a b c far look =
-      (fails_on orders o p q fault far.purchasing look.0, rests_on stocks s t u far.warehouse look.1, rests_on accounts a b c far.billing look.2)
-  stopped_at gives wants rows (Warehouse fault) o p q s t u a b c far look =
-      (rests_on orders o p q far.purchasing look.0, fails_on stocks s t u fault far.warehouse look.1, rests_on accounts a b c far.billing look.2)
-  stopped_at gives wants rows (Billing fault) o p q s t u a b c far look =
-      (rests_on orders o p q far.purchasing look.0, rests_on stocks s t u far.warehouse look.1, fails_on accounts a b c fault far.billing look.2)
+  stopped_at gives wants rows (Purchasing fault) o p q s t u a b c far look = (
+    fails_on orders o p q fault far.purchasing look.0,
+    rests_on stocks s t u far.warehouse look.1,
+    rests_on accounts a b c
+        far.billing look.2,
+  )
+  stopped_at gives wants rows (Warehouse fault) o p q s t u a b c far look = (
+    rests_on orders o p q far.purchasing look.0,
+    fails_on stocks s t u fault far.warehouse look.1,
+    rests_on accounts a b c
+        far.billing look.2,
+  )
+  stopped_at gives wants rows (Billing fault) o p q s t u a b c far look = (
+    rests_on orders o p q far.purchasing look.0,
+    rests_on stocks s t u far.warehouse look.1,
+    fails_on accounts a b c fault
+        far.billing look.2,
+  )
 
   -- all rows were looked at
   pub all_gone : (rows : List (JournalRow OrderCommand)) (i : ℕ) (o p : KO) (s t : KS) (a b : KA) → i ≡ length rows

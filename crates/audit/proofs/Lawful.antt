@@ -88,7 +88,8 @@ module _ (t : AllTables) (orders : TablesMatchJournal orders_service t.purchasin
     (accounts : TablesMatchJournal accounts_service t.billing) (sound : AreSound (states_in (journals_of t))) where
   -- what is read of a partner is its line's phase
   phase_is : (order : Name) (kind : Kind) (at : Name)
-      → phase_by t.warehouse t.billing order kind at ≡ option_map (λ (k : Line). k.phase) (line_by (states_in (journals_of t)) order kind at)
+      → phase_by t.warehouse t.billing order kind at ≡ option_map (λ (k : Line). k.phase)
+      (line_by (states_in (journals_of t)) order kind at)
   phase_is order Order at = refl
   phase_is order Stock at = ap (λ row. phase_in order (stock_lines row)) (stocks.entities at)
       ∙ ap (phase_in order) (lines_of_stock (part at t.warehouse.journal))

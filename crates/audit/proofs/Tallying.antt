@@ -1,5 +1,6 @@
 -- What was found at the partners of an order so far.
-use Rattle.std.proofs.Common.{ℕ, zero, suc, ◌≡◌, ◌++◌, List, [], ◌∷◌, take, length, Bool, true, false, ◌||◌, map, inl, Some, refl, sym, ◌∙◌, ap, subst}
+use Rattle.std.proofs.Common.{ℕ, zero, suc, ◌≡◌, ◌++◌, List, [], ◌∷◌, take, length, Bool, true, false, ◌||◌, map, inl, Some, refl, sym, ◌∙◌}
+use Rattle.std.proofs.Common.{ap, subst}
 use Rattle.std.specs.Prelude.{Option, Ok, Err, slice_get, not, ◌&&◌}
 use Rattle.std.specs.List.{list_any}
 use Rattle.base.specs.Entity.{Name}
@@ -17,7 +18,8 @@ pub any_more : {A B : Type 0} (p : B → Bool) (f : A → B) (xs : List A) (x : 
     → list_any p (map f (xs ++ x ∷ [])) ≡ (list_any p (map f xs) || p (f x))
 any_more p f [] x = elim (p (f x)) as (λ b. (b || false) ≡ (false || b)) [ true ↦ refl | false ↦ refl ]
 any_more p f (y ∷ ys) x = ap (λ b. p (f y) || b) (any_more p f ys x)
-    ∙ (elim (p (f y)) as (λ b. (b || (list_any p (map f ys) || p (f x))) ≡ ((b || list_any p (map f ys)) || p (f x))) [ true ↦ refl | false ↦ refl ])
+    ∙ (elim (p (f y)) as (λ b. (b || (list_any p (map f ys) || p (f x))) ≡ ((b || list_any p (map f ys)) || p (f x)))
+    [ true ↦ refl | false ↦ refl ])
 
 -- the beginning of a list with one more
 pub one_longer : {A : Type 0} (xs : List A) (i : ℕ) (x : A) → slice_get xs i ≡ Some x → take (suc i) xs ≡ take i xs ++ x ∷ []
@@ -40,12 +42,18 @@ module _ {KS KA : Type 0} (stocks : KS → Seen StockTables) (accounts : KA → 
         → StandsFor accounts a z → given_back ≡ list_any is_given_back (phases_at y z order partners)
 
   pub none_yet : (order : Name) (s : KS) (a : KA) → SoFar order [] false false s s a a
-  none_yet order s a = record { warehouse = inl refl; billing = inl refl; all_taken = λ _ _ _ _ _ _. refl; all_given_back = λ _ _ _ _ _ _. refl }
+  none_yet order s a = record {
+    warehouse = inl refl;
+    billing = inl refl;
+    all_taken = λ _ _ _ _ _ _. refl;
+    all_given_back = λ _ _ _ _ _ _. refl;
+  }
 
   -- one more
   pub one_more : (order : Name) (partners : List Partner) (p : Partner) (phase : Option LinePhase) (taken given_back : Bool) (s t u : KS)
       (a b c : KA) → SoFar order partners taken given_back s t a b
-      → LooksAtPartners stocks accounts (λ x y (found : Option LinePhase). found ≡ phase_by x y order p.entity.kind p.entity) (Ok phase) t u b c
+      → LooksAtPartners stocks accounts (λ x y (found : Option LinePhase). found ≡ phase_by x y order p.entity.kind p.entity)
+      (Ok phase) t u b c
       → SoFar order (partners ++ p ∷ []) (taken || is_taken phase) (given_back || is_given_back phase) s u a c
   one_more order partners p phase taken given_back s t u a b c far look = record {
     warehouse = rests_on stocks s t u far.warehouse look.0;
@@ -68,7 +76,8 @@ module _ {KS KA : Type 0} (stocks : KS → Seen StockTables) (accounts : KA → 
         ∙ sym (any_more test (λ (q : Partner). phase_by y z order q.entity.kind q.entity) partners p)
 
   -- a read that wasn't done ends it
-  pub stopped : {R : Type 0} (gives : StockTables → AccountTables → R → Type 0) {Q : Type 0} (wants : StockTables → AccountTables → Q → Type 0)
+  pub stopped : {R : Type 0} (gives : StockTables → AccountTables → R → Type 0) {Q : Type 0} (wants : StockTables
+      → AccountTables → Q → Type 0)
       (order : Name) (partners : List Partner) (taken given_back : Bool) (fault : AuditFault) (s t u : KS) (a b c : KA)
       → SoFar order partners taken given_back s t a b → LooksAtPartners stocks accounts gives (Err fault) t u b c
       → LooksAtPartners stocks accounts wants (Err fault) s u a c

@@ -47,5 +47,6 @@ faults_are_numbered : (transaction_fault_number TransactionExists ≡ 29) × (tr
     × (transaction_fault_number Memory ≡ 34) × (transaction_fault_number TooMany ≡ 36)
 faults_are_numbered = (refl, refl, refl, refl)
 
-faults_are_named : (transaction_fault_name TransactionExists ≡ codes "TransactionExists") × (transaction_fault_name TooMany ≡ codes "TooMany")
+faults_are_named : (transaction_fault_name TransactionExists ≡ codes "TransactionExists") × (transaction_fault_name TooMany
+    ≡ codes "TooMany")
 faults_are_named = (refl, refl)

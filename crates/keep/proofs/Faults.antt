@@ -80,7 +80,12 @@ module _ {K T : Type 0} (seen : K → Seen T) (old new : Failing K) where
       → new.armed ≡ counted_down old.armed → due old.armed ≡ None → Reads seen old.keep new.keep gives (keep_end r)
       → ReadsDue seen old new gives r
   read_inside gives r was is own armed unarmed h = record {
-    reads = record { call = call_inside was is own r (still armed unarmed) h.call; doubt = h.doubt; clean = λ e. read_clean gives r (h.clean e) };
+    reads = record {
+      call = call_inside was is own r (still armed unarmed) h.call;
+      doubt = h.doubt;
+      clean = λ e. read_clean gives
+          r (h.clean e);
+    };
     armed = armed;
     fails = rw unarmed (own, h.call);
   }
@@ -90,7 +95,12 @@ module _ {K T : Type 0} (seen : K → Seen T) (old new : Failing K) where
       → new.armed ≡ counted_down old.armed → due old.armed ≡ None → Writes seen old.keep new.keep Fit to (keep_end r)
       → WritesDue seen old new Fit to r
   write_inside Fit to r was is own armed unarmed h = record {
-    writes = record { call = call_inside was is own r (still armed unarmed) h.call; doubt = h.doubt; clean = λ e fit. write_clean to r (h.clean e fit) };
+    writes = record {
+      call = call_inside was is own r (still armed unarmed) h.call;
+      doubt = h.doubt;
+      clean = λ e fit. write_clean to r
+          (h.clean e fit);
+    };
     armed = armed;
     fails = rw unarmed (own, h.call);
     left = rw unarmed (λ _ _. tt);

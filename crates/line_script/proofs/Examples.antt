@@ -40,5 +40,6 @@ octets_are_spelled : (spelled 97 ≡ codes "a") × (spelled 32 ≡ codes " ") ×
 octets_are_spelled = (refl, refl, refl, refl, refl, refl, refl, refl, refl)
 
 -- an empty line and a comment are printed as they are; a space before a comment makes it a line that is asked
-lines_are_quiet : (is_quiet [] ≡ true) × (is_quiet (codes "# a") ≡ true) × (is_quiet (codes " # a") ≡ false) × (is_quiet (codes "a #") ≡ false)
+lines_are_quiet : (is_quiet [] ≡ true) × (is_quiet (codes "# a") ≡ true) × (is_quiet (codes " # a") ≡ false)
+    × (is_quiet (codes "a #") ≡ false)
 lines_are_quiet = (refl, refl, refl, refl)

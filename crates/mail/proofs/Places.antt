@@ -1,5 +1,6 @@
 -- What stands at a place of lists that follow each other.
-use Rattle.std.proofs.Common.{◌≡◌, ◌≢◌, ℕ, zero, suc, ◌+◌, ◌-◌, ◌<◌, ◌≤◌, List, [], ◌∷◌, ◌++◌, length, get_or, drop, refl, sym, ap, ◌∙◌, arith}
+use Rattle.std.proofs.Common.{◌≡◌, ◌≢◌, ℕ, zero, suc, ◌+◌, ◌-◌, ◌<◌, ◌≤◌, List, [], ◌∷◌, ◌++◌, length, get_or, drop, refl, sym, ap, ◌∙◌}
+use Rattle.std.proofs.Common.{arith}
 use Rattle.std.proofs.Common.{drop-cons, Some}
 use Rattle.std.specs.Prelude.{slice_get}
 use Rattle.std.proofs.lemmas.Option.{slice_get-get_or}
@@ -30,7 +31,8 @@ module _ {X A : Type 0} (f : X → List A) (xs : List X) (j i n : ℕ) (x : X) (
   pub place_in : (y : A) → i < n → y ≡ get_or (f x) i y → slice_get (flat_map f (drop j xs)) i ≡ Some y
   place_in y h e =
       let k : i < length (f x) = omega (arith, h, long) in
-      ap (λ text. slice_get text i) parted ∙ get_in (f x) (flat_map f (drop (suc j) xs)) i k ∙ slice_get-get_or (f x) i y k ∙ ap Some (sym e)
+      ap (λ text. slice_get text i) parted ∙ get_in (f x) (flat_map f (drop (suc j) xs)) i k ∙ slice_get-get_or (f x) i y k
+      ∙ ap Some (sym e)
 
   -- behind it
   pub place_past : n ≤ i → slice_get (flat_map f (drop j xs)) i ≡ slice_get (flat_map f (drop (j + 1) xs)) (i - n)

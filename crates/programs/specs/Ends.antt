@@ -58,7 +58,8 @@ pub record Writers : Type 0 where
   pub out : Option (List ℕ)
   pub err : Option (List ℕ)
 
--- With status 0 the schedule was run whole: its outcomes are written to `out`, and nothing to `err`. With status 1 a fault is told on `err`.
+-- With status 0 the schedule was run whole: its outcomes are written to `out`, and nothing to `err`. With status 1 a fault is told on
+-- `err`.
 abbrev pub IsEndOf : Option (List ℕ) → Writers → Writers → ℕ → Type 0
 IsEndOf input old new status =
     ((status ≡ 0) × (new.err ≡ old.err) × IsRunFrom input old.out new.out (Ok tt))

@@ -1,5 +1,6 @@
 -- The first entity of some rows.
-use Rattle.std.proofs.Common.{◌≡◌, ◌≢◌, ℕ, zero, suc, ◌+◌, ◌<◌, Bool, true, false, List, [], ◌∷◌, length, take, Option, Some, None, Less, Equal}
+use Rattle.std.proofs.Common.{◌≡◌, ◌≢◌, ℕ, zero, suc, ◌+◌, ◌<◌, Bool, true, false, List, [], ◌∷◌, length, take, Option, Some, None, Less}
+use Rattle.std.proofs.Common.{Equal}
 use Rattle.std.proofs.Common.{sym, ap, subst, ◌∙◌, arith, get_or, add-one}
 use Rattle.std.specs.Prelude.{MatchOption, IfSome, if◌then◌else◌}
 use Rattle.std.specs.Cmp.{tied_itself}
@@ -53,7 +54,8 @@ module _ {C A : Type 0} (now : A → Name) (news : List (JournalRow C)) (i : ℕ
       → Best now (take i news) behind best
       → Best now (take (i + 1) news) behind best
   not_first None never none = absurd never
-  not_first (Some o) never first = λ f from less. more f (λ same. never (subst (λ e. entity_cmp e (now o) ≡ Less) same less)) (first f from less)
+  not_first (Some o) never first = λ f from less. more f (λ same. never (subst (λ e. entity_cmp e (now o) ≡ Less) same less))
+      (first f from less)
 
   -- and one that is
   pub is_first : (best : Option A) → IfSome best (λ o. entity_cmp row.entity (now o) ≡ Less) → Best now (take i news) behind best

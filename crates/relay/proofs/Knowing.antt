@@ -1,5 +1,6 @@
 -- What a cursor tells stays true.
-use Rattle.std.proofs.Common.{◌≡◌, ◌⊎◌, inl, inr, ℕ, zero, suc, ◌+◌, ◌<◌, ◌≤◌, Bool, true, false, List, [], ◌∷◌, length, take, drop, length-drop, ◌++◌}
+use Rattle.std.proofs.Common.{◌≡◌, ◌⊎◌, inl, inr, ℕ, zero, suc, ◌+◌, ◌<◌, ◌≤◌, Bool, true, false, List, [], ◌∷◌, length, take, drop}
+use Rattle.std.proofs.Common.{length-drop, ◌++◌}
 use Rattle.std.proofs.Common.{Option, Some, None, Ordering, Less, Equal, Greater, refl, sym, ap, subst, ◌∙◌, arith, length-append}
 use Rattle.std.proofs.Common.{add-one, get_or}
 use Rattle.std.specs.Prelude.{IsSome, max, nat_lt, if◌then◌else◌}
@@ -273,7 +274,8 @@ module _ {S C : Type 0} (service : Service S C) (r : Relay) where
       ∙ take-append-le r.rows x.journal (row ∷ []) least in (
         omega (arith, least, long),
         λ q up some.
-            k.1 q up (subst (λ (marks : Pair → ℕ). IsSome (unsettled_of service.reactions (take r.rows x.journal) marks q.pair q.number)) did.1
+            k.1 q up (subst (λ (marks : Pair → ℕ). IsSome (unsettled_of service.reactions (take r.rows x.journal) marks q.pair q.number))
+            did.1
             (subst (λ (j : List (JournalRow C)). IsSome (unsettled_of service.reactions j y.settled q.pair q.number)) front some)),
       )
   deed_known x y (Holds l) k did = subst (λ (z : Kept C). Knows service r z) (sym did.2) k

@@ -200,7 +200,8 @@ module _ {KO KS KA : Type 0} (orders : KO → Seen OrderTables) (stocks : KS →
   pub passes_agreement : (result : Result Bool EndFault) (o : Outcome) (old new : W) → o ≡ agreement_told result
       → Passes orders stocks accounts (FindsAgreement orders stocks accounts result)
       (Both (FindsAgreement orders stocks accounts result) Same) old new
-      → Passes orders stocks accounts (TellsAgreement orders stocks accounts o) (Both (TellsAgreement orders stocks accounts o) Same) old new
+      → Passes orders stocks accounts (TellsAgreement orders stocks accounts o)
+      (Both (TellsAgreement orders stocks accounts o) Same) old new
   passes_agreement result o old new is = passes_map orders stocks accounts (FindsAgreement orders stocks accounts result)
       (TellsAgreement orders stocks accounts o) (Both (FindsAgreement orders stocks accounts result) Same)
       (Both (TellsAgreement orders stocks accounts o) Same) old new (told old new) (λ a b h. (told a.world b.world h.0, h.1))

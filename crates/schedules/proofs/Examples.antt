@@ -10,7 +10,8 @@ use Rattle.activities.specs.declared.commands.AccountCommand.TheVariants.{SetLim
 use Rattle.activities.specs.Items.{item}
 use Rattle.schedules.specs.declared.event.Event.{Event}
 use Rattle.schedules.specs.declared.event.Event.TheVariants.{Order, Stock, Account, Open, Cut, Fill, Resend, Carry, Take, Drain}
-use Rattle.schedules.specs.declared.event.Event.TheVariants.{Repeat, Fail, Reopen, Stop, StopBroker, Pump, Show, Pair, Frames, Journal, Agreement}
+use Rattle.schedules.specs.declared.event.Event.TheVariants.{Repeat, Fail, Reopen, Stop, StopBroker, Pump, Show, Pair, Frames, Journal}
+use Rattle.schedules.specs.declared.event.Event.TheVariants.{Agreement}
 use Rattle.schedules.specs.declared.event.SeatCommand.{SeatCommand}
 use Rattle.schedules.specs.declared.event.ConnectionName.{ConnectionName}
 use Rattle.schedules.specs.declared.event.ConnectionNumber.TheVariants.{Zero, One}

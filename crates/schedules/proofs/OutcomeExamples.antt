@@ -6,7 +6,8 @@ use Rattle.std.specs.Global.{Vec}
 use Rattle.base.specs.Entity.{order_of, stock_of}
 use Rattle.activities.specs.declared.handler.Refusal.TheVariants.{NotOpen}
 use Rattle.schedules.specs.declared.outcome.Outcome.{Outcome}
-use Rattle.schedules.specs.declared.outcome.Outcome.TheVariants.{Committed, Already, Drained, Absent, Refused, NotDone, Pumped, Shown, Agreement}
+use Rattle.schedules.specs.declared.outcome.Outcome.TheVariants.{Committed, Already, Drained, Absent, Refused, NotDone, Pumped, Shown}
+use Rattle.schedules.specs.declared.outcome.Outcome.TheVariants.{Agreement}
 use Rattle.schedules.specs.Outcomes.{outcome_lines}
 
 -- the lines of an outcome

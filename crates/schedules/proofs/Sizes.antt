@@ -181,6 +181,10 @@ entity_size word e is =
 abbrev pub AreWithin : List (List ℕ) → ℕ → ℕ → Type 0
 AreWithin words octets most = (widest words ≤ octets) × (length words ≤ most)
 
+-- what stands behind the first word of a line can be: a seat, a key, eight stocks and how much of each, an account and an amount
+abbrev pub AreArguments : List (List ℕ) → Type 0
+AreArguments words = AreWithin words 3060 36
+
 item_size : (words : List (List ℕ)) (item : Item) → item_of words ≡ Some item → AreWithin words 170 2
 item_size [] item e = absurd cc
 item_size (stock ∷ []) item e = absurd cc
@@ -210,7 +214,7 @@ placing_size words command e = elim (chosen (leb (length words) 34) (pairs_of wo
   | inr none ↦ absurd cc
 ]
 
-place_size : (words : List (List ℕ)) (asked : SeatCommand OrderCommand) → place_of words ≡ Some asked → AreWithin words 3060 36
+place_size : (words : List (List ℕ)) (asked : SeatCommand OrderCommand) → place_of words ≡ Some asked → AreArguments words
 place_size [] asked e = absurd cc
 place_size (seat ∷ []) asked e = absurd cc
 place_size (seat ∷ key ∷ arguments) asked e =
@@ -220,7 +224,7 @@ place_size (seat ∷ key ∷ arguments) asked e =
     let rest : AreWithin arguments 2890 34 = placing_size arguments third.0 third.1 in
     (omega (arith, seat_size seat first.0 first.1, key_size key second.0 second.1, rest.0), omega (arith, rest.1))
 
-cancel_size : (words : List (List ℕ)) (asked : SeatCommand OrderCommand) → cancel_of words ≡ Some asked → AreWithin words 3060 36
+cancel_size : (words : List (List ℕ)) (asked : SeatCommand OrderCommand) → cancel_of words ≡ Some asked → AreArguments words
 cancel_size [] asked e = absurd cc
 cancel_size (seat ∷ []) asked e = absurd cc
 cancel_size (seat ∷ key ∷ []) asked e =
@@ -229,7 +233,7 @@ cancel_size (seat ∷ key ∷ []) asked e =
     (omega (arith, seat_size seat first.0 first.1, key_size key second.0 second.1), omega arith)
 cancel_size (seat ∷ key ∷ more ∷ rest) asked e = absurd cc
 
-receive_size : (words : List (List ℕ)) (asked : SeatCommand StockCommand) → receive_of words ≡ Some asked → AreWithin words 3060 36
+receive_size : (words : List (List ℕ)) (asked : SeatCommand StockCommand) → receive_of words ≡ Some asked → AreArguments words
 receive_size [] asked e = absurd cc
 receive_size (seat ∷ []) asked e = absurd cc
 receive_size (seat ∷ key ∷ []) asked e = absurd cc
@@ -240,7 +244,7 @@ receive_size (seat ∷ key ∷ n ∷ []) asked e =
     (omega (arith, seat_size seat first.0 first.1, key_size key second.0 second.1, number_size n third.0 third.1), omega arith)
 receive_size (seat ∷ key ∷ n ∷ more ∷ rest) asked e = absurd cc
 
-limit_size : (words : List (List ℕ)) (asked : SeatCommand AccountCommand) → limit_of words ≡ Some asked → AreWithin words 3060 36
+limit_size : (words : List (List ℕ)) (asked : SeatCommand AccountCommand) → limit_of words ≡ Some asked → AreArguments words
 limit_size [] asked e = absurd cc
 limit_size (seat ∷ []) asked e = absurd cc
 limit_size (seat ∷ key ∷ []) asked e = absurd cc
@@ -321,7 +325,7 @@ stopped_size word it e =
 -- ---- arguments
 
 alone_size : {A : Type 0} (meant : List ℕ → Option A) → ((word : List ℕ) (x : A) → meant word ≡ Some x → length word ≤ 72)
-    → (words : List (List ℕ)) (x : A) → alone meant words ≡ Some x → AreWithin words 3060 36
+    → (words : List (List ℕ)) (x : A) → alone meant words ≡ Some x → AreArguments words
 alone_size meant short [] x e = absurd cc
 alone_size meant short (word ∷ []) x e = (omega (arith, short word x e), omega arith)
 alone_size meant short (word ∷ more ∷ rest) x e = absurd cc
@@ -336,11 +340,11 @@ connection_size (service ∷ number ∷ []) connection e =
 connection_size (service ∷ number ∷ more ∷ rest) connection e = absurd cc
 
 any_connection_size : (words : List (List ℕ)) (connection : ConnectionName) → connection_of words ≡ Some connection
-    → AreWithin words 3060 36
+    → AreArguments words
 any_connection_size words connection e =
     let few : AreWithin words 24 2 = connection_size words connection e in (omega (arith, few.0), omega (arith, few.1))
 
-fill_size : (words : List (List ℕ)) (event : Event) → fill_of words ≡ Some event → AreWithin words 3060 36
+fill_size : (words : List (List ℕ)) (event : Event) → fill_of words ≡ Some event → AreArguments words
 fill_size [] event e = absurd cc
 fill_size (service ∷ []) event e = absurd cc
 fill_size (service ∷ number ∷ []) event e = absurd cc
@@ -351,7 +355,7 @@ fill_size (service ∷ number ∷ limit ∷ []) event e =
     (omega (arith, few.0, number_size limit second.0 second.1), omega arith)
 fill_size (service ∷ number ∷ limit ∷ more ∷ rest) event e = absurd cc
 
-carry_size : (words : List (List ℕ)) (event : Event) → carry_of words ≡ Some event → AreWithin words 3060 36
+carry_size : (words : List (List ℕ)) (event : Event) → carry_of words ≡ Some event → AreArguments words
 carry_size [] event e = absurd cc
 carry_size (service ∷ []) event e = absurd cc
 carry_size (service ∷ number ∷ []) event e = absurd cc
@@ -364,7 +368,7 @@ carry_size (service ∷ number ∷ way ∷ most ∷ []) event e =
     (omega (arith, few.0, way_size way second.0 second.1, number_size most third.0 third.1), omega arith)
 carry_size (service ∷ number ∷ way ∷ most ∷ more ∷ rest) event e = absurd cc
 
-fail_size : (words : List (List ℕ)) (event : Event) → fail_of words ≡ Some event → AreWithin words 3060 36
+fail_size : (words : List (List ℕ)) (event : Event) → fail_of words ≡ Some event → AreArguments words
 fail_size [] event e = absurd cc
 fail_size (service ∷ []) event e = absurd cc
 fail_size (service ∷ n ∷ []) event e = absurd cc
@@ -382,7 +386,7 @@ fail_size (service ∷ n ∷ leaves ∷ []) event e =
     )
 fail_size (service ∷ n ∷ leaves ∷ more ∷ rest) event e = absurd cc
 
-pair_size : (words : List (List ℕ)) (pair : Pair) → pair_of words ≡ Some pair → AreWithin words 3060 36
+pair_size : (words : List (List ℕ)) (pair : Pair) → pair_of words ≡ Some pair → AreArguments words
 pair_size [] pair e = absurd cc
 pair_size (from ∷ []) pair e = absurd cc
 pair_size (from ∷ to ∷ []) pair e =
@@ -397,10 +401,10 @@ no_arguments (more ∷ rest) event e = absurd cc
 
 -- what is made of arguments that are within the sizes
 made_size : {A E : Type 0} (make : A → E) (found : Option A) (words : List (List ℕ)) (event : E)
-    → ((x : A) → found ≡ Some x → AreWithin words 3060 36) → option_map make found ≡ Some event → AreWithin words 3060 36
+    → ((x : A) → found ≡ Some x → AreArguments words) → option_map make found ≡ Some event → AreArguments words
 made_size make found words event within e = let x = mapped make found event e in within x.0 x.1
 
-arguments_size : (of : Verb) (words : List (List ℕ)) (event : Event) → event_by of words ≡ Some event → AreWithin words 3060 36
+arguments_size : (of : Verb) (words : List (List ℕ)) (event : Event) → event_by of words ≡ Some event → AreArguments words
 arguments_size verb.Place words it e = made_size event.Order (place_of words) words it (place_size words) e
 arguments_size verb.Cancel words it e = made_size event.Order (cancel_of words) words it (cancel_size words) e
 arguments_size verb.Receive words it e = made_size event.Stock (receive_of words) words it (receive_size words) e
@@ -462,7 +466,7 @@ said_size verb.Agreement name arguments it short e =
     let none : AreWithin arguments 0 0 = no_arguments arguments it e in
     (omega (arith, short, none.0), omega (arith, none.1))
 said_size of name arguments it short e =
-    let rest : AreWithin arguments 3060 36 = arguments_size of arguments it e in
+    let rest : AreArguments arguments = arguments_size of arguments it e in
     (omega (arith, short, rest.0), omega (arith, rest.1))
 
 pub events_fit : Fits event_of

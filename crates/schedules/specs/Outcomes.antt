@@ -10,7 +10,8 @@ use Rattle.schedules.specs.declared.outcome.Told.TheVariants as pieces
 use Rattle.schedules.specs.declared.outcome.Outcome.{Outcome}
 use Rattle.schedules.specs.declared.outcome.Outcome.TheVariants.{Committed, Opened, Already, Closed, Cut, Sent, Due, Carried, Connected}
 use Rattle.schedules.specs.declared.outcome.Outcome.TheVariants.{Receipt, Handled, Repeated, Held, Settled, Error, Idle, Drained, Again}
-use Rattle.schedules.specs.declared.outcome.Outcome.TheVariants.{Absent, Armed, Reopened, Stopped, Pumped, Refused, NotDone, Shown, Agreement}
+use Rattle.schedules.specs.declared.outcome.Outcome.TheVariants.{Absent, Armed, Reopened, Stopped, Pumped, Refused, NotDone, Shown}
+use Rattle.schedules.specs.declared.outcome.Outcome.TheVariants.{Agreement}
 
 -- a text and a number
 abbrev pub told_number : List ℕ → ℕ → List ℕ

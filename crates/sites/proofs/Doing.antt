@@ -55,7 +55,8 @@ module _ {H K S C : Type 0} (number : ConnectionNumber) (k : Option Channel) (l 
       used = h.used;
       tells = h.tells;
       meets = meets_again (taken_fate h.result) number
-          (over l (record l.connection { client = h.client; waiting = waiting_of h.result f })) k (with_store t.endpoint s) from t to h.meets;
+          (over l (record l.connection { client = h.client; waiting = waiting_of h.result f })) k (with_store t.endpoint s)
+          from t to h.meets;
     }
 
     pub drains_again : DrainsOver seen service number l outcome (with_channel number k s) from t to

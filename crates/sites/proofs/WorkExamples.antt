@@ -61,7 +61,15 @@ abbrev before_or_after : OrderTables → Type 0
 before_or_after t = (t ≡ before) ⊎ (t ≡ after)
 
 abbrev pub seen : Store → Seen OrderTables
-seen k = record { tables = k.1; may_leave = λ t. MatchBool k.0 (t ≡ k.1) (before_or_after t); failures = 0; usable = k.0; doubt = 0; armed = None }
+seen k = record {
+  tables = k.1;
+  may_leave = λ t. MatchBool k.0 (t ≡ k.1) (before_or_after t);
+  failures = 0;
+  usable = k.0;
+  doubt =
+      0;
+  armed = None;
+}
 
 abbrev pub store : Bool → OrderTables → Failing Store
 store usable tables = record { keep = (usable, tables); armed = None; is_down = false; failures = 0 }

@@ -61,7 +61,8 @@ thirty_two_headers_fit : length ((message_frame (record greeting { headers = rep
 thirty_two_headers_fit = refl
 
 -- faults are numbered and named
-faults_are_numbered : (session_fault_number NotConnected ≡ 21) × (session_fault_number AlreadyConnected ≡ 22) × (session_fault_number Version ≡ 23)
+faults_are_numbered : (session_fault_number NotConnected ≡ 21) × (session_fault_number AlreadyConnected ≡ 22)
+    × (session_fault_number Version ≡ 23)
     × (session_fault_number MissingHeader ≡ 24) × (session_fault_number WrongCommand ≡ 33) × (session_fault_number Memory ≡ 34)
     × (session_fault_number TooLarge ≡ 35)
 faults_are_numbered = (refl, refl, refl, refl, refl, refl, refl)

@@ -42,7 +42,8 @@ returns-in_err-letter g c =
     let e = c.args.entity.now in
     let i = c.loop-at.at in
     rw (p.1, p.2) (read_later g.K.Keep.seen c.args.keep.now c.loop-at.keep c.number_out.new.keep
-    (c.requires.usable, c.loop-at.invariant.usable, c.loop-at.invariant.counts, c.loop-at.invariant.armed) c.loop-at.invariant.doubt c.loop-at.invariant.same
+    (c.requires.usable, c.loop-at.invariant.usable, c.loop-at.invariant.counts, c.loop-at.invariant.armed) c.loop-at.invariant.doubt
+    c.loop-at.invariant.same
     (λ t _. MAX_NUMBER < (letter_to t.sent e (take i outs) o).number) (λ t _. NumbersPass t.sent e outs) c.in_err-letter.field-0.0
     (λ early h. let sent = (g.K.Keep.seen c.args.keep.now).tables.sent in
     passes_at sent e outs i o c.loop-at-test.true c.index-outs-at.is

@@ -14,7 +14,8 @@ pub returns-in_err-write_octets-clause-err : goal.returns-in_err-write_octets-cl
 returns-in_err-write_octets-clause-err g c =
     let at = g.W.Write.contents in
     on_err_always _
-    (second_of_three (at c.args.out.now) (at c.write_entity.new.out) (at c.write_octets.new.out) (shown_entity c.args.pair.now.from) (codes " ")
+    (second_of_three (at c.args.out.now) (at c.write_entity.new.out) (at c.write_octets.new.out)
+    (shown_entity c.args.pair.now.from) (codes " ")
     (shown_entity c.args.pair.now.to) c.in_ok-write_entity.ensures.ok c.in_err-write_octets.ensures.err)
 
 pub returns-clause-err : goal.returns-clause-err

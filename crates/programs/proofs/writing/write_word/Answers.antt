@@ -24,4 +24,5 @@ returns-in_err-write_octets-clause-err g c =
     c.loop-octet-test.true refl c.loop-octet.invariant
     (subst (AppendsPart (at c.loop-octet.out) (at c.write_octets.new.out)) c.spelled.ensures c.in_err-write_octets.ensures.err) in
     on_err_always c.from_residual.result
-    (subst (λ os. AppendsPart (at c.args.out.now) (at c.write_octets.new.out) (flat_map spelled os)) c.as_bytes-octet-items.ensures.value part)
+    (subst (λ os. AppendsPart (at c.args.out.now) (at c.write_octets.new.out) (flat_map spelled os))
+    c.as_bytes-octet-items.ensures.value part)

@@ -5,4 +5,5 @@ use Rattle.schedules.specs.Words.{spelled}
 use Rattle.programs.proofs.writing.write_word.Given as goal
 
 abbrev pub invariant-loop-octet : goal.invariant-loop-octet
-invariant-loop-octet g l = Appends (g.W.Write.contents l.fn.out) (g.W.Write.contents l.out) (flat_map spelled (take l.octet-index l.octet-items))
+invariant-loop-octet g l = Appends (g.W.Write.contents l.fn.out) (g.W.Write.contents l.out)
+    (flat_map spelled (take l.octet-index l.octet-items))

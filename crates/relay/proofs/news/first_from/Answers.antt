@@ -1,6 +1,7 @@
 use Rattle.std.proofs.Common.{sym, subst, take, ◌+◌}
 use Rattle.relay.proofs.Firsts.{Best, too_early, not_first, is_first}
-use Rattle.relay.proofs.news.first_from.Goals.{then-is_from+then-is_before, else-is_from, else-is_from-via-then-is_from+else-is_before, else-is_from-via-else-is_from}
+use Rattle.relay.proofs.news.first_from.Goals.{then-is_from+then-is_before, else-is_from, else-is_from-via-then-is_from+else-is_before}
+use Rattle.relay.proofs.news.first_from.Goals.{else-is_from-via-else-is_from}
 use Rattle.relay.proofs.news.first_from.Goals as goal
 
 pub loop-row-preserved : goal.loop-row-preserved

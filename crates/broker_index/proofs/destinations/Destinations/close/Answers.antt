@@ -34,7 +34,8 @@ pub returns-else-is_idle : goal.returns-else-is_idle
 returns-else-is_idle c =
     let found = c.in-Some.ensures.found in
     let same : c.index.result.now ≡ found.0 = cc (c.index.ensures, found.1) in
-    rw (← c.self.view_is) (Sets-busy c.self.inside.slab c.self.inside.keys c.self.invariant.found c.in-Some.key c.args.name.now found.0 found.1
+    rw (← c.self.view_is) (Sets-busy c.self.inside.slab c.self.inside.keys c.self.invariant.found c.in-Some.key c.args.name.now
+    found.0 found.1
     found.2 (ap (λ (d : Destination). is_idle d.queue) (sym same) ∙ sym c.is_idle.ensures ∙ c.if-is_idle.false))
 
 pub returns-in-None : goal.returns-in-None

@@ -22,7 +22,8 @@ returns-in-Some-clause-ok c =
     let found = c.in-Some.ensures.found in
     let same : c.index_mut.result.now ≡ found.0 = cc (c.index_mut.ensures.value, found.1) in
     on_ok c.push_subscriber.result c.push_subscriber.ensures.ok (λ changed. rw (← c.self.view_is)
-    (Sets-changed c.self.inside.slab c.self.inside.keys c.self.invariant.found c.in-Some.key c.index_mut.result.now c.index_mut.ensures.value
+    (Sets-changed c.self.inside.slab c.self.inside.keys c.self.invariant.found c.in-Some.key c.index_mut.result.now
+    c.index_mut.ensures.value
     c.push_subscriber.new.self c.args.name.now (with_subscriber c.args.place) (ap (λ (d : Destination). d.name) same ∙ found.2) changed))
 
 pub returns-in-None-clause-ok : goal.returns-in-None-clause-ok

@@ -14,8 +14,10 @@ returns-in-Some c =
     let found = c.in-Some.ensures.found in
     let same : c.index_mut.result.now ≡ found.0 = cc (c.index_mut.ensures.value, found.1) in
     rw (← c.self.view_is)
-    (Sets-changed c.self.inside.slab c.self.inside.keys c.self.invariant.found c.in-Some.key c.index_mut.result.now c.index_mut.ensures.value
-    c.remove_subscriber.new.self c.args.name.now (without_subscriber c.args.age) (ap (λ (d : Destination). d.name) same ∙ found.2) c.remove_subscriber.ensures)
+    (Sets-changed c.self.inside.slab c.self.inside.keys c.self.invariant.found c.in-Some.key c.index_mut.result.now
+    c.index_mut.ensures.value
+    c.remove_subscriber.new.self c.args.name.now (without_subscriber c.args.age) (ap (λ (d : Destination). d.name) same ∙ found.2)
+    c.remove_subscriber.ensures)
 
 pub returns-in-None : goal.returns-in-None
 returns-in-None c =

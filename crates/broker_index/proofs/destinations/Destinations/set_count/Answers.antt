@@ -14,7 +14,8 @@ returns-in-Some c =
     let found = c.in-Some.ensures.found in
     let same : c.index_mut.result.now ≡ found.0 = cc (c.index_mut.ensures.value, found.1) in
     rw (← c.self.view_is)
-    (Sets-changed c.self.inside.slab c.self.inside.keys c.self.invariant.found c.in-Some.key c.index_mut.result.now c.index_mut.ensures.value
+    (Sets-changed c.self.inside.slab c.self.inside.keys c.self.invariant.found c.in-Some.key c.index_mut.result.now
+    c.index_mut.ensures.value
     c.set_count.new.self c.args.name.now (counting c.args.count) (ap (λ (d : Destination). d.name) same ∙ found.2) c.set_count.ensures)
 
 pub returns-in-None : goal.returns-in-None

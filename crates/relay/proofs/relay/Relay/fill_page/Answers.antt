@@ -23,7 +23,8 @@ returns-in-Err-clause-sent g c clean sent =
 
 pub returns-then-sent-limit-clause-fills : goal.returns-then-sent-limit-clause-fills
 returns-then-sent-limit-clause-fills g c =
-    page_moved (same_connection c.fill_letters.new.self c.go_behind_sent-then-sent-limit.new.self c.fill_letters.new.client c.go_behind_sent-then-sent-limit.ensures.marks)
+    page_moved (same_connection c.fill_letters.new.self c.go_behind_sent-then-sent-limit.new.self c.fill_letters.new.client
+    c.go_behind_sent-then-sent-limit.ensures.marks)
     (page_full _ _ c.args.self.now.behind c.go_behind_sent-then-sent-limit.new.self.behind c.args.page c.args.limit c.in_ok-rows.rows.items
     (send_state c.args.self.now c.args.client.now) (send_state c.fill_letters.new.self c.fill_letters.new.client)
     (λ clean. (c.in_ok-rows.ensures.read.clean clean).0) c.in-Ok.sent (rw c.deref.ensures.value at c.in-Ok.ensures.fills)
@@ -31,7 +32,8 @@ returns-then-sent-limit-clause-fills g c =
 
 pub returns-then-sent-limit-clause-sent : goal.returns-then-sent-limit-clause-sent
 returns-then-sent-limit-clause-sent g c clean sent =
-    goes_part _ c.args.page c.args.limit c.in_ok-rows.rows.items c.args.self.now c.fill_letters.new.self c.go_behind_sent-then-sent-limit.new.self
+    goes_part _ c.args.page c.args.limit c.in_ok-rows.rows.items c.args.self.now c.fill_letters.new.self
+    c.go_behind_sent-then-sent-limit.new.self
     c.args.client.now c.fill_letters.new.client c.in-Ok.ensures.behind (c.in_ok-rows.ensures.read.clean clean).0 sent (Ok c.in-Ok.sent)
     (rw c.deref.ensures.value at c.in-Ok.ensures.fills) c.go_behind_sent-then-sent-limit.ensures.sent
 
@@ -74,23 +76,27 @@ returns-in_err-rows-clause-fills g c =
 pub returns-in-Err-clause-rises : goal.returns-in-Err-clause-rises
 returns-in-Err-clause-rises g c =
     rises_with c.fill_letters.new.self c.go_behind_sent.new.self c.go_behind_sent.ensures.marks
-    (filling_rises c.args.limit c.in_ok-rows.rows.items (send_state c.args.self.now c.args.client.now) (send_state c.fill_letters.new.self c.fill_letters.new.client) (Err c.in-Err.fault)
+    (filling_rises c.args.limit c.in_ok-rows.rows.items (send_state c.args.self.now c.args.client.now)
+    (send_state c.fill_letters.new.self c.fill_letters.new.client) (Err c.in-Err.fault)
     (rw c.deref.ensures.value at c.in-Err.ensures.fills))
 
 pub returns-then-sent-limit-clause-rises : goal.returns-then-sent-limit-clause-rises
 returns-then-sent-limit-clause-rises g c =
     rises_with c.fill_letters.new.self c.go_behind_sent-then-sent-limit.new.self c.go_behind_sent-then-sent-limit.ensures.marks
-    (filling_rises c.args.limit c.in_ok-rows.rows.items (send_state c.args.self.now c.args.client.now) (send_state c.fill_letters.new.self c.fill_letters.new.client) (Ok c.in-Ok.sent)
+    (filling_rises c.args.limit c.in_ok-rows.rows.items (send_state c.args.self.now c.args.client.now)
+    (send_state c.fill_letters.new.self c.fill_letters.new.client) (Ok c.in-Ok.sent)
     (rw c.deref.ensures.value at c.in-Ok.ensures.fills))
 
 pub returns-then-len-page-clause-rises : goal.returns-then-len-page-clause-rises
 returns-then-len-page-clause-rises g c =
     rises_with c.fill_letters.new.self c.go_behind.new.self c.go_behind.ensures.marks
-    (filling_rises c.args.limit c.in_ok-rows.rows.items (send_state c.args.self.now c.args.client.now) (send_state c.fill_letters.new.self c.fill_letters.new.client) (Ok c.in-Ok.sent)
+    (filling_rises c.args.limit c.in_ok-rows.rows.items (send_state c.args.self.now c.args.client.now)
+    (send_state c.fill_letters.new.self c.fill_letters.new.client) (Ok c.in-Ok.sent)
     (rw c.deref.ensures.value at c.in-Ok.ensures.fills))
 
 pub returns-clause-rises : goal.returns-clause-rises
 returns-clause-rises g c =
     rises_with c.fill_letters.new.self c.go_behind-2.new.self c.go_behind-2.ensures.marks
-    (filling_rises c.args.limit c.in_ok-rows.rows.items (send_state c.args.self.now c.args.client.now) (send_state c.fill_letters.new.self c.fill_letters.new.client) (Ok c.in-Ok.sent)
+    (filling_rises c.args.limit c.in_ok-rows.rows.items (send_state c.args.self.now c.args.client.now)
+    (send_state c.fill_letters.new.self c.fill_letters.new.client) (Ok c.in-Ok.sent)
     (rw c.deref.ensures.value at c.in-Ok.ensures.fills))

@@ -15,7 +15,8 @@ returns-in-Err-clause-fills g c =
     (send_state c.fill_page.new.self c.fill_page.new.client) c.loop-page.count c.pass_over.new.self.behind c.fill_page.new.self.behind
     (passed_filled _ _ _ _ c.loop-page.self c.pass_over.new.self
     c.loop-page.client c.loop-page.count c.loop-page.invariant.1 c.pass_over.ensures.marks
-    (λ clean. c.pass_over.ensures.skips _ (risen_but _ _ _ _ _ c.loop-page.invariant.4 clean.2))) (λ clean. (earlier _ _ d clean.0, clean.1, clean.2)) (λ clean. clean.0)
+    (λ clean. c.pass_over.ensures.skips _ (risen_but _ _ _ _ _ c.loop-page.invariant.4 clean.2)))
+    (λ clean. (earlier _ _ d clean.0, clean.1, clean.2)) (λ clean. clean.0)
     (λ clean. same_tables g.K.Keep.seen c.args.endpoint.now c.loop-page.endpoint c.fill_page.new.endpoint had d clean.0)
     c.in-Err.fault c.in-Err.ensures.fills
 
@@ -26,7 +27,8 @@ returns-in-Err-clause-sent g c clean start but =
     sent_on (marks_of c.pass_over.new.self) (marks_of c.fill_page.new.self) c.pass_over.new.self.behind c.fill_page.new.self.behind _ _
     (same_tables g.K.Keep.seen c.args.endpoint.now c.loop-page.endpoint c.fill_page.new.endpoint had d clean)
     (c.in-Err.ensures.sent clean) (passed_sent _ c.loop-page.self c.pass_over.new.self c.pass_over.ensures.marks
-    (c.pass_over.ensures.skips _ (risen_but _ _ _ _ _ c.loop-page.invariant.4 but)) (c.loop-page.invariant.2 (earlier _ _ d clean) start but))
+    (c.pass_over.ensures.skips _ (risen_but _ _ _ _ _ c.loop-page.invariant.4 but))
+    (c.loop-page.invariant.2 (earlier _ _ d clean) start but))
 
 pub loop-page-preserved : goal.loop-page-preserved
 loop-page-preserved g c =
@@ -43,14 +45,17 @@ loop-page-preserved g c =
           (send_state c.fill_page.new.self c.fill_page.new.client) c.loop-page.count c.pass_over.new.self.behind
           c.fill_page.new.self.behind (passed_filled _ _ _ _ c.loop-page.self c.pass_over.new.self
           c.loop-page.client c.loop-page.count c.loop-page.invariant.1 c.pass_over.ensures.marks
-          (λ clean. c.pass_over.ensures.skips _ (risen_but _ _ _ _ _ c.loop-page.invariant.4 clean.2))) (λ clean. (earlier _ _ d clean.0, clean.1, clean.2)) (λ clean. clean.0)
+          (λ clean. c.pass_over.ensures.skips _ (risen_but _ _ _ _ _ c.loop-page.invariant.4 clean.2)))
+          (λ clean. (earlier _ _ d clean.0, clean.1, clean.2)) (λ clean. clean.0)
           (λ clean. same_tables g.K.Keep.seen c.args.endpoint.now c.loop-page.endpoint c.fill_page.new.endpoint had d clean.0)
           c.in-Ok.done.0 c.in-Ok.done.1 c.if-not-more.false c.in-Ok.ensures.fills,
       λ clean start but.
-          sent_on (marks_of c.pass_over.new.self) (marks_of c.fill_page.new.self) c.pass_over.new.self.behind c.fill_page.new.self.behind _ _
+          sent_on (marks_of c.pass_over.new.self) (marks_of c.fill_page.new.self) c.pass_over.new.self.behind
+          c.fill_page.new.self.behind _ _
           (same_tables g.K.Keep.seen c.args.endpoint.now c.loop-page.endpoint c.fill_page.new.endpoint had d clean)
           (c.in-Ok.ensures.sent clean) (passed_sent _ c.loop-page.self c.pass_over.new.self c.pass_over.ensures.marks
-          (c.pass_over.ensures.skips _ (risen_but _ _ _ _ _ c.loop-page.invariant.4 but)) (c.loop-page.invariant.2 (earlier _ _ d clean) start but)),
+          (c.pass_over.ensures.skips _ (risen_but _ _ _ _ _ c.loop-page.invariant.4 but))
+          (c.loop-page.invariant.2 (earlier _ _ d clean) start but)),
       c.in-Ok.ensures.rows ∙ c.pass_over.ensures.rows ∙ c.loop-page.invariant.3,
       rise_on c.args.self.now c.loop-page.self c.pass_over.new.self c.fill_page.new.self c.loop-page.invariant.4
           c.pass_over.ensures.marks c.in-Ok.ensures.rises,
@@ -109,7 +114,8 @@ returns-then-not-more-clause-fills g c =
     (send_state c.fill_page.new.self c.fill_page.new.client) c.loop-page.count c.pass_over.new.self.behind c.fill_page.new.self.behind
     (passed_filled _ _ _ _ c.loop-page.self c.pass_over.new.self
     c.loop-page.client c.loop-page.count c.loop-page.invariant.1 c.pass_over.ensures.marks
-    (λ clean. c.pass_over.ensures.skips _ (risen_but _ _ _ _ _ c.loop-page.invariant.4 clean.2))) (λ clean. (earlier _ _ d clean.0, clean.1, clean.2)) (λ clean. clean.0)
+    (λ clean. c.pass_over.ensures.skips _ (risen_but _ _ _ _ _ c.loop-page.invariant.4 clean.2)))
+    (λ clean. (earlier _ _ d clean.0, clean.1, clean.2)) (λ clean. clean.0)
     (λ clean. same_tables g.K.Keep.seen c.args.endpoint.now c.loop-page.endpoint c.fill_page.new.endpoint had d clean.0)
     c.in-Ok.done.0 c.in-Ok.done.1 c.if-not-more.true c.in-Ok.ensures.fills
 
@@ -120,7 +126,8 @@ returns-then-not-more-clause-sent g c clean start but =
     sent_on (marks_of c.pass_over.new.self) (marks_of c.fill_page.new.self) c.pass_over.new.self.behind c.fill_page.new.self.behind _ _
     (same_tables g.K.Keep.seen c.args.endpoint.now c.loop-page.endpoint c.fill_page.new.endpoint had d clean)
     (c.in-Ok.ensures.sent clean) (passed_sent _ c.loop-page.self c.pass_over.new.self c.pass_over.ensures.marks
-    (c.pass_over.ensures.skips _ (risen_but _ _ _ _ _ c.loop-page.invariant.4 but)) (c.loop-page.invariant.2 (earlier _ _ d clean) start but))
+    (c.pass_over.ensures.skips _ (risen_but _ _ _ _ _ c.loop-page.invariant.4 but))
+    (c.loop-page.invariant.2 (earlier _ _ d clean) start but))
 
 pub returns-in-Err-clause-rises : goal.returns-in-Err-clause-rises
 returns-in-Err-clause-rises g c = rise_on c.args.self.now c.loop-page.self c.pass_over.new.self c.fill_page.new.self
@@ -139,17 +146,21 @@ returns-clause-rises g c = rise_on c.args.self.now c.loop-page.self c.loop-page.
     c.loop-page.invariant.4 refl c.in-Ok-fill_page.ensures.rises
 
 pub returns-then-not-more-clause-read : goal.returns-then-not-more-clause-read
-returns-then-not-more-clause-read g c = read_again g.K.Keep.seen c.args.endpoint.now c.loop-page.endpoint c.fill_page.new.endpoint ℕ (Ok 0) c.loop-page.invariant.0
+returns-then-not-more-clause-read g c = read_again g.K.Keep.seen c.args.endpoint.now c.loop-page.endpoint c.fill_page.new.endpoint ℕ
+    (Ok 0) c.loop-page.invariant.0
     (some_read g.K.Keep.seen c.loop-page.endpoint c.fill_page.new.endpoint (ℕ × Bool) ℕ (λ _ _. ⊤) c.in-Ok.done 0 c.in-Ok.ensures.read)
 
 pub returns-clause-read : goal.returns-clause-read
-returns-clause-read g c = read_again g.K.Keep.seen c.args.endpoint.now c.loop-page.endpoint c.fill_page-2.new.endpoint ℕ (Ok 0) c.loop-page.invariant.0
-    (some_read g.K.Keep.seen c.loop-page.endpoint c.fill_page-2.new.endpoint (ℕ × Bool) ℕ (λ _ _. ⊤) c.in-Ok-fill_page.done 0 c.in-Ok-fill_page.ensures.read)
+returns-clause-read g c = read_again g.K.Keep.seen c.args.endpoint.now c.loop-page.endpoint c.fill_page-2.new.endpoint ℕ
+    (Ok 0) c.loop-page.invariant.0
+    (some_read g.K.Keep.seen c.loop-page.endpoint c.fill_page-2.new.endpoint (ℕ × Bool) ℕ (λ _ _. ⊤) c.in-Ok-fill_page.done 0
+    c.in-Ok-fill_page.ensures.read)
 
 pub returns-in-Err-fill_page-clause-read : goal.returns-in-Err-fill_page-clause-read
 returns-in-Err-fill_page-clause-read g c = read_again g.K.Keep.seen c.args.endpoint.now c.loop-page.endpoint c.fill_page-2.new.endpoint ℕ
     (store_end (Err c.in-Err-fill_page.fault)) c.loop-page.invariant.0
-    (same_end g.K.Keep.seen c.loop-page.endpoint c.fill_page-2.new.endpoint (ℕ × Bool) ℕ c.in-Err-fill_page.fault c.in-Err-fill_page.ensures.read)
+    (same_end g.K.Keep.seen c.loop-page.endpoint c.fill_page-2.new.endpoint (ℕ × Bool) ℕ c.in-Err-fill_page.fault
+    c.in-Err-fill_page.ensures.read)
 
 pub returns-in-Err-clause-read : goal.returns-in-Err-clause-read
 returns-in-Err-clause-read g c = read_again g.K.Keep.seen c.args.endpoint.now c.loop-page.endpoint c.fill_page.new.endpoint ℕ

@@ -3,7 +3,8 @@ use Rattle.schedule_runner.proofs.Asking.{passes_found, agrees_where_good, found
 use Rattle.schedule_runner.proofs.world.World.agreement.Goals as goal
 
 pub returns-in-Ok-clause-passes : goal.returns-in-Ok-clause-passes
-returns-in-Ok-clause-passes g c = passes_found g.KO.Keep.seen g.KS.Keep.seen g.KA.Keep.seen g.met.KO.Keep.sound g.met.KS.Keep.sound g.met.KA.Keep.sound
+returns-in-Ok-clause-passes g c = passes_found g.KO.Keep.seen g.KS.Keep.seen g.KA.Keep.seen g.met.KO.Keep.sound g.met.KS.Keep.sound
+    g.met.KA.Keep.sound
     (Ok c.in-Ok.agree) c.args.self.now c.ask_all.new.self c.in-Ok.ensures
 
 pub returns-in-Ok-clause-agrees : goal.returns-in-Ok-clause-agrees
