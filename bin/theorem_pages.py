@@ -222,7 +222,7 @@ OF_EVENTS = [("schedule_runner", "specs/Steps", "Happened"), ("schedule_runner",
              ("sites", "specs/Cursors", "AreRight")]
 OF_MAIL = [("genuine", "specs/Three", "Genuine")]
 OF_STORE = [("keep", "store", "Keep")]
-OF_SERVICE = [("endpoint", "endpoint", "Endpoint"), ("keep", "faulty", "Faulty"), ("keep", "specs/Failing", "through")]
+OF_SERVICE = [("endpoint", "endpoint", "WindowedEndpoint"), ("keep", "faulty", "Faulty"), ("keep", "specs/Failing", "through")]
 OF_SHOWS = [("schedule_runner", "specs/Shows", it) for it in SHOWS] + [("schedule_runner", "specs/Agreeing", "TellsAgreement")]
 
 CORE = {
@@ -392,10 +392,10 @@ SERVICE = {
     "cut": OF_EVENTS,
     "sections": [
         ("A command is taken in whole or not at all", ["What `commit` does to the journal, to every table, and to what a stop may leave."],
-         [("endpoint", "endpoint", "Endpoint::commit")]),
+         [("endpoint", "endpoint", "WindowedEndpoint::commit")]),
         ("A letter is handled once and in its turn", ["The same service where a letter of another one comes, early, late or again, and"
                                                       " where a settle tells what the receiver has handled."],
-         [("endpoint", "incoming", f"Endpoint::{it}") for it in ("ingest", "drain_held", "settle")]),
+         [("endpoint", "incoming", f"WindowedEndpoint::{it}") for it in ("ingest", "drain_held", "settle")]),
         ("A store that fails on purpose", ["What a schedule's `Fail` arms: a store, with the read or the transaction that is to fail."],
          OF_SERVICE[1:]),
     ],

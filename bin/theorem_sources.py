@@ -240,7 +240,7 @@ class Source:
         at = 0
         while at < len(self.lines):
             line = self.lines[at]
-            it = re.match(r"(?:pub(?:\([^)]*\))? )?(struct|enum|trait|const|fn|impl|mod)\b[ <]?", line)
+            it = re.match(r"(?:pub(?:\([^)]*\))? )?(struct|enum|trait|const|type|fn|impl|mod)\b[ <]?", line)
             if not it:
                 at += 1
                 continue
@@ -312,7 +312,7 @@ def declared(crate):
             if it.endswith(".rt"):
                 file = os.path.relpath(f"{folder}/{it}", TOP)
                 for name, made in source(file).items.items():
-                    if made.kind in ("struct", "enum", "trait", "const"):
+                    if made.kind in ("struct", "enum", "trait", "const", "type"):
                         found.setdefault(name, file)
     return found
 

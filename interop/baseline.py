@@ -5,6 +5,7 @@ usage: interop/baseline.py PORT     the status is 0 where each step was as it sh
 """
 import os
 import sys
+import time
 import traceback
 
 from client import Client, Closed, connected, spell
@@ -249,14 +250,31 @@ def repeated():
     return one.frame()["foo"] == "World"
 
 
-@step("bodies of 65,536 octets come whole")
+@step("bodies of 1,048,576 octets come whole")
 def large():
     one = connected(PORT)
-    bodies = [bytes([number]) * 65_536 for number in range(10)]
+    bodies = [bytes([number]) * 1_048_576 for number in range(10)]
     for body in bodies:
         put(one, "large", body)
     subscribe(one, "large")
     return [frame.body for frame in one.frames(10)] == bodies
+
+
+@step("20 bodies of 1,048,576 octets that wait come whole, 16 of them out at once, to a client that reads slowly")
+def slowly():
+    bodies = [bytes([number]) * 1_048_576 for number in range(20)]
+    sender, one = connected(PORT), Client(PORT, receive_buffer=1 << 16)
+    for body in bodies:
+        put(sender, "slowly", body)
+    one.connect()
+    one.send("SUBSCRIBE", {"id": "0", "destination": queue("slowly"), "ack": "client-individual"})
+    came = []
+    for _ in bodies:
+        time.sleep(0.05)
+        frame = one.frame()
+        one.send("ACK", {"id": frame["ack"]})
+        came.append(frame.body)
+    return came == bodies
 
 
 @step("frames with CR LF, and with line ends between them, are taken")
@@ -345,7 +363,7 @@ def error_is_read():
 @step("a full queue refuses a SEND with 32, and goes on when there is place")
 def full_queue():
     one = connected(PORT)
-    frames = b"".join(spell("SEND", {"destination": queue("full")}, b"x") for _ in range(4_096))
+    frames = b"".join(spell("SEND", {"destination": queue("full")}, b"x") for _ in range(65_536))
     one.socket.sendall(frames)
     put(one, "other", b"x")
     one.send("SEND", {"destination": queue("full")}, b"x")
@@ -358,7 +376,7 @@ def full_queue():
     taker.close()
     clear = connected(PORT)
     early = subscribe(clear, "full", "auto")
-    return len(early + clear.frames(4_096 - len(early))) == 4_096
+    return len(early + clear.frames(65_536 - len(early))) == 65_536
 
 
 def main():

@@ -98,6 +98,32 @@ def raw(first=b"", seconds=10):
     return client
 
 
+@kind("2,000 clients that tell a length of 1 MiB, and send none of it")
+def told_lengths():
+    before = memory()
+    clients = [raw(CONNECT + b"SEND\ndestination:/queue/told\ncontent-length:1048576\n\n") for _ in range(2_000)]
+    answered = sum(client.recv(100).startswith(b"CONNECTED") for client in clients)
+    taken = memory() - before
+    for client in clients:
+        client.close()
+    return f"{answered} were answered, and took {taken:.1f} MiB", answered == 2_000 and taken < 20
+
+
+@kind("200 clients that sent 1 MiB and got it back, and rest")
+def rested():
+    name, before, clients = f"/queue/rested.{random.random()}", memory(), []
+    for number in range(200):
+        client, own = connected(PORT), {"destination": f"{name}.{number}"}
+        client.asked("SUBSCRIBE", {"id": "0", "ack": "client-individual", **own})
+        client.asked("SEND", own, b"r" * 1_048_576)
+        client.asked("ACK", {"id": client.frame()["ack"]})
+        clients.append(client)
+    kept = memory() - before
+    for client in clients:
+        client.close()
+    return f"they keep {kept:.1f} MiB", kept < 200 / 16
+
+
 @kind("200 clients that send the half of a frame of 64 KiB, and wait")
 def half_frames():
     half = CONNECT + b"SEND\ndestination:/queue/half\ncontent-length:65536\n\n" + b"h" * 60_000

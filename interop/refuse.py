@@ -46,7 +46,7 @@ def talk(port):
     one = connected(port)
     queue = {"destination": "/queue/talk"}
     same(one.asked("SUBSCRIBE", {"id": "0", "ack": "client-individual", **queue}), [])
-    for body in (b"a", b"b" * 65_536, b"c\0d"):
+    for body in (b"a", b"b" * 1_048_576, b"c\0d"):
         same(one.asked("SEND", {"a:b": "c\nd", **queue}, body), [])
         frame = one.frame()
         same((frame.body, frame["a:b"]), (body, "c\nd"))

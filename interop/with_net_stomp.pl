@@ -169,8 +169,8 @@ step 'headers with colons, newlines and backslashes, which the program escapes, 
     return $came->{one} eq 'a\\cb' && $came->{two} eq 'c\\nd' && $came->{three} eq 'e\\\\f';
 };
 
-step 'bodies of 65,536 octets come whole' => sub {
-    my @bodies = map { chr(97 + $_) x 65_536 } 0 .. 9;
+step 'bodies of 1,048,576 octets come whole' => sub {
+    my @bodies = map { chr(97 + $_) x 1_048_576 } 0 .. 9;
     my $one = client();
     $one->subscribe({destination => filled('large', @bodies), id => '0', ack => 'auto'});
     return bodies_of($one, 10) eq join(' ', @bodies);

@@ -171,9 +171,9 @@ step("headers with colons, newlines and backslashes, which the program escapes, 
     return array_intersect_assoc($odd, take(subscribed(name_of("headers"), "auto"))->headers) === $odd;
 });
 
-step("bodies of 65,536 octets come whole", function () {
+step("bodies of 1,048,576 octets come whole", function () {
     $name = name_of("large");
-    $bodies = array_map(fn($letter) => str_repeat($letter, 65536), range("a", "j"));
+    $bodies = array_map(fn($letter) => str_repeat($letter, 1048576), range("a", "j"));
     return bodies_of(passed($name, subscribed($name, "auto"), $bodies)) === $bodies;
 });
 

@@ -160,8 +160,8 @@ step("a header that is given twice comes with its first value first") do
   [*take(one, "MESSAGE").headers["foo"]].first == "World"
 end
 
-step("bodies of 65,536 octets come whole") do
-  bodies, one = Array.new(10) { |number| (97 + number).chr * 65_536 }, client
+step("bodies of 1,048,576 octets come whole") do
+  bodies, one = Array.new(10) { |number| (97 + number).chr * 1_048_576 }, client
   one.subscribe(filled("large", *bodies), {"id" => "0", "ack" => "auto"})
   bodies_of(one, 10) == bodies
 end

@@ -204,9 +204,9 @@ def headers():
     return all(came[key] == value for key, value in odd.items())
 
 
-@step("bodies of 65,536 octets come whole")
+@step("bodies of 1,048,576 octets come whole")
 def large():
-    contents = [bytes([number]) * 65_536 for number in range(10)]
+    contents = [bytes([number]) * 1_048_576 for number in range(10)]
     one = Client()
     one.connection.subscribe(filled("large", *contents), id="0", ack="auto")
     return [frame.body for frame in one.messages(10)] == contents
@@ -226,10 +226,10 @@ def error():
     return told(one) == "31 NoSuchAck"
 
 
-@step("a body of 65,537 octets is told by ERROR 20, though it was sent whole")
+@step("a body of 1,048,577 octets is told by ERROR 20, though it was sent whole")
 def too_large():
     one = Client()
-    one.connection.send(name_of("too_large"), b"x" * 65_537)
+    one.connection.send(name_of("too_large"), b"x" * 1_048_577)
     return told(one) == "20 BadFrame"
 
 

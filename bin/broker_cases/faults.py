@@ -8,7 +8,7 @@ def octets_at_fault():
     section("20 BadFrame: an octet is at fault", "What came before it is handled and counted; no receipt is told; the rest is thrown away.")
     for text in ("NOTHING\n", "send\n", "\0", "\rS", "SEND\0", "SEND\nno-colon\n", "SEND\n:v\n", "SEND\na:b:c\n", "SEND\na:\\y\n",
                  b"SEND\na:\xff\n", "SEND\nreceipt:r\nno-colon\n", "SEND\ncontent-length:2\n\nabc", "SEND\ncontent-length:x\n",
-                 "SEND\ncontent-length:65537\n", "ACK\nid:1\n\nx", "ACK\ncontent-length:1\n"):
+                 "SEND\ncontent-length:1048577\n", "ACK\nid:1\n\nx", "ACK\ncontent-length:1\n"):
         refused(text, fault="20 BadFrame", handled=1)
     refused(send("receipt:a"), "SEND\ndestination:/queue/a\nwrong\n", send(), fault="20 BadFrame", before=(receipt("a"),), handled=2,
             puts=(put(1),))
@@ -26,14 +26,20 @@ def octets_at_fault():
     is_closed(2, "no")
     feed(2, "k", handled=0)
     out(2, CONNECTED, error("20 BadFrame"))
+    note("Bodies of 65,537 octets and of 1,048,576 may come.")
+    for session, length in ((3, 65537), (4, 1048576)):
+        opened()
+        feed(session, CONNECT, f"SEND\ncontent-length:{length}\n\n", handled=1)
+        out(session, CONNECTED)
+        is_closed(session, "no")
     note("An end that hasn't come yet is no fault.")
     feed(2, send(), handled=0)
     opened()
     for piece in ("SENDX", "\n"):
-        is_closed(3, "no")
-        feed(3, piece, handled=0)
-    is_closed(3, "yes")
-    out(3, error("20 BadFrame"))
+        is_closed(5, "no")
+        feed(5, piece, handled=0)
+    is_closed(5, "yes")
+    out(5, error("20 BadFrame"))
 
 
 def at_once():

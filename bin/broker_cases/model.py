@@ -18,6 +18,7 @@ REQUIRED = {"CONNECT": ("accept-version", "host"), "STOMP": ("accept-version", "
 ECHOED = {"CONNECT": (), "STOMP": (), "SEND": ("receipt", "transaction"), "SUBSCRIBE": ("receipt", "id"), "UNSUBSCRIBE": ("receipt", "id"),
           "ACK": ("receipt", "id", "transaction"), "NACK": ("receipt", "id", "transaction"), "BEGIN": ("receipt", "transaction"),
           "COMMIT": ("receipt", "transaction"), "ABORT": ("receipt", "transaction"), "DISCONNECT": ("receipt",)}
+BODY = 1048576  # octets of a body, at most
 NOT_OWN = ("destination", "transaction", "receipt", "message-id", "subscription", "ack")
 LETTERS = "abcdefghijklmnopqrstuvwxyzABCDEFGHIJKLMNOPQRSTUVWXYZ0123456789._-/"
 
@@ -139,7 +140,7 @@ class Decoder:
         if not 1 <= len(value) <= 8 or any(digit not in "0123456789" for digit in value):
             raise BadFrame
         self.length = int(value)
-        if self.length > (65536 if self.frame.command in WITH_BODY else 0):
+        if self.length > (BODY if self.frame.command in WITH_BODY else 0):
             raise BadFrame
 
     def in_a_body(self, octet):
@@ -147,7 +148,7 @@ class Decoder:
         if octet == 0 and self.length in (None, len(frame.body)):
             self.begin()
             return frame
-        most = self.length if self.length is not None else 65536 if frame.command in WITH_BODY else 0
+        most = self.length if self.length is not None else BODY if frame.command in WITH_BODY else 0
         if len(frame.body) == most:
             raise BadFrame
         frame.body += bytes((octet,))
@@ -179,7 +180,7 @@ class Message:
 class Broker:
     """Sessions over queues. `living` are the messages that aren't gone, lowest number first; `subscriptions` are oldest first."""
 
-    FULL, CREDIT, SUBSCRIPTIONS, TRANSACTIONS, ACTIONS = 4096, 16, 64, 16, 256
+    FULL, CREDIT, SUBSCRIPTIONS, TRANSACTIONS, ACTIONS = 65536, 16, 64, 16, 256
 
     def __init__(self):
         self.sessions, self.subscriptions, self.living, self.accepted = {}, [], [], []
@@ -400,9 +401,10 @@ class Broker:
             raise Refused(25)
 
     def put(self, send):
-        destinations = [message.destination for message in self.living]
-        if destinations.count(send.get("destination")) == self.FULL:
-            raise Refused(32)
+        if len(self.living) >= self.FULL:  # else no destination has as many
+            destinations = [message.destination for message in self.living]
+            if destinations.count(send.get("destination")) == self.FULL:
+                raise Refused(32)
         self.last += 1
         message = Message(self.last, send)
         self.living.append(message)

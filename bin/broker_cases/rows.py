@@ -98,10 +98,12 @@ def gone():
         "MESSAGE\ncontent-length:1\ndestination:/queue/a\nmessage-id:2\nsubscription:x\nack:4\n\nb\0")
 
 def full():
-    section("A destination has at most 4,096 messages: others have room, and an answer makes room again",
+    section("A destination has at most 65,536 messages: others have room, and an answer makes room again",
             "Of a COMMIT an ACK makes room for a SEND that stands behind it, and for none before it.")
     connected(4)
-    repeat(4096, 1, send(body="x"))
+    repeat(4097, 1, send(body="x"))
+    is_closed(1, "no")
+    repeat(65536 - 4097, 1, send(body="x"))
     feed(2, send("receipt:r", to="/queue/b"))
     out(2, receipt("r"))
     feed(1, send(body="x"))

@@ -25,7 +25,7 @@ def spellings():
     for text in ("", "\n", "\r", "\n\r\n\r", "S", "SEND", "SEND\r", "SENDX", "SEND\n", "SEND\n\n", "SEND\n\nbody", "ACK\nid",
                  "ACK\nid:1:2", "ACK\n:1",
                  "ACK\nid:\\t", "ACK\nid:\xff", "ACK\n\n", "ACK\n\r", "SEND\ncontent-length:2\n\n\0", "SEND\ncontent-length:2\n\nab",
-                 "SEND\ncontent-length:65537", "SEND\ncontent-length:-"):
+                 f"SEND\ncontent-length:{BODY + 1}", "SEND\ncontent-length:-"):
         decode(text.encode("latin-1"))
     for command in COMMANDS:
         reads(f"{command}\r\n\r\n\0", command)
@@ -79,10 +79,10 @@ def fault_table():
         fails(text, "BadLength")
     note("Over the limit of a body, and above 0 where no body may stand; the limit is told before that.")
     for command in COMMANDS:
-        for length in ("65537", "99999999"):
+        for length in (BODY + 1, "99999999"):
             fails(f"{command}\ncontent-length:{length}\n", "BodyTooLong")
         if command not in WITH_BODY:
-            for length in ("1", "00000001", "65536"):
+            for length in ("1", "00000001", BODY):
                 fails(f"{command}\ncontent-length:{length}\n", "BodyNotAllowed")
             fails(f"{command}\n\nx", "BodyNotAllowed")
             fails(f"{command}\r\n\r\n\n", "BodyNotAllowed")
@@ -137,20 +137,24 @@ def long_texts():
     fails("ACK\ncontent-length:0\n" + "n:\n" * 32 + "content-length:0\n", "TooManyHeaders")
     fails("SEND\ncontent-length:0\n" + "content-length:0\n" * 33, "TooManyHeaders", **some)
 
-    section("Bodies of 65,536 octets, and of 65,537", "Cut behind each 8,192th octet and before the last one, and octet by octet.")
-    longest = "x" * 65536
-    for command in WITH_BODY:
-        text = f"{command}\n\n{longest}"
-        decode(text, every=8192)
-        decode(text + "\0", (text + "\0", frame(command, (), longest)), every=8192)
-        decode(text + "x", (text + "x", FRAME_FAULTS["BodyTooLong"]), every=8192)
-        text = f"{command}\ncontent-length:65536\n\n{longest}"
-        decode(text, every=8192)
-        decode(text + "\0", (text + "\0", frame(command, (), longest)), every=8192)
-        decode(text + "x", (text + "x", FRAME_FAULTS["NoNull"]), every=8192)
-    text = b"SEND\ncontent-length:65536\n\n" + bytes(65536)
-    decode(text + b"\0", (text + b"\0", frame("SEND", (), bytes(65536))), every=8192)
-    decode("\n" * 70000 + "ACK\n\n\0", ("\n" * 70000 + "ACK\n\n\0", frame("ACK")), every=8192)
+
+def long_bodies():
+    section("Bodies of 1,048,576 octets, and of 1,048,577", "One is read octet by octet and in two pieces, the others in pieces of 8,192.")
+    longest, nulls = "x" * BODY, bytes(BODY)
+    length = f"content-length:{BODY}"
+    decode(f"SEND\n\n{longest}x", (f"SEND\n\n{longest}x", FRAME_FAULTS["BodyTooLong"]), every=262144)
+    pieces(f"SEND\n{length}\n\n".encode() + nulls + b"\0", frame("SEND", (), nulls))
+    pieces(f"MESSAGE\n\n{longest}\0", frame("MESSAGE", (), longest))
+    pieces(f"MESSAGE\n{length}\n\n{longest}x", FRAME_FAULTS["NoNull"])
+    pieces(f"ERROR\n\n{longest}x", FRAME_FAULTS["BodyTooLong"])
+    pieces(f"ERROR\n{length}\n\n{longest}\0", frame("ERROR", (), longest))
+    note("Line ends before a frame have no limit.")
+    pieces("\n" * (BODY + 1) + "ACK\n\n\0", frame("ACK"))
+    note("Bodies of 65,537 octets, and as many line ends: cut behind each 8,192th octet and before the last one, and octet by octet.")
+    shorter = "x" * 65537
+    reads(f"SEND\n\n{shorter}\0", "SEND", (), shorter, every=8192)
+    reads(f"SEND\ncontent-length:65537\n\n{shorter}\0", "SEND", (), shorter, every=8192)
+    reads("\n" * 65537 + "ACK\n\n\0", "ACK", every=8192)
 
 
 def streams():

@@ -147,23 +147,34 @@ def builder():
     for name, value, fault in (("n", "", "TooManyHeaders"), ("k", longer, "LineTooLong"), ("", longer, "BadLine"), ("a", "\0", "BadLine")):
         refused("MESSAGE", name, value, fault, headers)
 
-    section("Bodies of 65,536 and of 65,537 octets")
+
+def long_bodies():
+    section("Bodies of 1,048,576 and of 1,048,577 octets", "Shorter ones of each command, and the longest of one, under the others too.")
     for command in COMMANDS:
         say(f"frame new {command}", frame(command))
         if command in WITH_BODY:
-            say("frame body 65536*\\x07", frame(command, (), b"\7" * 65536))
+            say("frame body 65537*\\x07", frame(command, (), b"\7" * 65537))
             say("frame body kept", frame(command, (), "kept"))
-            say("frame body 65537*\\x07", f"{FRAME_FAULTS['BodyTooLong']}; {frame(command, (), 'kept')}")
         else:
-            for body in ("x", "\\x00", "65537*\\x07"):
+            for body in ("x", "\\x00", "65537*x"):
                 say(f"frame body {body}", f"{FRAME_FAULTS['BodyNotAllowed']}; {frame(command)}")
         say("frame body |", frame(command))
+    say("frame new ACK", frame("ACK"))
+    say(f"frame body {BODY + 1}*x", f"{FRAME_FAULTS['BodyNotAllowed']}; {frame('ACK')}")
+    build("SEND", (), "kept")
+    say(f"frame body {BODY + 1}*x", f"{FRAME_FAULTS['BodyTooLong']}; {frame('SEND', (), 'kept')}")
+    say(f"frame body {BODY}*x", frame("SEND", (), "x" * BODY))
+    say("frame under MESSAGE", frame("MESSAGE", (), "x" * BODY))
+    say("frame under ERROR", frame("ERROR", (), "x" * BODY))
 
+
+def parts_of_frames():
+    longer = "x" * 1023
     section("Parts that are no frame come back", "The first refusal of the builder is told, that of the headers before that of the body.")
     say("frame new RECEIPT", frame("RECEIPT"))
     for command, headers, body, fault in (
-            ("SUBSCRIBE", [("id", "1")], "body", "BodyNotAllowed"), ("SEND", [("k", "v")], "x" * 65537, "BodyTooLong"),
-            ("ACK", [], "x" * 65537, "BodyNotAllowed"), ("ACK", [("content-length", "1")], "x", "BadLine"),
+            ("SUBSCRIBE", [("id", "1")], "body", "BodyNotAllowed"), ("SEND", [("k", "v")], "x" * (BODY + 1), "BodyTooLong"),
+            ("ACK", [], "x" * (BODY + 1), "BodyNotAllowed"), ("ACK", [("content-length", "1")], "x", "BadLine"),
             ("SEND", [("k", longer), ("", "v")], "", "LineTooLong"), ("SEND", [("", "v"), ("k", longer)], "", "BadLine"),
             ("CONNECT", [("a:b", "v")], "", "BadLine"), ("SEND", [("n", "")] * 33, "", "TooManyHeaders"),
             ("SEND", [("n", "")] * 32 + [("k", longer)], "", "LineTooLong"), ("SEND", [("n", "")] * 33 + [("", "")], "",
@@ -171,7 +182,7 @@ def builder():
         say(f"frame of {command} {word(body)}" + "".join(f" {word(name)} {word(value)}" for name, value in headers),
             f"{FRAME_FAULTS[fault]}; {parts(headers, body)}")
         say("frame show", frame("RECEIPT"))
-    for command, headers, body in (("ACK", [], ""), ("SEND", [("a:b", "\r\n")], "x\0y"), ("ERROR", [("n", "")] * 32, "x" * 65536),
+    for command, headers, body in (("ACK", [], ""), ("SEND", [("a:b", "\r\n")], "x\0y"), ("ERROR", [("n", "")] * 32, "x" * BODY),
                                    ("CONNECT", [("k", "a:b\\")], "")):
         say(f"frame of {command} {word(body)}" + "".join(f" {word(name)} {word(value)}" for name, value in headers),
             frame(command, headers, body))

@@ -2,6 +2,7 @@
 import itertools
 
 LIMIT = 2**40
+BODY = 1048576  # octets of a body, at most
 MOST = 2**64 - 1
 lines = []  # pairs: a line and its answer; a comment and an empty line are printed as they are
 
@@ -93,6 +94,14 @@ def decode(text, *steps, every=None):
     """A text, and each frame or fault that is given with the text that it ends; the last is given at the end of the whole text."""
     given = "; ".join(f"{len(front)}: {answer}" for front, answer in steps)
     say(f"decode {f'every {every} ' if every else ''}{word(text)}", given or "none")
+
+
+def pieces(text, answer, size=8192):
+    """A text in pieces of so many octets, the last octet in one of its own; the answer is given at its end."""
+    octets = text.encode() if isinstance(text, str) else text
+    cuts = [*range(0, len(octets) - 1, size), len(octets) - 1, len(octets)]
+    words = " ".join(word(octets[first:end]) for first, end in zip(cuts, cuts[1:]))
+    say(f"decode rounds 1 {words}", f"{len(octets)}: {answer}")
 
 
 def reads(text, command, headers=(), body="", every=None):

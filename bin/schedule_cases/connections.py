@@ -93,16 +93,16 @@ def repeats():
 
 
 def full_queue():
-    note("A queue takes 4,096: no more come again, and a sender is told by an ERROR, behind the receipts of what was taken.")
+    note("A queue takes 65,536: no more come again, and a sender is told by an ERROR, behind the receipts of what was taken.")
     rows = [PLACED[-1], *opened("purchasing"), ("pump 2", PUMPED)]
     schedule(*(line for line, _ in rows))
-    say("repeat 4095 repeat 1")
-    more = [("repeat 1", "refused 32"), ("repeat 2", "again 4098"), ("resend purchasing 0", "due"), ("fill purchasing 0 64", "sent 2"),
+    say("repeat 65535 repeat 1")
+    more = [("repeat 1", "refused 32"), ("repeat 2", "again 65538"), ("resend purchasing 0", "due"), ("fill purchasing 0 64", "sent 2"),
             (f"carry purchasing 0 up {ALL}", "carried 273"), (f"carry purchasing 0 down {ALL}", f"carried {59}"),
             ("take purchasing 0", "error 32 QueueFull"), ("take purchasing 0", "closed")]
     for line, _ in more:
         echo(f"| {line}")
-    out = told_of(rows) + "".join(f"again {number}\n" for number in range(3, 4098)) + told_of(more)
+    out = told_of(rows) + "".join(f"again {number}\n" for number in range(3, 65538)) + told_of(more)
     say("measure run", f"{len(out)} octets on out, 0 on err, status 0")
 
 

@@ -5,15 +5,16 @@ from .operations import *
 
 def in_order():
     section("Letters are handled in the order of their numbers, each once",
-            "Numbers 2, 1, then the held one's turn, then 1 again; of another pair 64, 65, then 1, 65, 66.")
+            "Numbers 2, 1, then the held one's turn, then 1 again; of another pair 65, 256, 257, then 1, 257, 258.")
     say("endpoint new")
     say("endpoint " + PLACE, "committed 1")
     for line, answer in ((HELD, "held"), (DRAINED, "none"), (ARRIVED, "handled 2"), ("drainable", "stock/bolt order/o1"),
                          (DRAINED, "drained 2"), (ARRIVED, "repeated"), (HELD, "repeated"), ("drainable", "none"), (DRAINED, "none"),
                          ("handled stock/bolt order/o1", "2"), ("length", "3"),
-                         ("ingest account/ann order/o1 64 Tentative", "held"), ("ingest account/ann order/o1 65 Tentative", TOO_EARLY),
-                         ("ingest account/ann order/o1 1 Tentative", "handled 4"), ("ingest account/ann order/o1 65 Tentative", "held"),
-                         ("ingest account/ann order/o1 66 Tentative", TOO_EARLY), ("handled account/ann order/o1", "1"),
+                         ("ingest account/ann order/o1 65 Tentative", "held"),
+                         ("ingest account/ann order/o1 256 Tentative", "held"), ("ingest account/ann order/o1 257 Tentative", TOO_EARLY),
+                         ("ingest account/ann order/o1 1 Tentative", "handled 4"), ("ingest account/ann order/o1 257 Tentative", "held"),
+                         ("ingest account/ann order/o1 258 Tentative", TOO_EARLY), ("handled account/ann order/o1", "1"),
                          ("ingest account/ann order/o1 1 Refused", "repeated"), ("drain account/ann order/o1", "none")):
         say("endpoint " + line, answer)
 

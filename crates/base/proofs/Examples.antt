@@ -104,7 +104,7 @@ no_number_above : IsNumber (2 ^ 40 + 1) → ⊥
 no_number_above h = let small = h.small in omega arith
 
 -- the limits that other layers count by
-limits_are_set : (MAX_NUMBER ≡ 2 ^ 40) × (SEATS ≡ 16) × (HELD_WINDOW ≡ 64)
+limits_are_set : (MAX_NUMBER ≡ 2 ^ 40) × (SEATS ≡ 16) × (HELD_WINDOW ≡ 256)
 limits_are_set = (refl, refl, refl)
 
 -- numbers are 1 to 2^40

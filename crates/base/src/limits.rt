@@ -1,4 +1,5 @@
-//! The product's limits, in one place.
+//! The product's limits, in one place. Those of a body, of a queue and of held letters are const parameters of the types that keep them:
+//! who needs others changes a line here, or names another value where such a type is made.
 
 /// Octets of an entity's key: 1 to this many.
 pub const MAX_KEY: usize = 64;
@@ -12,8 +13,8 @@ pub const MAX_LINES: usize = 8;
 /// Seats of a service, numbered from 0.
 pub const SEATS: u8 = 16;
 
-/// How far above the last handled number a letter may be and still be held.
-pub const HELD_WINDOW: u64 = 64;
+/// How far above the last handled number a letter may be and still be held: of use from 1 to 65,536.
+pub const HELD_WINDOW: u64 = 256;
 
 /// Headers of a frame; its first `content-length` line isn't counted.
 pub const MAX_HEADERS: usize = 32;
@@ -21,8 +22,8 @@ pub const MAX_HEADERS: usize = 32;
 /// Octets of a line without its end of line.
 pub const MAX_LINE: usize = 1_024;
 
-/// Octets of a frame's body.
-pub const MAX_BODY: usize = 65_536;
+/// Octets of a frame's body: of use from 1 to 99,999,999, the greatest length that eight digits tell.
+pub const MAX_BODY: usize = 1_048_576;
 
 /// Digits of a `content-length`.
 pub const MAX_LENGTH_DIGITS: usize = 8;
@@ -33,8 +34,8 @@ pub const MAX_ECHOED: usize = 128;
 /// Headers of a SEND that the broker hands on.
 pub const MAX_OWN_HEADERS: usize = 28;
 
-/// Messages of a destination that are ready or out.
-pub const MAX_QUEUED: usize = 4_096;
+/// Messages of a destination that are ready or out: of use from 1 to 1,000,000.
+pub const MAX_QUEUED: usize = 65_536;
 
 /// Unanswered messages of a subscription.
 pub const MAX_UNANSWERED: usize = 16;

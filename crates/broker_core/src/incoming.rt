@@ -6,6 +6,7 @@ ghost use Rattle.broker_core.specs.Parts.Taking.{NextAnswer, PieceAnswer, is_mem
 ghost use Rattle.broker_core.specs.Serving.{nothing_incoming};
 
 use crate::asked::{Asked, Form};
+use base::limits::MAX_BODY;
 use std::alloc::{AllocError, Global};
 use stomp_frame::{Decoder, Frame, FrameFault};
 use stomp_session::{Refused, ServerSession};
@@ -13,7 +14,7 @@ use stomp_session::{Refused, ServerSession};
 /// What waits since memory was refused to it, as it was decided, and the octets behind it.
 #[derive(Debug, Drop)]
 pub struct Incoming {
-    pub decoder: Decoder,
+    pub decoder: Decoder<MAX_BODY>,
     pub waiting: Option<Result<Asked, Refused>>,
 }
 
@@ -85,7 +86,7 @@ impl Incoming {
 }
 
 /// What a frame is decided to be: its parts are moved.
-fn decide(server: ServerSession, frame: Frame) -> Result<Asked, Refused>
+fn decide(server: ServerSession, frame: Frame<MAX_BODY>) -> Result<Asked, Refused>
     ensures { result ≡ answer_of server frame }
 {
     let mut server = server;

@@ -21,8 +21,8 @@ pub struct Written {
     outgoing: Outgoing,
 }
 
-/// From so many octets on the memory that they lay in is given back once they are taken.
-const LARGE: usize = 4_096;
+/// Where nothing is left, no more room than this is kept.
+const RESTING: usize = 8_192;
 
 impl Model for Written {
     ghost use Rattle.std.specs.Prelude.{List, ℕ};
@@ -57,13 +57,14 @@ impl Written {
         self.outgoing.as_slice()
     }
 
-    /// Takes the first of them away. Where many were taken and none is left, their memory is given back: a session that rests keeps little.
+    /// Takes the first of them away. Where none is left and there is much room, its memory is given back: a session that rests keeps
+    /// little, whatever was written for it.
     pub fn taken(&mut self, count: usize)
         requires { count ≤ length self.old }
         ensures { self.new ≡ drop count self.old }
     {
         self.outgoing.taken(count);
-        if count >= LARGE && self.outgoing.len() == 0 {
+        if self.outgoing.len() == 0 && self.outgoing.room() > RESTING {
             self.outgoing = Outgoing::new(self.alloc);
         }
     }

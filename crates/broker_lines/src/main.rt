@@ -4,7 +4,7 @@
 //! `done`, or the text of its fault. So the answer to a line of `stdin` stands at the same line of `stdout`. Where a growth is refused,
 //! the program ends there with status 3.
 //!
-//! A broker, whose queues hold 4,096 messages each:
+//! A broker, whose queues hold 65,536 messages each:
 //! - `new`: it has no session and no message;
 //! - `open`: the number of a new session;
 //! - `feed N TEXT`, `feed N`: a piece of octets, or none, is fed to session N: how many frames were handled;

@@ -8,6 +8,7 @@ use crate::ReadFault;
 use crate::buffers::Buffers;
 use crate::rest::Rest;
 use crate::turn::{Turn, Written, discard, feed_in, read_in, write_out};
+use base::limits::{MAX_BODY, MAX_LINE, MAX_UNANSWERED};
 use broker_core::{Broker, SessionId};
 use mio::event::Event;
 use mio::net::TcpStream;
@@ -16,8 +17,11 @@ use std::alloc::Global;
 use std::mem::replace;
 use std::net::Shutdown;
 
-/// The octets for a session that may be left after a write.
-const MAX_UNREAD: usize = 8_388_608;
+/// The octets of a frame besides its body: a command's line, those of 33 headers and an empty one, each with its end, and a NUL.
+const MAX_HEAD: usize = 35 * (MAX_LINE + 2) + 1;
+
+/// The octets for a session that may be left after a write: 8 MiB besides as many of the longest messages as a subscription has out.
+const MAX_UNREAD: usize = 8_388_608 + MAX_UNANSWERED * (MAX_HEAD + MAX_BODY);
 
 /// The octets that are thrown away behind the end of a session.
 const MAX_THROWN: usize = 67_108_864;

@@ -21,8 +21,9 @@
 //!
 //! - Of a connection at most 65,536 octets are read at a turn, so that others come to theirs. All that a turn brought is handled, and then
 //!   the answers are written together.
-//! - A connection with more than 8,388,608 octets left that its client doesn't read is dropped, and so is one whose read or write fails:
-//!   its subscriptions end, and what was out to them goes to others. Nothing ever waits for it.
+//! - A connection with more than 25,740,400 octets left that its client doesn't read is dropped, and so is one whose read or write fails:
+//!   its subscriptions end, and what was out to them goes to others. Nothing ever waits for it. These are 8 MiB besides 16 of the longest
+//!   messages, as many as are out to a subscription at once, so that a client that reads slowly gets them.
 //! - After an ERROR or a DISCONNECT (STOMP 1.2, sections "ERROR", "DISCONNECT"), or where the client has shut its side, what is left is
 //!   written and this side is shut; what the client still sends is read and thrown away, up to 67,108,864 octets and 5 seconds. So no reset
 //!   of the connection takes an ERROR away before it is read.

@@ -7,12 +7,13 @@ ghost use Rattle.stomp_client.specs.Delivered.{IsDelivered};
 ghost use Rattle.stomp_client.specs.Written.{AreWhole};
 
 use crate::fault::LineFault;
+use base::limits::MAX_BODY;
 use line_script::read_octets;
 use std::alloc::Global;
 use stomp_frame::{Command, Decoder, Frame, encode};
 
 /// The frame of a text.
-pub fn frame(alloc: Global, text: &str) -> Result<Frame, LineFault> {
+pub fn frame(alloc: Global, text: &str) -> Result<Frame<MAX_BODY>, LineFault> {
     let mut decoder = Decoder::new(alloc);
     decoder.feed(&read_octets(alloc, text)?)?;
     match decoder.next()? {
@@ -33,7 +34,7 @@ pub fn whole_text(alloc: Global, text: &str) -> Result<Vec<u8>, LineFault>
 }
 
 /// A SEND to which a receipt or a transaction can be added.
-pub fn plain_send(alloc: Global, text: &str) -> Result<Frame, LineFault>
+pub fn plain_send(alloc: Global, text: &str) -> Result<Frame<MAX_BODY>, LineFault>
     ensures { IfOk result (λ f. IsPlain f) }
 {
     let frame = frame(alloc, text)?;
@@ -71,7 +72,7 @@ pub fn short(text: &str) -> Result<&str, LineFault>
 }
 
 /// The MESSAGE that was accepted last.
-pub fn delivered(message: &Option<Frame>) -> Result<&Frame, LineFault>
+pub fn delivered(message: &Option<Frame<MAX_BODY>>) -> Result<&Frame<MAX_BODY>, LineFault>
     ensures { IfOk result (λ frame. IsDelivered frame.now) }
 {
     let Some(frame) = message else {

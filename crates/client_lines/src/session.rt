@@ -4,6 +4,7 @@ use crate::fault::LineFault;
 use crate::fault_texts::fault_named;
 use crate::frames::{delivered, frame, plain_send, short, whole_text};
 use crate::show::show_answer;
+use base::limits::MAX_BODY;
 use line_script::{Fault, Script, first_word, natural, size};
 use receipts::Receipts;
 use std::alloc::Global;
@@ -30,7 +31,7 @@ pub enum Answer {
     /// What the client has still to send.
     Out,
     /// A frame.
-    Frame(Option<Frame>),
+    Frame(Option<Frame<MAX_BODY>>),
 }
 
 /// Receipts; a client, the MESSAGE that it accepted last, and the decoder at the other end.
@@ -38,8 +39,8 @@ pub enum Answer {
 pub struct Session {
     receipts: Receipts<String>,
     pub client: ClientSession<String>,
-    pub message: Option<Frame>,
-    decoder: Decoder,
+    pub message: Option<Frame<MAX_BODY>>,
+    decoder: Decoder<MAX_BODY>,
 }
 
 /// The answer of a call that gives nothing.

@@ -1,6 +1,7 @@
 //! Answers as text. Nothing here takes memory: the calls are done.
 
 use crate::session::{Answer, Session};
+use base::limits::MAX_BODY;
 use std::io;
 use std::io::Write;
 use stomp_client::ClientEvent;
@@ -35,7 +36,7 @@ fn show_octets<W: Write>(out: &mut W, octets: &[u8]) -> io::Result<()> {
 }
 
 /// A frame: its command, its headers, its body.
-fn show_frame<W: Write>(out: &mut W, frame: &Frame) -> io::Result<()> {
+fn show_frame<W: Write>(out: &mut W, frame: &Frame<MAX_BODY>) -> io::Result<()> {
     write!(out, "{}", frame.command().word())?;
     for header in frame.headers() {
         write!(out, " ")?;
@@ -63,7 +64,7 @@ fn show_event<W: Write>(out: &mut W, event: &ClientEvent<String>) -> io::Result<
 }
 
 /// A frame, or `none`.
-fn show_if_any<W: Write>(out: &mut W, frame: &Option<Frame>) -> io::Result<()> {
+fn show_if_any<W: Write>(out: &mut W, frame: &Option<Frame<MAX_BODY>>) -> io::Result<()> {
     match frame {
         Some(frame) => show_frame(out, frame),
         None => write!(out, "none"),

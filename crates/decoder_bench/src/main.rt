@@ -1,17 +1,18 @@
 //! How fast the decoder reads a stream of equal frames that comes in pieces of one size.
 //!
 //! Without arguments: a megabyte, and what was read of it. With a kind of stream, the length of a piece and a number of megabytes: the
-//! same for that many, and the octets per second. The kinds are `small`, `lines`, `headers`, `large` and `open`; `encode` writes the
-//! frames of `small` in place of reading them.
+//! same for that many, and the octets per second. The kinds are `small`, `lines`, `headers`, `large`, `open` and `longest`; `encode`
+//! writes the frames of `small` in place of reading them.
 #![tactic(auto)]
 
+use base::limits::MAX_BODY;
 use std::alloc::Global;
 use std::process::ExitCode;
 use std::time::Instant;
 use std::{env, io};
 use stomp_frame::{Command, Decoder, Frame, FrameFault, encode};
 
-/// About a megabyte of whole frames with the longest body, which ends at its NUL.
+/// About a megabyte of whole frames with a body of 65,536 octets, which ends at its NUL.
 fn open_stream(alloc: Global) -> Result<Vec<u8>, FrameFault> {
     let body = vec![in alloc; b'x'; 65_536]?;
     let mut text = Vec::new(alloc);
@@ -24,7 +25,7 @@ fn open_stream(alloc: Global) -> Result<Vec<u8>, FrameFault> {
 }
 
 /// A letter as an outbox sends it.
-fn letter(alloc: Global) -> Result<Frame, FrameFault> {
+fn letter(alloc: Global) -> Result<Frame<MAX_BODY>, FrameFault> {
     let mut frame = Frame::new(alloc, Command::Send);
     frame.push_header("destination", "/queue/warehouse")?;
     frame.push_header("kind", "message")?;
@@ -36,8 +37,8 @@ fn letter(alloc: Global) -> Result<Frame, FrameFault> {
 }
 
 /// A frame of this kind, and how many of them are about a megabyte: a letter; one with a header line of 1,000 octets; one with 32
-/// headers; one with the longest body and its length.
-fn frame_of(alloc: Global, kind: &str) -> Result<(Frame, usize), FrameFault> {
+/// headers; one with a body of 65,536 octets and its length; one with the longest body and its length.
+fn frame_of(alloc: Global, kind: &str) -> Result<(Frame<MAX_BODY>, usize), FrameFault> {
     let mut frame = letter(alloc)?;
     match kind {
         "lines" => {
@@ -56,12 +57,17 @@ fn frame_of(alloc: Global, kind: &str) -> Result<(Frame, usize), FrameFault> {
             frame.set_body(&body)?;
             Ok((frame, 16))
         }
+        "longest" => {
+            let body = vec![in alloc; b'x'; MAX_BODY]?;
+            frame.set_body(&body)?;
+            Ok((frame, 1))
+        }
         _ => Ok((frame, 7_000)),
     }
 }
 
 /// Appends the frame's text so many times.
-fn write_all(frame: &Frame, count: usize, text: &mut Vec<u8>) -> Result<(), FrameFault> {
+fn write_all(frame: &Frame<MAX_BODY>, count: usize, text: &mut Vec<u8>) -> Result<(), FrameFault> {
     for _ in 0..count {
         encode(frame, text)?;
     }
@@ -92,7 +98,7 @@ fn write(alloc: Global, times: u64) -> Result<(u64, u64), FrameFault> {
 
 /// How many frames are read of the stream, `times` over, in pieces of this length.
 fn frames_read(alloc: Global, stream: &[u8], piece: usize, times: u64) -> Result<u64, FrameFault> {
-    let mut decoder = Decoder::new(alloc);
+    let mut decoder: Decoder<MAX_BODY> = Decoder::new(alloc);
     let mut frames: u64 = 0;
     for _ in 0..times {
         for octets in stream.chunks(piece.max(1)) {

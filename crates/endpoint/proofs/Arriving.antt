@@ -4,7 +4,7 @@ use Rattle.std.proofs.Common.{Result, Ok, Err, refl, sym, ap, subst, ◌∙◌, 
 use Rattle.std.specs.Prelude.{IsSome, max, nat_le, nat_lt, ◌&&◌, ◌==◌, if◌then◌else◌}
 use Rattle.std.proofs.lemmas.Bool.Decides.{nat_tests}
 use Rattle.base.specs.Order.{same_pair}
-use Rattle.base.specs.declared.limits.TheConstants.{HELD_WINDOW, MAX_NUMBER}
+use Rattle.base.specs.declared.limits.TheConstants.{MAX_NUMBER}
 use Rattle.base.specs.declared.pair.Pair.{Pair}
 use Rattle.base.proofs.Entities.{same_pair-Decides}
 use Rattle.envelope.specs.declared.message.Message.{Message}
@@ -19,7 +19,7 @@ use Rattle.keep.specs.declared.change.Change.TheVariants.{Handled, NotHeld, Held
 use Rattle.keep.specs.Tables.{Tables, Messages, changed, set_mark, set_message, without_upto}
 use Rattle.endpoint.specs.Arrivals.{row_of_letter}
 use Rattle.endpoint.specs.Deeds.{or_else, with_held}
-use Rattle.endpoint.specs.Matches.{TablesMatchJournal, MayBeHeld}
+use Rattle.endpoint.specs.Matches.{TablesMatchWithin, MayBeHeld}
 use Rattle.outbox.specs.Rows.{above}
 use Rattle.endpoint.specs.Parts.Handling.{Prepares}
 use Rattle.endpoint.specs.Parts.Receiving.{IsNext, IsEarly}
@@ -42,7 +42,7 @@ one_or_two p q = by_case (same_pair p q) refl (same_pair q p) refl
 abbrev pub letter_changes : {S C : Type 0} → Letter → List (Change S C)
 letter_changes l = Handled l.pair l.number ∷ NotHeld l.pair l.number ∷ []
 
-module _ {S C : Type 0} (service : Service S C) (old : Tables S C) (l : Letter) (h : TablesMatchJournal service old)
+module _ {S C : Type 0} (ahead : ℕ) (service : Service S C) (old : Tables S C) (l : Letter) (h : TablesMatchWithin ahead service old)
     (next : IsNext l old) where
   abbrev after : List (JournalRow C)
   after = old.journal ++ row_of_letter l ∷ []
@@ -58,15 +58,16 @@ module _ {S C : Type 0} (service : Service S C) (old : Tables S C) (l : Letter) 
       rw t.1 (sym (rw t.2 at more ∙ omega (arith, is_next, here))))
       (λ t. rw t.0 (h.handled p ∙ sym (rw t.1 at more ∙ omega arith)))
 
-  still : (p : Pair) (n : ℕ) → IsSome (set_message l.pair l.number None old.held p n) → MayBeHeld service.kind (handled_of after p) p n
+  still : (p : Pair) (n : ℕ) → IsSome (set_message l.pair l.number None old.held p n) → MayBeHeld ahead service.kind (handled_of after p) p
+      n
   still p n some =
       let more = handled_of-letter old.journal l.pair l.number l.message p in
       either (one_or_two l.pair p) (λ t. own t (l.number == n) refl) (λ t.
       let m : handled_of after p ≡ handled_of old.journal p = rw t.1 at more ∙ omega arith in
-      subst (λ k. MayBeHeld service.kind k p n) (sym m) (h.held p n (rw t.0 at some)))
+      subst (λ k. MayBeHeld ahead service.kind k p n) (sym m) (h.held p n (rw t.0 at some)))
     where
       own : (l.pair ≡ p) × (same_pair l.pair p ≡ true) × (same_pair p l.pair ≡ true) → (b : Bool) → (l.number == n) ≡ b
-          → MayBeHeld service.kind (handled_of after p) p n
+          → MayBeHeld ahead service.kind (handled_of after p) p n
       own t true e = let none : Option Message = None in let gone : IsSome none = rw (t.1, e) at some in absurd (grind (arith, gone))
       own t false e =
           let more = handled_of-letter old.journal l.pair l.number l.message p in
@@ -82,8 +83,8 @@ module _ {S C : Type 0} (service : Service S C) (old : Tables S C) (l : Letter) 
             within = was.within;
           }
 
-  pub letter_prepares : (first : List (Change S C)) → first ≡ letter_changes l → Prepares service.kind old (row_of_letter l) first
-  letter_prepares first is = subst (λ (cs : List (Change S C)). Prepares service.kind old (row_of_letter l) cs) (sym is) (record {
+  pub letter_prepares : (first : List (Change S C)) → first ≡ letter_changes l → Prepares ahead service.kind old (row_of_letter l) first
+  letter_prepares first is = subst (λ (cs : List (Change S C)). Prepares ahead service.kind old (row_of_letter l) cs) (sym is) (record {
     seated = tt;
     next = is_next;
     journal = refl;
@@ -114,17 +115,17 @@ pub held_new : (l : Letter) (held : Messages) → held l.pair l.number ≡ None
 held_new l held none = ap (λ o. set_message l.pair l.number (or_else o (Some l.message)) held) (sym none)
 
 -- of a pair no letter is held behind the last number
-pub none_held : {S C : Type 0} (service : Service S C) (t : Tables S C) → TablesMatchJournal service t → (p : Pair) (n : ℕ)
+pub none_held : {S C : Type 0} (ahead : ℕ) (service : Service S C) (t : Tables S C) → TablesMatchWithin ahead service t → (p : Pair) (n : ℕ)
     → MAX_NUMBER < n → t.held p n ≡ None
-none_held service t h p n big = by_case (t.held p n) (λ some. (h.held p n some).within)
+none_held ahead service t h p n big = by_case (t.held p n) (λ some. (h.held p n some).within)
   where
     by_case : (o : Option Message) → (IsSome o → n ≤ MAX_NUMBER) → o ≡ None
     by_case None small = refl
     by_case (Some m) small = let s = small refl in absurd (omega (arith, s, big))
 
-module _ {S C : Type 0} (service : Service S C) (old : Tables S C) (h : TablesMatchJournal service old) where
-  pub may_be_held : (l : Letter) → l.pair.to.kind ≡ service.kind → l.number ≤ MAX_NUMBER → IsEarly l old
-      → MayBeHeld service.kind (handled_of old.journal l.pair) l.pair l.number
+module _ {S C : Type 0} (ahead : ℕ) (service : Service S C) (old : Tables S C) (h : TablesMatchWithin ahead service old) where
+  pub may_be_held : (l : Letter) → l.pair.to.kind ≡ service.kind → l.number ≤ MAX_NUMBER → IsEarly ahead l old
+      → MayBeHeld ahead service.kind (handled_of old.journal l.pair) l.pair l.number
   may_be_held l mine small early = let k = h.handled l.pair in let a = early.0 in let b = early.1 in record {
     mine = mine;
     early = omega (arith, a, k);
@@ -132,8 +133,8 @@ module _ {S C : Type 0} (service : Service S C) (old : Tables S C) (h : TablesMa
     within = small;
   }
 
-  pub held_matches : (l : Letter) → MayBeHeld service.kind (handled_of old.journal l.pair) l.pair l.number
-      → TablesMatchJournal service (changed (Held l ∷ []) old)
+  pub held_matches : (l : Letter) → MayBeHeld ahead service.kind (handled_of old.journal l.pair) l.pair l.number
+      → TablesMatchWithin ahead service (changed (Held l ∷ []) old)
   held_matches l may = record {
     legal = h.legal;
     entities = h.entities;
@@ -146,18 +147,18 @@ module _ {S C : Type 0} (service : Service S C) (old : Tables S C) (h : TablesMa
   }
     where
       each : (p : Pair) (n : ℕ) (b : Bool) → (l.number == n) ≡ b → IsSome (set_message l.pair l.number (Some l.message) old.held p n)
-          → MayBeHeld service.kind (handled_of old.journal p) p n
+          → MayBeHeld ahead service.kind (handled_of old.journal p) p n
       each p n true e some = either (one_or_two l.pair p)
           (λ t. let is : l.number ≡ n = grind (arith, nat_tests, e) in
-          subst (λ k. MayBeHeld service.kind (handled_of old.journal p) p k) is
-          (subst (λ q. MayBeHeld service.kind (handled_of old.journal q) q l.number) t.0 may))
+          subst (λ k. MayBeHeld ahead service.kind (handled_of old.journal p) p k) is
+          (subst (λ q. MayBeHeld ahead service.kind (handled_of old.journal q) q l.number) t.0 may))
           (λ t. h.held p n (rw t.0 at some))
       each p n false e some = either (one_or_two l.pair p) (λ t. h.held p n (rw (t.1, e) at some)) (λ t. h.held p n (rw t.0 at some))
 
   -- ---- a settled mark that rises
 
   pub settled_matches : (p : Pair) (n : ℕ) → old.settled p < n → n ≤ length (sent_of service.reactions old.journal p)
-      → TablesMatchJournal service (changed (Settled p n ∷ []) old)
+      → TablesMatchWithin ahead service (changed (Settled p n ∷ []) old)
   settled_matches p n more sent = record {
     legal = h.legal;
     entities = h.entities;

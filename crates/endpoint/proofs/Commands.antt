@@ -9,17 +9,17 @@ use Rattle.activities.specs.declared.input.JournalRow.{JournalRow}
 use Rattle.activities.proofs.Journals.{command_row, handled_of-command}
 use Rattle.keep.specs.declared.change.Change.{Change}
 use Rattle.keep.specs.Tables.{Tables}
-use Rattle.endpoint.specs.Matches.{TablesMatchJournal, MayBeHeld}
+use Rattle.endpoint.specs.Matches.{TablesMatchWithin, MayBeHeld}
 use Rattle.endpoint.specs.Parts.Handling.{Prepares}
 
-pub command-prepares : {S C : Type 0} (service : Service S C) (old : Tables S C) (e : Name) (seat : ℕ) (command : C)
+pub command-prepares : {S C : Type 0} (ahead : ℕ) (service : Service S C) (old : Tables S C) (e : Name) (seat : ℕ) (command : C)
     (first : List (Change S C))
-    → TablesMatchJournal service old → seat < SEATS → first ≡ [] → Prepares service.kind old (command_row e seat command) first
-command-prepares {S} {C} service old e seat command first h seated none =
+    → TablesMatchWithin ahead service old → seat < SEATS → first ≡ [] → Prepares ahead service.kind old (command_row e seat command) first
+command-prepares {S} {C} ahead service old e seat command first h seated none =
     let row : JournalRow C = command_row e seat command in
     let same : (p : Pair) → handled_of (old.journal ++ row ∷ []) p ≡ handled_of old.journal p =
     λ p. handled_of-command old.journal e seat command p in
-    let P : List (Change S C) → Type 0 = λ cs. Prepares service.kind old row cs in
+    let P : List (Change S C) → Type 0 = λ cs. Prepares ahead service.kind old row cs in
     subst P (sym none) (record {
       seated = seated;
       next = tt;
@@ -29,5 +29,5 @@ command-prepares {S} {C} service old e seat command first h seated none =
       sent = refl;
       settled = refl;
       handled = λ p. h.handled p ∙ sym (same p);
-      held = λ p n some. let Q : ℕ → Type 0 = λ k. MayBeHeld service.kind k p n in subst Q (sym (same p)) (h.held p n some);
+      held = λ p n some. let Q : ℕ → Type 0 = λ k. MayBeHeld ahead service.kind k p n in subst Q (sym (same p)) (h.held p n some);
     })

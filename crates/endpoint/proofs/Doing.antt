@@ -11,26 +11,27 @@ use Rattle.endpoint.specs.declared.fault.EndFault.{EndFault}
 use Rattle.endpoint.specs.declared.fault.EndFault.TheVariants.{NotMine, Business, TooEarly, StoreFailed, Memory, Unusable, NumberLimit}
 use Rattle.endpoint.specs.declared.fault.EndFault.TheVariants.{NotSent}
 use Rattle.endpoint.specs.Arrivals.{IsDone}
-use Rattle.endpoint.specs.Deeds.{Kept, kept, Deed, Nothing, Did}
+use Rattle.endpoint.specs.Deeds.{Kept, kept, Deed, Nothing, DidWithin}
 use Rattle.endpoint.specs.Faults.{end_of}
-use Rattle.endpoint.specs.Matches.{TablesMatchJournal, AllMatch}
+use Rattle.endpoint.specs.Matches.{TablesMatchWithin, AllMatchWithin}
 use Rattle.endpoint.specs.Parts.Receiving.{Works}
 
-module _ {E S C : Type 0} (seen : E → Seen (Tables S C)) (sound : (k : E) → IsSound (seen k)) (service : Service S C) where
+module _ {E S C : Type 0} (seen : E → Seen (Tables S C)) (sound : (k : E) → IsSound (seen k)) (ahead : ℕ) (service : Service S C) where
   abbrev Good : Tables S C → Type 0
-  Good = TablesMatchJournal service
+  Good = TablesMatchWithin ahead service
 
   -- the tables that match, where the store is usable
-  pub good_now : (k : E) → (seen k).doubt ≡ 0 → (seen k).usable ≡ true → AllMatch service (seen k).may_leave → Good (seen k).tables
+  pub good_now : (k : E) → (seen k).doubt ≡ 0 → (seen k).usable ≡ true → AllMatchWithin ahead service (seen k).may_leave
+      → Good (seen k).tables
   good_now k clean up good = good (seen k).tables ((sound k).stays clean up)
 
   -- a usable store whose tables match leaves no others
-  all_match : (k : E) → (seen k).doubt ≡ 0 → (seen k).usable ≡ true → Good (seen k).tables → AllMatch service (seen k).may_leave
+  all_match : (k : E) → (seen k).doubt ≡ 0 → (seen k).usable ≡ true → Good (seen k).tables → AllMatchWithin ahead service (seen k).may_leave
   all_match k clean up good t l = subst Good (sym ((sound k).only_now clean up t l)) good
 
   module _ (old new : E) where
     same_match : IsServed seen old new → (seen old).doubt ≡ 0 → (seen new).doubt ≡ 0 → (seen new).tables ≡ (seen old).tables
-        → AllMatch service (seen old).may_leave → AllMatch service (seen new).may_leave
+        → AllMatchWithin ahead service (seen old).may_leave → AllMatchWithin ahead service (seen new).may_leave
     same_match served clean0 clean same good =
         all_match new clean served.1 (subst Good (sym same) (good_now old clean0 served.0 good))
 
@@ -38,7 +39,7 @@ module _ {E S C : Type 0} (seen : E → Seen (Tables S C)) (sound : (k : E) → 
         (memory : (x : Kept C) → may (Err Memory) x Nothing) (failing : (x : Kept C) → may (Err StoreFailed) x Nothing) where
       -- a read that wasn't done
       pub read_fails : {V : Type 0} (gives : Tables S C → V → Type 0) (fault : EndFault) → (seen old).usable ≡ true
-          → Reads seen old new {R = V} gives (end_of (Err fault)) → Works seen old new service Reason Q may (Err fault)
+          → Reads seen old new {R = V} gives (end_of (Err fault)) → Works seen old new ahead service Reason Q may (Err fault)
       read_fails gives Memory up h = let d = h.doubt in record {
         call = h.call;
         doubt = h.doubt;
@@ -68,8 +69,8 @@ module _ {E S C : Type 0} (seen : E → Seen (Tables S C)) (sound : (k : E) → 
       -- a transaction that does a deed
       pub write_ends : (cs : List (Change S C)) (d : Deed C) (answer : R) (r : Result Unit EndFault) → (seen old).usable ≡ true
           → ((t : Tables S C) → Good t → Q t → ArePlaced cs t × may (Ok answer) (kept t) d × may (Err StoreFailed) (kept t) d
-          × Did service (kept t) d (kept (changed cs t)) × Good (changed cs t))
-          → Writes seen old new (ArePlaced cs) (changed cs) (end_of r) → Works seen old new service Reason Q may (answers answer r)
+          × DidWithin ahead service (kept t) d (kept (changed cs t)) × Good (changed cs t))
+          → Writes seen old new (ArePlaced cs) (changed cs) (end_of r) → Works seen old new ahead service Reason Q may (answers answer r)
       write_ends cs d answer (Ok _) up does h = let e = h.doubt in record {
         call = h.call;
         doubt = h.doubt;
@@ -77,7 +78,7 @@ module _ {E S C : Type 0} (seen : E → Seen (Tables S C)) (sound : (k : E) → 
             let g = good_now old (omega (arith, clean, e)) up good in
             let it = does (seen old).tables g q in
             let to = h.clean clean it.0 in (
-              (d, it.1, subst (λ x. Did service (kept (seen old).tables) d (kept x)) (sym to) it.3),
+              (d, it.1, subst (λ x. DidWithin ahead service (kept (seen old).tables) d (kept x)) (sym to) it.3),
               all_match new clean h.call.1 (subst Good (sym to) it.4),
             );
       }
@@ -97,7 +98,7 @@ module _ {E S C : Type 0} (seen : E → Seen (Tables S C)) (sound : (k : E) → 
             let it = does (seen old).tables g q in (
               λ t l. either (h.clean clean it.0 t l)
                   (λ same. (Nothing, failing (kept (seen old).tables), ap kept same))
-                  (λ to. (d, it.2, subst (λ x. Did service (kept (seen old).tables) d (kept x)) (sym to) it.3)),
+                  (λ to. (d, it.2, subst (λ x. DidWithin ahead service (kept (seen old).tables) d (kept x)) (sym to) it.3)),
               λ t l. either (h.clean clean it.0 t l) (λ same. subst Good (sym same) g) (λ to. subst Good (sym to) it.4),
             );
       }
@@ -111,8 +112,8 @@ module _ {E S C : Type 0} (seen : E → Seen (Tables S C)) (sound : (k : E) → 
     -- an answer that a read gives, and nothing is done
     pub read_answers : {R V : Type 0} (Reason : EndFault → Type 0) (Q : Tables S C → Type 0)
         (may : Result R EndFault → Kept C → Deed C → Type 0) (gives : Tables S C → V → Type 0) (r : V) (answer : R) (d : Deed C)
-        → ((t : Tables S C) → Good t → Q t → gives t r → may (Ok answer) (kept t) d × Did service (kept t) d (kept t))
-        → Reads seen old new {R = V} {F = EndFault} gives (Ok r) → Works seen old new service Reason Q may (Ok answer)
+        → ((t : Tables S C) → Good t → Q t → gives t r → may (Ok answer) (kept t) d × DidWithin ahead service (kept t) d (kept t))
+        → Reads seen old new {R = V} {F = EndFault} gives (Ok r) → Works seen old new ahead service Reason Q may (Ok answer)
     read_answers Reason Q may gives r answer d so h = let e = h.doubt in record {
       call = h.call;
       doubt = h.doubt;
@@ -120,7 +121,7 @@ module _ {E S C : Type 0} (seen : E → Seen (Tables S C)) (sound : (k : E) → 
           let clean0 : (seen old).doubt ≡ 0 = omega (arith, clean, e) in
           let told = h.clean clean in
           let it = so (seen old).tables (good_now old clean0 h.call.0 good) q told.0 in (
-            (d, it.0, subst (λ x. Did service (kept (seen old).tables) d (kept x)) (sym told.1) it.1),
+            (d, it.0, subst (λ x. DidWithin ahead service (kept (seen old).tables) d (kept x)) (sym told.1) it.1),
             same_match h.call clean0 clean told.1 good,
           );
     }
@@ -128,7 +129,7 @@ module _ {E S C : Type 0} (seen : E → Seen (Tables S C)) (sound : (k : E) → 
   -- a growth was refused, and nothing was done
   pub no_room : {R : Type 0} (k : E) (Reason : EndFault → Type 0) (Q : Tables S C → Type 0)
       (may : Result R EndFault → Kept C → Deed C → Type 0) → ((x : Kept C) → may (Err Memory) x Nothing) → (seen k).usable ≡ true
-      → Works seen k k service Reason Q may (Err Memory)
+      → Works seen k k ahead service Reason Q may (Err Memory)
   no_room k Reason Q may memory up = record {
     call = (up, up, refl, stays_armed (seen k).armed);
     doubt = omega arith;
@@ -148,7 +149,7 @@ module _ {E S C : Type 0} (seen : E → Seen (Tables S C)) (sound : (k : E) → 
     pub read_then : {R V : Type 0} (P Q : Tables S C → Type 0) (may : Result R EndFault → Kept C → Deed C → Type 0)
         (gives : Tables S C → V → Type 0) (r : V) (result : Result R EndFault)
         → ((t : Tables S C) → Good t → Q t → gives t r → P t) → Reads seen old mid {R = V} {F = EndFault} gives (Ok r)
-        → Works seen mid new service Reason P may result → Works seen old new service Wider Q may result
+        → Works seen mid new ahead service Reason P may result → Works seen old new ahead service Wider Q may result
     read_then P Q may gives r result so read work = let d = read.doubt in let e = work.doubt in record {
       call = later (end_of result) read.call work.call;
       doubt = omega (arith, d, e);
@@ -158,5 +159,5 @@ module _ {E S C : Type 0} (seen : E → Seen (Tables S C)) (sound : (k : E) → 
           let told = read.clean clean1 in
           let ready = so (seen old).tables (good_now old clean0 read.call.0 good) q told.0 in
           let it = work.clean clean (same_match old mid read.call clean0 clean1 told.1 good) (subst P (sym told.1) ready) in
-          (subst (λ x. IsDone service may x (seen new).tables (seen new).may_leave result) told.1 it.0, it.1);
+          (subst (λ x. IsDone ahead service may x (seen new).tables (seen new).may_leave result) told.1 it.0, it.1);
     }

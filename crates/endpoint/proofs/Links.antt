@@ -12,7 +12,7 @@ use Rattle.endpoint.specs.declared.fault.EndFault.TheVariants.{NotMine, Business
 use Rattle.endpoint.specs.declared.fault.EndFault.TheVariants.{NotSent}
 use Rattle.endpoint.specs.declared.fault.EndFault.{EndFault}
 use Rattle.endpoint.specs.Calls.{IsCommitCall, IsCommit, Appends, Stays, Finds}
-use Rattle.endpoint.specs.Deeds.{Kept, kept, Deed, Nothing, TakesIn, Did, Came, Comes, CommitMay}
+use Rattle.endpoint.specs.Deeds.{Kept, kept, Deed, Nothing, TakesIn, DidWithin, CameWithin, Comes, CommitMay}
 
 module _ {E S C : Type 0} (seen : E → Seen (Tables S C)) (old new : E) (was : IsSound (seen old)) (is : IsSound (seen new)) where
   -- a usable store whose tables stay
@@ -35,9 +35,9 @@ module _ {E S C : Type 0} (seen : E → Seen (Tables S C)) (old new : E) (was : 
   reopen_finds (Ok r) h clean t l = subst (λ x. ∥ (seen old).may_leave x ∥₁) (sym (is.only_now clean h.call.0 t l)) (h.clean clean)
   reopen_finds (Err cause) h clean t l = ∣ h.clean clean t l ∣₁
 
-  module _ (service : Service S C) (clean0 : (seen old).doubt ≡ 0) (clean : (seen new).doubt ≡ 0) where
+  module _ (ahead : ℕ) (service : Service S C) (clean0 : (seen old).doubt ≡ 0) (clean : (seen new).doubt ≡ 0) where
     none : (allowed : Kept C → Deed C → Type 0) (t : Tables S C) → (seen old).usable ≡ true → allowed (kept (seen old).tables) Nothing
-        → t ≡ (seen old).tables → Came service allowed (seen old).may_leave t
+        → t ≡ (seen old).tables → CameWithin ahead service allowed (seen old).may_leave t
     none allowed t up may same = record {
       before = (seen old).tables;
       deed = Nothing;
@@ -47,20 +47,21 @@ module _ {E S C : Type 0} (seen : E → Seen (Tables S C)) (old new : E) (was : 
     }
 
     untouched : (allowed : Kept C → Deed C → Type 0) → new ≡ old → ((x : Kept C) → allowed x Nothing)
-        → Comes service allowed (seen old).may_leave (seen new).may_leave
+        → Comes ahead service allowed (seen old).may_leave (seen new).may_leave
     untouched allowed same may t l =
         record { before = t; deed = Nothing; was = subst (λ k. (seen k).may_leave t) same l; may = may (kept t); did = refl }
 
     appended : (e : Name) (seat : ℕ) (c : C) (t : Tables S C)
-        → Appends service (seen old).tables (command_row e seat c) (seen old).tables.held t
-        → Did service (kept (seen old).tables) (TakesIn (command_row e seat c)) (kept t)
+        → Appends ahead service (seen old).tables (command_row e seat c) (seen old).tables.held t
+        → DidWithin ahead service (kept (seen old).tables) (TakesIn (command_row e seat c)) (kept t)
     appended e seat c t a = (a.takes, a.settled, a.held)
 
     -- a commit, whatever it answers
     pub commit_comes : (e : Name) (seat : ℕ) (c : C) (result : Result Committed EndFault)
         → IsCommitCall seen old new service.kind (command_row e seat c) result
-        → IsCommit service (seen old).tables (command_row e seat c) (seen old).tables.held (seen new).tables (seen new).may_leave result
-        → Comes service (CommitMay service (command_row e seat c) result) (seen old).may_leave (seen new).may_leave
+        → IsCommit ahead service (seen old).tables (command_row e seat c) (seen old).tables.held (seen new).tables (seen new).may_leave
+        result
+        → Comes ahead service (CommitMay service (command_row e seat c) result) (seen old).may_leave (seen new).may_leave
     commit_comes e seat c (Ok done) call did t l =
         let long : length (seen new).tables.journal ≡ suc (length (seen old).tables.journal) = ap length did.1.takes.appended
         ∙ length-append (seen old).tables.journal _ ∙ omega arith in
@@ -69,7 +70,7 @@ module _ {E S C : Type 0} (seen : E → Seen (Tables S C)) (old new : E) (was : 
           deed = TakesIn (command_row e seat c);
           was = was.stays clean0 call.0.0;
           may = (refl, did.0.1 ∙ long);
-          did = subst (λ x. Did service (kept (seen old).tables) (TakesIn (command_row e seat c)) (kept x))
+          did = subst (λ x. DidWithin ahead service (kept (seen old).tables) (TakesIn (command_row e seat c)) (kept x))
               (sym (is.only_now clean call.0.1 t l)) (appended e seat c (seen new).tables did.1);
         }
     commit_comes e seat c (Err StoreFailed) call did t l = either (did t l).1

@@ -22,7 +22,7 @@ use Rattle.activities.proofs.Legal.{legal-more}
 use Rattle.keep.specs.declared.change.Change.{Change}
 use Rattle.keep.specs.declared.change.Change.TheVariants.{State, Journal}
 use Rattle.keep.specs.Tables.{Tables, Messages, changed, changed_by}
-use Rattle.endpoint.specs.Matches.{TablesMatchJournal, MayBeHeld}
+use Rattle.endpoint.specs.Matches.{TablesMatchWithin, MayBeHeld}
 use Rattle.outbox.specs.Rows.{above}
 use Rattle.endpoint.specs.Answers.{reaction, sent_counts}
 use Rattle.outbox.specs.Numbering.{pair_between, NumbersFit}
@@ -63,7 +63,8 @@ within_more e outs sent q xs is small fits = either (same_entity-tells q.from e)
 
 -- ---- one row more
 
-module _ {S C : Type 0} (service : Service S C) (old : Tables S C) (position : ℕ) (row : JournalRow C) (first : List (Change S C))
+module _ {S C : Type 0} (ahead : ℕ) (service : Service S C) (old : Tables S C) (position : ℕ) (row : JournalRow C) (first : List
+    (Change S C))
     (done : S × List Out) where
   -- the tables after all changes of a row that is taken in
   abbrev pub taken : Tables S C
@@ -77,9 +78,9 @@ module _ {S C : Type 0} (service : Service S C) (old : Tables S C) (position : �
     outbox : IsOutbox t (sent_of service.reactions j)
     numbers : (p : Pair) → t.sent p ≤ MAX_NUMBER
     handled : (p : Pair) → t.handled p ≡ handled_of j p
-    held : (p : Pair) (n : ℕ) → IsSome (t.held p n) → MayBeHeld service.kind (handled_of j p) p n
+    held : (p : Pair) (n : ℕ) → IsSome (t.held p n) → MayBeHeld ahead service.kind (handled_of j p) p n
 
-  matches_own : (t : Tables S C) → Matches t.journal t → TablesMatchJournal service t
+  matches_own : (t : Tables S C) → Matches t.journal t → TablesMatchWithin ahead service t
   matches_own t h = record {
     legal = h.legal;
     entities = h.entities;
@@ -91,7 +92,7 @@ module _ {S C : Type 0} (service : Service S C) (old : Tables S C) (position : �
     held = h.held;
   }
 
-  ready_outbox : (h : TablesMatchJournal service old) → Prepares service.kind old row first
+  ready_outbox : (h : TablesMatchWithin ahead service old) → Prepares ahead service.kind old row first
       → IsOutbox (changed first old) (sent_of service.reactions old.journal)
   ready_outbox h prep = record {
     count = λ p. ap (λ (c : Pair → ℕ). c p) prep.sent ∙ h.sent p;
@@ -101,7 +102,8 @@ module _ {S C : Type 0} (service : Service S C) (old : Tables S C) (position : �
         ∙ ap (λ (c : Pair → ℕ). above (c p) (sent_of service.reactions old.journal p) n) (sym prep.settled);
   }
 
-  module _ (h : TablesMatchJournal service old) (of_kind : row.entity.kind ≡ service.kind) (prep : Prepares service.kind old row first)
+  module _ (h : TablesMatchWithin ahead service old) (of_kind : row.entity.kind ≡ service.kind) (prep : Prepares ahead service.kind old row
+      first)
       (room : length old.journal < MAX_NUMBER) (accepted : reaction service.reactions old.journal row ≡ Ok done)
       (fits : NumbersFit old.sent row.entity done.1) where
     may : MayFollow service.reactions service.kind old.journal row
@@ -121,7 +123,7 @@ module _ {S C : Type 0} (service : Service S C) (old : Tables S C) (position : �
         subst P (h.sent (pair_between row.entity r)) (fits r some) in
         subst F (sym (same_done (reaction service.reactions old.journal row) done other accepted e)) own_fits
 
-    pub taken-appends : Appends service old row (changed first old).held taken
+    pub taken-appends : Appends ahead service old row (changed first old).held taken
     taken-appends =
         let e = row.entity in
         let j = old.journal in
@@ -162,11 +164,11 @@ module _ {S C : Type 0} (service : Service S C) (old : Tables S C) (position : �
           held = λ p n some. let W : Messages → Type 0 = λ c. IsSome (c p n) in prep.held p n (subst W held some);
         } in
         let M : List (JournalRow C) → Type 0 = λ l. Matches l v in
-        let at_v : Appends service old row ready.held v = record {
+        let at_v : Appends ahead service old row ready.held v = record {
           takes = record { follows = may; room = room; fits = fits_all; appended = longer };
           settled = settled;
           held = held;
           matches = matches_own v (subst M (sym longer) matches);
         } in
-        let P : Tables S C → Type 0 = λ t. Appends service old row ready.held t in
+        let P : Tables S C → Type 0 = λ t. Appends ahead service old row ready.held t in
         subst P (sym split) at_v

@@ -15,7 +15,7 @@ use Rattle.endpoint.specs.declared.fault.EndFault.{EndFault}
 use Rattle.endpoint.specs.declared.fault.EndFault.TheVariants.{NotMine, Business, TooEarly, StoreFailed, Memory, Unusable, NumberLimit}
 use Rattle.endpoint.specs.declared.fault.EndFault.TheVariants.{NotSent}
 use Rattle.endpoint.specs.Answers.{PassesLimit}
-use Rattle.endpoint.specs.Deeds.{Kept, kept, Deed, Nothing, TakesIn, Holds, Settles, Did}
+use Rattle.endpoint.specs.Deeds.{Kept, kept, Deed, Nothing, TakesIn, Holds, Settles, DidWithin}
 
 -- the journal's row of a letter that is taken in
 abbrev pub row_of_letter : {C : Type 0} → Letter → JournalRow C
@@ -33,20 +33,38 @@ IsNextLetter x l = l.number ≡ suc (handled_of x.journal l.pair)
 abbrev pub HoldsNext : {C : Type 0} → Kept C → Pair → Message → Type 0
 HoldsNext x p m = x.held p (suc (handled_of x.journal p)) ≡ Some m
 
-module _ {S C : Type 0} (service : Service S C) where
+module _ {S C : Type 0} (ahead : ℕ) (service : Service S C) where
   -- taking in a letter
+  abbrev pub IngestMayWithin : Letter → Result Ingested EndFault → Kept C → Deed C → Type 0
+  IngestMayWithin l (Ok (ingested.Handled pos)) x d = (d ≡ TakesIn (row_of_letter l)) × (pos ≡ suc (length x.journal))
+  IngestMayWithin l (Ok ingested.Repeated) x d = (d ≡ Nothing) × (l.number ≤ handled_of x.journal l.pair)
+  IngestMayWithin l (Ok ingested.Held) x d = d ≡ Holds l
+  IngestMayWithin l (Err TooEarly) x d = (d ≡ Nothing) × (handled_of x.journal l.pair + ahead < l.number)
+  IngestMayWithin l (Err NumberLimit) x d = (d ≡ Nothing) × IsNextLetter x l × PassesLimit service.reactions x.journal (row_of_letter l)
+  IngestMayWithin l (Err StoreFailed) x d = (d ≡ Nothing) ⊎ (d ≡ TakesIn (row_of_letter l)) ⊎ (d ≡ Holds l)
+  IngestMayWithin l (Err Memory) x d = d ≡ Nothing
+  IngestMayWithin l (Err NotMine) x d = (d ≡ Nothing) × (l.pair.to.kind ≢ service.kind)
+  IngestMayWithin l (Err Unusable) x d = d ≡ Nothing
+  IngestMayWithin l (Err (Business _)) x d = ⊥
+  IngestMayWithin l (Err NotSent) x d = ⊥
+
+  -- a deed of those allowed leads from what was kept to this
+  abbrev pub Leads : (Deed C → Type 0) → Kept C → Kept C → Type 0
+  Leads allowed x y = (d : Deed C) × allowed d × DidWithin ahead service x d y
+
+  -- What a call does to the tables: a deed that its answer allows; where the store failed, in each content that a stop may leave. With
+  -- an error else no table changes.
+  abbrev pub IsDone : {R : Type 0} → (Result R EndFault → Kept C → Deed C → Type 0) → (old now : Tables S C) → (Tables S C → Type 0)
+      → Result R EndFault → Type 0
+  IsDone may old now may_leave (Ok r) = Leads (may (Ok r) (kept old)) (kept old) (kept now)
+  IsDone may old now may_leave (Err StoreFailed) = (t : Tables S C) → may_leave t
+      → Leads (may (Err StoreFailed) (kept old)) (kept old) (kept t)
+  IsDone may old now may_leave (Err fault) = may (Err fault) (kept old) Nothing × (now ≡ old)
+
+module _ {S C : Type 0} (service : Service S C) where
+  -- the same as far ahead as the product holds letters
   abbrev pub IngestMay : Letter → Result Ingested EndFault → Kept C → Deed C → Type 0
-  IngestMay l (Ok (ingested.Handled pos)) x d = (d ≡ TakesIn (row_of_letter l)) × (pos ≡ suc (length x.journal))
-  IngestMay l (Ok ingested.Repeated) x d = (d ≡ Nothing) × (l.number ≤ handled_of x.journal l.pair)
-  IngestMay l (Ok ingested.Held) x d = d ≡ Holds l
-  IngestMay l (Err TooEarly) x d = (d ≡ Nothing) × (handled_of x.journal l.pair + HELD_WINDOW < l.number)
-  IngestMay l (Err NumberLimit) x d = (d ≡ Nothing) × IsNextLetter x l × PassesLimit service.reactions x.journal (row_of_letter l)
-  IngestMay l (Err StoreFailed) x d = (d ≡ Nothing) ⊎ (d ≡ TakesIn (row_of_letter l)) ⊎ (d ≡ Holds l)
-  IngestMay l (Err Memory) x d = d ≡ Nothing
-  IngestMay l (Err NotMine) x d = (d ≡ Nothing) × (l.pair.to.kind ≢ service.kind)
-  IngestMay l (Err Unusable) x d = d ≡ Nothing
-  IngestMay l (Err (Business _)) x d = ⊥
-  IngestMay l (Err NotSent) x d = ⊥
+  IngestMay l result x d = IngestMayWithin HELD_WINDOW service l result x d
 
   -- the next letter of a pair is held, and is taken in
   abbrev pub TakesHeld : Pair → Kept C → Deed C → Type 0
@@ -77,16 +95,3 @@ module _ {S C : Type 0} (service : Service S C) where
   SettleMay p n (Err (Business _)) x d = ⊥
   SettleMay p n (Err TooEarly) x d = ⊥
   SettleMay p n (Err NumberLimit) x d = ⊥
-
-  -- a deed of those allowed leads from what was kept to this
-  abbrev pub Leads : (Deed C → Type 0) → Kept C → Kept C → Type 0
-  Leads allowed x y = (d : Deed C) × allowed d × Did service x d y
-
-  -- What a call does to the tables: a deed that its answer allows; where the store failed, in each content that a stop may leave. With
-  -- an error else no table changes.
-  abbrev pub IsDone : {R : Type 0} → (Result R EndFault → Kept C → Deed C → Type 0) → (old now : Tables S C) → (Tables S C → Type 0)
-      → Result R EndFault → Type 0
-  IsDone may old now may_leave (Ok r) = Leads (may (Ok r) (kept old)) (kept old) (kept now)
-  IsDone may old now may_leave (Err StoreFailed) = (t : Tables S C) → may_leave t
-      → Leads (may (Err StoreFailed) (kept old)) (kept old) (kept t)
-  IsDone may old now may_leave (Err fault) = may (Err fault) (kept old) Nothing × (now ≡ old)

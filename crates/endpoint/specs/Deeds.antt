@@ -2,6 +2,7 @@
 -- tables match their journal.
 use Rattle.std.specs.Prelude.{◌≡◌, ℕ, suc, ◌≤◌, ◌<◌, ◌⊎◌, max, List, length, Option, Some, None, Result, Ok, Err}
 use Rattle.base.specs.Entity.{Name}
+use Rattle.base.specs.declared.limits.TheConstants.{HELD_WINDOW}
 use Rattle.base.specs.declared.pair.Pair.{Pair}
 use Rattle.envelope.specs.declared.message.Message.{Message}
 use Rattle.envelope.specs.declared.message.Letter.{Letter}
@@ -49,28 +50,40 @@ or_else None other = other
 abbrev pub with_held : Letter → Messages → Messages
 with_held l held = set_message l.pair l.number (or_else (held l.pair l.number) (Some l.message)) held
 
-module _ {S C : Type 0} (service : Service S C) where
+module _ {S C : Type 0} (ahead : ℕ) (service : Service S C) where
   -- the deed leads from what was kept to this
-  abbrev pub Did : Kept C → Deed C → Kept C → Type 0
-  Did x Nothing y = y ≡ x
-  Did x (TakesIn row) y = Takes service.reactions service.kind x.journal row y.journal × (y.settled ≡ x.settled)
+  abbrev pub DidWithin : Kept C → Deed C → Kept C → Type 0
+  DidWithin x Nothing y = y ≡ x
+  DidWithin x (TakesIn row) y = Takes service.reactions service.kind x.journal row y.journal × (y.settled ≡ x.settled)
       × (y.held ≡ held_after row.entity row.input x.held)
-  Did x (Holds l) y = MayBeHeld service.kind (handled_of x.journal l.pair) l.pair l.number × (suc (handled_of x.journal l.pair) < l.number)
+  DidWithin x (Holds l) y = MayBeHeld ahead service.kind (handled_of x.journal l.pair) l.pair l.number
+      × (suc (handled_of x.journal l.pair) < l.number)
       × (y ≡ record x { held = with_held l x.held })
-  Did x (Settles p n) y = (p.from.kind ≡ service.kind) × (n ≤ length (sent_of service.reactions x.journal p))
+  DidWithin x (Settles p n) y = (p.from.kind ≡ service.kind) × (n ≤ length (sent_of service.reactions x.journal p))
       × (y ≡ record x { settled = set_mark p (max (x.settled p) n) x.settled })
 
   -- a content after a call comes of one before it, by a deed that is allowed there
-  pub record Came (allowed : Kept C → Deed C → Type 0) (old : Tables S C → Type 0) (now : Tables S C) : Type 0 where
+  pub record CameWithin (allowed : Kept C → Deed C → Type 0) (old : Tables S C → Type 0) (now : Tables S C) : Type 0 where
     pub before : Tables S C
     pub deed : Deed C
     pub was : old before
     pub may : allowed (kept before) deed
-    pub did : Did (kept before) deed (kept now)
+    pub did : DidWithin (kept before) deed (kept now)
 
   -- each content that there is then comes so of one before
   abbrev pub Comes : (Kept C → Deed C → Type 0) → (old new : Tables S C → Type 0) → Type 0
-  Comes allowed old new = (t : Tables S C) → new t → Came allowed old t
+  Comes allowed old new = (t : Tables S C) → new t → CameWithin allowed old t
+
+module _ {S C : Type 0} (service : Service S C) where
+  -- ---- the same as far ahead as the product holds letters
+
+  abbrev pub Did : Kept C → Deed C → Kept C → Type 0
+  Did x d y = DidWithin HELD_WINDOW service x d y
+
+  abbrev pub Came : (allowed : Kept C → Deed C → Type 0) (old : Tables S C → Type 0) → Tables S C → Type 0
+  Came allowed old now = CameWithin HELD_WINDOW service allowed old now
+
+  -- ---- commands
 
   -- the deed that each answer of a commit tells, and what was the case before it
   abbrev pub CommitMay : JournalRow C → Result Committed EndFault → Kept C → Deed C → Type 0

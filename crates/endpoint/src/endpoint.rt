@@ -4,51 +4,61 @@ ghost use Rattle.std.specs.Prelude.{◌≡◌, ◌<◌};
 ghost use Rattle.activities.specs.declared.input.Input.TheVariants.{FromSeat};
 ghost use Rattle.keep.specs.Law.{Reopens};
 ghost use Rattle.endpoint.specs.Faults.{end_of};
-ghost use Rattle.endpoint.specs.Calls.{Commits, ComesBy, Finds, StillMatches};
+ghost use Rattle.endpoint.specs.Calls.{CommitsWithin, ComesByWithin, Finds, StillMatchesWithin};
 ghost use Rattle.endpoint.specs.Deeds.{CommitMay};
 
 use crate::handling::handle;
 use crate::{Committed, EndFault};
 use activities::{Handler, Input};
 use base::Entity;
-use base::limits::SEATS;
+use base::limits::{HELD_WINDOW, SEATS};
+use inbox::{Ahead, Window};
 use keep::Keep;
 use std::alloc::Global;
 use std::marker::{Model, PhantomData};
 
-/// One service over its store: contracts see the store.
+/// One service over its store, where letters are held as far ahead as the product does.
+pub type Endpoint<H, K> = WindowedEndpoint<H, K, Ahead<HELD_WINDOW>>;
+
+/// One service over its store, where a letter that comes too early is held if its number is no more above the last handled one of its pair
+/// than `W` says, an [`Ahead`]. Contracts see the store.
 #[derive(Drop)]
-pub struct Endpoint<H, K>
+pub struct WindowedEndpoint<H, K, W>
 where
     H: Handler,
     K: Keep<State = H::State, Command = H::Command> + Drop,
+    W: Window,
 {
     pub(crate) keep: K,
     handler: PhantomData<H>,
+    window: PhantomData<W>,
 }
 
-impl<H, K> Model for Endpoint<H, K>
+impl<H, K, W> Model for WindowedEndpoint<H, K, W>
 where
     H: Handler,
     K: Keep<State = H::State, Command = H::Command> + Drop,
+    W: Window,
 {
     ghost Value = { K };
 
     ghost view = { λ e. e.keep };
 }
 
-impl<H, K> Endpoint<H, K>
+impl<H, K, W> WindowedEndpoint<H, K, W>
 where
     H: Handler,
     K: Keep<State = H::State, Command = H::Command> + Drop,
+    W: Window,
 {
     /// The service of this store.
     pub fn new(keep: K) -> Self
         ensures { result ≡ keep }
     {
-        Endpoint {
+        WindowedEndpoint {
             keep,
             handler: PhantomData,
+            window: PhantomData,
         }
     }
 
@@ -77,10 +87,11 @@ where
         command: H::Command,
     ) -> Result<Committed, EndFault>
         requires { seat < SEATS }
-        ensures commit { Commits K.seen self.old self.new H.service (record { entity = entity.now; input = FromSeat seat command }) result }
-        ensures comes { ComesBy K.seen self.old self.new H.service
+        ensures commit { CommitsWithin K.seen self.old self.new W.ahead H.service
+            (record { entity = entity.now; input = FromSeat seat command }) result }
+        ensures comes { ComesByWithin K.seen self.old self.new W.ahead H.service
             (CommitMay H.service (record { entity = entity.now; input = FromSeat seat command }) result) }
-        ensures matches { StillMatches K.seen self.old self.new H.service }
+        ensures matches { StillMatchesWithin K.seen self.old self.new W.ahead H.service }
     {
         if !self.keep.usable() {
             return Err(EndFault::Unusable);
@@ -89,7 +100,7 @@ where
             return Err(EndFault::NotMine);
         }
         let changes = Vec::new(alloc);
-        handle::<H, K>(
+        handle::<H, K, W>(
             alloc,
             &mut self.keep,
             entity,
@@ -108,7 +119,7 @@ where
     pub fn reopen(&mut self, alloc: Global) -> Result<(), EndFault>
         ensures reopens { Reopens K.seen self.old self.new (end_of result) }
         ensures finds { Finds K.seen self.old self.new }
-        ensures matches { StillMatches K.seen self.old self.new H.service }
+        ensures matches { StillMatchesWithin K.seen self.old self.new W.ahead H.service }
     {
         Ok(self.keep.reopen(alloc)?)
     }

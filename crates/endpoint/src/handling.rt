@@ -11,6 +11,7 @@ ghost use Rattle.endpoint.specs.Parts.Handling.{Handles};
 use crate::{Committed, EndFault};
 use activities::{Handler, Input, JournalRow, Outs};
 use base::{Entity, Number};
+use inbox::Window;
 use keep::{Change, Keep};
 use outbox::number_outs;
 use std::alloc::{AllocError, Global};
@@ -101,7 +102,7 @@ where
 
 /// Takes in an input of an entity of this service, in one transaction with `changes`: those of handled marks and held letters that go
 /// with it. Reads of the store: the entity's row, and the last number sent for each message that is sent.
-pub(crate) fn handle<H, K>(
+pub(crate) fn handle<H, K, W>(
     alloc: Global,
     keep: &mut K,
     entity: &Entity,
@@ -111,9 +112,10 @@ pub(crate) fn handle<H, K>(
 where
     H: Handler,
     K: Keep<State = H::State, Command = H::Command>,
+    W: Window,
     requires usable { (K.seen keep.old).usable ≡ true }
     requires kind { entity.now.kind ≡ H.service.kind }
-    ensures { Handles K.seen keep.old keep.new H.service (record { entity = entity.now; input = input }) changes.items result }
+    ensures { Handles K.seen keep.old keep.new W.ahead H.service (record { entity = entity.now; input = input }) changes.items result }
 {
     let Some(position) = Number::new(keep.length().saturating_add(1)) else {
         return Err(EndFault::NumberLimit);

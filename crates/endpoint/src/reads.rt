@@ -9,17 +9,19 @@ ghost use Rattle.outbox.specs.Rows.{unsettled_of};
 ghost use Rattle.endpoint.specs.Faults.{end_of};
 ghost use Rattle.endpoint.specs.Calls.{Views, Answers, TellsOfEach, Stays, Counts};
 
-use crate::{EndFault, Endpoint};
+use crate::{EndFault, WindowedEndpoint};
 use activities::{Handler, JournalRow};
 use base::{Entity, Pair};
 use envelope::Letter;
+use inbox::Window;
 use keep::{Keep, Place};
 use std::alloc::Global;
 
-impl<H, K> Endpoint<H, K>
+impl<H, K, W> WindowedEndpoint<H, K, W>
 where
     H: Handler,
     K: Keep<State = H::State, Command = H::Command> + Drop,
+    W: Window,
 {
     /// The row of an entity: its state, or `None` where it took nothing in or its state is none. One read of the store.
     ///
@@ -29,7 +31,8 @@ where
     pub fn view(&mut self, alloc: Global, entity: &Entity) -> Result<Option<H::State>, EndFault>
         ensures view { Views K.seen self.old self.new H.service.kind entity.now result }
         ensures stays { Stays K.seen self.old self.new }
-        ensures answer { Answers K.seen self.old self.new H.service (λ journal row. row ≡ row_of H.service journal entity.now) result }
+        ensures answer { Answers K.seen self.old self.new W.ahead H.service
+            (λ journal row. row ≡ row_of H.service journal entity.now) result }
     {
         if !self.keep.usable() {
             return Err(EndFault::Unusable);
@@ -48,8 +51,8 @@ where
     pub fn sent(&mut self, alloc: Global, pair: &Pair) -> Result<u64, EndFault>
         ensures read { Reads K.seen self.old self.new (λ t n. n ≡ t.sent pair.now) (end_of result) }
         ensures stays { Stays K.seen self.old self.new }
-        ensures answer { Answers K.seen self.old self.new H.service (λ journal n. n ≡ length (sent_of H.service.reactions journal pair.now))
-            result }
+        ensures answer { Answers K.seen self.old self.new W.ahead H.service
+            (λ journal n. n ≡ length (sent_of H.service.reactions journal pair.now)) result }
     {
         if !self.keep.usable() {
             return Err(EndFault::Unusable);
@@ -74,8 +77,8 @@ where
     pub fn handled(&mut self, alloc: Global, pair: &Pair) -> Result<u64, EndFault>
         ensures read { Reads K.seen self.old self.new (λ t n. n ≡ t.handled pair.now) (end_of result) }
         ensures stays { Stays K.seen self.old self.new }
-        ensures answer { Answers K.seen self.old self.new H.service (λ journal n. n ≡ handled_of journal pair.now) result }
-        ensures each { TellsOfEach K.seen self.old self.new H.service (λ t n. n ≡ handled_of t.journal pair.now) result }
+        ensures answer { Answers K.seen self.old self.new W.ahead H.service (λ journal n. n ≡ handled_of journal pair.now) result }
+        ensures each { TellsOfEach K.seen self.old self.new W.ahead H.service (λ t n. n ≡ handled_of t.journal pair.now) result }
     {
         if !self.keep.usable() {
             return Err(EndFault::Unusable);
@@ -94,10 +97,10 @@ where
     ) -> Result<Vec<Letter>, EndFault>
         ensures read { Reads K.seen self.old self.new (λ t letters. AreFirst t.unsettled after.now limit letters.items) (end_of result) }
         ensures stays { Stays K.seen self.old self.new }
-        ensures answer { Answers K.seen self.old self.new H.service
+        ensures answer { Answers K.seen self.old self.new W.ahead H.service
             (λ journal letters. AreFirst (unsettled_of H.service.reactions journal (K.seen self.old).tables.settled) after.now limit
             letters.items) result }
-        ensures each { TellsOfEach K.seen self.old self.new H.service
+        ensures each { TellsOfEach K.seen self.old self.new W.ahead H.service
             (λ t letters. AreFirst (unsettled_of H.service.reactions t.journal t.settled) after.now limit letters.items) result }
     {
         if !self.keep.usable() {

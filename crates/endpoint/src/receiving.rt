@@ -3,7 +3,7 @@
 ghost use Rattle.std.specs.Prelude.{◌≡◌, ◌<◌, ◌≤◌, true, ⊤, IfOk};
 ghost use Rattle.keep.specs.Law.{Reads};
 ghost use Rattle.resequencer.specs.Waiting.{IsNextHeld, IsNextOf};
-ghost use Rattle.endpoint.specs.Arrivals.{IngestMay, DrainMay, SettleMay};
+ghost use Rattle.endpoint.specs.Arrivals.{IngestMayWithin, DrainMay, SettleMay};
 ghost use Rattle.endpoint.specs.Calls.{OfLetter, OfHeldLetter, OfSettle};
 ghost use Rattle.endpoint.specs.Faults.{end_of};
 ghost use Rattle.endpoint.specs.Parts.Receiving.{Works, IsNext, IsEarly, IsMissing, Waits};
@@ -11,10 +11,9 @@ ghost use Rattle.endpoint.specs.Parts.Receiving.{Works, IsNext, IsEarly, IsMissi
 use crate::handling::{apply_all, handle};
 use crate::{EndFault, Ingested};
 use activities::{Handler, Input};
-use base::limits::HELD_WINDOW;
 use base::{Number, Pair};
 use envelope::{Letter, Message};
-use inbox::{Class, classify};
+use inbox::{Class, Window};
 use keep::Keep;
 use std::alloc::Global;
 
@@ -74,32 +73,39 @@ fn read_next<K: Keep>(
 }
 
 /// Handles a letter that is the next of its pair.
-fn handle_letter<H, K>(alloc: Global, keep: &mut K, letter: &Letter) -> Result<Ingested, EndFault>
+fn handle_letter<H, K, W>(
+    alloc: Global,
+    keep: &mut K,
+    letter: &Letter,
+) -> Result<Ingested, EndFault>
 where
     H: Handler,
     K: Keep<State = H::State, Command = H::Command>,
+    W: Window,
     requires usable { (K.seen keep.old).usable ≡ true }
     requires kind { letter.now.pair.to.kind ≡ H.service.kind }
-    ensures { Works K.seen keep.old keep.new H.service OfHeldLetter (IsNext letter.now) (IngestMay H.service letter.now) result }
+    ensures { Works K.seen keep.old keep.new W.ahead H.service OfHeldLetter (IsNext letter.now)
+        (IngestMayWithin W.ahead H.service letter.now) result }
 {
     let changes = resequencer::take_in(alloc, letter)?;
     let from = letter.pair.from.copy(alloc)?;
     let input = Input::FromEntity(from, letter.number, letter.message);
-    match handle::<H, K>(alloc, keep, &letter.pair.to, input, changes) {
+    match handle::<H, K, W>(alloc, keep, &letter.pair.to, input, changes) {
         Ok(committed) => Ok(Ingested::Handled(committed.pos)),
         Err(fault) => Err(fault),
     }
 }
 
 /// Holds a letter that came too early, where none of its number is held. One transaction.
-fn write_held<H, K>(alloc: Global, keep: &mut K, letter: &Letter) -> Result<Ingested, EndFault>
+fn write_held<H, K, W>(alloc: Global, keep: &mut K, letter: &Letter) -> Result<Ingested, EndFault>
 where
     H: Handler,
     K: Keep<State = H::State, Command = H::Command>,
+    W: Window,
     requires usable { (K.seen keep.old).usable ≡ true }
     requires kind { letter.now.pair.to.kind ≡ H.service.kind }
-    ensures { Works K.seen keep.old keep.new H.service OfLetter (λ t. IsEarly letter.now t × IsMissing letter.now t)
-        (IngestMay H.service letter.now) result }
+    ensures { Works K.seen keep.old keep.new W.ahead H.service OfLetter (λ t. IsEarly W.ahead letter.now t × IsMissing letter.now t)
+        (IngestMayWithin W.ahead H.service letter.now) result }
 {
     let _number = letter.number.get(); // the proof needs that it is within the limit
     let changes = resequencer::hold(alloc, letter)?;
@@ -110,23 +116,25 @@ where
 }
 
 /// Holds a letter that came too early; where one of its number is held, that one stays.
-fn hold_letter<H, K>(alloc: Global, keep: &mut K, letter: &Letter) -> Result<Ingested, EndFault>
+fn hold_letter<H, K, W>(alloc: Global, keep: &mut K, letter: &Letter) -> Result<Ingested, EndFault>
 where
     H: Handler,
     K: Keep<State = H::State, Command = H::Command>,
+    W: Window,
     requires usable { (K.seen keep.old).usable ≡ true }
     requires kind { letter.now.pair.to.kind ≡ H.service.kind }
-    ensures { Works K.seen keep.old keep.new H.service OfLetter (IsEarly letter.now) (IngestMay H.service letter.now) result }
+    ensures { Works K.seen keep.old keep.new W.ahead H.service OfLetter (IsEarly W.ahead letter.now)
+        (IngestMayWithin W.ahead H.service letter.now) result }
 {
     let _number = letter.number.get(); // the proof needs that it is within the limit
     match read_held(alloc, keep, letter)? {
         Some(_) => Ok(Ingested::Held),
-        None => write_held::<H, K>(alloc, keep, letter),
+        None => write_held::<H, K, W>(alloc, keep, letter),
     }
 }
 
 /// Takes in a letter: it is handled, held, or known already.
-pub(crate) fn take_letter<H, K>(
+pub(crate) fn take_letter<H, K, W>(
     alloc: Global,
     keep: &mut K,
     letter: &Letter,
@@ -134,38 +142,44 @@ pub(crate) fn take_letter<H, K>(
 where
     H: Handler,
     K: Keep<State = H::State, Command = H::Command>,
+    W: Window,
     requires usable { (K.seen keep.old).usable ≡ true }
     requires kind { letter.now.pair.to.kind ≡ H.service.kind }
-    ensures { Works K.seen keep.old keep.new H.service OfLetter (λ _. ⊤) (IngestMay H.service letter.now) result }
+    ensures { Works K.seen keep.old keep.new W.ahead H.service OfLetter (λ _. ⊤) (IngestMayWithin W.ahead H.service letter.now) result }
 {
     let handled = read_handled(alloc, keep, &letter.pair)?;
-    match classify(H::kind(), HELD_WINDOW, handled, letter) {
+    match W::classify(H::kind(), handled, letter) {
         Class::NotMine => Err(EndFault::NotMine),
         Class::Repeated => Ok(Ingested::Repeated),
-        Class::Next => handle_letter::<H, K>(alloc, keep, letter),
-        Class::Early => hold_letter::<H, K>(alloc, keep, letter),
+        Class::Next => handle_letter::<H, K, W>(alloc, keep, letter),
+        Class::Early => hold_letter::<H, K, W>(alloc, keep, letter),
         Class::TooEarly => Err(EndFault::TooEarly),
     }
 }
 
 /// Handles a letter that was held, and is the next of its pair: its number.
-fn handle_held<H, K>(alloc: Global, keep: &mut K, letter: &Letter) -> Result<Option<u64>, EndFault>
+fn handle_held<H, K, W>(
+    alloc: Global,
+    keep: &mut K,
+    letter: &Letter,
+) -> Result<Option<u64>, EndFault>
 where
     H: Handler,
     K: Keep<State = H::State, Command = H::Command>,
+    W: Window,
     requires usable { (K.seen keep.old).usable ≡ true }
     requires kind { letter.now.pair.to.kind ≡ H.service.kind }
-    ensures { Works K.seen keep.old keep.new H.service OfHeldLetter (λ t. IsNext letter.now t × Waits letter.now t)
+    ensures { Works K.seen keep.old keep.new W.ahead H.service OfHeldLetter (λ t. IsNext letter.now t × Waits letter.now t)
         (DrainMay H.service letter.now.pair) result }
 {
-    match handle_letter::<H, K>(alloc, keep, letter) {
+    match handle_letter::<H, K, W>(alloc, keep, letter) {
         Ok(_) => Ok(Some(letter.number.get())),
         Err(fault) => Err(fault),
     }
 }
 
 /// Handles the next letter of a pair, where it is held.
-pub(crate) fn take_held<H, K>(
+pub(crate) fn take_held<H, K, W>(
     alloc: Global,
     keep: &mut K,
     pair: &Pair,
@@ -173,19 +187,20 @@ pub(crate) fn take_held<H, K>(
 where
     H: Handler,
     K: Keep<State = H::State, Command = H::Command>,
+    W: Window,
     requires usable { (K.seen keep.old).usable ≡ true }
     requires kind { pair.now.to.kind ≡ H.service.kind }
-    ensures { Works K.seen keep.old keep.new H.service OfHeldLetter (λ _. ⊤) (DrainMay H.service pair.now) result }
+    ensures { Works K.seen keep.old keep.new W.ahead H.service OfHeldLetter (λ _. ⊤) (DrainMay H.service pair.now) result }
 {
     let handled = read_handled(alloc, keep, pair)?;
     match read_next(alloc, keep, pair, handled)? {
-        Some(letter) => handle_held::<H, K>(alloc, keep, &letter),
+        Some(letter) => handle_held::<H, K, W>(alloc, keep, &letter),
         None => Ok(None),
     }
 }
 
 /// Raises the settled mark of a pair, up to a number that was sent. One transaction.
-fn write_mark<H, K>(
+fn write_mark<H, K, W>(
     alloc: Global,
     keep: &mut K,
     pair: &Pair,
@@ -194,9 +209,10 @@ fn write_mark<H, K>(
 where
     H: Handler,
     K: Keep<State = H::State, Command = H::Command>,
+    W: Window,
     requires usable { (K.seen keep.old).usable ≡ true }
     requires kind { pair.now.from.kind ≡ H.service.kind }
-    ensures { Works K.seen keep.old keep.new H.service OfSettle (λ t. (t.settled pair.now < number) × (number ≤ t.sent pair.now))
+    ensures { Works K.seen keep.old keep.new W.ahead H.service OfSettle (λ t. (t.settled pair.now < number) × (number ≤ t.sent pair.now))
         (SettleMay H.service pair.now number) result }
 {
     let changes = outbox::settle(alloc, pair, number)?;
@@ -207,13 +223,19 @@ where
 }
 
 /// Marks what was sent on a pair as settled up to a number that was sent: the greater of that number and the mark.
-fn raise_mark<H, K>(alloc: Global, keep: &mut K, pair: &Pair, number: u64) -> Result<u64, EndFault>
+fn raise_mark<H, K, W>(
+    alloc: Global,
+    keep: &mut K,
+    pair: &Pair,
+    number: u64,
+) -> Result<u64, EndFault>
 where
     H: Handler,
     K: Keep<State = H::State, Command = H::Command>,
+    W: Window,
     requires usable { (K.seen keep.old).usable ≡ true }
     requires kind { pair.now.from.kind ≡ H.service.kind }
-    ensures { Works K.seen keep.old keep.new H.service OfSettle (λ t. number ≤ t.sent pair.now) (SettleMay H.service pair.now number)
+    ensures { Works K.seen keep.old keep.new W.ahead H.service OfSettle (λ t. number ≤ t.sent pair.now) (SettleMay H.service pair.now number)
         result }
 {
     let mark = read_settled(alloc, keep, pair)?;
@@ -223,11 +245,11 @@ where
     if number <= mark {
         return Ok(mark);
     }
-    write_mark::<H, K>(alloc, keep, pair, raised)
+    write_mark::<H, K, W>(alloc, keep, pair, raised)
 }
 
 /// Marks what was sent on a pair as settled, up to a number.
-pub(crate) fn settle<H, K>(
+pub(crate) fn settle<H, K, W>(
     alloc: Global,
     keep: &mut K,
     pair: &Pair,
@@ -236,13 +258,14 @@ pub(crate) fn settle<H, K>(
 where
     H: Handler,
     K: Keep<State = H::State, Command = H::Command>,
+    W: Window,
     requires usable { (K.seen keep.old).usable ≡ true }
     requires kind { pair.now.from.kind ≡ H.service.kind }
-    ensures { Works K.seen keep.old keep.new H.service OfSettle (λ _. ⊤) (SettleMay H.service pair.now number) result }
+    ensures { Works K.seen keep.old keep.new W.ahead H.service OfSettle (λ _. ⊤) (SettleMay H.service pair.now number) result }
 {
     let sent = read_sent(alloc, keep, pair)?;
     if number > sent {
         return Err(EndFault::NotSent);
     }
-    raise_mark::<H, K>(alloc, keep, pair, number)
+    raise_mark::<H, K, W>(alloc, keep, pair, number)
 }

@@ -5,13 +5,14 @@ ghost use Rattle.stomp_frame.specs.Frames.{value_of};
 ghost use Rattle.envelope.specs.Reading.{read_entity, read_number, read_content, read_envelope, read_frame, IsAnswer, IsReading};
 
 use crate::{Envelope, EnvelopeFault, Letter, Message};
+use base::limits::MAX_BODY;
 use base::{Entity, Number, Pair};
 use itoa::Buffer;
 use std::alloc::Global;
 use stomp_frame::{Command, Frame};
 
 /// The entity that the first header of a name tells.
-fn entity_in(alloc: Global, frame: &Frame, name: &str) -> Result<Entity, EnvelopeFault>
+fn entity_in(alloc: Global, frame: &Frame<MAX_BODY>, name: &str) -> Result<Entity, EnvelopeFault>
     ensures { IsAnswer (option_and_then read_entity (value_of name.now frame.now.headers)) result }
 {
     let text = frame.get(name).ok_or(EnvelopeFault::BadEnvelope)?;
@@ -53,7 +54,7 @@ fn content_of(
 }
 
 /// The envelope that the headers and the body of a frame stand for, whatever its command is.
-fn envelope_in(alloc: Global, frame: &Frame) -> Result<Envelope, EnvelopeFault>
+fn envelope_in(alloc: Global, frame: &Frame<MAX_BODY>) -> Result<Envelope, EnvelopeFault>
     ensures { IsAnswer (read_envelope frame.now.headers frame.now.body) result }
 {
     let kind = frame.get("kind").ok_or(EnvelopeFault::BadEnvelope)?;
@@ -71,7 +72,7 @@ fn envelope_in(alloc: Global, frame: &Frame) -> Result<Envelope, EnvelopeFault>
 ///
 /// # Errors
 /// `BadEnvelope` where the frame is no MESSAGE, or these are no envelope's; else `Memory` where a growth was refused.
-pub fn from_message(alloc: Global, frame: &Frame) -> Result<Envelope, EnvelopeFault>
+pub fn from_message(alloc: Global, frame: &Frame<MAX_BODY>) -> Result<Envelope, EnvelopeFault>
     ensures read { IsAnswer (read_frame frame.now) result }
     ensures exact { IsReading frame.now result }
 {

@@ -9,13 +9,14 @@ ghost use Rattle.envelope.specs.Sending.{is_name, IsShort};
 ghost use Rattle.envelope.specs.Reading.{Carries};
 
 use crate::{Envelope, EnvelopeFault};
+use base::limits::MAX_BODY;
 use base::{Kind, Number, Pair};
 use itoa::Buffer;
 use std::alloc::Global;
 use stomp_frame::{Command, Frame};
 
 /// Appends a header to a SEND that has room for it.
-fn push(frame: &mut Frame, name: &str, value: &str) -> Result<(), EnvelopeFault>
+fn push(frame: &mut Frame<MAX_BODY>, name: &str, value: &str) -> Result<(), EnvelopeFault>
     requires command { frame.old.command ≡ Send }
     requires room { length frame.old.headers < 32 }
     requires name { is_name name.now ≡ true }
@@ -35,7 +36,7 @@ fn send(
     pair: &Pair,
     number: Number,
     body: &str,
-) -> Result<Frame, EnvelopeFault>
+) -> Result<Frame<MAX_BODY>, EnvelopeFault>
     requires word { IsShort word.now }
     requires body { length body.now ≤ 64 }
     ensures frame { IfOk result (λ f. f
@@ -62,7 +63,7 @@ fn send(
 ///
 /// # Errors
 /// `BadEnvelope` for a settle whose number isn't 1 to 2^40; else `Memory` where a growth was refused.
-pub fn to_send(alloc: Global, envelope: &Envelope) -> Result<Frame, EnvelopeFault>
+pub fn to_send(alloc: Global, envelope: &Envelope) -> Result<Frame<MAX_BODY>, EnvelopeFault>
     ensures frame { IfOk result (λ f. f ≡ send_of envelope.now) }
     ensures carries { IfOk result (λ f. Carries f.headers f.body envelope.now) }
     ensures refused { IsErrOf result EnvelopeFault.BadEnvelope ↔ IsBadSettle envelope.now }

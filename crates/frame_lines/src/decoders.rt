@@ -4,6 +4,7 @@ use crate::decoding::{feed, next};
 use crate::fault::LineFault;
 use crate::frame_texts::found_text;
 use crate::octets::octets;
+use base::limits::MAX_BODY;
 use std::alloc::Global;
 use stomp_frame::Decoder;
 
@@ -13,19 +14,19 @@ fn done(alloc: Global) -> Result<String, LineFault> {
 }
 
 /// A new decoder stands in this one's place.
-fn start_anew(alloc: Global, decoder: &mut Decoder) -> Result<String, LineFault> {
+fn start_anew(alloc: Global, decoder: &mut Decoder<MAX_BODY>) -> Result<String, LineFault> {
     *decoder = Decoder::new(alloc);
     done(alloc)
 }
 
 /// A text is fed.
-fn fed(alloc: Global, decoder: &mut Decoder, word: &str) -> Result<String, LineFault> {
+fn fed(alloc: Global, decoder: &mut Decoder<MAX_BODY>, word: &str) -> Result<String, LineFault> {
     feed(decoder, &octets(alloc, word)?)?;
     done(alloc)
 }
 
 /// What the decoder gives next.
-fn given(alloc: Global, decoder: &mut Decoder) -> Result<String, LineFault> {
+fn given(alloc: Global, decoder: &mut Decoder<MAX_BODY>) -> Result<String, LineFault> {
     let found = next(decoder)?;
     Ok(found_text(alloc, &found)?)
 }
@@ -33,7 +34,7 @@ fn given(alloc: Global, decoder: &mut Decoder) -> Result<String, LineFault> {
 /// The answer to a line that begins with `decoder`.
 pub fn answer_decoder(
     alloc: Global,
-    decoder: &mut Decoder,
+    decoder: &mut Decoder<MAX_BODY>,
     words: &[&str],
 ) -> Result<String, LineFault> {
     match words {

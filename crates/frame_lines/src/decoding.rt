@@ -2,6 +2,7 @@
 
 use crate::fault::LineFault;
 use crate::frame_texts::frame_text;
+use base::limits::MAX_BODY;
 use std::alloc::{AllocError, Global};
 use std::mem;
 use stomp_frame::{Decoder, Frame, FrameFault};
@@ -14,7 +15,7 @@ pub struct Step {
 }
 
 /// Holds a piece.
-pub fn feed(decoder: &mut Decoder, piece: &[u8]) -> Result<(), FrameFault> {
+pub fn feed(decoder: &mut Decoder<MAX_BODY>, piece: &[u8]) -> Result<(), FrameFault> {
     match decoder.feed(piece) {
         Err(FrameFault::Memory) => decoder.feed(piece),
         answer => answer,
@@ -22,7 +23,7 @@ pub fn feed(decoder: &mut Decoder, piece: &[u8]) -> Result<(), FrameFault> {
 }
 
 /// The next frame.
-pub fn next(decoder: &mut Decoder) -> Result<Option<Frame>, FrameFault> {
+pub fn next(decoder: &mut Decoder<MAX_BODY>) -> Result<Option<Frame<MAX_BODY>>, FrameFault> {
     match decoder.next() {
         Err(FrameFault::Memory) => decoder.next(),
         answer => answer,
@@ -30,7 +31,7 @@ pub fn next(decoder: &mut Decoder) -> Result<Option<Frame>, FrameFault> {
 }
 
 /// Whether each call answers that an earlier one failed.
-fn has_failed(decoder: &mut Decoder) -> bool {
+fn has_failed(decoder: &mut Decoder<MAX_BODY>) -> bool {
     for _ in 0..2 {
         if !matches!(decoder.next(), Err(FrameFault::Failed))
             || decoder.feed(b"ACK\n\n\0") != Err(FrameFault::Failed)
@@ -44,7 +45,7 @@ fn has_failed(decoder: &mut Decoder) -> bool {
 /// A decoder, how many octets it was fed, what it gave, and whether it has failed.
 #[derive(Drop)]
 pub struct Reading {
-    decoder: Decoder,
+    decoder: Decoder<MAX_BODY>,
     place: usize,
     steps: Vec<Step>,
     has_failed: bool,

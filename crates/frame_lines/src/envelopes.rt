@@ -7,13 +7,14 @@ use crate::fault::LineFault;
 use crate::frames::spelled;
 use crate::octets::shown;
 use crate::words::{message, number, pair};
+use base::limits::MAX_BODY;
 use envelope::{Envelope, EnvelopeFault, Letter, Message, to_send};
 use line_script::natural;
 use std::alloc::{AllocError, Global};
 use stomp_frame::Frame;
 
 /// The SEND that carries an envelope.
-fn sent(alloc: Global, envelope: &Envelope) -> Result<Frame, EnvelopeFault>
+fn sent(alloc: Global, envelope: &Envelope) -> Result<Frame<MAX_BODY>, EnvelopeFault>
     ensures { IfOk result (λ f. Carries f.headers f.body envelope.now) }
 {
     match to_send(alloc, envelope) {

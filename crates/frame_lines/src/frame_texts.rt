@@ -1,6 +1,7 @@
 //! Frames and their parts as text.
 
 use crate::octets::push_octets;
+use base::limits::MAX_BODY;
 use std::alloc::{AllocError, Global};
 use stomp_frame::{Frame, Header, RefusedParts};
 
@@ -28,13 +29,13 @@ fn parts_text(alloc: Global, headers: &[Header], body: &[u8]) -> Result<String, 
 }
 
 /// A frame: the word of its command, its headers and its body.
-pub fn frame_text(alloc: Global, frame: &Frame) -> Result<String, AllocError> {
+pub fn frame_text(alloc: Global, frame: &Frame<MAX_BODY>) -> Result<String, AllocError> {
     let parts = parts_text(alloc, frame.headers(), frame.body())?;
     format!(in alloc; "{} {parts}", frame.command().word())
 }
 
 /// A frame, or `none`.
-pub fn found_text(alloc: Global, frame: &Option<Frame>) -> Result<String, AllocError> {
+pub fn found_text(alloc: Global, frame: &Option<Frame<MAX_BODY>>) -> Result<String, AllocError> {
     match frame {
         Some(frame) => frame_text(alloc, frame),
         None => String::from_str(alloc, "none"),

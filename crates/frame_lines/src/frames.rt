@@ -4,12 +4,13 @@ use crate::fault::LineFault;
 use crate::frame_texts::{frame_text, header_text, refused_text};
 use crate::octets::{octets, shown, text};
 use crate::words::command;
+use base::limits::MAX_BODY;
 use std::alloc::Global;
 use std::mem;
 use stomp_frame::{Command, Frame, FrameFault, Header, encode};
 
 /// Appends a header.
-fn push_header(frame: &mut Frame, name: &str, value: &str) -> Result<(), FrameFault> {
+fn push_header(frame: &mut Frame<MAX_BODY>, name: &str, value: &str) -> Result<(), FrameFault> {
     match frame.push_header(name, value) {
         Err(FrameFault::Memory) => frame.push_header(name, value),
         answer => answer,
@@ -17,7 +18,7 @@ fn push_header(frame: &mut Frame, name: &str, value: &str) -> Result<(), FrameFa
 }
 
 /// Sets the body.
-fn set_body(frame: &mut Frame, body: &[u8]) -> Result<(), FrameFault> {
+fn set_body(frame: &mut Frame<MAX_BODY>, body: &[u8]) -> Result<(), FrameFault> {
     match frame.set_body(body) {
         Err(FrameFault::Memory) => frame.set_body(body),
         answer => answer,
@@ -25,7 +26,7 @@ fn set_body(frame: &mut Frame, body: &[u8]) -> Result<(), FrameFault> {
 }
 
 /// A frame's copy.
-fn copy(frame: &Frame) -> Result<Frame, FrameFault> {
+fn copy(frame: &Frame<MAX_BODY>) -> Result<Frame<MAX_BODY>, FrameFault> {
     match frame.copy() {
         Err(FrameFault::Memory) => frame.copy(),
         answer => answer,
@@ -33,7 +34,7 @@ fn copy(frame: &Frame) -> Result<Frame, FrameFault> {
 }
 
 /// Appends a frame's spelling.
-fn push_frame(frame: &Frame, out: &mut Vec<u8>) -> Result<(), FrameFault> {
+fn push_frame(frame: &Frame<MAX_BODY>, out: &mut Vec<u8>) -> Result<(), FrameFault> {
     match encode(frame, out) {
         Err(FrameFault::Memory) => encode(frame, out),
         answer => answer,
@@ -41,14 +42,18 @@ fn push_frame(frame: &Frame, out: &mut Vec<u8>) -> Result<(), FrameFault> {
 }
 
 /// The spelling of a frame behind a text.
-pub fn spelled(alloc: Global, frame: &Frame, before: &str) -> Result<String, LineFault> {
+pub fn spelled(alloc: Global, frame: &Frame<MAX_BODY>, before: &str) -> Result<String, LineFault> {
     let mut out = octets(alloc, before)?;
     push_frame(frame, &mut out)?;
     Ok(shown(alloc, &out)?)
 }
 
 /// An answer of the builder, and the frame then.
-fn told(alloc: Global, answer: Result<(), FrameFault>, frame: &Frame) -> Result<String, LineFault> {
+fn told(
+    alloc: Global,
+    answer: Result<(), FrameFault>,
+    frame: &Frame<MAX_BODY>,
+) -> Result<String, LineFault> {
     let text = frame_text(alloc, frame)?;
     match answer {
         Ok(()) => Ok(text),
@@ -58,7 +63,12 @@ fn told(alloc: Global, answer: Result<(), FrameFault>, frame: &Frame) -> Result<
 }
 
 /// A header is appended.
-fn header(alloc: Global, frame: &mut Frame, name: &str, value: &str) -> Result<String, LineFault> {
+fn header(
+    alloc: Global,
+    frame: &mut Frame<MAX_BODY>,
+    name: &str,
+    value: &str,
+) -> Result<String, LineFault> {
     let name = text(alloc, name)?;
     let value = text(alloc, value)?;
     let answer = push_header(frame, &name, &value);
@@ -66,14 +76,14 @@ fn header(alloc: Global, frame: &mut Frame, name: &str, value: &str) -> Result<S
 }
 
 /// A body is set.
-fn body(alloc: Global, frame: &mut Frame, word: &str) -> Result<String, LineFault> {
+fn body(alloc: Global, frame: &mut Frame<MAX_BODY>, word: &str) -> Result<String, LineFault> {
     let body = octets(alloc, word)?;
     let answer = set_body(frame, &body);
     told(alloc, answer, frame)
 }
 
 /// The first value of a name.
-fn value(alloc: Global, frame: &Frame, word: &str) -> Result<String, LineFault> {
+fn value(alloc: Global, frame: &Frame<MAX_BODY>, word: &str) -> Result<String, LineFault> {
     let name = text(alloc, word)?;
     match frame.get(&name) {
         Some(value) => Ok(shown(alloc, value.as_bytes())?),
@@ -84,7 +94,7 @@ fn value(alloc: Global, frame: &Frame, word: &str) -> Result<String, LineFault> 
 /// A frame is made of parts, and where they are refused there is an empty SEND in its place.
 fn make(
     alloc: Global,
-    frame: &mut Frame,
+    frame: &mut Frame<MAX_BODY>,
     command: Command,
     headers: Vec<Header>,
     body: Vec<u8>,
@@ -99,20 +109,24 @@ fn make(
 }
 
 /// A new frame of a command stands in this one's place.
-fn start_anew(alloc: Global, frame: &mut Frame, word: &str) -> Result<String, LineFault> {
+fn start_anew(alloc: Global, frame: &mut Frame<MAX_BODY>, word: &str) -> Result<String, LineFault> {
     let command = command(word)?;
     *frame = Frame::new(alloc, command);
     Ok(frame_text(alloc, frame)?)
 }
 
 /// The frame is looked at, and shown.
-fn show(alloc: Global, frame: &Frame) -> Result<String, LineFault> {
+fn show(alloc: Global, frame: &Frame<MAX_BODY>) -> Result<String, LineFault> {
     frame.holds();
     Ok(frame_text(alloc, frame)?)
 }
 
 /// A frame is taken apart, and its parts are to make one of another command.
-fn change_command(alloc: Global, frame: &mut Frame, word: &str) -> Result<String, LineFault> {
+fn change_command(
+    alloc: Global,
+    frame: &mut Frame<MAX_BODY>,
+    word: &str,
+) -> Result<String, LineFault> {
     let command = command(word)?;
     let old = mem::replace(frame, Frame::new(alloc, Command::Send));
     let (_, headers, body) = old.into_parts();
@@ -136,7 +150,7 @@ fn headers(alloc: Global, words: &[&str]) -> Result<Vec<Header>, LineFault> {
 /// The same of parts that stand in a line.
 fn make_of(
     alloc: Global,
-    frame: &mut Frame,
+    frame: &mut Frame<MAX_BODY>,
     word: &str,
     body: &str,
     words: &[&str],
@@ -148,13 +162,17 @@ fn make_of(
 }
 
 /// A frame's copy.
-fn copy_text(alloc: Global, frame: &Frame) -> Result<String, LineFault> {
+fn copy_text(alloc: Global, frame: &Frame<MAX_BODY>) -> Result<String, LineFault> {
     let copy = copy(frame)?;
     Ok(frame_text(alloc, &copy)?)
 }
 
 /// The answer to a line that begins with `frame`.
-pub fn answer_frame(alloc: Global, frame: &mut Frame, words: &[&str]) -> Result<String, LineFault> {
+pub fn answer_frame(
+    alloc: Global,
+    frame: &mut Frame<MAX_BODY>,
+    words: &[&str],
+) -> Result<String, LineFault> {
     match words {
         ["new", word] => start_anew(alloc, frame, word),
         ["header", name, value] => header(alloc, frame, name, value),

@@ -6,12 +6,13 @@ use crate::decoding::{feed, next};
 use crate::fault::LineFault;
 use crate::octets::{octets, shown};
 use base::Pair;
+use base::limits::MAX_BODY;
 use envelope::{Envelope, EnvelopeFault, Message, from_message};
 use std::alloc::{AllocError, Global};
 use stomp_frame::{Decoder, Frame};
 
 /// The envelope that a frame carries.
-fn carried(alloc: Global, frame: &Frame) -> Result<Envelope, EnvelopeFault>
+fn carried(alloc: Global, frame: &Frame<MAX_BODY>) -> Result<Envelope, EnvelopeFault>
     ensures { IsReading frame.now result }
 {
     match from_message(alloc, frame) {
@@ -68,7 +69,11 @@ fn receive(alloc: Global, word: &str) -> Result<String, LineFault> {
 }
 
 /// The same of a decoder that was fed nothing yet.
-fn receive_first(alloc: Global, decoder: &mut Decoder, octets: &[u8]) -> Result<String, LineFault> {
+fn receive_first(
+    alloc: Global,
+    decoder: &mut Decoder<MAX_BODY>,
+    octets: &[u8],
+) -> Result<String, LineFault> {
     feed(decoder, octets)?;
     match next(decoder)? {
         Some(frame) => received(alloc, &frame),
@@ -77,7 +82,7 @@ fn receive_first(alloc: Global, decoder: &mut Decoder, octets: &[u8]) -> Result<
 }
 
 /// The envelope that a frame carries, as a text.
-fn received(alloc: Global, frame: &Frame) -> Result<String, LineFault> {
+fn received(alloc: Global, frame: &Frame<MAX_BODY>) -> Result<String, LineFault> {
     let envelope = carried(alloc, frame)?;
     Ok(envelope_text(alloc, &envelope)?)
 }

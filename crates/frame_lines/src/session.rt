@@ -14,6 +14,7 @@ use crate::received::answer_received;
 use crate::trickle::Trickle;
 use crate::wires::answer_wire;
 use activities::Outs;
+use base::limits::MAX_BODY;
 use line_script::Script;
 use std::alloc::Global;
 use std::io;
@@ -24,8 +25,8 @@ use stomp_wire::{MemoryWire, StreamLink};
 /// A frame, a decoder, a wire, a link over a reader and a writer that fail where they are told to, a switch, and what goes out.
 #[derive(Drop)]
 pub struct Session {
-    frame: Frame,
-    decoder: Decoder,
+    frame: Frame<MAX_BODY>,
+    decoder: Decoder<MAX_BODY>,
     wire: MemoryWire,
     link: FailingLink,
     switch: bool,

@@ -2,6 +2,7 @@
 
 use activities::Handler;
 use anyhow::bail;
+use base::limits::MAX_BODY;
 use endpoint::{EndFault, Endpoint};
 use keep::Keep;
 use reception::{ReceptionFault, Taken, drain, take_frame};
@@ -35,7 +36,7 @@ where
     pub endpoint: Endpoint<H, K>,
     stream: TcpStream,
     client: ClientSession<u64>,
-    decoder: Decoder,
+    decoder: Decoder<MAX_BODY>,
     relay: Relay,
     /// What was taken, in its order.
     pub taken: Vec<Taken>,
@@ -103,7 +104,7 @@ where
     }
 
     /// Takes one frame. Behind what was refused for its content it goes on: that was answered.
-    fn take(&mut self, frame: Frame) -> anyhow::Result<()> {
+    fn take(&mut self, frame: Frame<MAX_BODY>) -> anyhow::Result<()> {
         match take_frame(self.alloc, &mut self.endpoint, &mut self.client, frame) {
             Ok(taken) => Ok(self.taken.push(taken)?),
             Err(untaken) => match untaken.fault {

@@ -6,6 +6,7 @@ mod connected;
 
 use activities::{Handler, Items, OrderCommand};
 use anyhow::Context;
+use base::limits::MAX_QUEUED;
 use base::{Entity, Key, Pair};
 use broker_core::Broker;
 use broker_server::{Stop, serve};
@@ -123,7 +124,7 @@ fn main(rt: HostRuntime) -> anyhow::Result<()> {
         &rt,
         || {
             let mut listener = listener;
-            let mut broker: Broker<4096> = Broker::new(rt.alloc());
+            let mut broker: Broker<MAX_QUEUED> = Broker::new(rt.alloc());
             serve(&rt, rt.alloc(), &mut broker, &mut listener, &stop)
         },
         || {

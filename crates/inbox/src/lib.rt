@@ -2,16 +2,18 @@
 //!
 //! Letters of a pair are numbered 1, 2, .. by their sender. Of a pair of which `handled` letters were taken in, the next has the number
 //! `handled` + 1; one that isn't above `handled` comes again; one that is above the next came early, and is near enough to be held where
-//! it isn't more than `window` above `handled`.
+//! it isn't more than `AHEAD` above `handled`.
 //!
 //! ```rust
 //! pub fn a_letter_comes_again(letter: &Letter) -> bool {
 //!     let handled = letter.number.get();
-//!     classify(letter.pair.to.kind(), 64, handled, letter) == Class::Repeated
+//!     classify::<64>(letter.pair.to.kind(), handled, letter) == Class::Repeated
 //! }
 //! ```
 #![tactic(auto)]
 
 mod class;
+mod window;
 
 pub use class::{Class, classify};
+pub use window::{Ahead, Window};

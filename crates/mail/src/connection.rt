@@ -6,6 +6,7 @@ ghost use Rattle.mail.specs.Connecting.{Opens, CarriesUp, CarriesDown, TakesNext
 ghost use Rattle.mail.specs.Sessions.{KeepsOthers, KeepsSessions, has_session};
 
 use crate::{Mail, OpenFault};
+use base::limits::MAX_BODY;
 use broker_core::{BrokerFault, SessionId};
 use std::alloc::{AllocError, Global};
 use stomp_client::ClientSession;
@@ -20,9 +21,9 @@ pub struct Connection {
     /// The client.
     pub client: ClientSession<u64>,
     /// The octets that came down and belong to no frame that was given.
-    pub decoder: Decoder,
+    pub decoder: Decoder<MAX_BODY>,
     /// The frame that was given and waits.
-    pub waiting: Option<Frame>,
+    pub waiting: Option<Frame<MAX_BODY>>,
 }
 
 /// How many of the octets that wait are carried, where at most so many may be.
@@ -113,7 +114,7 @@ impl Connection {
     ///
     /// # Errors
     /// Those of the decoder; no frame waits then.
-    pub fn next(&mut self) -> Result<Option<Frame>, FrameFault>
+    pub fn next(&mut self) -> Result<Option<Frame<MAX_BODY>>, FrameFault>
         ensures { TakesNext self.old self.new result }
     {
         match self.waiting.take() {
@@ -123,7 +124,7 @@ impl Connection {
     }
 
     /// Puts a frame back: it is the next one again.
-    pub fn put_back(&mut self, frame: Frame)
+    pub fn put_back(&mut self, frame: Frame<MAX_BODY>)
         requires { self.old.waiting ≡ None }
         ensures { self.new ≡ record self.old { waiting = Some frame } }
     {

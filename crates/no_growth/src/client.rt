@@ -3,6 +3,7 @@
 use crate::answer::Answer;
 use crate::fault::LineFault;
 use activities::{Items, OrderCommand};
+use base::limits::MAX_BODY;
 use base::{Entity, Key};
 use endpoint::Endpoint;
 use keep_plain::PlainKeep;
@@ -18,8 +19,8 @@ use stomp_session::ServerSession;
 pub struct ClientCalls {
     client: ClientSession<u64>,
     relay: Relay,
-    receipt: Option<Frame>,
-    send: Option<Frame>,
+    receipt: Option<Frame<MAX_BODY>>,
+    send: Option<Frame<MAX_BODY>>,
 }
 
 /// So many orders, each of which asks a stock and an account.
@@ -43,14 +44,19 @@ fn place_all(
 }
 
 /// A frame with a header.
-fn frame(alloc: Global, command: Command, name: &str, value: &str) -> Result<Frame, LineFault> {
+fn frame(
+    alloc: Global,
+    command: Command,
+    name: &str,
+    value: &str,
+) -> Result<Frame<MAX_BODY>, LineFault> {
     let mut frame = Frame::new(alloc, command);
     frame.push_header(name, value)?;
     Ok(frame)
 }
 
 /// A SEND with so many headers of its own.
-fn send(alloc: Global, count: usize) -> Result<Frame, LineFault> {
+fn send(alloc: Global, count: usize) -> Result<Frame<MAX_BODY>, LineFault> {
     let mut send = frame(alloc, Command::Send, "destination", "/queue/a")?;
     for _ in 0..count {
         send.push_header("h", "value")?;

@@ -29,12 +29,12 @@ What it offers of STOMP 1.2:
 An ERROR tells a number and a name in `message`, and ends the session.
 
 Limits:
-  a frame       32 headers, lines of 1,024 octets, a body of 65,536 octets
-  a queue       4,096 messages; a SEND to a full one is refused with 32 QueueFull
+  a frame       32 headers, lines of 1,024 octets, a body of 1,048,576 octets
+  a queue       65,536 messages; a SEND to a full one is refused with 32 QueueFull
   a session     64 subscriptions, 16 transactions of 256 actions, values of 128 octets for `receipt`,
                 `id` and `transaction`
   an ack mode   16 unanswered messages of a subscription in `client` and `client-individual`
-  a connection  8,388,608 octets that its client doesn't read; then it is dropped
+  a connection  25,740,400 octets that its client doesn't read; then it is dropped
 
 Exit status:
   1  `fault 2 Device`: the port can't be had, or the system refuses to wait for sockets or to tell

@@ -5,6 +5,7 @@
 
 mod command_line;
 
+use base::limits::MAX_QUEUED;
 use broker_core::Broker;
 use broker_server::{ServeFault, Stop, serve};
 use clap::error::ErrorKind as WordFault;
@@ -41,7 +42,7 @@ fn run_broker<R: Net + Wait + Clock + Print + Eprint + AllocGlobal>(
     let Ok(mut listener) = listen(rt, port) else {
         return tell_fault(rt, ServeFault::Device);
     };
-    let mut broker: Broker<4096> = Broker::new(rt.alloc());
+    let mut broker: Broker<MAX_QUEUED> = Broker::new(rt.alloc());
     match serve(rt, rt.alloc(), &mut broker, &mut listener, &Stop::new()) {
         Ok(()) => Ok(0),
         Err(fault) => tell_fault(rt, fault),

@@ -82,7 +82,7 @@ pub fn printed_octets_are_read(alloc: Global) -> Result<bool, WordFault> {
 }
 
 pub fn a_frame_is_read_from_pieces(alloc: Global) -> Result<bool, FrameFault> {
-    let mut decoder = Decoder::new(alloc);
+    let mut decoder: Decoder<65_536> = Decoder::new(alloc);
     decoder.feed(b"SEND\ndestination:/queue/bil")?;
     decoder.feed(b"ling\n\nhello\0")?;
     let found = decoder.next()?;
@@ -254,7 +254,7 @@ pub fn a_mark_is_one_change(alloc: Global, pair: &Pair) -> Result<usize, AllocEr
 
 pub fn a_letter_comes_again(letter: &Letter) -> bool {
     let handled = letter.number.get();
-    classify(letter.pair.to.kind(), 64, handled, letter) == Class::Repeated
+    classify::<64>(letter.pair.to.kind(), handled, letter) == Class::Repeated
 }
 
 pub fn nothing_is_held_at_first(alloc: Global, pair: &Pair) -> Result<bool, KeepFault> {

@@ -8,6 +8,7 @@ ghost use Rattle.reception.specs.Deeds.{TakeMay, TellsOfUse};
 
 use crate::{ReceptionFault, Taken, Untaken, take_frame};
 use activities::Handler;
+use base::limits::MAX_BODY;
 use endpoint::Endpoint;
 use keep::Keep;
 use mail::Connection;
@@ -16,7 +17,7 @@ use stomp_client::ClientFault;
 use stomp_frame::{Frame, FrameFault};
 
 /// Puts a frame back that still waits.
-fn give_back(connection: &mut Connection, frame: Option<Frame>)
+fn give_back(connection: &mut Connection, frame: Option<Frame<MAX_BODY>>)
     requires { connection.old.waiting ≡ None }
     ensures { connection.new ≡ record connection.old { waiting = frame } }
 {
@@ -30,7 +31,7 @@ fn take_given<H, K>(
     alloc: Global,
     endpoint: &mut Endpoint<H, K>,
     connection: &mut Connection,
-    frame: Frame,
+    frame: Frame<MAX_BODY>,
 ) -> Result<Taken, ReceptionFault>
 where
     H: Handler,

@@ -1,5 +1,6 @@
 //! Why a frame wasn't taken, or a held letter wasn't handled.
 
+use base::limits::MAX_BODY;
 use endpoint::EndFault;
 use envelope::EnvelopeFault;
 use std::alloc::AllocError;
@@ -59,7 +60,7 @@ pub struct Untaken {
     /// Why.
     pub fault: ReceptionFault,
     /// The frame, where it still waits.
-    pub frame: Option<Frame>,
+    pub frame: Option<Frame<MAX_BODY>>,
 }
 
 impl Untaken {
@@ -67,7 +68,7 @@ impl Untaken {
     ghost use Rattle.reception.specs.Faults.{waiting_after};
 
     /// What is left of a frame after this fault.
-    pub(crate) fn of(fault: ReceptionFault, frame: Frame) -> Untaken
+    pub(crate) fn of(fault: ReceptionFault, frame: Frame<MAX_BODY>) -> Untaken
         ensures { result ≡ record { fault = fault; frame = waiting_after fault frame } }
     {
         if fault.leaves_waiting() {

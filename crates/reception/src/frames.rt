@@ -19,6 +19,7 @@ use crate::texts::{subscribe_text, write};
 use crate::{ReceptionFault, Taken, Untaken};
 use activities::Handler;
 use base::Kind;
+use base::limits::MAX_BODY;
 use endpoint::Endpoint;
 use keep::Keep;
 use std::alloc::Global;
@@ -46,7 +47,7 @@ fn take_connected(
     alloc: Global,
     client: &mut ClientSession<u64>,
     kind: Kind,
-    frame: Frame,
+    frame: Frame<MAX_BODY>,
 ) -> Result<Taken, Untaken>
     requires command { frame.command ≡ Connected }
     requires stage { client.old.client.stage ≡ Connecting }
@@ -89,7 +90,7 @@ pub fn take_frame<H, K>(
     alloc: Global,
     endpoint: &mut Endpoint<H, K>,
     client: &mut ClientSession<u64>,
-    frame: Frame,
+    frame: Frame<MAX_BODY>,
 ) -> Result<Taken, Untaken>
 where
     H: Handler,

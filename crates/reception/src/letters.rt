@@ -20,6 +20,7 @@ use crate::texts::{answer_text, write};
 use crate::{ReceptionFault, Taken};
 use activities::Handler;
 use base::Pair;
+use base::limits::MAX_BODY;
 use endpoint::{Endpoint, Ingested};
 use envelope::{Envelope, EnvelopeFault, Letter, from_message};
 use keep::Keep;
@@ -43,7 +44,7 @@ fn take_known<H, K>(
     alloc: Global,
     endpoint: &mut Endpoint<H, K>,
     client: &mut ClientSession<u64>,
-    message: &Frame,
+    message: &Frame<MAX_BODY>,
     letter: &Letter,
     answers: &Acknowledgements,
     handled: u64,
@@ -88,7 +89,7 @@ fn take_letter<H, K>(
     alloc: Global,
     endpoint: &mut Endpoint<H, K>,
     client: &mut ClientSession<u64>,
-    message: &Frame,
+    message: &Frame<MAX_BODY>,
     letter: &Letter,
 ) -> Result<Taken, ReceptionFault>
 where
@@ -122,7 +123,7 @@ fn take_settle<H, K>(
     alloc: Global,
     endpoint: &mut Endpoint<H, K>,
     client: &mut ClientSession<u64>,
-    message: &Frame,
+    message: &Frame<MAX_BODY>,
     pair: &Pair,
     number: u64,
 ) -> Result<Taken, ReceptionFault>
@@ -154,7 +155,7 @@ where
 fn take_none(
     alloc: Global,
     client: &mut ClientSession<u64>,
-    message: &Frame,
+    message: &Frame<MAX_BODY>,
 ) -> Result<(), ClientFault>
     requires { IsDelivered message.now }
     ensures ok { OnOk result (Writes (answer Ack message.now) client.old.client client.new.client) }
@@ -172,7 +173,7 @@ pub(crate) fn take_message<H, K>(
     alloc: Global,
     endpoint: &mut Endpoint<H, K>,
     client: &mut ClientSession<u64>,
-    message: &Frame,
+    message: &Frame<MAX_BODY>,
 ) -> Result<Taken, ReceptionFault>
 where
     H: Handler,

@@ -11,6 +11,7 @@ ghost use Rattle.reception.specs.Replies.{refusal, settled_again, IsTextOf};
 use crate::ReceptionFault;
 use crate::texts::{answer_text, settling_text};
 use base::Number;
+use base::limits::MAX_BODY;
 use endpoint::EndFault;
 use envelope::Letter;
 use std::alloc::Global;
@@ -29,7 +30,7 @@ impl Acknowledgements {
     pub(crate) fn make(
         alloc: Global,
         client: &mut ClientSession<u64>,
-        message: &Frame,
+        message: &Frame<MAX_BODY>,
     ) -> Result<Acknowledgements, ClientFault>
         requires { IsDelivered message.now }
         ensures texts { IfOk result (λ a. AreAcknowledgements message.now a) }
@@ -84,7 +85,7 @@ impl Settles {
     pub(crate) fn make(
         alloc: Global,
         client: &mut ClientSession<u64>,
-        message: &Frame,
+        message: &Frame<MAX_BODY>,
         letter: &Letter,
         handled: u64,
     ) -> Result<Settles, ReceptionFault>

@@ -13,6 +13,7 @@ ghost use Rattle.reception.specs.Replies.{answer, settling, IsTextOf, Writes};
 ghost use Rattle.reception.specs.Faults.{IsWant};
 
 use crate::ReceptionFault;
+use base::limits::MAX_BODY;
 use base::{Kind, Number, Pair};
 use envelope::{Envelope, EnvelopeFault, to_send};
 use std::alloc::{AllocError, Global};
@@ -23,7 +24,7 @@ use stomp_frame::{Command, Frame, encode};
 
 /// Appends the text of one more frame.
 #[tactic(auto, using(crate::proofs::Spelling::text_behind))]
-fn add(text: &mut Vec<u8>, frame: &Frame) -> Result<(), AllocError>
+fn add(text: &mut Vec<u8>, frame: &Frame<MAX_BODY>) -> Result<(), AllocError>
     ensures { (frames : List Content) → IsTextOf frames text.old.items
         → OnOk result (IsTextOf (frames ++ frame.now ∷ []) text.new.items) }
 {
@@ -36,7 +37,7 @@ fn add(text: &mut Vec<u8>, frame: &Frame) -> Result<(), AllocError>
 
 /// The text of one frame.
 #[tactic(auto, using(crate::proofs::Spelling::no_text))]
-fn text_of(alloc: Global, frame: &Frame) -> Result<Vec<u8>, AllocError>
+fn text_of(alloc: Global, frame: &Frame<MAX_BODY>) -> Result<Vec<u8>, AllocError>
     ensures { IfOk result (λ text. IsTextOf (frame.now ∷ []) text.items) }
 {
     let mut text = Vec::new(alloc);
@@ -48,10 +49,10 @@ fn text_of(alloc: Global, frame: &Frame) -> Result<Vec<u8>, AllocError>
 #[tactic(auto, using(crate::proofs::Spelling::no_text))]
 fn text_of_four(
     alloc: Global,
-    first: &Frame,
-    second: &Frame,
-    third: &Frame,
-    fourth: &Frame,
+    first: &Frame<MAX_BODY>,
+    second: &Frame<MAX_BODY>,
+    third: &Frame<MAX_BODY>,
+    fourth: &Frame<MAX_BODY>,
 ) -> Result<Vec<u8>, AllocError>
     ensures { IfOk result (λ text. IsTextOf (first.now ∷ second.now ∷ third.now ∷ fourth.now ∷ []) text.items) }
 {
@@ -67,7 +68,7 @@ fn text_of_four(
 pub(crate) fn answer_text(
     alloc: Global,
     command: Command,
-    message: &Frame,
+    message: &Frame<MAX_BODY>,
 ) -> Result<Vec<u8>, AllocError>
     requires plain { is_exempt command ≡ false }
     requires message { IsDelivered message.now }
@@ -86,7 +87,11 @@ pub(crate) fn subscribe_text(alloc: Global, kind: Kind) -> Result<Vec<u8>, Alloc
 }
 
 /// The SEND of a settle.
-fn settle_frame(alloc: Global, pair: &Pair, number: Number) -> Result<Frame, EnvelopeFault>
+fn settle_frame(
+    alloc: Global,
+    pair: &Pair,
+    number: Number,
+) -> Result<Frame<MAX_BODY>, EnvelopeFault>
     ensures frame { IfOk result (λ f. f ≡ send_of (Settle pair.now number)) }
     ensures fault { IsOkUnless result EnvelopeFault.Memory }
 {
@@ -113,7 +118,7 @@ fn settle_within(
     pair: &Pair,
     number: Number,
     transaction: u64,
-) -> Result<Frame, ReceptionFault>
+) -> Result<Frame<MAX_BODY>, ReceptionFault>
     ensures frame { IfOk result (λ f. f ≡ in_transaction (Some transaction) (send_of (Settle pair.now number))) }
     ensures fault { IfErr result IsWant }
 {
@@ -124,7 +129,7 @@ fn settle_within(
 /// A transaction: a MESSAGE is acknowledged, and its pair is settled up to a number.
 pub(crate) fn settling_text(
     alloc: Global,
-    message: &Frame,
+    message: &Frame<MAX_BODY>,
     transaction: u64,
     pair: &Pair,
     number: Number,

@@ -3,6 +3,7 @@
 use crate::fault::LineFault;
 use crate::service::{Service, call_service, new_service};
 use crate::show::{fault_named, push_drained, push_event, push_sent, push_taken};
+use base::limits::MAX_BODY;
 use line_script::{Script, first_word, push_octets, read_octets, size};
 use reception::{drain, take_frame};
 use relay::Relay;
@@ -21,13 +22,16 @@ pub struct Session {
 }
 
 /// The next frame of a decoder that is fed octets.
-fn next_frame(decoder: &mut Decoder, octets: &[u8]) -> Result<Frame, LineFault> {
+fn next_frame(
+    decoder: &mut Decoder<MAX_BODY>,
+    octets: &[u8],
+) -> Result<Frame<MAX_BODY>, LineFault> {
     decoder.feed(octets)?;
     decoder.next()?.ok_or(LineFault::Unknown)
 }
 
 /// The frame that a text spells.
-fn read_frame(alloc: Global, text: &str) -> Result<Frame, LineFault> {
+fn read_frame(alloc: Global, text: &str) -> Result<Frame<MAX_BODY>, LineFault> {
     let octets = read_octets(alloc, text)?;
     let mut decoder = Decoder::new(alloc);
     next_frame(&mut decoder, &octets)

@@ -1,6 +1,7 @@
 //! What is printed of frames and events, and the texts of faults that no line meets.
 
 use crate::fault::LineFault;
+use base::limits::MAX_BODY;
 use endpoint::EndFault;
 use line_script::{first_word, natural};
 use reception::{Drained, Taken};
@@ -10,7 +11,7 @@ use stomp_client::{ClientEvent, ClientFault, ClientSession};
 use stomp_frame::{Decoder, Frame};
 
 /// Appends a header's value, and a space.
-fn push_value(out: &mut String, frame: &Frame, name: &str) -> Result<(), AllocError> {
+fn push_value(out: &mut String, frame: &Frame<MAX_BODY>, name: &str) -> Result<(), AllocError> {
     match frame.get(name) {
         Some(value) => write!(out, "{value} "),
         None => Ok(()),
@@ -18,7 +19,7 @@ fn push_value(out: &mut String, frame: &Frame, name: &str) -> Result<(), AllocEr
 }
 
 /// Appends the letter of a frame, and the number of its receipt.
-fn push_letter(out: &mut String, frame: &Frame) -> Result<(), AllocError> {
+fn push_letter(out: &mut String, frame: &Frame<MAX_BODY>) -> Result<(), AllocError> {
     push_value(out, frame, "from")?;
     push_value(out, frame, "to")?;
     push_value(out, frame, "number")?;
@@ -28,7 +29,7 @@ fn push_letter(out: &mut String, frame: &Frame) -> Result<(), AllocError> {
 }
 
 /// Appends the letters of the frames that a decoder has.
-fn push_letters(out: &mut String, decoder: &mut Decoder) -> Result<(), LineFault> {
+fn push_letters(out: &mut String, decoder: &mut Decoder<MAX_BODY>) -> Result<(), LineFault> {
     for _frame in 0..u64::MAX {
         match decoder.next()? {
             Some(frame) => push_letter(out, &frame)?,

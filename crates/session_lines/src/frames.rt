@@ -1,12 +1,13 @@
 //! The frame that a text spells.
 
 use crate::fault::LineFault;
+use base::limits::MAX_BODY;
 use line_script::read_octets;
 use std::alloc::Global;
 use stomp_frame::{Decoder, Frame, FrameFault};
 
 /// Whether a decoder has no further frame.
-fn is_at_end(decoder: &mut Decoder) -> Result<bool, FrameFault> {
+fn is_at_end(decoder: &mut Decoder<MAX_BODY>) -> Result<bool, FrameFault> {
     match decoder.next() {
         Ok(None) => Ok(true),
         Ok(Some(_)) => Ok(false),
@@ -15,7 +16,7 @@ fn is_at_end(decoder: &mut Decoder) -> Result<bool, FrameFault> {
 }
 
 /// The one frame of octets.
-fn one_frame(decoder: &mut Decoder, octets: &[u8]) -> Result<Frame, LineFault> {
+fn one_frame(decoder: &mut Decoder<MAX_BODY>, octets: &[u8]) -> Result<Frame<MAX_BODY>, LineFault> {
     decoder.feed(octets)?;
     match (decoder.next()?, is_at_end(decoder)?) {
         (Some(frame), true) => Ok(frame),
@@ -24,7 +25,7 @@ fn one_frame(decoder: &mut Decoder, octets: &[u8]) -> Result<Frame, LineFault> {
 }
 
 /// The one frame that a text spells.
-pub fn read_frame(alloc: Global, text: &str) -> Result<Frame, LineFault> {
+pub fn read_frame(alloc: Global, text: &str) -> Result<Frame<MAX_BODY>, LineFault> {
     let octets = read_octets(alloc, text)?;
     let mut decoder = Decoder::new(alloc);
     one_frame(&mut decoder, &octets)

@@ -3,6 +3,7 @@
 use crate::fault::LineFault;
 use crate::frames::read_frame;
 use crate::requests::{push_part, push_request};
+use base::limits::MAX_BODY;
 use std::alloc::{AllocError, Global};
 use stomp_frame::Frame;
 use stomp_session::{Refused, ServerSession, receipt_told};
@@ -11,7 +12,7 @@ use stomp_session::{Refused, ServerSession, receipt_told};
 #[derive(Drop)]
 pub struct Server {
     session: ServerSession,
-    refused: Option<Frame>,
+    refused: Option<Frame<MAX_BODY>>,
 }
 
 /// Appends why a frame was refused, and the receipt that its ERROR tells.
@@ -40,7 +41,7 @@ impl Server {
     }
 
     /// It is given a frame.
-    fn accept(&mut self, frame: Frame, out: &mut String) -> Result<(), AllocError> {
+    fn accept(&mut self, frame: Frame<MAX_BODY>, out: &mut String) -> Result<(), AllocError> {
         match self.session.accept(frame) {
             Ok(request) => {
                 let told = push_request(out, &request);

@@ -12,6 +12,7 @@ ghost use Rattle.sites.specs.SiteEvents.{Takes, Drains};
 use crate::outcomes::{decoder_fate, decoder_told, drain_fate, drain_told, taken_fate, taken_told};
 use crate::{Channel, Site};
 use activities::Handler;
+use base::limits::MAX_BODY;
 use endpoint::Endpoint;
 use keep::Keep;
 use mail::{Connection, Mail};
@@ -25,7 +26,7 @@ fn receive<H, K>(
     alloc: Global,
     endpoint: &mut Endpoint<H, K>,
     connection: &mut Connection,
-    frame: Frame,
+    frame: Frame<MAX_BODY>,
 ) -> Result<Taken, ReceptionFault>
 where
     H: Handler,
@@ -108,7 +109,7 @@ where
         mail: &mut Mail,
         number: ConnectionNumber,
         mut channel: Channel,
-        frame: Frame,
+        frame: Frame<MAX_BODY>,
     ) -> Outcome
         ensures did { TakesFrame K.seen H.service number channel frame result self.old mail.old self.new mail.new }
         ensures doubt { DoubtStays K.seen self.old self.new }

@@ -2,6 +2,7 @@
 use Rattle.std.proofs.Common.{◌≡◌, ℕ, [], ◌∷◌, ◌≤◌, true, false, refl, codes, arith}
 use Rattle.std.specs.Prelude.{◌^◌, ◌-◌, replicate, Some, None, Ok, Err}
 use Rattle.std.specs.Fmt.{digits}
+use Rattle.base.specs.declared.limits.TheConstants.{MAX_BODY}
 use Rattle.stomp_frame.specs.declared.command.Command.TheVariants.{Send, Message, Begin, Ack, Nack}
 use Rattle.stomp_frame.specs.Frames.{Content, frame, header, canonical, escape, line_of, IsFrame}
 use Rattle.stomp_client.specs.declared.fault.ClientFault.{ClientFault}
@@ -96,7 +97,7 @@ numbers_are_small = (refl, refl)
 
 -- ---- what was written
 
-disconnect_is_a_frame : IsFrame 65536 disconnect_frame
+disconnect_is_a_frame : IsFrame MAX_BODY disconnect_frame
 disconnect_is_a_frame = record { headers = tt; count = omega arith; body = omega arith }
 
 -- of one frame three octets were sent

@@ -7,6 +7,7 @@ use Rattle.std.specs.Str.{bytes_eq}
 use Rattle.std.proofs.lemmas.Bool.Decides.{nat_tests}
 use Rattle.std.proofs.lemmas.List.{append-nil}
 use Rattle.std.proofs.lemmas.List.Elements.{filter-append}
+use Rattle.base.specs.declared.limits.TheConstants.{MAX_BODY}
 use Rattle.stomp_frame.specs.declared.command.Command.TheVariants.{Ack, Nack}
 use Rattle.stomp_frame.specs.Calls.{DecoderCall, Happened, fed, given}
 use Rattle.stomp_frame.specs.Decoding.{Held}
@@ -152,7 +153,7 @@ first_taken (f ∷ fs) gs connected all = (all.0, first_taken fs gs (connected |
 
 pub given_are_taken : (fs : List Content) (gone out received waiting carried : List ℕ) (calls : List DecoderCall) (held : Held)
     → AllByRecursion IsClients fs
-    → Wrote (connect_frame ∷ fs) gone out → Travels gone received (Some waiting) (Some carried) → Happened 65536 calls held
+    → Wrote (connect_frame ∷ fs) gone out → Travels gone received (Some waiting) (Some carried) → Happened MAX_BODY calls held
     → fed calls ≡ received
     → AllByRecursion (λ r. IsOk r) (answers_of false (given calls))
 given_are_taken fs gone out received waiting carried calls held all wrote travels happened e =

@@ -1,6 +1,7 @@
 -- What was written is read.
 use Rattle.std.proofs.Common.{◌≡◌, ℕ, List, [], ◌++◌, Some, sym, ap, subst, ◌∙◌, append_assoc, arith}
 use Rattle.std.proofs.lemmas.List.{append-nil}
+use Rattle.base.specs.declared.limits.TheConstants.{MAX_BODY}
 use Rattle.stomp_frame.specs.Frames.{Content}
 use Rattle.stomp_frame.specs.Spelling.{NoFrame}
 use Rattle.stomp_frame.specs.Decoding.{Held}
@@ -23,18 +24,18 @@ whole_text frames gone out received waiting carried calls wrote travels e =
 
 pub awaited : (frames : List Content) (gone out received waiting carried : List ℕ) (calls : List DecoderCall) (held : Held)
     → Wrote frames gone out
-    → Travels gone received (Some waiting) (Some carried) → Happened 65536 calls held → fed calls ≡ received
-    → (others : List Content) × (frames ≡ given calls ++ others) × Awaits 65536 others held (carried ++ waiting ++ out)
+    → Travels gone received (Some waiting) (Some carried) → Happened MAX_BODY calls held → fed calls ≡ received
+    → (others : List Content) × (frames ≡ given calls ++ others) × Awaits MAX_BODY others held (carried ++ waiting ++ out)
 awaited frames gone out received waiting carried calls held wrote travels happened e =
-    let spelled : SpellsAll 65536 frames (fed calls ++ (carried ++ waiting ++ out)) =
-    subst (SpellsAll 65536 frames) (whole_text frames gone out received waiting carried calls wrote travels e)
-    (canonical_texts_are_spelled 65536 (omega arith) frames wrote.each) in
-    sent_is_given 65536 calls held frames (carried ++ waiting ++ out) happened spelled
+    let spelled : SpellsAll MAX_BODY frames (fed calls ++ (carried ++ waiting ++ out)) =
+    subst (SpellsAll MAX_BODY frames) (whole_text frames gone out received waiting carried calls wrote travels e)
+    (canonical_texts_are_spelled MAX_BODY (omega arith) frames wrote.each) in
+    sent_is_given MAX_BODY calls held frames (carried ++ waiting ++ out) happened spelled
 
 pub all_given : (frames : List Content) (gone received : List ℕ) (calls : List DecoderCall) (held : Held) → Wrote frames gone []
     → Travels gone received (Some []) (Some [])
-    → Happened 65536 calls held → fed calls ≡ received → NoFrame 65536 held.octets → given calls ≡ frames
+    → Happened MAX_BODY calls held → fed calls ≡ received → NoFrame MAX_BODY held.octets → given calls ≡ frames
 all_given frames gone received calls held wrote travels happened e none =
     let found = awaited frames gone [] received [] [] calls held wrote travels happened e in
-    let no_other : found.0 ≡ [] = none_is_left 65536 found.0 held found.2 none in
+    let no_other : found.0 ≡ [] = none_is_left MAX_BODY found.0 held found.2 none in
     sym (found.1 ∙ ap (λ (fs : List Content). given calls ++ fs) no_other ∙ append-nil (given calls))

@@ -9,12 +9,13 @@ ghost use Rattle.stomp_client.specs.Frames.{connect_frame, subscribe_frame, tran
 ghost use Rattle.stomp_client.specs.Delivered.{IsDelivered};
 ghost use Rattle.stomp_client.specs.Parts.Names.{is_name};
 
+use base::limits::MAX_BODY;
 use itoa::Buffer;
 use std::alloc::{AllocError, Global};
 use stomp_frame::{Command, Frame, FrameFault};
 
 /// Appends a header that the frame takes.
-fn push(frame: &mut Frame, name: &str, value: &str) -> Result<(), AllocError>
+fn push(frame: &mut Frame<MAX_BODY>, name: &str, value: &str) -> Result<(), AllocError>
     requires { header_refused frame.old (header name.now value.now) ≡ None }
     ensures ok { OnOk result (frame.new ≡ with_header frame.old (header name.now value.now)) }
 {
@@ -26,7 +27,11 @@ fn push(frame: &mut Frame, name: &str, value: &str) -> Result<(), AllocError>
 }
 
 /// The frame with one more header, a number.
-pub fn with_number(frame: Frame, name: &str, number: u64) -> Result<Frame, AllocError>
+pub fn with_number(
+    frame: Frame<MAX_BODY>,
+    name: &str,
+    number: u64,
+) -> Result<Frame<MAX_BODY>, AllocError>
     requires plain { is_exempt frame.command ≡ false }
     requires room { length frame.headers < 32 }
     requires name { is_name name.now ≡ true }
@@ -39,7 +44,7 @@ pub fn with_number(frame: Frame, name: &str, number: u64) -> Result<Frame, Alloc
 }
 
 /// CONNECT (STOMP 1.2, section "CONNECT or STOMP Frame"), for version 1.2 and the host `outbox`.
-pub fn connect_frame(alloc: Global) -> Result<Frame, AllocError>
+pub fn connect_frame(alloc: Global) -> Result<Frame<MAX_BODY>, AllocError>
     ensures { IfOk result (λ f. f ≡ connect_frame) }
 {
     let mut frame = Frame::new(alloc, Command::Connect);
@@ -49,7 +54,7 @@ pub fn connect_frame(alloc: Global) -> Result<Frame, AllocError>
 }
 
 /// SUBSCRIBE to a destination, under the id `0`. Each message is to be answered by itself.
-pub fn subscribe_frame(alloc: Global, destination: &str) -> Result<Frame, AllocError>
+pub fn subscribe_frame(alloc: Global, destination: &str) -> Result<Frame<MAX_BODY>, AllocError>
     requires { IsShort destination.now }
     ensures { IfOk result (λ f. f ≡ subscribe_frame destination.now) }
 {
@@ -61,7 +66,11 @@ pub fn subscribe_frame(alloc: Global, destination: &str) -> Result<Frame, AllocE
 }
 
 /// BEGIN, COMMIT or ABORT of a transaction.
-pub fn transaction_frame(alloc: Global, command: Command, number: u64) -> Result<Frame, AllocError>
+pub fn transaction_frame(
+    alloc: Global,
+    command: Command,
+    number: u64,
+) -> Result<Frame<MAX_BODY>, AllocError>
     requires { is_exempt command ≡ false }
     ensures { IfOk result (λ f. f ≡ transaction_frame command number) }
 {
@@ -69,7 +78,10 @@ pub fn transaction_frame(alloc: Global, command: Command, number: u64) -> Result
 }
 
 /// The frame in a transaction, where one is given: with the header `transaction`.
-pub fn in_transaction(frame: Frame, transaction: Option<u64>) -> Result<Frame, AllocError>
+pub fn in_transaction(
+    frame: Frame<MAX_BODY>,
+    transaction: Option<u64>,
+) -> Result<Frame<MAX_BODY>, AllocError>
     requires plain { is_exempt frame.command ≡ false }
     requires room { length frame.headers < 32 }
     ensures { IfOk result (λ f. f ≡ in_transaction transaction frame) }
@@ -84,9 +96,9 @@ pub fn in_transaction(frame: Frame, transaction: Option<u64>) -> Result<Frame, A
 pub fn answer_frame(
     alloc: Global,
     command: Command,
-    message: &Frame,
+    message: &Frame<MAX_BODY>,
     transaction: Option<u64>,
-) -> Result<Frame, AllocError>
+) -> Result<Frame<MAX_BODY>, AllocError>
     requires plain { is_exempt command ≡ false }
     requires message { IsDelivered message.now }
     ensures { IfOk result (λ f. f ≡ answer_frame command message.now transaction) }

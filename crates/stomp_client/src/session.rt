@@ -22,6 +22,7 @@ use crate::frames::{
 };
 use crate::numbers::read_number;
 use crate::{ClientEvent, ClientFault};
+use base::limits::MAX_BODY;
 use receipts::Receipts;
 use std::alloc::{AllocError, Global};
 use std::marker::Model;
@@ -159,7 +160,7 @@ impl<T: Drop> ClientSession<T> {
     }
 
     /// Writes a frame, or changes nothing.
-    fn write(&mut self, frame: &Frame) -> Result<(), AllocError>
+    fn write(&mut self, frame: &Frame<MAX_BODY>) -> Result<(), AllocError>
         ensures ok { OnOk result (self.new.client ≡ written frame.now self.old.client) }
         ensures err { OnErr result (self.new.client ≡ self.old.client) }
         ensures frame { IsFrame MAX_BODY frame.now }
@@ -234,7 +235,11 @@ impl<T: Drop> ClientSession<T> {
     }
 
     /// Writes a SEND, in a transaction where one is given.
-    pub fn send(&mut self, message: Frame, transaction: Option<u64>) -> Result<(), ClientFault>
+    pub fn send(
+        &mut self,
+        message: Frame<MAX_BODY>,
+        transaction: Option<u64>,
+    ) -> Result<(), ClientFault>
         requires { IsPlain message }
         ensures does { WritesFrame (in_transaction transaction message) self.old.client self.new.client result }
         ensures wrote { Adds (frames_if result (in_transaction transaction message ∷ [])) self.old.client.out self.new.client.out }
@@ -249,7 +254,11 @@ impl<T: Drop> ClientSession<T> {
     ///
     /// # Errors
     /// Besides those of `subscribe`, and before `Memory`: `NumbersUsed` where the last number is 2^64 - 1.
-    pub fn send_with_receipt(&mut self, message: Frame, tag: T) -> Result<u64, ClientFault>
+    pub fn send_with_receipt(
+        &mut self,
+        message: Frame<MAX_BODY>,
+        tag: T,
+    ) -> Result<u64, ClientFault>
         requires { IsPlain message }
         ensures does { SendsWithReceipt message tag self.old.client self.new.client result }
         ensures wrote { Adds (frames_if result (with_receipt (self.old.client.receipts.last + 1) message ∷ []))
@@ -307,7 +316,11 @@ impl<T: Drop> ClientSession<T> {
     }
 
     /// Writes ACK of a MESSAGE that was accepted, in a transaction where one is given: it was handled.
-    pub fn ack(&mut self, message: &Frame, transaction: Option<u64>) -> Result<(), ClientFault>
+    pub fn ack(
+        &mut self,
+        message: &Frame<MAX_BODY>,
+        transaction: Option<u64>,
+    ) -> Result<(), ClientFault>
         requires { IsDelivered message.now }
         ensures does { WritesFrame (answer_frame Ack message.now transaction) self.old.client self.new.client result }
         ensures wrote { Adds (frames_if result (answer_frame Ack message.now transaction ∷ [])) self.old.client.out self.new.client.out }
@@ -319,7 +332,11 @@ impl<T: Drop> ClientSession<T> {
     }
 
     /// Writes NACK of a MESSAGE that was accepted, in a transaction where one is given: it wasn't handled.
-    pub fn nack(&mut self, message: &Frame, transaction: Option<u64>) -> Result<(), ClientFault>
+    pub fn nack(
+        &mut self,
+        message: &Frame<MAX_BODY>,
+        transaction: Option<u64>,
+    ) -> Result<(), ClientFault>
         requires { IsDelivered message.now }
         ensures does { WritesFrame (answer_frame Nack message.now transaction) self.old.client self.new.client result }
         ensures wrote { Adds (frames_if result (answer_frame Nack message.now transaction ∷ [])) self.old.client.out self.new.client.out }
@@ -349,7 +366,7 @@ impl<T: Drop> ClientSession<T> {
     /// - `Unexpected` where no server may send the frame now, and then the session is closed: a client's command; CONNECTED but for the one
     ///   that answers CONNECT; before CONNECTED any other but ERROR; a RECEIPT whose number isn't open; a MESSAGE without `destination`,
     ///   `message-id`, `subscription` or `ack`.
-    pub fn accept(&mut self, frame: Frame) -> Result<ClientEvent<T>, ClientFault>
+    pub fn accept(&mut self, frame: Frame<MAX_BODY>) -> Result<ClientEvent<T>, ClientFault>
         ensures accepts { Accepts frame self.old.client self.new.client result }
         ensures room { self.new.room ≡ self.old.room }
     {
@@ -375,7 +392,7 @@ impl<T: Drop> ClientSession<T> {
         ClientFault::Unexpected
     }
 
-    fn accept_connected(&mut self, frame: Frame) -> Result<ClientEvent<T>, ClientFault>
+    fn accept_connected(&mut self, frame: Frame<MAX_BODY>) -> Result<ClientEvent<T>, ClientFault>
         requires command { frame.command ≡ Connected }
         requires stage { is_closed self.old.client.stage ≡ false }
         ensures accepts { Accepts frame self.old.client self.new.client result }
@@ -388,7 +405,7 @@ impl<T: Drop> ClientSession<T> {
         Ok(ClientEvent::Connected)
     }
 
-    fn accept_message(&mut self, frame: Frame) -> Result<ClientEvent<T>, ClientFault>
+    fn accept_message(&mut self, frame: Frame<MAX_BODY>) -> Result<ClientEvent<T>, ClientFault>
         requires command { frame.command ≡ Message }
         requires stage { is_closed self.old.client.stage ≡ false }
         ensures accepts { Accepts frame self.old.client self.new.client result }
@@ -400,7 +417,7 @@ impl<T: Drop> ClientSession<T> {
         Ok(ClientEvent::Message(frame))
     }
 
-    fn accept_receipt(&mut self, frame: Frame) -> Result<ClientEvent<T>, ClientFault>
+    fn accept_receipt(&mut self, frame: Frame<MAX_BODY>) -> Result<ClientEvent<T>, ClientFault>
         requires command { frame.command ≡ Receipt }
         requires stage { is_closed self.old.client.stage ≡ false }
         ensures accepts { Accepts frame self.old.client self.new.client result }
@@ -418,7 +435,7 @@ impl<T: Drop> ClientSession<T> {
         }
     }
 
-    fn accept_error(&mut self, frame: Frame) -> ClientEvent<T>
+    fn accept_error(&mut self, frame: Frame<MAX_BODY>) -> ClientEvent<T>
         requires command { frame.command ≡ Error }
         requires stage { is_closed self.old.client.stage ≡ false }
         ensures accepts { Accepts frame self.old.client self.new.client (Ok result) }
@@ -432,7 +449,7 @@ impl<T: Drop> ClientSession<T> {
 }
 
 /// Whether a MESSAGE has all headers that it needs.
-fn is_whole(frame: &Frame) -> bool
+fn is_whole(frame: &Frame<MAX_BODY>) -> bool
     ensures { result ≡ is_whole frame.now }
 {
     frame.get("destination").is_some()
@@ -442,7 +459,7 @@ fn is_whole(frame: &Frame) -> bool
 }
 
 /// The number of a RECEIPT.
-fn receipt_number(frame: &Frame) -> Option<u64>
+fn receipt_number(frame: &Frame<MAX_BODY>) -> Option<u64>
     ensures { result ≡ receipt_number frame.now }
 {
     match frame.get("receipt-id") {

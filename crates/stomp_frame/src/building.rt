@@ -1,7 +1,6 @@
 //! What a frame's builder refuses.
 
 ghost use Rattle.std.specs.Prelude.{◌≡◌, [], None};
-ghost use Rattle.base.specs.declared.limits.TheConstants.{MAX_BODY};
 ghost use Rattle.stomp_frame.specs.Frames.{IsFrame, frame, header};
 ghost use Rattle.stomp_frame.specs.Building.{refused_behind, headers_refused, body_refused};
 
@@ -25,9 +24,12 @@ pub fn refused_behind(command: Command, count: usize, name: &str, value: &str) -
 }
 
 /// Why headers are refused that are appended one by one.
-pub fn headers_refused(command: Command, headers: &[Header]) -> Option<FrameFault>
+pub fn headers_refused<const BODY: usize>(
+    command: Command,
+    headers: &[Header],
+) -> Option<FrameFault>
     ensures which { result ≡ headers_refused (frame command [] []) headers.now }
-    ensures fit { result ≡ None → IsFrame MAX_BODY (frame command headers.now []) }
+    ensures fit { result ≡ None → IsFrame BODY (frame command headers.now []) }
 {
     let mut count = 0;
     for header in headers {

@@ -5,19 +5,19 @@ ghost use Rattle.stomp_frame.specs.Decoding.{Nexts, FeedsDecoder};
 
 use crate::reading::{Found, Progress, after_gap, read_frame};
 use crate::{Frame, FrameFault};
-use base::limits::MAX_BODY;
 use std::alloc::Global;
 use std::marker::Model;
 
-/// No more room than this is kept where no frame is whole: twice what is held then fits, and a piece.
-const ROOM: usize = 262_144;
+/// Where it holds nothing, no more room than this is kept.
+const RESTING: usize = 32_768;
 
 /// Reads frames from the pieces of a text: contracts see the octets that it holds, and whether it has answered a fault.
 ///
 /// However the text is cut into pieces, its frames are the same, and its fault is. Where `next` finds no whole frame, it leaves at
-/// most 101,446 octets held. Of a frame that isn't whole, a later call of `next` reads no octet again but for one.
+/// most `BODY` and 35,910 octets held, and room for four times `BODY`, or for 32,768 octets where nothing is held. A length that is told
+/// takes no memory: its octets do as they come. Of a frame that isn't whole, a later call of `next` reads no octet again but for one.
 #[derive(Debug, Drop)]
-pub struct Decoder {
+pub struct Decoder<const BODY: usize> {
     alloc: Global,
     octets: Vec<u8>,
     // where the octets begin that no frame was read from yet
@@ -27,7 +27,7 @@ pub struct Decoder {
     failed: bool,
 }
 
-impl Model for Decoder {
+impl<const BODY: usize> Model for Decoder<BODY> {
     ghost use Rattle.stomp_frame.specs.Decoding.{Held};
 
     ghost Value = { Held };
@@ -38,14 +38,12 @@ impl Model for Decoder {
 
     ghost use Rattle.stomp_frame.specs.DecoderView.{IsInside};
 
-    ghost invariant = { IsInside };
+    ghost invariant = { IsInside BODY };
 }
 
-impl Decoder {
-    ghost use Rattle.base.specs.declared.limits.TheConstants.{MAX_BODY};
-
+impl<const BODY: usize> Decoder<BODY> {
     /// A decoder that holds nothing. It takes no memory.
-    pub fn new(alloc: Global) -> Decoder
+    pub fn new(alloc: Global) -> Decoder<BODY>
         ensures { result ≡ record { octets = []; failed = false } }
     {
         Decoder {
@@ -85,15 +83,15 @@ impl Decoder {
     /// - `Memory` where a growth was refused, and then nothing has changed;
     /// - the fault of the text, `UnknownCommand` to `BodyNotAllowed`, once the octet is held at which it is found;
     /// - `Failed` at each call after that.
-    pub fn next(&mut self) -> Result<Option<Frame>, FrameFault>
-        ensures { Nexts MAX_BODY self.old self.new result }
+    pub fn next(&mut self) -> Result<Option<Frame<BODY>>, FrameFault>
+        ensures { Nexts BODY self.old self.new result }
     {
         if self.failed {
             return Err(FrameFault::Failed);
         }
         let (_, held) = self.octets.split_at(self.start);
         let text = after_gap(held);
-        match read_frame(self.alloc, MAX_BODY, &mut self.progress, text) {
+        match read_frame(self.alloc, BODY, &mut self.progress, text) {
             Ok(Some(found)) => {
                 let Found {
                     command,
@@ -139,13 +137,18 @@ impl Decoder {
         self.start = 0;
     }
 
-    /// Gives memory back where it has much more than it holds.
+    /// Gives memory back where it has much more than it needs.
     fn shrink(&mut self)
         ensures { self.new ≡ self.old }
     {
-        if self.octets.capacity() > ROOM {
+        // a frame that isn't whole fits into it twice, and a piece
+        let room = match self.held_len() {
+            0 => RESTING,
+            _ => BODY.saturating_mul(4),
+        };
+        if self.octets.capacity() > room {
             self.move_to_front();
-            self.octets.shrink_to(ROOM / 2);
+            self.octets.shrink_to(room / 2);
         }
     }
 }

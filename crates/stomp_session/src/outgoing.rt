@@ -7,6 +7,7 @@ ghost use Rattle.stomp_session.specs.Replies.{Writes, connected_frame, error_fra
 
 use crate::SessionFault;
 use crate::replies::{self, Delivery};
+use base::limits::MAX_BODY;
 use std::alloc::{AllocError, Global};
 use std::marker::Model;
 use stomp_frame::{Frame, encode};
@@ -60,6 +61,13 @@ impl Outgoing {
         octets
     }
 
+    /// How many octets more fit without memory.
+    pub fn room(&self) -> usize
+        ensures { result ≡ self.now.room }
+    {
+        self.octets.capacity() - self.octets.len()
+    }
+
     /// Takes the first of them away. It takes no memory.
     pub fn taken(&mut self, count: usize)
         requires { count ≤ length self.old.octets }
@@ -103,7 +111,7 @@ impl Outgoing {
     ///
     /// # Errors
     /// Where a growth was refused.
-    pub fn write(&mut self, frame: &Frame) -> Result<(), AllocError>
+    pub fn write(&mut self, frame: &Frame<MAX_BODY>) -> Result<(), AllocError>
         ensures ok { OnOk result (self.new.octets ≡ self.old.octets ++ canonical frame.now) }
         ensures err { OnErr result (self.new.octets ≡ self.old.octets) }
     {

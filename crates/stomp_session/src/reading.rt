@@ -12,6 +12,7 @@ use crate::{
     Acknowledge, Connect, Demarcate, Disconnect, Headers, Octets, Request, Send, Subscribe, Text,
     Unsubscribe,
 };
+use base::limits::MAX_BODY;
 use stomp_frame::{Command, Frame, Header};
 
 /// Where the first header of a name stands.
@@ -132,7 +133,7 @@ fn disconnect(mut headers: Vec<Header>) -> Disconnect
 }
 
 /// What a frame asks that isn't refused.
-pub fn read_request(frame: Frame) -> Request
+pub fn read_request(frame: Frame<MAX_BODY>) -> Request
     requires client { is_server frame.command ≡ false }
     requires complete { lacks frame ≡ false }
     ensures { result ≡ asked frame }

@@ -6,11 +6,11 @@ ghost use Rattle.stomp_session.specs.Headers.{has_none, has_long, is_own, offers
 ghost use Rattle.stomp_session.specs.Requests.{opens, is_server, lacks, is_large, refusal_of};
 
 use crate::SessionFault;
-use base::limits::{MAX_ECHOED, MAX_OWN_HEADERS};
+use base::limits::{MAX_BODY, MAX_ECHOED, MAX_OWN_HEADERS};
 use stomp_frame::{Command, Frame, Header};
 
 /// Why a frame is refused at once: the first fault that applies.
-pub fn refusal(connected: bool, frame: &Frame) -> Option<SessionFault>
+pub fn refusal(connected: bool, frame: &Frame<MAX_BODY>) -> Option<SessionFault>
     ensures { result ≡ refusal_of connected frame.now }
 {
     let opens = opens(frame.command());
@@ -49,14 +49,14 @@ fn is_server(command: Command) -> bool
 }
 
 /// Whether one of these headers is missing.
-fn lacks_any(frame: &Frame, names: &[&str]) -> bool
+fn lacks_any(frame: &Frame<MAX_BODY>, names: &[&str]) -> bool
     ensures { result ≡ list_any (λ name. has_none frame.now name.now) names.now }
 {
     names.iter().any(|name| frame.get(name).is_none())
 }
 
 /// Whether a header is missing that the command requires.
-fn lacks(frame: &Frame) -> bool
+fn lacks(frame: &Frame<MAX_BODY>) -> bool
     ensures { result ≡ lacks frame.now }
 {
     match frame.command() {
@@ -70,7 +70,7 @@ fn lacks(frame: &Frame) -> bool
 }
 
 /// Whether the first value of a name has more octets than may be echoed.
-fn has_long(frame: &Frame, name: &str) -> bool
+fn has_long(frame: &Frame<MAX_BODY>, name: &str) -> bool
     ensures { result ≡ has_long frame.now name.now }
 {
     match frame.get(name) {
@@ -80,14 +80,14 @@ fn has_long(frame: &Frame, name: &str) -> bool
 }
 
 /// Whether one of these values has more octets than may be echoed.
-fn exceeds_any(frame: &Frame, names: &[&str]) -> bool
+fn exceeds_any(frame: &Frame<MAX_BODY>, names: &[&str]) -> bool
     ensures { result ≡ list_any (λ name. has_long frame.now name.now) names.now }
 {
     names.iter().any(|name| has_long(frame, name))
 }
 
 /// Whether a value that is echoed is too long, or a SEND has too many headers of its own.
-fn is_large(frame: &Frame) -> bool
+fn is_large(frame: &Frame<MAX_BODY>) -> bool
     ensures { result ≡ is_large frame.now }
 {
     match frame.command() {

@@ -8,7 +8,7 @@ ghost use Rattle.stomp_session.specs.Replies.{message_frame, receipt_frame, rece
 
 use crate::SessionFault;
 use crate::refusing::opens;
-use base::limits::MAX_ECHOED;
+use base::limits::{MAX_BODY, MAX_ECHOED};
 use itoa::Buffer;
 use std::alloc::{AllocError, Global};
 use std::marker::Model;
@@ -53,7 +53,7 @@ pub fn write_receipt(receipt: &str, out: &mut Vec<u8>) -> Result<(), SessionFaul
 }
 
 /// The receipt that an ERROR about a frame tells. It is left out where it has more than 128 octets, and CONNECT and STOMP ask for none.
-pub fn receipt_told(frame: &Frame) -> Option<&str>
+pub fn receipt_told(frame: &Frame<MAX_BODY>) -> Option<&str>
     ensures { option_copied result ≡ receipt_told frame.now }
 {
     if opens(frame.command()) {

@@ -6,6 +6,7 @@ ghost use Rattle.stomp_session.specs.Requests.{Accepts};
 use crate::reading::read_request;
 use crate::refusing::refusal;
 use crate::{Request, SessionFault};
+use base::limits::MAX_BODY;
 use std::marker::Model;
 use stomp_frame::Frame;
 
@@ -15,7 +16,7 @@ pub struct Refused {
     /// The first fault that applies.
     pub fault: SessionFault,
     /// The frame as it came.
-    pub frame: Frame,
+    pub frame: Frame<MAX_BODY>,
 }
 
 /// A session of a client: contracts see whether it is connected.
@@ -67,7 +68,7 @@ impl ServerSession {
     /// - `MissingHeader` where a header is missing that the command requires;
     /// - `TooLarge` where a value that is echoed has more than 128 octets, or a SEND more than 28 headers of its own;
     /// - `Version` for CONNECT and STOMP, where `accept-version` doesn't offer 1.2.
-    pub fn accept(&mut self, frame: Frame) -> Result<Request, Refused>
+    pub fn accept(&mut self, frame: Frame<MAX_BODY>) -> Result<Request, Refused>
         ensures { Accepts self.old frame self.new result }
     {
         if let Some(fault) = refusal(self.connected, &frame) {
