@@ -15,7 +15,8 @@
 //! Letters:
 //! - `new`: the endpoint is over empty tables;
 //! - `receive N`: so much of the stock `bolt` comes in;
-//! - `request ORDER N`, `confirm ORDER N`: the letter of this number comes from the order of this key to `bolt`, and requests 3 or confirms;
+//! - `request ORDER N`, `confirm ORDER N`: the letter of this number comes from the order of this key to `bolt`, and requests 3, or
+//!   confirms;
 //! - `drain ORDER`: the next letter of the order is handled where it is held.
 //!
 //! Queues:
