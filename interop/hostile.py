@@ -349,10 +349,10 @@ def little_memory():
     with open(f"/proc/{PID}/statm") as file:
         size = int(file.read().split()[0]) * os.sysconf("SC_PAGE_SIZE")
     resource.prlimit(PID, resource.RLIMIT_AS, (size + 30_000_000, limits[1]))
-    sent, dropped, clients = 0, 0, []
+    sent, dropped, held_back, clients = 0, 0, 0, []
     try:
         for number in range(20):
-            client = raw(CONNECT + spell("BEGIN", {"transaction": "t"}))
+            client = raw(CONNECT + spell("BEGIN", {"transaction": "t"}), seconds=0.5)
             clients.append(client)
             frame = spell("SEND", {"destination": "/queue/memory", "transaction": "t"}, b"m" * 60_000)
             try:
@@ -361,12 +361,14 @@ def little_memory():
                     sent += len(frame)
             except ConnectionError:
                 dropped += 1
+            except socket.timeout:
+                held_back += 1
         for client in clients:
             client.close()
         time.sleep(0.5)
         late = connected(PORT)
         late.asked("SEND", {"destination": f"/queue/late.{random.random()}"}, b"x")
-        return f"{sent:,} octets were sent, {dropped} were dropped at it", dropped > 0
+        return f"{sent:,} octets were sent, {dropped} were dropped at it, {held_back} held back", dropped + held_back > 0
     finally:
         resource.prlimit(PID, resource.RLIMIT_AS, limits)
 
