@@ -40,7 +40,8 @@ text_of-injective a b e =
 
 pub same_entity-Decides : (a b : Name) → Decides (same_entity a b) (a ≡ b)
 unfolding same_entity
-same_entity-Decides a b = Decides-like (same_entity a b) (text_of-injective a b) (ap text_of) (bytes_eq-Decides (text_of a) (text_of b))
+same_entity-Decides a b =
+    Decides-like (same_entity a b) (text_of-injective a b) (ap text_of) (bytes_eq-Decides (text_of a) (text_of b))
 
 abbrev pair : Name → Name → Pair
 pair a b = record { from = a; to = b }
@@ -50,10 +51,12 @@ unfolding same_pair
 same_pair-Decides p q = Decides-like (same_pair p q)
     (λ h. ap (λ (x : Name). pair x p.to) h.0 ∙ ap (λ (x : Name). pair q.from x) h.1)
     (λ e. (ap (λ n. n.from) e, ap (λ n. n.to) e))
-    (Decides-and (same_entity p.from q.from) (same_entity p.to q.to) (same_entity-Decides p.from q.from) (same_entity-Decides p.to q.to))
+    (Decides-and (same_entity p.from q.from) (same_entity p.to q.to) (same_entity-Decides p.from q.from)
+    (same_entity-Decides p.to q.to))
 
 -- reading an entity's text gives it back, unless memory is refused
-pub read_back : (e : Name) (answer : Result Name EntityFault) → IsEntity e → IsReading (text_of e) answer → IsOkUnless answer Memory
+pub read_back : (e : Name) (answer : Result Name EntityFault) → IsEntity e → IsReading (text_of e) answer
+    → IsOkUnless answer Memory
     × IfOk answer (λ found. found ≡ e)
 read_back e (Ok found) is reads = (tt, text_of-injective found e reads.0)
 read_back e (Err BadKey) is reads =

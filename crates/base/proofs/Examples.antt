@@ -34,17 +34,20 @@ unfolding is_utf8 chars lib.Utf8.encode
 keys_are_short = (refl, refl, refl, refl, refl)
 
 -- a key is UTF-8: characters of two, three and four octets may stand in it
-keys_are_utf8 : (is_key (195 ∷ 169 ∷ []) ≡ true) × (is_key (226 ∷ 130 ∷ 172 ∷ []) ≡ true) × (is_key (240 ∷ 159 ∷ 166 ∷ 128 ∷ []) ≡ true)
+keys_are_utf8 : (is_key (195 ∷ 169 ∷ []) ≡ true) × (is_key (226 ∷ 130 ∷ 172 ∷ []) ≡ true)
+    × (is_key (240 ∷ 159 ∷ 166 ∷ 128 ∷ []) ≡ true)
 unfolding is_utf8 chars lib.Utf8.encode
 keys_are_utf8 = (refl, refl, refl)
 
 -- a beginning of a character alone is no key, nor is what may follow one, nor a character with an octet too many
-no_half_characters : (is_key (195 ∷ []) ≡ false) × (is_key (97 ∷ 169 ∷ []) ≡ false) × (is_key (195 ∷ 169 ∷ 169 ∷ []) ≡ false)
+no_half_characters : (is_key (195 ∷ []) ≡ false) × (is_key (97 ∷ 169 ∷ []) ≡ false)
+    × (is_key (195 ∷ 169 ∷ 169 ∷ []) ≡ false)
 unfolding is_utf8 chars lib.Utf8.encode
 no_half_characters = (refl, refl, refl)
 
 -- nor are a slash in two octets, a surrogate in three, and a number above the last character's in four
-no_other_codes : (is_key (192 ∷ 175 ∷ []) ≡ false) × (is_key (237 ∷ 160 ∷ 128 ∷ []) ≡ false) × (is_key (244 ∷ 144 ∷ 128 ∷ 128 ∷ []) ≡ false)
+no_other_codes : (is_key (192 ∷ 175 ∷ []) ≡ false) × (is_key (237 ∷ 160 ∷ 128 ∷ []) ≡ false)
+    × (is_key (244 ∷ 144 ∷ 128 ∷ 128 ∷ []) ≡ false)
 unfolding is_utf8 chars lib.Utf8.encode
 no_other_codes = (refl, refl, refl)
 
@@ -108,14 +111,17 @@ limits_are_set : (MAX_NUMBER ≡ 2 ^ 40) × (SEATS ≡ 16) × (HELD_WINDOW ≡ 2
 limits_are_set = (refl, refl, refl)
 
 -- numbers are 1 to 2^40
-numbers_are_tested : (is_number 0 ≡ false) × (is_number 1 ≡ true) × (is_number 1099511627776 ≡ true) × (is_number 1099511627777 ≡ false)
+numbers_are_tested : (is_number 0 ≡ false) × (is_number 1 ≡ true) × (is_number 1099511627776 ≡ true)
+    × (is_number 1099511627777 ≡ false)
 numbers_are_tested = (refl, refl, refl, refl)
 
 -- kinds have words, with which their entities' texts begin
-kinds_have_words : (word_of Order ≡ codes "order") × (word_of Stock ≡ codes "stock") × (word_of Account ≡ codes "account")
+kinds_have_words : (word_of Order ≡ codes "order") × (word_of Stock ≡ codes "stock")
+    × (word_of Account ≡ codes "account")
     × (prefix_of Stock ≡ codes "stock/")
 kinds_have_words = (refl, refl, refl, refl)
 
 -- faults are numbered
-faults_are_numbered : (entity_fault_number BadKey ≡ 1) × (entity_fault_number BadKind ≡ 2) × (entity_fault_number Memory ≡ 3)
+faults_are_numbered : (entity_fault_number BadKey ≡ 1) × (entity_fault_number BadKind ≡ 2)
+    × (entity_fault_number Memory ≡ 3)
 faults_are_numbered = (refl, refl, refl)

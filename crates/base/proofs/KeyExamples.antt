@@ -17,6 +17,7 @@ unfolding is_utf8 chars lib.Utf8.encode
 a_key_is_not_refused = (λ h. cc, λ h. h)
 
 -- the empty text is a bad key, and so is one with NUL
-bad_keys_are_refused : (IsKeyReading [] (Err BadKey)) × (IsKeyReading (97 ∷ 0 ∷ []) (Err BadKey)) × (IsKeyReading [] (Ok []) → ⊥)
+bad_keys_are_refused : (IsKeyReading [] (Err BadKey)) × (IsKeyReading (97 ∷ 0 ∷ []) (Err BadKey))
+    × (IsKeyReading [] (Ok []) → ⊥)
 unfolding is_utf8 chars lib.Utf8.encode
 bad_keys_are_refused = (refl, refl, λ h. let is = h.1 in cc)

@@ -7,7 +7,8 @@ use Rattle.base.specs.Parts.Lead.{lead_of}
 -- `a` for an account, `o` for an order and `s` for a stock, then the key, and zeros behind it
 short_keys_stand_whole : (lead_of (account_of (codes "ann")) ≡ 0x61_61_6e_6e_00_00_00_00)
     × (lead_of (order_of (codes "o20000")) ≡ 0x6f_6f_32_30_30_30_30_00)
-    × (lead_of (stock_of (codes "bolt")) ≡ 0x73_62_6f_6c_74_00_00_00) × (lead_of (stock_of (195 ∷ 169 ∷ [])) ≡ 0x73_c3_a9_00_00_00_00_00)
+    × (lead_of (stock_of (codes "bolt")) ≡ 0x73_62_6f_6c_74_00_00_00)
+    × (lead_of (stock_of (195 ∷ 169 ∷ [])) ≡ 0x73_c3_a9_00_00_00_00_00)
 unfolding lead_of
 short_keys_stand_whole = (refl, refl, refl, refl)
 

@@ -1,5 +1,6 @@
 -- Leads order as the texts do: octets with a lower lead are less.
-use Rattle.std.proofs.Common.{◌≡◌, ◌≢◌, refl, ℕ, zero, suc, ◌+◌, ◌*◌, ◌^◌, ◌<◌, ◌≤◌, true, List, [], ◌∷◌, ◌++◌, get_or, arith, sym, ◌∙◌, ap}
+use Rattle.std.proofs.Common.{◌≡◌, ◌≢◌, refl, ℕ, zero, suc, ◌+◌, ◌*◌, ◌^◌, ◌<◌, ◌≤◌, true, List, [], ◌∷◌, ◌++◌, get_or}
+use Rattle.std.proofs.Common.{arith, sym, ◌∙◌, ap}
 use Rattle.std.proofs.Common.{subst}
 use Rattle.std.proofs.Math.Utf8.{scalars, scalar}
 use Rattle.std.specs.Char.{encode_utf8}
@@ -68,7 +69,8 @@ lead_fits (suc n) (x ∷ xs) is =
     omega (arith, lead_fits n xs (λ i. is (suc i)), mul-le-mul_right (256 ^ n) first, pow-suc 256 n)
 
 -- with a lower lead they are less
-lead_Less : (n : ℕ) (xs ys : List ℕ) → AreOctets xs → AreOctets ys → lead n xs < lead n ys → slice_cmp nat_cmp xs ys ≡ Less
+lead_Less : (n : ℕ) (xs ys : List ℕ) → AreOctets xs → AreOctets ys → lead n xs < lead n ys
+    → slice_cmp nat_cmp xs ys ≡ Less
 lead_Less zero xs ys p q lower = absurd (omega arith)
 lead_Less (suc n) xs [] p q lower = absurd (omega arith)
 lead_Less (suc n) [] (y ∷ ys) p q lower = refl
@@ -82,7 +84,8 @@ lead_Less (suc n) (x ∷ xs) (y ∷ ys) p q lower =
 lead_then : (n : ℕ) (xs ys : List ℕ) → AreOctets xs → AreOctets ys
     → ordering_then (nat_cmp (lead n xs) (lead n ys)) (slice_cmp nat_cmp xs ys) ≡ slice_cmp nat_cmp xs ys
 lead_then n xs ys p q =
-    by_ranked _ _ _ (nat_cmp (lead n xs) (lead n ys)) (ranked (lead n xs) (lead n ys) (nat_cmp (lead n xs) (lead n ys)) refl)
+    by_ranked _ _ _ (nat_cmp (lead n xs) (lead n ys)) (ranked (lead n xs) (lead n ys) (nat_cmp (lead n xs) (lead n ys))
+    refl)
     (λ e lower. rw e (sym (lead_Less n xs ys p q lower)))
     (λ e same. rw e refl)
     (λ e higher. rw e (sym (nat_list_cmp_total.antisymm xs ys ∙ ap ordering_reverse (lead_Less n ys xs q p higher))))
@@ -139,10 +142,12 @@ lead_of-then : (a b : Name) → AreOctets (text_of a) → AreOctets (text_of b)
 unfolding lead_of
 lead_of-then a b p q =
     subst (λ o. ordering_then (nat_cmp (lead_of a) (lead_of b)) o ≡ o) (brief_cmp a b)
-    (rw (word_of_eight (brief a), word_of_eight (brief b)) (lead_then 8 (brief a) (brief b) (brief-octets a p) (brief-octets b q)))
+    (rw (word_of_eight (brief a), word_of_eight (brief b)) (lead_then 8 (brief a) (brief b) (brief-octets a p)
+    (brief-octets b q)))
 
 -- where leads differ, they order the entities
-pub lead_of-decides : (a b : Name) (o : Ordering) → IsUtf8 (text_of a) → IsUtf8 (text_of b) → o ≡ nat_cmp (lead_of a) (lead_of b)
+pub lead_of-decides : (a b : Name) (o : Ordering) → IsUtf8 (text_of a) → IsUtf8 (text_of b)
+    → o ≡ nat_cmp (lead_of a) (lead_of b)
     → o ≢ Equal → o ≡ entity_cmp a b
 lead_of-decides a b o p q is unequal =
     then_decided o (nat_cmp (lead_of a) (lead_of b)) (entity_cmp a b) is unequal

@@ -10,11 +10,18 @@ use Rattle.base.specs.EntityView.{entity_of, IsWhole}
 use Rattle.base.specs.Parts.Lead.{lead_of}
 
 -- the kind Order with the text `order/o1` and the octets `oo1` with zeros behind is the order of `o1`
-an_order_is_whole : (e : Inside) → e.kind ≡ Order → string_bytes e.text ≡ codes "order/o1" → e.lead ≡ 0x6f6f_3100_0000_0000
+an_order_is_whole : (e : Inside) → e.kind ≡ Order → string_bytes e.text ≡ codes "order/o1"
+    → e.lead ≡ 0x6f6f_3100_0000_0000
     → (entity_of e ≡ order_of (codes "o1")) × IsWhole e
 unfolding is_utf8 chars lib.Utf8.encode lead_of
-an_order_is_whole e kind text lead =
-    (rw (kind, text) refl, record { text = rw (kind, text) refl; entity = rw (kind, text) refl; lead = rw (kind, text, lead) refl })
+an_order_is_whole e kind text lead = (
+  rw (kind, text) refl,
+  record {
+    text = rw (kind, text) refl;
+    entity = rw (kind, text) refl;
+    lead = rw (kind, text, lead) refl;
+  },
+)
 
 -- with the text of a stock it's no entity
 a_kind_fits_its_text : (e : Inside) → e.kind ≡ Order → string_bytes e.text ≡ codes "stock/o1" → IsWhole e → ⊥
@@ -28,7 +35,8 @@ a_key_is_never_empty : (e : Inside) → e.kind ≡ Order → string_bytes e.text
 a_key_is_never_empty e kind text whole = let is : false ≡ true = rw (kind, text) at whole.entity in cc
 
 -- with the lead of no entity it's none either
-a_lead_fits_its_text : (e : Inside) → e.kind ≡ Order → string_bytes e.text ≡ codes "order/o1" → e.lead ≡ 0 → IsWhole e → ⊥
+a_lead_fits_its_text : (e : Inside) → e.kind ≡ Order → string_bytes e.text ≡ codes "order/o1" → e.lead ≡ 0 → IsWhole e
+    → ⊥
 unfolding lead_of
 a_lead_fits_its_text e kind text lead whole = apart (rw (kind, text, lead) at whole.lead)
   where

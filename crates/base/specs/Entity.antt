@@ -1,5 +1,6 @@
 -- Entities: a kind and a key, and the text that names one.
-use Rattle.std.specs.Prelude.{◌≡◌, ◌≢◌, ℕ, Bool, true, false, ◌&&◌, ◌==◌, not, nat_lt, nat_le, List, ◌++◌, length, codes, Result, Ok, Err}
+use Rattle.std.specs.Prelude.{◌≡◌, ◌≢◌, ℕ, Bool, true, false, ◌&&◌, ◌==◌, not, nat_lt, nat_le, List, ◌++◌, length}
+use Rattle.std.specs.Prelude.{codes, Result, Ok, Err}
 use Rattle.std.specs.List.{list_any}
 use Rattle.std.specs.Str.{is_utf8}
 use Rattle.base.specs.declared.limits.TheConstants.{MAX_KEY}
@@ -51,7 +52,8 @@ is_key key = nat_lt 0 (length key) && nat_le (length key) MAX_KEY && not (list_a
 abbrev pub IsEntity : Name → Type 0
 IsEntity e = is_key e.key ≡ true
 
--- what reading a text may answer: the entity that it names; or that it names none, for its key or for its kind; or want of memory
+-- what reading a text may answer: the entity that it names; or that it names none, for its key or for its kind; or want
+-- of memory
 abbrev pub IsReading : List ℕ → Result Name EntityFault → Type 0
 IsReading text (Ok e) = (text_of e ≡ text) × IsEntity e
 IsReading text (Err BadKind) = (e : Name) → text_of e ≢ text

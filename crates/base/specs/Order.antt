@@ -2,7 +2,8 @@
 use Rattle.std.specs.Prelude.{◌≡◌, Bool, ◌&&◌, refl}
 use Rattle.std.specs.declared.cmp.Ordering.{Ordering}
 use Rattle.std.specs.Ordering.{nat_cmp, then_cmp, on, is_eq, as_partial_cmp}
-use Rattle.std.specs.Cmp.{IsEquivalence, IsPartialOrder, IsTotalOrder, on_equiv, and_equiv, then_total, on_total, both_tied}
+use Rattle.std.specs.Cmp.{IsEquivalence, IsPartialOrder, IsTotalOrder, on_equiv, and_equiv, then_total, on_total}
+use Rattle.std.specs.Cmp.{both_tied}
 use Rattle.std.specs.Cmp.{partial_order_from_agreeing_total}
 use Rattle.std.specs.Cmp.Lexicographic.{slice_cmp, on_texts, on_texts_equal, texts_ties}
 use Rattle.std.specs.Str.{bytes_eq}
@@ -47,7 +48,8 @@ same_pair-equivalence = and_equiv (on_equiv (λ (p : Pair). p.from) same_entity-
     (on_equiv (λ (p : Pair). p.to) same_entity-equivalence)
 
 pub pair_cmp-total : IsTotalOrder pair_cmp
-pair_cmp-total = then_total (on_total (λ (p : Pair). p.from) entity_cmp-total) (on_total (λ (p : Pair). p.to) entity_cmp-total)
+pair_cmp-total =
+    then_total (on_total (λ (p : Pair). p.from) entity_cmp-total) (on_total (λ (p : Pair). p.to) entity_cmp-total)
 
 pub same_pair-ties : (p q : Pair) → same_pair p q ≡ is_eq (pair_cmp p q)
 unfolding same_pair

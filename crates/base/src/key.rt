@@ -29,7 +29,8 @@ impl Key {
     /// The key of this text.
     ///
     /// # Errors
-    /// `BadKey` where the text is empty, has more than 64 octets, or has a NUL; else `Memory` where a growth was refused.
+    /// `BadKey` where the text is empty, has more than 64 octets, or has a NUL; else `Memory` where a growth was
+    /// refused.
     pub fn read(alloc: Global, text: &str) -> Result<Key, EntityFault>
         ensures { IsKeyReading text.now result }
     {

@@ -16,7 +16,8 @@ pub fn a_text_names_one_entity()
 
 /// Reading an entity's text gives that entity, or `Memory`.
 pub fn reading_a_text_gives_its_entity()
-    ensures { (e : Name) (answer : Result Name EntityFault) → IsEntity e → IsReading (text_of e) answer → IsOkUnless answer Memory
+    ensures { (e : Name) (answer : Result Name EntityFault) → IsEntity e → IsReading (text_of e) answer
+        → IsOkUnless answer Memory
         × IfOk answer (λ found. found ≡ e) }
 {}
 

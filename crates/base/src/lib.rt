@@ -1,7 +1,8 @@
 //! What all layers speak of: entities, pairs of them, the numbers of letters, and the product's limits.
 //!
-//! An entity's text and reading it are inverse, and a text names one entity at most. Equality and order are those of the octets, and take
-//! no memory. What can't be is refused where it would be made: a key of 65 octets, a letter's number of 0.
+//! An entity's text and reading it are inverse, and a text names one entity at most. Equality and order are those of
+//! the octets, and take no memory. What can't be is refused where it would be made: a key of 65 octets, a letter's
+//! number of 0.
 //!
 //! ```rust
 //! pub fn an_entity_is_named_again(alloc: Global) -> Result<bool, EntityFault> {

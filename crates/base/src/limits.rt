@@ -1,5 +1,5 @@
-//! The product's limits, in one place. Those of a body, of a queue and of held letters are const parameters of the types that keep them:
-//! who needs others changes a line here, or names another value where such a type is made.
+//! The product's limits, in one place. Those of a body, of a queue and of held letters are const parameters of the
+//! types that keep them: who needs others changes a line here, or names another value where such a type is made.
 
 /// Octets of an entity's key: 1 to this many.
 pub const MAX_KEY: usize = 64;

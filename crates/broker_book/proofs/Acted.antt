@@ -32,19 +32,24 @@ Shown full session old actions new = (events : List BookEvent) × ShowAs full se
 
 one_more : (full session : ℕ) (old new : Book) (a : Action) (actions : List Action) (r : Result Book QueueFault)
     → ((mid : Book) → then_all full session actions (Ok mid) ≡ Ok new → Shown full session mid actions new)
-    → act_of full session old a ≡ r → then_all full session actions r ≡ Ok new → Shown full session old (a ∷ actions) new
+    → act_of full session old a ≡ r → then_all full session actions r ≡ Ok new
+    → Shown full session old (a ∷ actions) new
 one_more full session old new a actions (Ok mid) more is h =
     let first = act_happens full session old mid a is in
     let rest = more mid h in
     (first.0 ∷ rest.0, (first.0, rest.0, refl, first.1, rest.1), (mid, first.2, rest.2))
-one_more full session old new a actions (Err fault) more is h = let e = none_behind full session actions fault in absurd cc
+one_more full session old new a actions (Err fault) more is h =
+    let e = none_behind full session actions fault in absurd cc
 
-pub actions_run : (full session : ℕ) (old new : Book) (actions : List Action) → apply_of full session old actions ≡ Ok new
+pub actions_run : (full session : ℕ) (old new : Book) (actions : List Action)
+    → apply_of full session old actions ≡ Ok new
     → (events : List BookEvent) × ShowAs full session actions events × Run old events new
 actions_run full session old new [] h = let e : new ≡ old = cc in ([], refl, e)
 actions_run full session old new (a ∷ actions) h =
-    one_more full session old new a actions (act_of full session old a) (λ mid k. actions_run full session mid new actions k) refl h
+    one_more full session old new a actions (act_of full session old a) (λ mid k. actions_run full session mid new
+    actions k) refl h
 
-pub runs_join : (old mid new : Book) (events more : List BookEvent) → Run old events mid → Run mid more new → Run old (events ++ more) new
+pub runs_join : (old mid new : Book) (events more : List BookEvent) → Run old events mid → Run mid more new
+    → Run old (events ++ more) new
 runs_join old mid new [] more h k = rw h at k
 runs_join old mid new (e ∷ events) more h k = (h.0, h.1, runs_join h.0 mid new events more h.2 k)

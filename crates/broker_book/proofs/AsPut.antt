@@ -7,7 +7,8 @@ use Rattle.broker_book.specs.declared.parts.Accepted.{Accepted}
 use Rattle.broker_book.specs.declared.parts.Subscription.{Subscription}
 use Rattle.broker_book.specs.Books.{Book, QueuedMessage, Fate, Ready, empty_book, out_to, out_of}
 use Rattle.broker_book.specs.Steps.{Handed, Deal, left_of, acked, nacked, holder, covered, ready_if}
-use Rattle.broker_book.specs.Runs.{BookEvent, Puts, Hands, Acks, Nacks, Subscribes, Releases, Ends, Takes, Happens, Run, put_by, put_in}
+use Rattle.broker_book.specs.Runs.{BookEvent, Puts, Hands, Acks, Nacks, Subscribes, Releases, Ends, Takes, Happens, Run}
+use Rattle.broker_book.specs.Runs.{put_by, put_in}
 use Rattle.broker_book.specs.Runs.{handed_by, handed_in}
 use Rattle.broker_book.specs.Laws.{numbered, AllPass, as_accepted}
 use Rattle.broker_book.proofs.Numbers.{put_is, numbered-append, event_counts}
@@ -33,7 +34,8 @@ module _ (P : Accepted → Type 0) where
   living-append [] ys h k = k
   living-append (x ∷ xs) ys h k = (h.0, living-append xs ys h.1 k)
 
-  filter_pass : (b : Bool) (m : QueuedMessage) (rest : List QueuedMessage) → P (as_accepted m) → Pass rest → Pass (cond b (m ∷ rest) rest)
+  filter_pass : (b : Bool) (m : QueuedMessage) (rest : List QueuedMessage) → P (as_accepted m) → Pass rest
+      → Pass (cond b (m ∷ rest) rest)
   filter_pass true m rest h k = (h, k)
   filter_pass false m rest h k = k
 
@@ -41,7 +43,8 @@ module _ (P : Accepted → Type 0) where
   living-filter q [] h = h
   living-filter q (m ∷ ms) h = filter_pass (q m) m (filter q ms) h.0 (living-filter q ms h.1)
 
-  ready_pass : (b : Bool) (m : QueuedMessage) → P (as_accepted m) → P (as_accepted (if b then record m { fate = Ready } else m))
+  ready_pass : (b : Bool) (m : QueuedMessage) → P (as_accepted m)
+      → P (as_accepted (if b then record m { fate = Ready } else m))
   ready_pass true m h = h
   ready_pass false m h = h
 
@@ -50,20 +53,23 @@ module _ (P : Accepted → Type 0) where
   living-ready test (m ∷ ms) h = (ready_pass (test m.fate) m h.0, living-ready test ms h.1)
 
   -- a message that goes out passes, and so do those that are left
-  living_dealt : (front back : List QueuedMessage) (m : QueuedMessage) (s : Subscription) (ack : Option ℕ) → Pass (front ++ m ∷ back)
+  living_dealt : (front back : List QueuedMessage) (m : QueuedMessage) (s : Subscription) (ack : Option ℕ)
+      → Pass (front ++ m ∷ back)
       → P (as_accepted m) × Pass (front ++ (left_of m s ack ++ back))
   living_dealt [] back m s None h = h
   living_dealt [] back m s (Some n) h = (h.0, h)
   living_dealt (x ∷ front) back m s ack h = let k = living_dealt front back m s ack h.1 in (k.0, (h.0, k.1))
 
-  ack_passes : (old new : Book) (number : ℕ) (o : Option Subscription) → acked old number o ≡ Ok new → Pass old.living → Pass new.living
+  ack_passes : (old new : Book) (number : ℕ) (o : Option Subscription) → acked old number o ≡ Ok new → Pass old.living
+      → Pass new.living
   ack_passes old new number None h k = absurd cc
   ack_passes old new number (Some s) h k =
       let left = λ (m : QueuedMessage). not (covered s number m.fate) in
       let e : record old { living = filter left old.living } ≡ new = cc in
       rw (← e) (living-filter left old.living k)
 
-  nack_passes : (old new : Book) (number : ℕ) (o : Option Subscription) → nacked old number o ≡ Ok new → Pass old.living → Pass new.living
+  nack_passes : (old new : Book) (number : ℕ) (o : Option Subscription) → nacked old number o ≡ Ok new → Pass old.living
+      → Pass new.living
   nack_passes old new number None h k = absurd cc
   nack_passes old new number (Some s) h k =
       let e : record old { living = map (ready_if (covered s number)) old.living } ≡ new = cc in
@@ -77,11 +83,13 @@ module _ (P : Accepted → Type 0) where
       = sym (λ i. record { number = h.number i; sent = h.sent i }) in
       (rw h.changed dealt.1, (subst (λ a. P a) same dealt.0, tt))
 
-  event_passes : (old new : Book) (e : BookEvent) → Happens old e new → Pass old.living → Each (numbered old.last (put_by e))
+  event_passes : (old new : Book) (e : BookEvent) → Happens old e new → Pass old.living
+      → Each (numbered old.last (put_by e))
       → Pass new.living × Each (handed_by e)
   event_passes old new (Puts full sent) h k now = rw (put_is full old sent new h) (living-append old.living _ k now, tt)
   event_passes old new (Hands d) h k now = deal_passes old new d h k
-  event_passes old new (Acks session number numbers) h k now = (ack_passes old new number (holder old session number) h.0 k, tt)
+  event_passes old new (Acks session number numbers) h k now =
+      (ack_passes old new number (holder old session number) h.0 k, tt)
   event_passes old new (Nacks session number) h k now = (nack_passes old new number (holder old session number) h k, tt)
   event_passes old new (Subscribes s) h k now = (rw h.1 k, tt)
   event_passes old new (Releases session id) h k now = (rw h (living-ready (out_to session id) old.living k), tt)

@@ -1,12 +1,14 @@
 -- Counts of lists that are filtered, appended to or mapped.
-use Rattle.std.proofs.Common.{◌≡◌, ℕ, ◌+◌, ◌≤◌, Bool, true, false, not, cond, List, [], ◌∷◌, ◌++◌, map, refl, sym, ap, ◌∙◌, arith}
+use Rattle.std.proofs.Common.{◌≡◌, ℕ, ◌+◌, ◌≤◌, Bool, true, false, not, cond, List, [], ◌∷◌, ◌++◌, map, refl, sym, ap}
+use Rattle.std.proofs.Common.{◌∙◌, arith}
 use Rattle.std.proofs.lemmas.List.Sums.{sum_by-append, sum_by-cons, sum_by-le-sum_by}
 use Rattle.std.specs.Prelude.{count_by, filter, ◌||◌, nat_lt}
 use Rattle.std.specs.List.{list_any}
 use Rattle.std.proofs.lemmas.Bool.Decides.{nat_tests}
 
 -- a count of one more
-pub count-cons : {X : Type 0} (p : X → Bool) (x : X) (xs : List X) → count_by p (x ∷ xs) ≡ cond (p x) 1 0 + count_by p xs
+pub count-cons : {X : Type 0} (p : X → Bool) (x : X) (xs : List X)
+    → count_by p (x ∷ xs) ≡ cond (p x) 1 0 + count_by p xs
 count-cons p x xs = sum_by-cons (λ y. cond (p y) 1 0) x xs
 
 -- a count of two lists, one behind the other
@@ -36,10 +38,12 @@ count-parts p q [] = refl
 count-parts p q (x ∷ xs) = parts_step p x xs (filter (λ y. not (q y)) xs) (filter q xs) (q x) (count-parts p q xs)
 
 -- a count of what a function makes
-pub count-map : {X Y : Type 0} (p : Y → Bool) (f : X → Y) (xs : List X) → count_by p (map f xs) ≡ count_by (λ x. p (f x)) xs
+pub count-map : {X Y : Type 0} (p : Y → Bool) (f : X → Y) (xs : List X)
+    → count_by p (map f xs) ≡ count_by (λ x. p (f x)) xs
 count-map p f [] = refl
 count-map {X} p f (x ∷ xs) =
-    count-cons p (f x) (map f xs) ∙ ap (λ (n : ℕ). cond (p (f x)) 1 0 + n) (count-map p f xs) ∙ sym (count-cons (λ (y : X). p (f y)) x xs)
+    count-cons p (f x) (map f xs) ∙ ap (λ (n : ℕ). cond (p (f x)) 1 0 + n) (count-map p f xs)
+    ∙ sym (count-cons (λ (y : X). p (f y)) x xs)
 
 cond-le : (a b : Bool) → (a ≡ true → b ≡ true) → cond a 1 0 ≤ cond b 1 0
 cond-le true true k = omega arith
@@ -48,7 +52,8 @@ cond-le false true k = omega arith
 cond-le false false k = omega arith
 
 -- a test that holds of fewer makes no count larger
-pub count-less : {X : Type 0} (p q : X → Bool) (xs : List X) → ((x : X) → p x ≡ true → q x ≡ true) → count_by p xs ≤ count_by q xs
+pub count-less : {X : Type 0} (p q : X → Bool) (xs : List X) → ((x : X) → p x ≡ true → q x ≡ true)
+    → count_by p xs ≤ count_by q xs
 count-less p q xs h = sum_by-le-sum_by (λ x. cond (p x) 1 0) (λ x. cond (q x) 1 0) xs (λ x. cond-le (p x) (q x) (h x))
 
 any_step : (b rest : Bool) (n : ℕ) → rest ≡ nat_lt 0 n → (b || rest) ≡ nat_lt 0 (cond b 1 0 + n)
@@ -59,7 +64,8 @@ any_step false rest n h = let e : 0 + n ≡ n = omega arith in rw e h
 pub any-count : {X : Type 0} (p : X → Bool) (xs : List X) → list_any p xs ≡ nat_lt 0 (count_by p xs)
 any-count p [] = refl
 any-count p (x ∷ xs) =
-    any_step (p x) (list_any p xs) (count_by p xs) (any-count p xs) ∙ ap (λ (n : ℕ). nat_lt 0 n) (sym (count-cons p x xs))
+    any_step (p x) (list_any p xs) (count_by p xs) (any-count p xs)
+    ∙ ap (λ (n : ℕ). nat_lt 0 n) (sym (count-cons p x xs))
 
 none_is : (n : ℕ) → false ≡ nat_lt 0 n → n ≡ 0
 none_is n h = grind (arith, nat_tests)

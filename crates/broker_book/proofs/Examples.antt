@@ -25,7 +25,8 @@ names_are_of_sessions : (is_named 1 (codes "0") listener ≡ true) × (is_named 
 names_are_of_sessions = (refl, refl, refl, refl)
 
 -- faults are numbered and named
-faults_are_numbered : (queue_fault_number NoSuchAck ≡ 31) × (queue_fault_number QueueFull ≡ 32) × (queue_fault_number Memory ≡ 34)
+faults_are_numbered : (queue_fault_number NoSuchAck ≡ 31) × (queue_fault_number QueueFull ≡ 32)
+    × (queue_fault_number Memory ≡ 34)
     × (queue_fault_number TooMany ≡ 36)
 faults_are_numbered = (refl, refl, refl, refl)
 

@@ -1,5 +1,6 @@
 -- Along a run each number stands for one living message, or was ended once.
-use Rattle.std.proofs.Common.{◌≡◌, ℕ, ◌+◌, ◌≤◌, Bool, true, false, not, cond, List, [], ◌∷◌, ◌++◌, map, refl, sym, ap, ◌∙◌, subst, arith}
+use Rattle.std.proofs.Common.{◌≡◌, ℕ, ◌+◌, ◌≤◌, Bool, true, false, not, cond, List, [], ◌∷◌, ◌++◌, map, refl, sym, ap}
+use Rattle.std.proofs.Common.{◌∙◌, subst, arith}
 use Rattle.std.proofs.Common.{Option, Some, None, Ok, append_assoc}
 use Rattle.std.proofs.lemmas.List.{append-nil}
 use Rattle.std.proofs.lemmas.Bool.Decides.{nat_tests}
@@ -7,8 +8,10 @@ use Rattle.std.specs.Prelude.{count_by, filter, ◌==◌, nat_le, nat_lt, ◌&&�
 use Rattle.std.specs.List.{list_any}
 use Rattle.broker_book.specs.declared.parts.Subscription.{Subscription}
 use Rattle.broker_book.specs.Books.{Book, QueuedMessage, Fate, Ready, Out, empty_book, out_to, out_of, is_auto}
-use Rattle.broker_book.specs.Steps.{Handed, Deal, left_of, acked, nacked, holder, covered, ready_if, subscribed, released, ended}
-use Rattle.broker_book.specs.Runs.{BookEvent, Puts, Hands, Acks, Nacks, Subscribes, Releases, Ends, Takes, Happens, Run, ended_by, ended_in}
+use Rattle.broker_book.specs.Steps.{Handed, Deal, left_of, acked, nacked, holder, covered, ready_if, subscribed}
+use Rattle.broker_book.specs.Steps.{released, ended}
+use Rattle.broker_book.specs.Runs.{BookEvent, Puts, Hands, Acks, Nacks, Subscribes, Releases, Ends, Takes, Happens, Run}
+use Rattle.broker_book.specs.Runs.{ended_by, ended_in}
 use Rattle.broker_book.specs.Runs.{numbers_covered}
 use Rattle.broker_book.specs.Laws.{is_numbered, IsKept}
 use Rattle.broker_book.proofs.Counts.{count-cons, count-append, count-parts, count-map, any-count}
@@ -28,14 +31,16 @@ due n last = if nat_le 1 n && nat_le n last then 1 else 0
 
 -- what an event adds to the last number, it adds to the living and the ended
 abbrev Balances : Book → Book → List ℕ → Type 0
-Balances old new numbers = (n : ℕ) → here n new.living + gone n numbers + due n old.last ≡ here n old.living + due n new.last
+Balances old new numbers =
+    (n : ℕ) → here n new.living + gone n numbers + due n old.last ≡ here n old.living + due n new.last
 
 due-more : (n last : ℕ) → cond (last + 1 == n) 1 0 + due n last ≡ due n (last + 1)
 due-more n last = grind (arith, nat_tests)
 
 -- ---- one event
 
-same_living : (old new : Book) → ((n : ℕ) → here n new.living ≡ here n old.living) → new.last ≡ old.last → Balances old new []
+same_living : (old new : Book) → ((n : ℕ) → here n new.living ≡ here n old.living) → new.last ≡ old.last
+    → Balances old new []
 same_living old new h l n =
     let e : due n new.last ≡ due n old.last = ap (λ (k : ℕ). due n k) l in omega (arith, h n)
 
@@ -45,7 +50,8 @@ ready_number false m = refl
 
 ready_here : (test : Fate → Bool) (n : ℕ) (ms : List QueuedMessage) → here n (map (ready_if test) ms) ≡ here n ms
 ready_here test n ms =
-    count-map (is_numbered n) (ready_if test) ms ∙ (λ i. count_by (λ (m : QueuedMessage). ready_number (test m.fate) m i == n) ms)
+    count-map (is_numbered n) (ready_if test) ms
+    ∙ (λ i. count_by (λ (m : QueuedMessage). ready_number (test m.fate) m i == n) ms)
 
 put_balances : (old : Book) (m : QueuedMessage) (n : ℕ) → m.number ≡ old.last + 1
     → here n (old.living ++ m ∷ []) + gone n [] + due n old.last ≡ here n old.living + due n (old.last + 1)
@@ -56,7 +62,8 @@ put_balances old m n e =
     omega arith
 
 -- a message that goes out is still there, or ended
-deal_here : (n : ℕ) (front back : List QueuedMessage) (m : QueuedMessage) (s : Subscription) (number given : ℕ) (b : Bool) (ack : Option ℕ)
+deal_here : (n : ℕ) (front back : List QueuedMessage) (m : QueuedMessage) (s : Subscription) (number given : ℕ)
+    (b : Bool) (ack : Option ℕ)
     → number ≡ m.number → ack ≡ (if b then None else Some given)
     → here n (front ++ (left_of m s ack ++ back)) + gone n (if b then number ∷ [] else []) ≡ here n (front ++ m ∷ back)
 deal_here n front back m s number given true ack e a = rw (e, a) (
@@ -74,22 +81,26 @@ deal_here n front back m s number given false ack e a = rw a (
 
 deal_balances : (old new : Book) (d : Handed) → Deal old d new → Balances old new (ended_by (Hands d))
 deal_balances old new d h n = rw h.changed (
-    let here_is = deal_here n h.front h.back h.message d.to d.number (old.given + 1) (is_auto d.to.mode) d.ack h.number h.ack in
-    let found : here n old.living ≡ here n (h.front ++ h.message ∷ h.back) = ap (λ (l : List QueuedMessage). here n l) h.found in
+    let here_is =
+    deal_here n h.front h.back h.message d.to d.number (old.given + 1) (is_auto d.to.mode) d.ack h.number h.ack in
+    let found : here n old.living ≡ here n (h.front ++ h.message ∷ h.back) =
+    ap (λ (l : List QueuedMessage). here n l) h.found in
     omega (arith, here_is, found))
 
 ack_balances : (old new : Book) (number : ℕ) (o : Option Subscription) → acked old number o ≡ Ok new
     → Balances old new (numbers_covered old number o)
 ack_balances old new number None h n = absurd cc
 ack_balances old new number (Some s) h n =
-    let e : record old { living = filter (λ (m : QueuedMessage). not (covered s number m.fate)) old.living } ≡ new = cc in
+    let e : record old { living = filter (λ (m : QueuedMessage). not (covered s number m.fate)) old.living } ≡ new =
+    cc in
     rw (← e) (
     let parts = count-parts (is_numbered n) (λ (m : QueuedMessage). covered s number m.fate) old.living in
     let reached = filter (λ (m : QueuedMessage). covered s number m.fate) old.living in
     let answered = count-map (λ (k : ℕ). k == n) (λ (m : QueuedMessage). m.number) reached in
     omega (arith, parts, answered))
 
-nack_balances : (old new : Book) (number : ℕ) (o : Option Subscription) → nacked old number o ≡ Ok new → Balances old new []
+nack_balances : (old new : Book) (number : ℕ) (o : Option Subscription) → nacked old number o ≡ Ok new
+    → Balances old new []
 nack_balances old new number None h n = absurd cc
 nack_balances old new number (Some s) h n =
     let e : record old { living = map (ready_if (covered s number)) old.living } ≡ new = cc in
@@ -100,7 +111,8 @@ event_balances : (old new : Book) (e : BookEvent) → Happens old e new → Bala
 event_balances old new (Puts full sent) h = rw (put_is full old sent new h)
     (λ n. put_balances old (record { number = old.last + 1; sent = sent; fate = Ready }) n refl)
 event_balances old new (Hands d) h = deal_balances old new d h
-event_balances old new (Acks session number numbers) h = rw h.1 (ack_balances old new number (holder old session number) h.0)
+event_balances old new (Acks session number numbers) h =
+    rw h.1 (ack_balances old new number (holder old session number) h.0)
 event_balances old new (Nacks session number) h = nack_balances old new number (holder old session number) h
 event_balances old new (Subscribes s) h = rw h.1 (same_living old (subscribed old s) (λ n. refl) refl)
 event_balances old new (Releases session id) h = rw h
@@ -111,7 +123,8 @@ event_balances old new (Takes accepted) h = rw h.1 (same_living old (record old 
 
 -- ---- runs
 
-kept_more : (old new : Book) (before now : List ℕ) → Balances old new now → IsKept old before → IsKept new (before ++ now)
+kept_more : (old new : Book) (before now : List ℕ) → Balances old new now → IsKept old before
+    → IsKept new (before ++ now)
 kept_more old new before now h k n = omega (arith, h n, k n, count-append (λ (e : ℕ). e == n) before now)
 
 run_kept : (events : List BookEvent) (old new : Book) (before : List ℕ) → Run old events new → IsKept old before

@@ -11,11 +11,13 @@ known_split : (p : Sent → Bool) (front back : List QueuedMessage) (m : QueuedM
 known_split p [] back m h = (tt, h.0, h.1)
 known_split p (x ∷ front) back m h = let k = known_split p front back m h.1 in ((h.0, k.0), k.1, k.2)
 
-known_append : (p : Sent → Bool) (front back : List QueuedMessage) → IsKnown p front → IsKnown p back → IsKnown p (front ++ back)
+known_append : (p : Sent → Bool) (front back : List QueuedMessage) → IsKnown p front → IsKnown p back
+    → IsKnown p (front ++ back)
 known_append p [] back h k = k
 known_append p (x ∷ front) back h k = (h.0, known_append p front back h.1 k)
 
-left_known : (p : Sent → Bool) (m : QueuedMessage) (s : Subscription) (n : Option ℕ) (back : List QueuedMessage) → p m.sent ≡ true
+left_known : (p : Sent → Bool) (m : QueuedMessage) (s : Subscription) (n : Option ℕ) (back : List QueuedMessage)
+    → p m.sent ≡ true
     → IsKnown p back
     → IsKnown p (left_of m s n ++ back)
 left_known p m s None back h k = k

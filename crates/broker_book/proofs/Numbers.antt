@@ -1,5 +1,6 @@
 -- Along a run the accepted SENDs are the ones that were put, with their numbers.
-use Rattle.std.proofs.Common.{◌≡◌, ℕ, suc, ◌+◌, Bool, true, false, List, [], ◌∷◌, ◌++◌, length, refl, sym, ap, ◌∙◌, arith}
+use Rattle.std.proofs.Common.{◌≡◌, ℕ, suc, ◌+◌, Bool, true, false, List, [], ◌∷◌, ◌++◌, length, refl, sym, ap, ◌∙◌}
+use Rattle.std.proofs.Common.{arith}
 use Rattle.std.proofs.Common.{Option, Some, None, Result, Ok, Err, append_assoc}
 use Rattle.std.proofs.lemmas.List.{append-nil, length-append}
 use Rattle.std.specs.Prelude.{if◌then◌else◌, not, filter, map}
@@ -10,20 +11,23 @@ use Rattle.broker_book.specs.declared.parts.Subscription.{Subscription}
 use Rattle.broker_book.specs.declared.parts.Accepted.{Accepted}
 use Rattle.broker_book.specs.Books.{Book, QueuedMessage, empty_book}
 use Rattle.broker_book.specs.Steps.{put_of, with_message, acked, nacked, holder, covered, ready_if}
-use Rattle.broker_book.specs.Runs.{BookEvent, Puts, Hands, Acks, Nacks, Subscribes, Releases, Ends, Takes, Happens, Run, put_by, put_in}
+use Rattle.broker_book.specs.Runs.{BookEvent, Puts, Hands, Acks, Nacks, Subscribes, Releases, Ends, Takes, Happens, Run}
+use Rattle.broker_book.specs.Runs.{put_by, put_in}
 use Rattle.broker_book.specs.Runs.{taken_by, taken_in}
 use Rattle.broker_book.specs.Laws.{numbered}
 
 -- ---- what a step's answer says of the new book
 
 put_cases : (full room : Bool) (x new : Book)
-    → ◌≡◌ {A = Result Book QueueFault} (if full then (if room then Ok x else Err TooMany) else Err QueueFull) (Ok new) → new ≡ x
+    → ◌≡◌ {A = Result Book QueueFault} (if full then (if room then Ok x else Err TooMany) else Err QueueFull) (Ok new)
+    → new ≡ x
 put_cases true true x new h = cc
 put_cases true false x new h = absurd cc
 put_cases false room x new h = absurd cc
 
 -- a SEND that was accepted has its message
-pub put_is : (full : ℕ) (old : Book) (sent : Sent) (new : Book) → put_of full old sent ≡ Ok new → new ≡ with_message old sent
+pub put_is : (full : ℕ) (old : Book) (sent : Sent) (new : Book) → put_of full old sent ≡ Ok new
+    → new ≡ with_message old sent
 put_is full old sent new h = put_cases _ _ (with_message old sent) new h
 
 -- an ACK changes the living messages alone
@@ -31,7 +35,8 @@ pub acked_is : (old : Book) (number : ℕ) (o : Option Subscription) (new : Book
     → new ≡ record old { living = new.living }
 acked_is old number None new h = absurd cc
 acked_is old number (Some s) new h =
-    let e : record old { living = filter (λ (m : QueuedMessage). not (covered s number m.fate)) old.living } ≡ new = cc in
+    let e : record old { living = filter (λ (m : QueuedMessage). not (covered s number m.fate)) old.living } ≡ new =
+    cc in
     rw (← e) refl
 
 -- and so does a NACK
@@ -44,7 +49,8 @@ nacked_is old number (Some s) new h =
 
 -- ---- numbers
 
-pub numbered-append : (last : ℕ) (xs ys : List Sent) → numbered last (xs ++ ys) ≡ numbered last xs ++ numbered (last + length xs) ys
+pub numbered-append : (last : ℕ) (xs ys : List Sent)
+    → numbered last (xs ++ ys) ≡ numbered last xs ++ numbered (last + length xs) ys
 numbered-append last [] ys = let e : last + 0 ≡ last = omega arith in rw e refl
 numbered-append last (x ∷ xs) ys =
     let e : last + suc (length xs) ≡ last + 1 + length xs = omega arith in
@@ -52,7 +58,8 @@ numbered-append last (x ∷ xs) ys =
 
 -- what an event took and left is what was there and what it put
 abbrev pub Counts : Book → BookEvent → Book → Type 0
-Counts old e new = (taken_by e ++ new.accepted ≡ old.accepted ++ numbered old.last (put_by e)) × (new.last ≡ old.last + length (put_by e))
+Counts old e new = (taken_by e ++ new.accepted ≡ old.accepted ++ numbered old.last (put_by e))
+    × (new.last ≡ old.last + length (put_by e))
 
 unchanged : (old new : Book) → new.accepted ≡ old.accepted → new.last ≡ old.last
     → (new.accepted ≡ old.accepted ++ []) × (new.last ≡ old.last + 0)
@@ -60,16 +67,20 @@ unchanged old new a l = (a ∙ sym (append-nil old.accepted), omega arith)
 
 pub event_counts : (old new : Book) (e : BookEvent) → Happens old e new → Counts old e new
 event_counts old new (Puts full sent) h = rw (put_is full old sent new h) (refl, refl)
-event_counts old new (Hands d) h = unchanged old new (ap (λ (b : Book). b.accepted) h.changed) (ap (λ (b : Book). b.last) h.changed)
+event_counts old new (Hands d) h =
+    unchanged old new (ap (λ (b : Book). b.accepted) h.changed) (ap (λ (b : Book). b.last) h.changed)
 event_counts old new (Acks session number numbers) h =
     let e = acked_is old number (holder old session number) new h.0 in
     unchanged old new (ap (λ (b : Book). b.accepted) e) (ap (λ (b : Book). b.last) e)
 event_counts old new (Nacks session number) h =
     let e = nacked_is old number (holder old session number) new h in
     unchanged old new (ap (λ (b : Book). b.accepted) e) (ap (λ (b : Book). b.last) e)
-event_counts old new (Subscribes s) h = unchanged old new (ap (λ (b : Book). b.accepted) h.1) (ap (λ (b : Book). b.last) h.1)
-event_counts old new (Releases session id) h = unchanged old new (ap (λ (b : Book). b.accepted) h) (ap (λ (b : Book). b.last) h)
-event_counts old new (Ends session) h = unchanged old new (ap (λ (b : Book). b.accepted) h) (ap (λ (b : Book). b.last) h)
+event_counts old new (Subscribes s) h =
+    unchanged old new (ap (λ (b : Book). b.accepted) h.1) (ap (λ (b : Book). b.last) h.1)
+event_counts old new (Releases session id) h =
+    unchanged old new (ap (λ (b : Book). b.accepted) h) (ap (λ (b : Book). b.last) h)
+event_counts old new (Ends session) h =
+    unchanged old new (ap (λ (b : Book). b.accepted) h) (ap (λ (b : Book). b.last) h)
 event_counts old new (Takes accepted) h =
     (rw (h.0, h.1) refl, ap (λ (b : Book). b.last) h.1 ∙ omega arith)
 

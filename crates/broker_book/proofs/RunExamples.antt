@@ -38,8 +38,10 @@ first_out = record waiting
     { living = message 1 (codes "a") (Out 1 (codes "0") 1) ∷ message 2 (codes "b") Ready ∷ []; given = 1 }
 
 abbrev both_out : Book
-both_out = record waiting
-    { living = message 1 (codes "a") (Out 1 (codes "0") 1) ∷ message 2 (codes "b") (Out 1 (codes "0") 2) ∷ []; given = 2 }
+both_out = record waiting {
+  living = message 1 (codes "a") (Out 1 (codes "0") 1) ∷ message 2 (codes "b") (Out 1 (codes "0") 2) ∷ [];
+  given = 2;
+}
 
 -- the first was acknowledged
 abbrev one_left : Book
@@ -128,7 +130,8 @@ acks_end : (numbers_covered both_out 2 (Some (record listener { mode = Client })
 acks_end = (refl, refl, refl)
 
 -- in mode `auto` a message ends as it goes out
-autos_end : ended_by (Hands (record { number = 7; sent = letter []; to = record listener { mode = Auto }; ack = None })) ≡ 7 ∷ []
+autos_end : ended_by (Hands (record { number = 7; sent = letter []; to = record listener { mode = Auto }; ack = None }))
+    ≡ 7 ∷ []
 autos_end = refl
 
 -- ---- what no run leads to

@@ -22,8 +22,8 @@ pub record QueuedMessage : Type 0 where
   pub sent : Sent
   pub fate : Fate
 
--- the messages that are ready or out, in order of their numbers; the last numbers that were given to a message and to a delivery; the
--- subscriptions, the oldest first; the SENDs accepted since they were last taken
+-- the messages that are ready or out, in order of their numbers; the last numbers that were given to a message and to a
+-- delivery; the subscriptions, the oldest first; the SENDs accepted since they were last taken
 pub record Book : Type 0 where
   pub living : List QueuedMessage
   pub last : ℕ

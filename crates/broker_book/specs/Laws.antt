@@ -1,5 +1,6 @@
 -- What holds of a book after any run from the empty one.
-use Rattle.std.specs.Prelude.{◌≡◌, ℕ, ◌+◌, ◌≤◌, ◌<◌, Bool, true, false, not, ◌&&◌, ◌==◌, nat_le, if◌then◌else◌, List, [], ◌∷◌}
+use Rattle.std.specs.Prelude.{◌≡◌, ℕ, ◌+◌, ◌≤◌, ◌<◌, Bool, true, false, not, ◌&&◌, ◌==◌, nat_le, if◌then◌else◌, List}
+use Rattle.std.specs.Prelude.{[], ◌∷◌}
 use Rattle.std.specs.Prelude.{◌++◌, map, count_by, length, Ok}
 use Rattle.std.specs.List.{list_any, AllByRecursion}
 use Rattle.broker_book.specs.declared.parts.Sent.{Sent}
@@ -18,12 +19,14 @@ DealsAreRuns = (old new : Book) (handed : List Handed) → Deals old handed new 
 
 -- actions that are applied are a run, event by event
 abbrev pub ActionsAreRuns : Type 0
-ActionsAreRuns = (full session : ℕ) (old new : Book) (actions : List Action) → apply_of full session old actions ≡ Ok new
+ActionsAreRuns =
+    (full session : ℕ) (old new : Book) (actions : List Action) → apply_of full session old actions ≡ Ok new
     → (events : List BookEvent) × ShowAs full session actions events × Run old events new
 
 -- a run and one behind it are a run
 abbrev pub RunsJoin : Type 0
-RunsJoin = (old mid new : Book) (events more : List BookEvent) → Run old events mid → Run mid more new → Run old (events ++ more) new
+RunsJoin = (old mid new : Book) (events more : List BookEvent) → Run old events mid → Run mid more new
+    → Run old (events ++ more) new
 
 -- ---- orderly
 
@@ -46,8 +49,9 @@ abbrev pub is_at : List Subscription → Fate → Bool
 is_at subscriptions Ready = true
 is_at subscriptions (Out session id number) = list_any (is_named session id) subscriptions
 
--- Messages stand in order of their numbers, none above the last; no delivery number is out twice, and none above the last that was
--- given; what is out is out to a subscription that is there; and no session has two subscriptions of one name.
+-- Messages stand in order of their numbers, none above the last; no delivery number is out twice, and none above the
+-- last that was given; what is out is out to a subscription that is there; and no session has two subscriptions of one
+-- name.
 pub record IsOrderly (b : Book) : Type 0 where
   pub rising : RiseTo 0 b.last b.living
   pub given : (number : ℕ) → b.given < number → deliveries number b.living ≡ 0
@@ -65,7 +69,8 @@ BooksAreOrderly = (events : List BookEvent) (b : Book) → Run empty_book events
 abbrev pub is_numbered : ℕ → QueuedMessage → Bool
 is_numbered number m = m.number == number
 
--- each number from 1 to the last is that of one living message or was ended once, and never both; no other number is either
+-- each number from 1 to the last is that of one living message or was ended once, and never both; no other number is
+-- either
 abbrev pub IsKept : Book → List ℕ → Type 0
 IsKept b numbers = (n : ℕ) → count_by (is_numbered n) b.living + count_by (λ e. e == n) numbers
     ≡ (if nat_le 1 n && nat_le n b.last then 1 else 0)
@@ -86,7 +91,8 @@ abbrev pub numbered : ℕ → List Sent → List Accepted
 numbered last [] = []
 numbered last (s ∷ ss) = record { number = last + 1; sent = s } ∷ numbered (last + 1) ss
 
--- along a run, what was taken and what wasn't yet are the SENDs that were put, in order, with the numbers from 1 to the last
+-- along a run, what was taken and what wasn't yet are the SENDs that were put, in order, with the numbers from 1 to the
+-- last
 abbrev pub EachIsAcceptedOnce : Type 0
 EachIsAcceptedOnce = (events : List BookEvent) (b : Book) → Run empty_book events b
     → (taken_in events ++ b.accepted ≡ numbered 0 (put_in events)) × (b.last ≡ length (put_in events))
@@ -101,7 +107,8 @@ AllPass p accepted = AllByRecursion (λ (a : Accepted). p a ≡ true) accepted
 abbrev pub as_accepted : QueuedMessage → Accepted
 as_accepted m = record { number = m.number; sent = m.sent }
 
--- whatever holds of each SEND that was put, with its number, holds of each living message and of each one that was handed out
+-- whatever holds of each SEND that was put, with its number, holds of each living message and of each one that was
+-- handed out
 abbrev pub EachIsAsPut : Type 0
 EachIsAsPut = (p : Accepted → Bool) (events : List BookEvent) (b : Book) → Run empty_book events b
     → AllPass p (numbered 0 (put_in events)) → AllPass p (map as_accepted b.living) × AllPass p (handed_in events)

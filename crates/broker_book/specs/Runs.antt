@@ -11,8 +11,8 @@ use Rattle.broker_book.specs.Steps.{Handed, Deal, put_of, ack_of, nack_of, holde
 
 -- ---- events
 
--- a SEND is put; a message is handed out; a session's ACK ends messages of these numbers; its NACK makes messages ready again; a
--- subscription begins; it ends; all of a session's do; the SENDs accepted so far are taken
+-- a SEND is put; a message is handed out; a session's ACK ends messages of these numbers; its NACK makes messages ready
+-- again; a subscription begins; it ends; all of a session's do; the SENDs accepted so far are taken
 pub data BookEvent : Type 0 where
   Puts : (full : ℕ) → (sent : Sent) → BookEvent
   Hands : (handed : Handed) → BookEvent
@@ -26,7 +26,8 @@ pub data BookEvent : Type 0 where
 -- the numbers of the messages for which an ACK counts
 abbrev pub numbers_covered : Book → ℕ → Option Subscription → List ℕ
 numbers_covered b number None = []
-numbers_covered b number (Some s) = map (λ (m : QueuedMessage). m.number) (filter (λ m. covered s number m.fate) b.living)
+numbers_covered b number (Some s) =
+    map (λ (m : QueuedMessage). m.number) (filter (λ m. covered s number m.fate) b.living)
 
 -- an event leads from one book to another; a subscription begins only where the session has none of its name
 abbrev pub Happens : Book → BookEvent → Book → Type 0
@@ -35,7 +36,8 @@ Happens old (Hands d) new = Deal old d new
 Happens old (Acks session number numbers) new =
     (ack_of old session number ≡ Ok new) × (numbers ≡ numbers_covered old number (holder old session number))
 Happens old (Nacks session number) new = nack_of old session number ≡ Ok new
-Happens old (Subscribes s) new = (list_any (is_named s.session s.id) old.subscriptions ≡ false) × (new ≡ subscribed old s)
+Happens old (Subscribes s) new =
+    (list_any (is_named s.session s.id) old.subscriptions ≡ false) × (new ≡ subscribed old s)
 Happens old (Releases session id) new = new ≡ released old session id
 Happens old (Ends session) new = new ≡ ended old session
 Happens old (Takes accepted) new = (accepted ≡ old.accepted) × (new ≡ record old { accepted = [] })
@@ -96,4 +98,5 @@ ShowsAs full session (Nack number) e = e ≡ Nacks session number
 abbrev pub ShowAs : ℕ → ℕ → List Action → List BookEvent → Type 0
 ShowAs full session [] events = events ≡ []
 ShowAs full session (a ∷ actions) events =
-    (e : BookEvent) × (rest : List BookEvent) × (events ≡ e ∷ rest) × ShowsAs full session a e × ShowAs full session actions rest
+    (e : BookEvent) × (rest : List BookEvent) × (events ≡ e ∷ rest) × ShowsAs full session a e
+    × ShowAs full session actions rest

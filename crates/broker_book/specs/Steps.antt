@@ -1,5 +1,6 @@
 -- The steps that change a book.
-use Rattle.std.specs.Prelude.{◌≡◌, ℕ, ◌+◌, ◌-◌, ◌^◌, Bool, true, false, not, ◌&&◌, ◌==◌, nat_lt, if◌then◌else◌, List, []}
+use Rattle.std.specs.Prelude.{◌≡◌, ℕ, ◌+◌, ◌-◌, ◌^◌, Bool, true, false, not, ◌&&◌, ◌==◌, nat_lt, if◌then◌else◌, List}
+use Rattle.std.specs.Prelude.{[]}
 use Rattle.std.specs.Prelude.{◌∷◌, ◌++◌, map, filter, count_by, find, Option, Some, None, Result, Ok, Err}
 use Rattle.std.specs.List.{list_any}
 use Rattle.std.specs.Str.{bytes_eq}
@@ -9,13 +10,15 @@ use Rattle.broker_book.specs.declared.parts.Sent.{Sent}
 use Rattle.broker_book.specs.declared.parts.Subscription.{Subscription}
 use Rattle.broker_book.specs.declared.parts.Action.{Action}
 use Rattle.broker_book.specs.declared.parts.Action.TheVariants.{Put, Ack, Nack}
-use Rattle.broker_book.specs.Books.{Book, QueuedMessage, Fate, Ready, Out, out_as, out_to, out_of, is_for, is_named, is_auto, reaches}
+use Rattle.broker_book.specs.Books.{Book, QueuedMessage, Fate, Ready, Out, out_as, out_to, out_of, is_for, is_named}
+use Rattle.broker_book.specs.Books.{is_auto, reaches}
 use Rattle.broker_book.specs.Books.{is_ready}
 use Rattle.broker_book.specs.Books.{may_take, is_due, IsQuiet}
 
 -- ---- deals
 
--- a message that is handed out: its number, what its SEND brought, to whom it goes, and the delivery's number unless that is `auto`
+-- a message that is handed out: its number, what its SEND brought, to whom it goes, and the delivery's number unless
+-- that is `auto`
 pub record Handed : Type 0 where
   pub number : ℕ
   pub sent : Sent
@@ -48,7 +51,10 @@ pub record Deal (old : Book) (d : Handed) (new : Book) : Type 0 where
   pub number : d.number ≡ message.number
   pub sent : d.sent ≡ message.sent
   pub ack : d.ack ≡ next_ack old d.to
-  pub changed : new ≡ record old { living = front ++ (left_of message d.to d.ack ++ back); given = last_given old.given d.ack }
+  pub changed : new ≡ record old {
+    living = front ++ (left_of message d.to d.ack ++ back);
+    given = last_given old.given d.ack;
+  }
 
 -- one deal after another
 abbrev pub Deals : Book → List Handed → Book → Type 0
@@ -168,10 +174,11 @@ Taken takes old [] new = new ≡ old
 Taken {S} takes old (d ∷ ds) new = (mid : S) × takes old d mid × Taken takes mid ds new
 
 -- some deals, each handed out and taken
-pub record Dealt {S : Type 0} (takes : S → Handed → S → Type 0) (old : Book) (from : S) (new : Book) (to : S) : Type 0 where
-  pub handed : List Handed
-  pub deals : Deals old handed new
-  pub taken : Taken takes from handed to
+pub record Dealt {S : Type 0} (takes : S → Handed → S → Type 0) (old : Book) (from : S) (new : Book) (to : S) : Type 0
+  where
+    pub handed : List Handed
+    pub deals : Deals old handed new
+    pub taken : Taken takes from handed to
 
 -- What dispatching answers: all was dealt that could be; or memory was refused behind some deals.
 abbrev pub Dispatches : {S E : Type 0} → (S → Handed → S → Type 0) → Book → S → Book → S → Result (Unit {0}) E → Type 0

@@ -1,8 +1,9 @@
 //! What a broker's queues are about: messages and their fates, subscriptions, and each step that changes them.
 //!
-//! A queue's state is a *book*: the messages that are ready or out, in order of their numbers; the subscriptions, the oldest first; the
-//! last numbers that were given to a message and to a delivery; and the SENDs accepted since they were last taken. Each step is a
-//! function or a relation of books, and says nothing of how a broker keeps them. `broker_queues` keeps one.
+//! A queue's state is a *book*: the messages that are ready or out, in order of their numbers; the subscriptions, the
+//! oldest first; the last numbers that were given to a message and to a delivery; and the SENDs accepted since they
+//! were last taken. Each step is a function or a relation of books, and says nothing of how a broker keeps them.
+//! `broker_queues` keeps one.
 //!
 //! Here stand the values that a book holds, the faults of its steps, and what follows of the steps alone.
 //!

@@ -23,7 +23,8 @@ pub are_before-filter : (next : ℕ) (p : Subscriber → Bool) (ss : List Subscr
 are_before-filter next p ss before = list_all-filter p (λ (s : Subscriber). ltb s.age next) ss before
 
 -- one is changed, and keeps its age
-pub are_before-touch : (next age : ℕ) (g : Subscriber → Subscriber) → ((s : Subscriber) → (g s).age ≡ s.age) → (ss : List Subscriber)
+pub are_before-touch : (next age : ℕ) (g : Subscriber → Subscriber) → ((s : Subscriber) → (g s).age ≡ s.age)
+    → (ss : List Subscriber)
     → are_before next ss ≡ true
     → are_before next (map (touch (λ (s : Subscriber). s.age) age g) ss) ≡ true
 are_before-touch next age g keeps [] before = refl

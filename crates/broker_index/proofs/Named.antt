@@ -1,5 +1,6 @@
 -- Queues by name, in slots to which a map leads.
-use Rattle.std.proofs.Common.{◌≡◌, ◌≢◌, ℕ, ◌+◌, zero, suc, true, false, List, [], ◌∷◌, map, get_or, set, Option, Some, None}
+use Rattle.std.proofs.Common.{◌≡◌, ◌≢◌, ℕ, ◌+◌, zero, suc, true, false, List, [], ◌∷◌, map, get_or, set, Option, Some}
+use Rattle.std.proofs.Common.{None}
 use Rattle.std.proofs.Common.{refl, sym, ap, ◌∙◌, inl, inr, arith}
 use Rattle.std.specs.Prelude.{◌⊎◌, String, Result, Ok, Err, OnOk}
 use Rattle.std.specs.Cmp.Lexicographic.{slice_cmp}
@@ -44,10 +45,12 @@ module _ (name : List ℕ) where
   same_name x same = (bytes_eq-Decides name x.name).1 (sym same)
 
   other_name : (x : Destination) → x.name ≢ name → bytes_eq name x.name ≡ false
-  other_name x differs = false_from_ne_true (bytes_eq name x.name) (λ h. differs (sym ((bytes_eq-Decides name x.name).0 h)))
+  other_name x differs =
+      false_from_ne_true (bytes_eq name x.name) (λ h. differs (sym ((bytes_eq-Decides name x.name).0 h)))
 
   -- its queue is found, where no other slot has it
-  found_in : (slots : List (Option Destination)) (key : ℕ) (d : Destination) → get_or slots key None ≡ Some d → d.name ≡ name
+  found_in : (slots : List (Option Destination)) (key : ℕ) (d : Destination) → get_or slots key None ≡ Some d
+      → d.name ≡ name
       → ((k : ℕ) (e : Destination) → get_or slots k None ≡ Some e → e.name ≡ name → k ≡ key)
       → lookup (bytes_eq name) (queues_in slots) ≡ Some d.queue
   found_in [] key d at same only = absurd (cc)
@@ -72,10 +75,12 @@ module _ (name : List ℕ) where
   none_in [] none = refl
   none_in (None ∷ slots) none = none_in slots (λ key. none (suc key))
   none_in (Some x ∷ slots) none =
-      cond-false (bytes_eq name x.name) (Some x.queue) (lookup (bytes_eq name) (queues_in slots)) (other_name x (none 0 x refl))
+      cond-false (bytes_eq name x.name) (Some x.queue) (lookup (bytes_eq name) (queues_in slots))
+      (other_name x (none 0 x refl))
       ∙ none_in slots (λ key. none (suc key))
 
-  behind : (o : Option Destination) (slots : List (Option Destination)) → ((d : Destination) → o ≡ Some d → d.name ≢ name) → HasNone slots
+  behind : (o : Option Destination) (slots : List (Option Destination))
+      → ((d : Destination) → o ≡ Some d → d.name ≢ name) → HasNone slots
       → HasNone (o ∷ slots)
   behind o slots first rest zero d there = first d there
   behind o slots first rest (suc key) d there = rest key d there
@@ -104,20 +109,25 @@ module _ (name : List ℕ) where
 
 -- ---- a name in a slab
 
-module _ {Y : Type 0} (slab : Slab Destination) (keys : BTreeMap (String Y) ℕ) (found : AreFound slab.slots keys) (name : List ℕ) where
+module _ {Y : Type 0} (slab : Slab Destination) (keys : BTreeMap (String Y) ℕ) (found : AreFound slab.slots keys)
+    (name : List ℕ) where
   -- one slot has it at most
-  only_one : (key k : ℕ) (d e : Destination) → get slab key ≡ Some d → d.name ≡ name → get slab k ≡ Some e → e.name ≡ name → k ≡ key
+  only_one : (key k : ℕ) (d e : Destination) → get slab key ≡ Some d → d.name ≡ name → get slab k ≡ Some e
+      → e.name ≡ name → k ≡ key
   only_one key k d e at same there is =
-      let both : Some k ≡ Some key = sym (found k e there) ∙ ap (λ n. get_by_text keys n) (is ∙ sym same) ∙ found key d at in cc
+      let both : Some k ≡ Some key =
+      sym (found k e there) ∙ ap (λ n. get_by_text keys n) (is ∙ sym same) ∙ found key d at in cc
 
   pub queue_there : (key : ℕ) (d : Destination) → get slab key ≡ Some d → d.name ≡ name
       → queue_at (queues_in slab.slots) name ≡ Some d.queue
-  queue_there key d at same = found_in name slab.slots key d at same (λ k e there is. only_one key k d e at same there is)
+  queue_there key d at same =
+      found_in name slab.slots key d at same (λ k e there is. only_one key k d e at same there is)
 
   -- no slot has it, where no queue is found
   pub absent : queue_at (queues_in slab.slots) name ≡ None → HasNone name slab.slots
   absent none = elim (some_or_none name slab.slots) [
-    | inl it ↦ let never : None ≡ Some it.destination.queue = sym none ∙ queue_there it.key it.destination it.at it.named in absurd (cc)
+    | inl it ↦ let never : None ≡ Some it.destination.queue =
+        sym none ∙ queue_there it.key it.destination it.at it.named in absurd (cc)
     | inr all ↦ all
   ]
 
@@ -130,13 +140,16 @@ module _ {Y : Type 0} (slab : Slab Destination) (keys : BTreeMap (String Y) ℕ)
 -- ---- one slot changes
 
 module _ {Y Z : Type 0} (old new : Slab Destination) (keys : BTreeMap (String Y) ℕ) (later : BTreeMap (String Z) ℕ)
-    (was : AreFound old.slots keys) (is : AreFound new.slots later) (key : ℕ) (slot : Option Destination) (u : Updates old new key slot)
+    (was : AreFound old.slots keys) (is : AreFound new.slots later) (key : ℕ) (slot : Option Destination)
+    (u : Updates old new key slot)
     (name : List ℕ) (before : (d : Destination) → get old key ≡ Some d → d.name ≡ name)
     (after : (d : Destination) → slot ≡ Some d → d.name ≡ name) where
-  others_stay : (other : List ℕ) → other ≢ name → queue_at (queues_in new.slots) other ≡ queue_at (queues_in old.slots) other
+  others_stay : (other : List ℕ) → other ≢ name
+      → queue_at (queues_in new.slots) other ≡ queue_at (queues_in old.slots) other
   others_stay other differs = elim (some_or_none other old.slots) [
     | inl it ↦
-        let apart : it.key ≢ key = λ same. differs (sym it.named ∙ before it.destination (ap (get old) (sym same) ∙ it.at)) in
+        let apart : it.key ≢ key =
+        λ same. differs (sym it.named ∙ before it.destination (ap (get old) (sym same) ∙ it.at)) in
         queue_there new later is other it.key it.destination (u.others it.key apart ∙ it.at) it.named
         ∙ sym (queue_there old keys was other it.key it.destination it.at it.named)
     | inr none ↦ none_in other new.slots (still none) ∙ sym (none_in other old.slots none)
@@ -153,7 +166,8 @@ module _ {Y Z : Type 0} (old new : Slab Destination) (keys : BTreeMap (String Y)
       → Sets (queue_at (queues_in old.slots)) (queue_at (queues_in new.slots)) name w
   Sets-updated w at = record { at = at; others = others_stay }
 
-module _ {Y : Type 0} (slab : Slab Destination) (keys : BTreeMap (String Y) ℕ) (found : AreFound slab.slots keys) (key : ℕ)
+module _ {Y : Type 0} (slab : Slab Destination) (keys : BTreeMap (String Y) ℕ) (found : AreFound slab.slots keys)
+    (key : ℕ)
     (d : Destination) (at : get slab key ≡ Some d) (w : Queue) where
   -- the slab with another queue under the same name
   abbrev changed : Slab Destination
@@ -168,7 +182,8 @@ module _ {Y : Type 0} (slab : Slab Destination) (keys : BTreeMap (String Y) ℕ)
     | inl same ↦
         let both : Some (record d { queue = w }) ≡ Some e = sym updated.changed ∙ ap (get changed) (sym same) ∙ there in
         let is : record d { queue = w } ≡ e = cc in
-        ap (λ n. get_by_text keys n) (sym (ap (λ (x : Destination). x.name) is)) ∙ found key d at ∙ ap (λ n. Some n) (sym same)
+        ap (λ n. get_by_text keys n) (sym (ap (λ (x : Destination). x.name) is)) ∙ found key d at
+        ∙ ap (λ n. Some n) (sym same)
     | inr apart ↦ found k e (sym (updated.others k apart) ∙ there)
   ]
 
@@ -191,10 +206,12 @@ module _ {Y : Type 0} (slab : Slab Destination) (keys : BTreeMap (String Y) ℕ)
 
   -- the queue of this name is another
   pub Sets-changed : (name : List ℕ) (f : Queue → Queue) → d.name ≡ name → w ≡ f d.queue
-      → Sets (queue_at (queues_in slab.slots)) (queue_at (queues_in (set slab.slots key (Some (record d { queue = w }))))) name
+      → Sets (queue_at (queues_in slab.slots)) (queue_at (queues_in (set slab.slots key
+      (Some (record d { queue = w }))))) name
       (option_map f (queue_at (queues_in slab.slots) name))
   Sets-changed name f same written =
-      Sets-updated slab changed keys keys found still_found key (Some (record d { queue = w })) updated name before after
+      Sets-updated slab changed keys keys found still_found key (Some (record d { queue = w })) updated name before
+      after
       (option_map f (queue_at (queues_in slab.slots) name))
       (queue_there changed keys still_found name key (record d { queue = w }) updated.changed same
       ∙ ap (λ q. Some q) written ∙ ap (λ o. option_map f o) (sym (queue_there slab keys found name key d at same)))
@@ -212,7 +229,8 @@ module _ {Y : Type 0} (slab : Slab Destination) (keys : BTreeMap (String Y) ℕ)
 
 -- where none has the name, nothing changes
 pub Sets-absent : (slab : Slab Destination) (name : List ℕ) (f : Queue → Queue) → HasNone name slab.slots
-    → Sets (queue_at (queues_in slab.slots)) (queue_at (queues_in slab.slots)) name (option_map f (queue_at (queues_in slab.slots) name))
+    → Sets (queue_at (queues_in slab.slots)) (queue_at (queues_in slab.slots)) name
+    (option_map f (queue_at (queues_in slab.slots) name))
 Sets-absent slab name f none =
     let is : queue_at (queues_in slab.slots) name ≡ None = none_in name slab.slots none in
     Sets-same (queue_at (queues_in slab.slots)) name (option_map f (queue_at (queues_in slab.slots) name))
@@ -237,24 +255,29 @@ module _ {Y : Type 0} (bs : List ℕ) (keys now : BTreeMap (String Y) ℕ) (w : 
       ∙ cond-false (bytes_eq bs other) w (get_by_text keys other) (false_from_ne_true (bytes_eq bs other)
       (λ h. differs (sym ((bytes_eq-Decides bs other).0 h))))
 
-module _ {Y : Type 0} (slab new : Slab Destination) (keys now : BTreeMap (String Y) ℕ) (found : AreFound slab.slots keys) (key : ℕ)
+module _ {Y : Type 0} (slab new : Slab Destination) (keys now : BTreeMap (String Y) ℕ)
+    (found : AreFound slab.slots keys) (key : ℕ)
     (name : List ℕ) where
   -- one comes under a new name
   pub added_found : (d : Destination) → Updates slab new key (Some d) → d.name ≡ name → HasNone name slab.slots
-      → get_by_text now name ≡ Some key → ((other : List ℕ) → other ≢ name → get_by_text now other ≡ get_by_text keys other)
+      → get_by_text now name ≡ Some key
+      → ((other : List ℕ) → other ≢ name → get_by_text now other ≡ get_by_text keys other)
       → AreFound new.slots now
   added_found d u same none there others k e at = elim (cases_eq k key) [
     | inl here ↦
         let both : Some d ≡ Some e = sym u.changed ∙ ap (get new) (sym here) ∙ at in
         let is : d ≡ e = cc in
-        ap (λ n. get_by_text now n) (ap (λ (x : Destination). x.name) (sym is) ∙ same) ∙ there ∙ ap (λ n. Some n) (sym here)
+        ap (λ n. get_by_text now n) (ap (λ (x : Destination). x.name) (sym is) ∙ same) ∙ there
+        ∙ ap (λ n. Some n) (sym here)
     | inr apart ↦
         let was : get slab k ≡ Some e = sym (u.others k apart) ∙ at in
         others e.name (none k e was) ∙ found k e was
   ]
 
-  pub added_led : (d : Destination) → Updates slab new key (Some d) → d.name ≡ name → get slab key ≡ None → AreLed slab.slots keys
-      → get_by_text now name ≡ Some key → ((other : List ℕ) → other ≢ name → get_by_text now other ≡ get_by_text keys other)
+  pub added_led : (d : Destination) → Updates slab new key (Some d) → d.name ≡ name → get slab key ≡ None
+      → AreLed slab.slots keys
+      → get_by_text now name ≡ Some key
+      → ((other : List ℕ) → other ≢ name → get_by_text now other ≡ get_by_text keys other)
       → AreLed new.slots now
   added_led d u same vacant led there others n k leads = elim (same_or_other n name) [
     | inl is ↦
@@ -269,12 +292,14 @@ module _ {Y : Type 0} (slab new : Slab Destination) (keys now : BTreeMap (String
       vacant_none : (e : Destination) → None ≡ Some e → ⊥
       vacant_none e never = let no : None ≡ Some e = never in cc
 
-  pub Sets-added : (d : Destination) → Updates slab new key (Some d) → d.name ≡ name → HasNone name slab.slots → get slab key ≡ None
+  pub Sets-added : (d : Destination) → Updates slab new key (Some d) → d.name ≡ name → HasNone name slab.slots
+      → get slab key ≡ None
       → AreFound new.slots now → d.queue ≡ opened None
       → Sets (queue_at (queues_in slab.slots)) (queue_at (queues_in new.slots)) name
       (Some (opened (queue_at (queues_in slab.slots) name)))
   Sets-added d u same none vacant is empty =
-      Sets-updated slab new keys now found is key (Some d) u name before after (Some (opened (queue_at (queues_in slab.slots) name)))
+      Sets-updated slab new keys now found is key (Some d) u name before after
+      (Some (opened (queue_at (queues_in slab.slots) name)))
       (queue_there new now is name key d u.changed same ∙ ap (λ q. Some q) empty
       ∙ ap (λ o. Some (opened o)) (sym (none_in name slab.slots none)))
     where
@@ -288,7 +313,8 @@ module _ {Y : Type 0} (slab new : Slab Destination) (keys now : BTreeMap (String
 
   module _ (d : Destination) (at : get slab key ≡ Some d) (same : d.name ≡ name) (u : Updates slab new key None) where
     -- one goes
-    pub removed_found : ((other : List ℕ) → other ≢ name → get_by_text now other ≡ get_by_text keys other) → AreFound new.slots now
+    pub removed_found : ((other : List ℕ) → other ≢ name → get_by_text now other ≡ get_by_text keys other)
+        → AreFound new.slots now
     removed_found others k e there = elim (cases_eq k key) [
       | inl here ↦ let never : None ≡ Some e = sym u.changed ∙ ap (get new) (sym here) ∙ there in cc
       | inr apart ↦
@@ -301,8 +327,12 @@ module _ {Y : Type 0} (slab new : Slab Destination) (keys now : BTreeMap (String
     removed_led led gone others n k leads = elim (same_or_other n name) [
       | inl is ↦ let never : None ≡ Some k = sym gone ∙ ap (λ m. get_by_text now m) (sym is) ∙ leads in cc
       | inr differs ↦
-          let was = led n k (sym (others n differs) ∙ leads) in
-          (was.0, u.others k (λ here. differs (sym was.2 ∙ own was.0 (sym at ∙ ap (get slab) (sym here) ∙ was.1))) ∙ was.1, was.2)
+          let was = led n k (sym (others n differs) ∙ leads) in (
+            was.0,
+            u.others k (λ here. differs (sym was.2 ∙ own was.0 (sym at ∙ ap (get slab) (sym here) ∙ was.1)))
+                ∙ was.1,
+            was.2,
+          )
     ]
       where
         own : (e : Destination) → Some d ≡ Some e → e.name ≡ name
@@ -315,7 +345,8 @@ module _ {Y : Type 0} (slab new : Slab Destination) (keys now : BTreeMap (String
         → Sets (queue_at (queues_in slab.slots)) (queue_at (queues_in new.slots)) name
         (option_and_then unless_idle (queue_at (queues_in slab.slots) name))
     Sets-removed idle is =
-        Sets-updated slab new keys now found is key None u name before (λ e never. (let no : None ≡ Some e = never in cc))
+        Sets-updated slab new keys now found is key None u name before (λ e never.
+        (let no : None ≡ Some e = never in cc))
         (option_and_then unless_idle (queue_at (queues_in slab.slots) name))
         (none_in name new.slots gone
         ∙ sym (ap (λ o. option_and_then unless_idle o) (queue_there slab keys found name key d at same)
@@ -334,13 +365,15 @@ module _ {Y : Type 0} (slab new : Slab Destination) (keys now : BTreeMap (String
         ]
 
 -- it stays, where it isn't idle
-pub Sets-busy : {Y : Type 0} (slab : Slab Destination) (keys : BTreeMap (String Y) ℕ) → AreFound slab.slots keys → (key : ℕ)
+pub Sets-busy : {Y : Type 0} (slab : Slab Destination) (keys : BTreeMap (String Y) ℕ) → AreFound slab.slots keys
+    → (key : ℕ)
     (name : List ℕ) (d : Destination) → get slab key ≡ Some d → d.name ≡ name → is_idle d.queue ≡ false
     → Sets (queue_at (queues_in slab.slots)) (queue_at (queues_in slab.slots)) name
     (option_and_then unless_idle (queue_at (queues_in slab.slots) name))
 Sets-busy slab keys found key name d at same busy =
     let is : queue_at (queues_in slab.slots) name ≡ Some d.queue = queue_there slab keys found name key d at same in
-    Sets-same (queue_at (queues_in slab.slots)) name (option_and_then unless_idle (queue_at (queues_in slab.slots) name))
+    Sets-same (queue_at (queues_in slab.slots)) name (option_and_then unless_idle
+    (queue_at (queues_in slab.slots) name))
     (is ∙ sym (ap (λ o. option_and_then unless_idle o) is ∙ cond-false (is_idle d.queue) None (Some d.queue) busy))
 
 -- and so does nothing
@@ -349,11 +382,13 @@ pub Sets-nothing : (slab : Slab Destination) (name : List ℕ) → HasNone name 
     (option_and_then unless_idle (queue_at (queues_in slab.slots) name))
 Sets-nothing slab name none =
     let is : queue_at (queues_in slab.slots) name ≡ None = none_in name slab.slots none in
-    Sets-same (queue_at (queues_in slab.slots)) name (option_and_then unless_idle (queue_at (queues_in slab.slots) name))
+    Sets-same (queue_at (queues_in slab.slots)) name (option_and_then unless_idle
+    (queue_at (queues_in slab.slots) name))
     (is ∙ sym (ap (λ o. option_and_then unless_idle o) is))
 
 -- what is open stays
-pub Sets-open : {Y : Type 0} (slab : Slab Destination) (keys : BTreeMap (String Y) ℕ) → AreFound slab.slots keys → (key : ℕ)
+pub Sets-open : {Y : Type 0} (slab : Slab Destination) (keys : BTreeMap (String Y) ℕ) → AreFound slab.slots keys
+    → (key : ℕ)
     (name : List ℕ) (d : Destination) → get slab key ≡ Some d → d.name ≡ name
     → Sets (queue_at (queues_in slab.slots)) (queue_at (queues_in slab.slots)) name
     (Some (opened (queue_at (queues_in slab.slots) name)))

@@ -7,7 +7,8 @@ use Rattle.std.specs.Option.{unwrap_or}
 use Rattle.std.specs.Ordering.{nat_cmp, is_eq}
 use Rattle.std.specs.Map.{lookup, set_value}
 use Rattle.std.specs.BTreeMap.{BTreeMap, is_at, Updates}
-use Rattle.std.proofs.lemmas.Bool.{cases_Bool, cases_order, cond-true, cond-false, lt-ltb, le-ltb, eq-eqb, ne_eqb, true≢false}
+use Rattle.std.proofs.lemmas.Bool.{cases_Bool, cases_order, cond-true, cond-false, lt-ltb, le-ltb, eq-eqb, ne_eqb}
+use Rattle.std.proofs.lemmas.Bool.{true≢false}
 use Rattle.broker_index.specs.declared.places.Place.{Place}
 use Rattle.broker_index.specs.Index.{Sets}
 
@@ -39,12 +40,16 @@ module _ {V X : Type 0} (list_of : V → List X) where
       let tie = tie-nat_cmp n e.0 in
       elim (cases_Bool (eqb n e.0)) [
         | inl same ↦
-            ap (λ o. unwrap_or o []) (cond-true (eqb n e.0) (Some (list_of e.1)) (lookup (λ s. eqb n s) (listed es)) same)
-            ∙ sym (ap list_in (cond-true (is_at (nat_cmp n) e.0) (Some e.1) (lookup (is_at (nat_cmp n)) es) (tie ∙ same)))
+            ap (λ o. unwrap_or o []) (cond-true (eqb n e.0) (Some (list_of e.1)) (lookup (λ s. eqb n s) (listed es))
+            same)
+            ∙ sym (ap list_in (cond-true (is_at (nat_cmp n) e.0) (Some e.1) (lookup (is_at (nat_cmp n)) es)
+            (tie ∙ same)))
         | inr other ↦
-            ap (λ o. unwrap_or o []) (cond-false (eqb n e.0) (Some (list_of e.1)) (lookup (λ s. eqb n s) (listed es)) other)
+            ap (λ o. unwrap_or o []) (cond-false (eqb n e.0) (Some (list_of e.1)) (lookup (λ s. eqb n s) (listed es))
+            other)
             ∙ lookup-listed n es
-            ∙ sym (ap list_in (cond-false (is_at (nat_cmp n) e.0) (Some e.1) (lookup (is_at (nat_cmp n)) es) (tie ∙ other)))
+            ∙ sym (ap list_in (cond-false (is_at (nat_cmp n) e.0) (Some e.1) (lookup (is_at (nat_cmp n)) es)
+            (tie ∙ other)))
       ]
 
   -- a change of the map at one number is one of the lists by number
@@ -60,7 +65,8 @@ module _ {V X : Type 0} (list_of : V → List X) where
   }
 
   -- a value with the same list changes nothing
-  pub listed-set_value : (n : ℕ) (es : List (ℕ × V)) (v w : V) → lookup (is_at (nat_cmp n)) es ≡ Some v → list_of w ≡ list_of v
+  pub listed-set_value : (n : ℕ) (es : List (ℕ × V)) (v w : V) → lookup (is_at (nat_cmp n)) es ≡ Some v
+      → list_of w ≡ list_of v
       → listed (set_value (is_at (nat_cmp n)) es w) ≡ listed es
   listed-set_value n [] v w found same = refl
   listed-set_value n (e ∷ es) v w found same =
@@ -77,18 +83,21 @@ module _ {V X : Type 0} (list_of : V → List X) where
       ]
 
   -- whether a number has a list
-  pub is_some-listed : (n : ℕ) (es : List (ℕ × V)) → is_some (lookup (λ s. eqb n s) (listed es)) ≡ is_some (lookup (is_at (nat_cmp n)) es)
+  pub is_some-listed : (n : ℕ) (es : List (ℕ × V))
+      → is_some (lookup (λ s. eqb n s) (listed es)) ≡ is_some (lookup (is_at (nat_cmp n)) es)
   is_some-listed n [] = refl
   is_some-listed n (e ∷ es) =
       let tie = tie-nat_cmp n e.0 in
       elim (cases_Bool (eqb n e.0)) [
         | inl same ↦
             ap is_some (cond-true (eqb n e.0) (Some (list_of e.1)) (lookup (λ s. eqb n s) (listed es)) same)
-            ∙ sym (ap is_some (cond-true (is_at (nat_cmp n) e.0) (Some e.1) (lookup (is_at (nat_cmp n)) es) (tie ∙ same)))
+            ∙ sym (ap is_some (cond-true (is_at (nat_cmp n) e.0) (Some e.1) (lookup (is_at (nat_cmp n)) es)
+            (tie ∙ same)))
         | inr other ↦
             ap is_some (cond-false (eqb n e.0) (Some (list_of e.1)) (lookup (λ s. eqb n s) (listed es)) other)
             ∙ is_some-listed n es
-            ∙ sym (ap is_some (cond-false (is_at (nat_cmp n) e.0) (Some e.1) (lookup (is_at (nat_cmp n)) es) (tie ∙ other)))
+            ∙ sym (ap is_some (cond-false (is_at (nat_cmp n) e.0) (Some e.1) (lookup (is_at (nat_cmp n)) es)
+            (tie ∙ other)))
       ]
 
 -- the places that stand in a vector

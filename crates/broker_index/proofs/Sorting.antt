@@ -1,8 +1,10 @@
 -- Values put in order of their numbers.
-use Rattle.std.proofs.Common.{◌≡◌, ℕ, ◌<◌, Bool, true, false, not, ◌&&◌, cond, ltb, eqb, List, [], ◌∷◌, ◌++◌, map, filter}
+use Rattle.std.proofs.Common.{◌≡◌, ℕ, ◌<◌, Bool, true, false, not, ◌&&◌, cond, ltb, eqb, List, [], ◌∷◌, ◌++◌, map}
+use Rattle.std.proofs.Common.{filter}
 use Rattle.std.proofs.Common.{Some, None, refl, sym, ap, ◌∙◌, inl, inr, arith}
 use Rattle.std.specs.List.{find, list_all}
-use Rattle.std.proofs.lemmas.Bool.{cases_Bool, cond-true, cond-false, and_parts, and_from, ltb-true, lt-ltb, le-ltb, ne_eqb}
+use Rattle.std.proofs.lemmas.Bool.{cases_Bool, cond-true, cond-false, and_parts, and_from, ltb-true, lt-ltb, le-ltb}
+use Rattle.std.proofs.lemmas.Bool.{ne_eqb}
 use Rattle.std.proofs.lemmas.Bool.{not-true, not_from_false}
 use Rattle.std.proofs.lemmas.List.Folds.{list_all-append, list_all-map}
 use Rattle.broker_index.specs.Slots.{put_in, is_rising}
@@ -35,7 +37,8 @@ module _ {T : Type 0} where
       ]
 
   -- a change that leaves each of them as it is leaves the list
-  pub map_same : (p : T → Bool) (f : T → T) → ((x : T) → p x ≡ true → f x ≡ x) → (xs : List T) → list_all p xs ≡ true → map f xs ≡ xs
+  pub map_same : (p : T → Bool) (f : T → T) → ((x : T) → p x ≡ true → f x ≡ x) → (xs : List T) → list_all p xs ≡ true
+      → map f xs ≡ xs
   map_same p f same [] all = refl
   map_same p f same (x ∷ xs) all =
       let parts = and_parts (p x) (list_all p xs) all in
@@ -53,7 +56,8 @@ module _ {T : Type 0} (number_of : T → ℕ) where
   abbrev pub is_apart : T → T → Bool
   is_apart x y = not (eqb (number_of y) (number_of x))
 
-  put_in-low : (x y : T) (ys : List T) → ltb (number_of x) (number_of y) ≡ true → put_in number_of x (y ∷ ys) ≡ x ∷ y ∷ ys
+  put_in-low : (x y : T) (ys : List T) → ltb (number_of x) (number_of y) ≡ true
+      → put_in number_of x (y ∷ ys) ≡ x ∷ y ∷ ys
   put_in-low x y ys low = cond-true (ltb (number_of x) (number_of y)) (x ∷ y ∷ ys) (y ∷ put_in number_of x ys) low
 
   put_in-high : (x y : T) (ys : List T) → ltb (number_of x) (number_of y) ≡ false
@@ -61,7 +65,8 @@ module _ {T : Type 0} (number_of : T → ℕ) where
   put_in-high x y ys high = cond-false (ltb (number_of x) (number_of y)) (x ∷ y ∷ ys) (y ∷ put_in number_of x ys) high
 
   -- all pass once one is put in, if it passes and the others do
-  pub list_all-put_in : (p : T → Bool) (x : T) (ys : List T) → list_all p (put_in number_of x ys) ≡ (p x && list_all p ys)
+  pub list_all-put_in : (p : T → Bool) (x : T) (ys : List T)
+      → list_all p (put_in number_of x ys) ≡ (p x && list_all p ys)
   list_all-put_in p x [] = refl
   list_all-put_in p x (y ∷ ys) =
       elim (cases_Bool (ltb (number_of x) (number_of y))) [
@@ -70,7 +75,8 @@ module _ {T : Type 0} (number_of : T → ℕ) where
       ]
 
   -- a value that is below all others goes to the front
-  pub put_in_front : (x : T) (ys : List T) → list_all (λ y. ltb (number_of x) (number_of y)) ys ≡ true → put_in number_of x ys ≡ x ∷ ys
+  pub put_in_front : (x : T) (ys : List T) → list_all (λ y. ltb (number_of x) (number_of y)) ys ≡ true
+      → put_in number_of x ys ≡ x ∷ ys
   put_in_front x [] all = refl
   put_in_front x (y ∷ ys) all = put_in-low x y ys (and_parts (ltb (number_of x) (number_of y)) _ all).0
 
@@ -81,7 +87,8 @@ module _ {T : Type 0} (number_of : T → ℕ) where
   put_in_last x (y ∷ ys) all =
       let parts = and_parts (ltb (number_of y) (number_of x)) _ all in
       let below = ltb-true (number_of y) (number_of x) parts.0 in
-      put_in-high x y ys (le-ltb (number_of x) (number_of y) (omega arith)) ∙ ap (λ zs. y ∷ zs) (put_in_last x ys parts.1)
+      put_in-high x y ys (le-ltb (number_of x) (number_of y) (omega arith))
+      ∙ ap (λ zs. y ∷ zs) (put_in_last x ys parts.1)
 
   -- a value put in before one at the end that is above it
   pub put_in-push : (y x : T) (ys : List T) → number_of y < number_of x
@@ -99,7 +106,8 @@ module _ {T : Type 0} (number_of : T → ℕ) where
       → map f (put_in number_of x ys) ≡ put_in number_of (f x) (map f ys)
   map-put_in f keeps x [] = refl
   map-put_in f keeps x (y ∷ ys) =
-      let same : ltb (number_of (f x)) (number_of (f y)) ≡ ltb (number_of x) (number_of y) = rw (keeps x, keeps y) refl in
+      let same : ltb (number_of (f x)) (number_of (f y)) ≡ ltb (number_of x) (number_of y) =
+      rw (keeps x, keeps y) refl in
       elim (cases_Bool (ltb (number_of x) (number_of y))) [
         | inl low ↦ ap (map f) (put_in-low x y ys low) ∙ sym (put_in-low (f x) (f y) (map f ys) (same ∙ low))
         | inr high ↦ ap (map f) (put_in-high x y ys high) ∙ ap (λ zs. f y ∷ zs) (map-put_in f keeps x ys)
@@ -107,12 +115,15 @@ module _ {T : Type 0} (number_of : T → ℕ) where
       ]
 
   -- one that does not pass is not left
-  pub filter-put_in_out : (p : T → Bool) (x : T) (ys : List T) → p x ≡ false → filter p (put_in number_of x ys) ≡ filter p ys
+  pub filter-put_in_out : (p : T → Bool) (x : T) (ys : List T) → p x ≡ false
+      → filter p (put_in number_of x ys) ≡ filter p ys
   filter-put_in_out p x [] fails = cond-false (p x) (x ∷ []) [] fails
   filter-put_in_out p x (y ∷ ys) fails =
       elim (cases_Bool (ltb (number_of x) (number_of y))) [
-        | inl low ↦ ap (filter p) (put_in-low x y ys low) ∙ cond-false (p x) (x ∷ filter p (y ∷ ys)) (filter p (y ∷ ys)) fails
-        | inr high ↦ ap (filter p) (put_in-high x y ys high) ∙ ap (λ zs. cond (p y) (y ∷ zs) zs) (filter-put_in_out p x ys fails)
+        | inl low ↦ ap (filter p) (put_in-low x y ys low)
+            ∙ cond-false (p x) (x ∷ filter p (y ∷ ys)) (filter p (y ∷ ys)) fails
+        | inr high ↦ ap (filter p) (put_in-high x y ys high)
+            ∙ ap (λ zs. cond (p y) (y ∷ zs) zs) (filter-put_in_out p x ys fails)
       ]
 
   -- one that passes may be put in behind
@@ -130,30 +141,36 @@ module _ {T : Type 0} (number_of : T → ℕ) where
               ltb-true (number_of y)
                   (number_of z) h,
             )) in
-            let all = and_from (ltb (number_of x) (number_of y)) _ low (list_all-weaker (λ z. ltb (number_of y) (number_of z))
+            let all =
+            and_from (ltb (number_of x) (number_of y)) _ low (list_all-weaker (λ z. ltb (number_of y) (number_of z))
             (λ z. ltb (number_of x) (number_of z)) above ys parts.0) in
             ap (filter p) (put_in-low x y ys low) ∙ cond-true (p x) (x ∷ filter p (y ∷ ys)) (filter p (y ∷ ys)) passes
-            ∙ sym (put_in_front x (filter p (y ∷ ys)) (list_all-filter p (λ z. ltb (number_of x) (number_of z)) (y ∷ ys) all))
+            ∙ sym (put_in_front x (filter p (y ∷ ys)) (list_all-filter p (λ z. ltb (number_of x) (number_of z)) (y ∷ ys)
+            all))
         | inr high ↦
             let later = filter-put_in p x ys passes parts.1 in
             elim (cases_Bool (p y)) [
               | inl in_it ↦
-                  ap (filter p) (put_in-high x y ys high) ∙ cond-true (p y) (y ∷ filter p (put_in number_of x ys)) _ in_it
+                  ap (filter p) (put_in-high x y ys high)
+                  ∙ cond-true (p y) (y ∷ filter p (put_in number_of x ys)) _ in_it
                   ∙ ap (λ zs. y ∷ zs) later ∙ sym (put_in-high x y (filter p ys) high)
                   ∙ sym (ap (put_in number_of x) (cond-true (p y) (y ∷ filter p ys) (filter p ys) in_it))
               | inr out ↦
-                  ap (filter p) (put_in-high x y ys high) ∙ cond-false (p y) (y ∷ filter p (put_in number_of x ys)) _ out
+                  ap (filter p) (put_in-high x y ys high)
+                  ∙ cond-false (p y) (y ∷ filter p (put_in number_of x ys)) _ out
                   ∙ later ∙ sym (ap (put_in number_of x) (cond-false (p y) (y ∷ filter p ys) (filter p ys) out))
             ]
       ]
 
   -- one that does not pass is not found
-  pub find-put_in_other : (p : T → Bool) (x : T) (ys : List T) → p x ≡ false → find p (put_in number_of x ys) ≡ find p ys
+  pub find-put_in_other : (p : T → Bool) (x : T) (ys : List T) → p x ≡ false
+      → find p (put_in number_of x ys) ≡ find p ys
   find-put_in_other p x [] fails = cond-false (p x) (Some x) None fails
   find-put_in_other p x (y ∷ ys) fails =
       elim (cases_Bool (ltb (number_of x) (number_of y))) [
         | inl low ↦ ap (find p) (put_in-low x y ys low) ∙ cond-false (p x) (Some x) (find p (y ∷ ys)) fails
-        | inr high ↦ ap (find p) (put_in-high x y ys high) ∙ ap (λ o. cond (p y) (Some y) o) (find-put_in_other p x ys fails)
+        | inr high ↦ ap (find p) (put_in-high x y ys high)
+            ∙ ap (λ o. cond (p y) (Some y) o) (find-put_in_other p x ys fails)
       ]
 
   -- the only one that passes is found
@@ -175,7 +192,8 @@ module _ {T : Type 0} (number_of : T → ℕ) where
   rising_put_in x (y ∷ ys) rising =
       elim (cases_Bool (ltb (number_of x) (number_of y))) [
         | inl low ↦
-            let parts = and_parts (list_all (λ z. ltb (number_of x) (number_of z)) (y ∷ ys)) (is_rising number_of (y ∷ ys))
+            let parts =
+            and_parts (list_all (λ z. ltb (number_of x) (number_of z)) (y ∷ ys)) (is_rising number_of (y ∷ ys))
             (rw (put_in-low x y ys low) at rising) in
             let apart = λ (z : T) (h : ltb (number_of x) (number_of z) ≡ true).
             not_from_false (eqb (number_of z) (number_of x)) (ne_eqb (number_of z) (number_of x)
@@ -198,27 +216,33 @@ module _ {T : Type 0} (number_of : T → ℕ) where
   pub rising-map : (f : T → T) → ((z : T) → number_of (f z) ≡ number_of z) → (ys : List T)
       → is_rising number_of (map f ys) ≡ is_rising number_of ys
   rising-map f keeps [] = refl
-  rising-map f keeps (y ∷ ys) = rw (list_all-map (λ z. ltb (number_of (f y)) (number_of z)) f ys, rising-map f keeps ys, keeps y)
+  rising-map f keeps (y ∷ ys) =
+      rw (list_all-map (λ z. ltb (number_of (f y)) (number_of z)) f ys, rising-map f keeps ys, keeps y)
       (simp keeps refl)
 
   -- those that are left rise
-  pub rising-filter : (p : T → Bool) (ys : List T) → is_rising number_of ys ≡ true → is_rising number_of (filter p ys) ≡ true
+  pub rising-filter : (p : T → Bool) (ys : List T) → is_rising number_of ys ≡ true
+      → is_rising number_of (filter p ys) ≡ true
   rising-filter p [] rising = refl
   rising-filter p (y ∷ ys) rising =
       let parts = and_parts (list_all (λ z. ltb (number_of y) (number_of z)) ys) (is_rising number_of ys) rising in
       elim (cases_Bool (p y)) [
         | inl in_it ↦ ap (is_rising number_of) (cond-true (p y) (y ∷ filter p ys) (filter p ys) in_it)
-            ∙ and_from _ _ (list_all-filter p (λ z. ltb (number_of y) (number_of z)) ys parts.0) (rising-filter p ys parts.1)
-        | inr out ↦ ap (is_rising number_of) (cond-false (p y) (y ∷ filter p ys) (filter p ys) out) ∙ rising-filter p ys parts.1
+            ∙ and_from _ _ (list_all-filter p (λ z. ltb (number_of y) (number_of z)) ys parts.0)
+            (rising-filter p ys parts.1)
+        | inr out ↦ ap (is_rising number_of) (cond-false (p y) (y ∷ filter p ys) (filter p ys) out)
+            ∙ rising-filter p ys parts.1
       ]
 
   -- with one at the end that is above all they rise
-  pub rising-push : (x : T) (ys : List T) → is_rising number_of ys ≡ true → list_all (λ y. ltb (number_of y) (number_of x)) ys ≡ true
+  pub rising-push : (x : T) (ys : List T) → is_rising number_of ys ≡ true
+      → list_all (λ y. ltb (number_of y) (number_of x)) ys ≡ true
       → is_rising number_of (ys ++ x ∷ []) ≡ true
   rising-push x [] rising all = refl
   rising-push x (y ∷ ys) rising all =
       let parts = and_parts (list_all (λ z. ltb (number_of y) (number_of z)) ys) (is_rising number_of ys) rising in
       let below = and_parts (ltb (number_of y) (number_of x)) _ all in
       and_from _ _
-      (list_all-append (λ z. ltb (number_of y) (number_of z)) ys (x ∷ []) ∙ and_from _ _ parts.0 (and_from _ _ below.0 refl))
+      (list_all-append (λ z. ltb (number_of y) (number_of z)) ys (x ∷ [])
+      ∙ and_from _ _ parts.0 (and_from _ _ below.0 refl))
       (rising-push x ys parts.1 below.1)

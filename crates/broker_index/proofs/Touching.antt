@@ -11,16 +11,19 @@ use Rattle.broker_index.proofs.Slots.{in_order-change, in_order-remove, find-slo
 
 module _ {T : Type 0} where
   -- each that passes, as a test and as a fact
-  pub list_all-from_All : (p : T → Bool) (P : T → Type 0) → ((x : T) → P x → p x ≡ true) → (xs : List T) → All P xs → list_all p xs ≡ true
+  pub list_all-from_All : (p : T → Bool) (P : T → Type 0) → ((x : T) → P x → p x ≡ true) → (xs : List T) → All P xs
+      → list_all p xs ≡ true
   list_all-from_All p P test [] all = refl
   list_all-from_All p P test (x ∷ xs) all = and_from (p x) (list_all p xs) (test x (All-head P x xs all))
       (list_all-from_All p P test xs (All-tail P x xs all))
 
-  pub All-from_list_all : (p : T → Bool) (P : T → Type 0) → ((x : T) → p x ≡ true → P x) → (xs : List T) → list_all p xs ≡ true → All P xs
+  pub All-from_list_all : (p : T → Bool) (P : T → Type 0) → ((x : T) → p x ≡ true → P x) → (xs : List T)
+      → list_all p xs ≡ true → All P xs
   All-from_list_all p P fact [] all = All-nil P
   All-from_list_all p P fact (x ∷ xs) all =
       elim (cases_Bool (p x)) [
-        | inl is ↦ All-cons P x xs (fact x is) (All-from_list_all p P fact xs (sym (cond-and (p x) (list_all p xs) is) ∙ all))
+        | inl is ↦ All-cons P x xs (fact x is) (All-from_list_all p P fact xs
+            (sym (cond-and (p x) (list_all p xs) is) ∙ all))
         | inr isnt ↦ absurd (false≢true (sym (not_and (p x) (list_all p xs) isnt) ∙ all))
       ]
     where
@@ -54,17 +57,20 @@ module _ {T : Type 0} (number_of : T → ℕ) where
       ]
 
   -- the slot of the value of this number is written
-  pub in_order-touch : (g : T → T) → ((z : T) → number_of (g z) ≡ number_of z) → (slots : List (Option T)) (key number : ℕ) (v w : T)
+  pub in_order-touch : (g : T → T) → ((z : T) → number_of (g z) ≡ number_of z)
+      → (slots : List (Option T)) (key number : ℕ) (v w : T)
       → get_or slots key None ≡ Some v → number_of v ≡ number → w ≡ g v
       → is_rising number_of (in_order number_of slots) ≡ true
       → in_order number_of (set slots key (Some w)) ≡ map (touch number g) (in_order number_of slots)
   in_order-touch g keeps slots key number v w found has written rising =
       in_order-change number_of (touch number g) (touch-keeps number g keeps) slots key v w found rising
       (cond-true (eqb (number_of v) number) (g v) v (eq-eqb (number_of v) number has) ∙ sym written)
-      (λ z apart. cond-false (eqb (number_of z) number) (g z) z (ap (λ n. eqb (number_of z) n) (sym has) ∙ not-true _ apart))
+      (λ z apart. cond-false (eqb (number_of z) number) (g z) z (ap (λ n. eqb (number_of z) n) (sym has)
+      ∙ not-true _ apart))
 
   -- what each slot's value passes, all values pass
-  pub all_in_order : (p : T → Bool) (slots : List (Option T)) → ((key : ℕ) (v : T) → get_or slots key None ≡ Some v → p v ≡ true)
+  pub all_in_order : (p : T → Bool) (slots : List (Option T))
+      → ((key : ℕ) (v : T) → get_or slots key None ≡ Some v → p v ≡ true)
       → list_all p (in_order number_of slots) ≡ true
   all_in_order p [] each = refl
   all_in_order p (None ∷ slots) each = all_in_order p slots (λ key. each (suc key))
@@ -76,11 +82,14 @@ module _ {T : Type 0} (number_of : T → ℕ) where
   pub in_order-untouched : (g : T → T) (slots : List (Option T)) (number : ℕ) → HasNone slots number
       → map (touch number g) (in_order number_of slots) ≡ in_order number_of slots
   in_order-untouched g slots number none =
-      map_same (is_other number) (touch number g) (λ z other. cond-false (eqb (number_of z) number) (g z) z (not-true _ other))
-      (in_order number_of slots) (all_in_order (is_other number) slots (λ key v found. not_from_false _ (ne_eqb _ _ (none key v found))))
+      map_same (is_other number) (touch number g) (λ z other. cond-false (eqb (number_of z) number) (g z) z
+      (not-true _ other))
+      (in_order number_of slots) (all_in_order (is_other number) slots (λ key v found. not_from_false _
+      (ne_eqb _ _ (none key v found))))
 
   -- the slot of the value of this number is emptied
-  pub in_order-taken : (slots : List (Option T)) (key number : ℕ) (v : T) → get_or slots key None ≡ Some v → number_of v ≡ number
+  pub in_order-taken : (slots : List (Option T)) (key number : ℕ) (v : T) → get_or slots key None ≡ Some v
+      → number_of v ≡ number
       → is_rising number_of (in_order number_of slots) ≡ true
       → in_order number_of (set slots key None) ≡ filter (is_other number) (in_order number_of slots)
   in_order-taken slots key number v found has rising =
@@ -95,8 +104,10 @@ module _ {T : Type 0} (number_of : T → ℕ) where
       (all_in_order (is_other number) slots (λ key v found. not_from_false _ (ne_eqb _ _ (none key v found))))
 
   -- the value of this number is found
-  pub found_in_order : (slots : List (Option T)) (key number : ℕ) (v : T) → get_or slots key None ≡ Some v → number_of v ≡ number
-      → is_rising number_of (in_order number_of slots) ≡ true → find (λ z. eqb (number_of z) number) (in_order number_of slots) ≡ Some v
+  pub found_in_order : (slots : List (Option T)) (key number : ℕ) (v : T) → get_or slots key None ≡ Some v
+      → number_of v ≡ number
+      → is_rising number_of (in_order number_of slots) ≡ true
+      → find (λ z. eqb (number_of z) number) (in_order number_of slots) ≡ Some v
   found_in_order slots key number v found has rising =
       find-slot number_of (λ z. eqb (number_of z) number) slots key v found rising (eq-eqb (number_of v) number has)
       (λ z apart. ap (eqb (number_of z)) (sym has) ∙ not-true _ apart)
@@ -118,7 +129,8 @@ module _ {T : Type 0} (number_of : T → ℕ) where
 
   -- the slot of a value is written with the same value
   pub in_order-kept : (slots : List (Option T)) (key : ℕ) (v w : T) → get_or slots key None ≡ Some v → w ≡ v
-      → is_rising number_of (in_order number_of slots) ≡ true → in_order number_of (set slots key (Some w)) ≡ in_order number_of slots
+      → is_rising number_of (in_order number_of slots) ≡ true
+      → in_order number_of (set slots key (Some w)) ≡ in_order number_of slots
   in_order-kept slots key v w found written rising =
       in_order-change number_of (λ z. z) (λ z. refl) slots key v w found rising (sym written) (λ z apart. refl)
       ∙ itself (in_order number_of slots)

@@ -1,5 +1,6 @@
 -- What the containers of a broker's queues hold.
-use Rattle.std.specs.Prelude.{◌≡◌, ◌≢◌, ℕ, Bool, ◌==◌, ◌&&◌, nat_le, not, if◌then◌else◌, List, [], ◌∷◌, ◌++◌, length, filter, Option}
+use Rattle.std.specs.Prelude.{◌≡◌, ◌≢◌, ℕ, Bool, ◌==◌, ◌&&◌, nat_le, not, if◌then◌else◌, List, [], ◌∷◌, ◌++◌, length}
+use Rattle.std.specs.Prelude.{filter, Option}
 use Rattle.std.specs.Prelude.{Some, None}
 use Rattle.std.specs.Option.{unwrap_or}
 use Rattle.std.specs.Map.{lookup}
@@ -42,8 +43,8 @@ without number ps = filter (λ p. not (p.number == number)) ps
 
 -- ---- subscribers
 
--- a subscription, how many deliveries to it are unanswered, and the deliveries that were made to it: those that are unanswered, and
--- perhaps others
+-- a subscription, how many deliveries to it are unanswered, and the deliveries that were made to it: those that are
+-- unanswered, and perhaps others
 pub record Subscriber : Type 0 where
   pub age : ℕ
   pub subscription : Subscription
@@ -72,8 +73,8 @@ without_entries age number s = if s.age == age then record s { entries = entries
 
 -- ---- queues
 
--- a destination: the messages that go to it, how many of them aren't gone, a number that no ready one is before; and the subscribers that
--- listen on it, with an age that none with credit is before
+-- a destination: the messages that go to it, how many of them aren't gone, a number that no ready one is before; and
+-- the subscribers that listen on it, with an age that none with credit is before
 pub record Queue : Type 0 where
   pub numbers : List Place
   pub count : ℕ

@@ -12,7 +12,8 @@ queues_in (Some d ∷ slots) = (d.name, d.queue) ∷ queues_in slots
 
 -- the name of each leads to its slot
 abbrev pub AreFound : {Y : Type 0} → List (Option Destination) → BTreeMap (String Y) ℕ → Type 0
-AreFound slots keys = (key : ℕ) (d : Destination) → slice_index_or slots key None ≡ Some d → get_by_text keys d.name ≡ Some key
+AreFound slots keys =
+    (key : ℕ) (d : Destination) → slice_index_or slots key None ≡ Some d → get_by_text keys d.name ≡ Some key
 
 -- and each name leads to a slot that has it
 abbrev pub AreLed : {Y : Type 0} → List (Option Destination) → BTreeMap (String Y) ℕ → Type 0

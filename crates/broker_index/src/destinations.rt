@@ -1,9 +1,11 @@
 //! The destinations of a broker.
 
-ghost use Rattle.std.specs.Prelude.{◌≡◌, ◌≢◌, ◌<◌, ℕ, [], true, false, map, All, Some, IfNone, IfOk, IfSome, OnOk, OnErr};
+ghost use Rattle.std.specs.Prelude.{◌≡◌, ◌≢◌, ◌<◌, ℕ, [], true, false, map, All, Some, IfNone, IfOk, IfSome, OnOk};
+ghost use Rattle.std.specs.Prelude.{OnErr};
 ghost use Rattle.std.specs.Option.{option_copied, option_map, option_and_then, ForSome};
 ghost use Rattle.slab.specs.Slab.{get};
-ghost use Rattle.broker_index.specs.Index.{Sets, is_idle, opened, queue_at, unless_idle, with_number, without_number, counting, ready_from};
+ghost use Rattle.broker_index.specs.Index.{Sets, is_idle, opened, queue_at, unless_idle, with_number, without_number};
+ghost use Rattle.broker_index.specs.Index.{counting, ready_from};
 ghost use Rattle.broker_index.specs.Index.{with_subscriber, without_subscriber, taken_from};
 ghost use Rattle.broker_index.specs.Named.{IsIndexed, queues_in};
 ghost use Rattle.broker_index.specs.declared.destinations.Destination.{Destination};
@@ -23,8 +25,9 @@ struct Destination {
     queue: StoredQueue,
 }
 
-/// The queues of a broker by the names of their destinations. A queue lies in a slab under the key that the map tells for its name; `last`
-/// is the key that was last looked up, a hint that saves the map's search where the same name comes again.
+/// The queues of a broker by the names of their destinations. A queue lies in a slab under the key that the map tells
+/// for its name; `last` is the key that was last looked up, a hint that saves the map's search where the same name
+/// comes again.
 #[derive(Drop)]
 pub struct Destinations {
     alloc: Global,
@@ -136,7 +139,8 @@ impl Destinations {
     /// # Errors
     /// Where memory is refused; then nothing has changed.
     pub fn open(&mut self, name: &Text) -> Result<(), AllocError>
-        ensures ok { OnOk result (Sets (queue_at self.old) (queue_at self.new) name.now (Some (opened (queue_at self.old name.now)))) }
+        ensures ok { OnOk result (Sets (queue_at self.old) (queue_at self.new) name.now
+            (Some (opened (queue_at self.old name.now)))) }
         ensures err { OnErr result (self.new ≡ self.old) }
     {
         match find_queue(&self.slab, &self.keys, self.last, name) {
@@ -151,7 +155,8 @@ impl Destinations {
     /// Adds an empty queue of a name that none has.
     fn add(&mut self, name: &Text) -> Result<(), AllocError>
         requires { queue_at self.old name.now ≡ None }
-        ensures ok { OnOk result (Sets (queue_at self.old) (queue_at self.new) name.now (Some (opened (queue_at self.old name.now)))) }
+        ensures ok { OnOk result (Sets (queue_at self.old) (queue_at self.new) name.now
+            (Some (opened (queue_at self.old name.now)))) }
         ensures err { OnErr result (self.new ≡ self.old) }
     {
         let destination = Destination {
@@ -186,7 +191,8 @@ impl Destinations {
 
     /// Takes a message from the queue of this name, if there is one. It takes no memory.
     pub fn remove_number(&mut self, name: &Text, number: u64)
-        ensures { Sets (queue_at self.old) (queue_at self.new) name.now (option_map (without_number number) (queue_at self.old name.now)) }
+        ensures { Sets (queue_at self.old) (queue_at self.new) name.now (option_map (without_number number)
+            (queue_at self.old name.now)) }
     {
         match find_queue(&self.slab, &self.keys, self.last, name) {
             Some(key) => {
@@ -199,7 +205,8 @@ impl Destinations {
 
     /// Says how many messages of the queue of this name aren't gone, if there is one. It takes no memory.
     pub fn set_count(&mut self, name: &Text, count: usize)
-        ensures { Sets (queue_at self.old) (queue_at self.new) name.now (option_map (counting count) (queue_at self.old name.now)) }
+        ensures { Sets (queue_at self.old) (queue_at self.new) name.now (option_map (counting count)
+            (queue_at self.old name.now)) }
     {
         match find_queue(&self.slab, &self.keys, self.last, name) {
             Some(key) => {
@@ -210,9 +217,11 @@ impl Destinations {
         }
     }
 
-    /// Says of the queue of this name, if there is one, that no message before this number is ready. It takes no memory.
+    /// Says of the queue of this name, if there is one, that no message before this number is ready. It takes no
+    /// memory.
     pub fn set_ready_from(&mut self, name: &Text, number: u64)
-        ensures { Sets (queue_at self.old) (queue_at self.new) name.now (option_map (ready_from number) (queue_at self.old name.now)) }
+        ensures { Sets (queue_at self.old) (queue_at self.new) name.now (option_map (ready_from number)
+            (queue_at self.old name.now)) }
     {
         match find_queue(&self.slab, &self.keys, self.last, name) {
             Some(key) => {
@@ -244,7 +253,8 @@ impl Destinations {
 
     /// Takes a subscriber from the queue of this name, if there is one. It takes no memory.
     pub fn remove_subscriber(&mut self, name: &Text, age: u64)
-        ensures { Sets (queue_at self.old) (queue_at self.new) name.now (option_map (without_subscriber age) (queue_at self.old name.now)) }
+        ensures { Sets (queue_at self.old) (queue_at self.new) name.now (option_map (without_subscriber age)
+            (queue_at self.old name.now)) }
     {
         match find_queue(&self.slab, &self.keys, self.last, name) {
             Some(key) => {
@@ -255,9 +265,11 @@ impl Destinations {
         }
     }
 
-    /// Says of the queue of this name, if there is one, that no subscriber before this age has credit. It takes no memory.
+    /// Says of the queue of this name, if there is one, that no subscriber before this age has credit. It takes no
+    /// memory.
     pub fn set_taker_from(&mut self, name: &Text, age: u64)
-        ensures { Sets (queue_at self.old) (queue_at self.new) name.now (option_map (taken_from age) (queue_at self.old name.now)) }
+        ensures { Sets (queue_at self.old) (queue_at self.new) name.now (option_map (taken_from age)
+            (queue_at self.old name.now)) }
     {
         match find_queue(&self.slab, &self.keys, self.last, name) {
             Some(key) => {
@@ -270,7 +282,8 @@ impl Destinations {
 
     /// Takes the queue of this name out, if there is one and it is idle. It takes no memory.
     pub fn close(&mut self, name: &Text)
-        ensures { Sets (queue_at self.old) (queue_at self.new) name.now (option_and_then unless_idle (queue_at self.old name.now)) }
+        ensures { Sets (queue_at self.old) (queue_at self.new) name.now (option_and_then unless_idle
+            (queue_at self.old name.now)) }
     {
         match find_queue(&self.slab, &self.keys, self.last, name) {
             Some(key) => {

@@ -58,7 +58,8 @@ pub(crate) fn find_value<'a, T: Keyed>(slab: &'a Slab<T>, number: u64, hint: usi
 /// Puts a value in whose number is above all others, and gives its key.
 pub(crate) fn put_value<T: Keyed + Drop>(slab: &mut Slab<T>, value: T) -> Result<usize, AllocError>
     requires rising { is_rising T.number_of (in_order T.number_of slab.old.slots) ≡ true }
-    requires below { list_all (λ v. nat_lt (T.number_of v) (T.number_of value)) (in_order T.number_of slab.old.slots) ≡ true }
+    requires below { list_all (λ v. nat_lt (T.number_of v) (T.number_of value)) (in_order T.number_of slab.old.slots)
+        ≡ true }
     ensures ok { OnOk result (in_order T.number_of slab.new.slots ≡ in_order T.number_of slab.old.slots ++ value ∷ []) }
     ensures err { OnErr result (in_order T.number_of slab.new.slots ≡ in_order T.number_of slab.old.slots) }
     ensures rising { is_rising T.number_of (in_order T.number_of slab.new.slots) ≡ true }

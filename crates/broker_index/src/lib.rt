@@ -1,13 +1,17 @@
-//! What the queues of a broker are kept in, so that a step costs about the same however many messages, subscribers and sessions there are.
+//! What the queues of a broker are kept in, so that a step costs about the same however many messages, subscribers and
+//! sessions there are.
 //!
-//! - [`Messages`] and [`Subscribers`] lie in slabs. A message is found by its number and a subscriber by its age; the key that each was
-//!   given makes that one look. A key is only a hint: with any other key the answer is the same, after a search through all.
-//! - [`Destinations`] lie in a slab too. An ordered map tells the key of a name, and a name that comes again and again is looked up once:
-//!   the key of the last call is a hint, at which is looked first. [`Sessions`] are an ordered map, and so are the numbers of a queue's
-//!   messages and the ages of its subscribers: a look-up takes time that grows with the logarithm of their number.
+//! - [`Messages`] and [`Subscribers`] lie in slabs. A message is found by its number and a subscriber by its age; the
+//!   key that each was given makes that one look. A key is only a hint: with any other key the answer is the same,
+//!   after a search through all.
+//! - [`Destinations`] lie in a slab too. An ordered map tells the key of a name, and a name that comes again and again
+//!   is looked up once: the key of the last call is a hint, at which is looked first. [`Sessions`] are an ordered map,
+//!   and so are the numbers of a queue's messages and the ages of its subscribers: a look-up takes time that grows with
+//!   the logarithm of their number.
 //!
-//! Contracts see lists: messages in order of their numbers, subscribers by age, queues by name and places by session. What is taken out,
-//! counted or marked takes no memory; what is put in may be refused memory, and then nothing has changed.
+//! Contracts see lists: messages in order of their numbers, subscribers by age, queues by name and places by session.
+//! What is taken out, counted or marked takes no memory; what is put in may be refused memory, and then nothing has
+//! changed.
 //!
 //! ```rust
 //! pub fn an_idle_destination_is_closed(alloc: Global) -> Result<bool, QueueFault> {

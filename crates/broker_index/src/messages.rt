@@ -1,4 +1,7 @@
 //! The messages of a broker.
+//!
+//! The messages' own numbers are the truth. A slab's key that was told for a number is a hint: it is tried first, and
+//! whoever stands there by now is asked for its number.
 
 ghost use Rattle.std.specs.Prelude.{◌≡◌, ◌==◌, ◌<◌, ◌++◌, ◌∷◌, [], length, map, filter, not, All, Some, OnOk, OnErr};
 ghost use Rattle.std.specs.Option.{option_copied};
@@ -69,7 +72,8 @@ impl Stored {
     }
 }
 
-/// The messages of a broker, in order of their numbers. A message is found by its number; the key that it was given makes that quick.
+/// The messages of a broker, in order of their numbers. A message is found by its number; the key that it was given
+/// makes that quick.
 #[derive(Drop)]
 pub struct Messages {
     slab: Slab<Stored>,
@@ -110,7 +114,8 @@ impl Messages {
     /// Where memory is refused; then nothing has changed.
     pub fn push(&mut self, number: u64, sent: &Shared<Sent>) -> Result<usize, AllocError>
         requires { All (λ k. k.number < number) self.old }
-        ensures ok { OnOk result (self.new ≡ self.old ++ record { number = number; sent = sent.now; fate = Some Ready } ∷ []) }
+        ensures ok { OnOk result (self.new ≡ self.old ++ record { number = number; sent = sent.now; fate = Some Ready }
+            ∷ []) }
         ensures err { OnErr result (self.new ≡ self.old) }
     {
         let stored = Stored {

@@ -1,6 +1,7 @@
 //! Where things are.
 
-/// Where a message or a subscriber is: its number or age, by which it is found, and the key that it was given, which makes that quick.
+/// Where a message or a subscriber is: its number or age, by which it is found, and the key that it was given, which
+/// makes that quick.
 #[derive(Clone, Copy, Debug, PartialEq, Eq)]
 pub struct Place {
     /// The number of the message, or the age of the subscriber.

@@ -1,4 +1,7 @@
 //! A destination.
+//!
+//! The two lists are the truth. `ready_from` and `taker_from` are hints: where to look first, never behind what is
+//! looked for, so that one that is too low costs a longer search and no other answer.
 
 ghost use Rattle.std.specs.Prelude.{◌≡◌, ◌<◌, ◌++◌, ◌∷◌, [], ◌≤◌, ◌⊎◌, All, IfSome, OnOk, OnErr};
 ghost use Rattle.std.specs.List.{find};

@@ -49,7 +49,8 @@ impl Sessions {
     /// Adds a subscriber to a session that has some.
     fn push_more(&mut self, session: u64, place: Place) -> Result<(), AllocError>
         requires { IsSome (lookup (λ s. session == s) self.old) }
-        ensures ok { OnOk result (Sets (places_at self.old) (places_at self.new) session (places_at self.old session ++ place ∷ [])) }
+        ensures ok { OnOk result (Sets (places_at self.old) (places_at self.new) session
+            (places_at self.old session ++ place ∷ [])) }
         ensures err { OnErr result (self.new ≡ self.old) }
     {
         match self.places.get_mut(&session) {
@@ -64,7 +65,8 @@ impl Sessions {
     /// Adds a subscriber to a session that had none.
     fn push_first(&mut self, session: u64, place: Place) -> Result<(), AllocError>
         requires { lookup (λ s. session == s) self.old ≡ None }
-        ensures ok { OnOk result (Sets (places_at self.old) (places_at self.new) session (places_at self.old session ++ place ∷ [])) }
+        ensures ok { OnOk result (Sets (places_at self.old) (places_at self.new) session
+            (places_at self.old session ++ place ∷ [])) }
         ensures err { OnErr result (self.new ≡ self.old) }
     {
         let mut places = Vec::new(self.alloc);
@@ -78,7 +80,8 @@ impl Sessions {
     /// # Errors
     /// Where memory is refused; then nothing has changed.
     pub fn push(&mut self, session: u64, place: Place) -> Result<(), AllocError>
-        ensures ok { OnOk result (Sets (places_at self.old) (places_at self.new) session (places_at self.old session ++ place ∷ [])) }
+        ensures ok { OnOk result (Sets (places_at self.old) (places_at self.new) session
+            (places_at self.old session ++ place ∷ [])) }
         ensures err { OnErr result (self.new ≡ self.old) }
     {
         if self.places.contains_key(&session) {

@@ -120,7 +120,8 @@ impl Subscribers {
         }
     }
 
-    /// Adds a subscriber, the youngest, and says where it is: its age and its key. The texts of the subscription are shared.
+    /// Adds a subscriber, the youngest, and says where it is: its age and its key. The texts of the subscription are
+    /// shared.
     ///
     /// # Errors
     /// Where memory is refused, or no age is left; then nothing has changed.

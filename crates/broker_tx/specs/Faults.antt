@@ -1,7 +1,8 @@
 -- The numbers and names of the faults.
 use Rattle.std.specs.Prelude.{ℕ, List, codes}
 use Rattle.broker_tx.specs.declared.fault.TransactionFault.{TransactionFault}
-use Rattle.broker_tx.specs.declared.fault.TransactionFault.TheVariants.{TransactionExists, NoTransaction, Memory, TooMany}
+use Rattle.broker_tx.specs.declared.fault.TransactionFault.TheVariants.{TransactionExists, NoTransaction, Memory}
+use Rattle.broker_tx.specs.declared.fault.TransactionFault.TheVariants.{TooMany}
 
 -- a fault's number
 abbrev pub transaction_fault_number : TransactionFault → ℕ

@@ -1,5 +1,6 @@
 -- The open transactions of a session, and the steps that change them.
-use Rattle.std.specs.Prelude.{◌≡◌, ℕ, Bool, not, nat_lt, if◌then◌else◌, List, [], ◌∷◌, ◌++◌, filter, length, Option, Some, None}
+use Rattle.std.specs.Prelude.{◌≡◌, ℕ, Bool, not, nat_lt, if◌then◌else◌, List, [], ◌∷◌, ◌++◌, filter, length, Option}
+use Rattle.std.specs.Prelude.{Some, None}
 use Rattle.std.specs.Prelude.{Result, Ok, Err}
 use Rattle.std.specs.List.{find, list_any}
 use Rattle.std.specs.Str.{bytes_eq}
@@ -7,7 +8,8 @@ use Rattle.base.specs.declared.limits.TheConstants.{MAX_ACTIONS, MAX_TRANSACTION
 use Rattle.broker_book.specs.declared.parts.Action.{Action}
 use Rattle.broker_tx.specs.First.{first_changed}
 use Rattle.broker_tx.specs.declared.fault.TransactionFault.{TransactionFault}
-use Rattle.broker_tx.specs.declared.fault.TransactionFault.TheVariants.{TransactionExists, NoTransaction, Memory, TooMany}
+use Rattle.broker_tx.specs.declared.fault.TransactionFault.TheVariants.{TransactionExists, NoTransaction, Memory}
+use Rattle.broker_tx.specs.declared.fault.TransactionFault.TheVariants.{TooMany}
 
 -- an open transaction: its name, and what it keeps until its end, in order
 pub record Transaction : Type 0 where
@@ -45,10 +47,12 @@ abbrev pub with_action : Action → Transaction → Transaction
 with_action action t = record t { actions = t.actions ++ action ∷ [] }
 
 -- an action more for the transaction of this name, which keeps these
-abbrev pub add_to : List Transaction → List ℕ → Action → Option (List Action) → Result (List Transaction) TransactionFault
+abbrev pub add_to : List Transaction → List ℕ → Action → Option (List Action)
+    → Result (List Transaction) TransactionFault
 add_to ts name action None = Err NoTransaction
 add_to ts name action (Some actions) =
-    if nat_lt (length actions) MAX_ACTIONS then Ok (first_changed (is_transaction name) (with_action action) ts) else Err TooMany
+    if nat_lt (length actions) MAX_ACTIONS then Ok (first_changed (is_transaction name) (with_action action) ts)
+    else Err TooMany
 
 -- an action is kept until the end of its transaction
 abbrev pub add_of : List Transaction → List ℕ → Action → Result (List Transaction) TransactionFault
@@ -67,7 +71,8 @@ Exactly step old new (Ok _) = step ≡ Ok new
 Exactly step old new (Err fault) = (step ≡ Err fault) × (new ≡ old)
 
 -- of a call that may be refused memory
-abbrev pub UnlessMemory : {A : Type 0} → Result (List Transaction) TransactionFault → List Transaction → List Transaction
+abbrev pub UnlessMemory : {A : Type 0} → Result (List Transaction) TransactionFault → List Transaction
+    → List Transaction
     → Result A TransactionFault → Type 0
 UnlessMemory step old new (Ok _) = step ≡ Ok new
 UnlessMemory step old new (Err Memory) = new ≡ old

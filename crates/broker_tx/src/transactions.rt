@@ -4,7 +4,8 @@ ghost use Rattle.std.specs.Prelude.{◌≡◌, ◌<◌, ◌∷◌, [], length, f
 ghost use Rattle.std.specs.Option.{option_copied};
 ghost use Rattle.std.specs.List.{find, position, slice_get};
 ghost use Rattle.broker_tx.specs.First.{first_changed};
-ghost use Rattle.broker_tx.specs.Transactions.{Transaction, Exactly, UnlessMemory, actions_of, add_of, begin_of, end_of};
+ghost use Rattle.broker_tx.specs.Transactions.{Transaction, Exactly, UnlessMemory, actions_of, add_of, begin_of};
+ghost use Rattle.broker_tx.specs.Transactions.{end_of};
 ghost use Rattle.broker_tx.specs.Transactions.{is_open, is_transaction, with_action};
 
 use crate::TransactionFault;

@@ -122,6 +122,7 @@ where
     };
     let mut state = read_state::<H, K>(alloc, keep, entity)?;
     let mut outs = Outs::new(alloc);
+    // before the numbers of what it sends are read: a refusal costs one read
     H::apply(alloc, &mut state, &input, &mut outs)?;
     number_outs::<H, K>(alloc, keep, entity, outs.as_slice(), &mut changes)?;
     write::<H, K>(alloc, keep, position, entity, input, state, changes)?;

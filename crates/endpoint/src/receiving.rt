@@ -128,6 +128,7 @@ where
 {
     let _number = letter.number.get(); // the proof needs that it is within the limit
     match read_held(alloc, keep, letter)? {
+        // the first one stays: a letter that comes again says the same, and costs no transaction
         Some(_) => Ok(Ingested::Held),
         None => write_held::<H, K, W>(alloc, keep, letter),
     }

@@ -30,7 +30,8 @@ unfolding calls
 the_second_was_given = (refl, refl, (omega arith, refl, tt))
 
 -- a number under which nothing was opened yet is not open, nor is 0
-nothing_is_open_there : (open_under 3 (book 2 ((1, 20) ∷ (2, 30) ∷ [])) ≡ None) × (open_under 0 (book 2 ((1, 20) ∷ [])) ≡ None)
+nothing_is_open_there : (open_under 3 (book 2 ((1, 20) ∷ (2, 30) ∷ [])) ≡ None)
+    × (open_under 0 (book 2 ((1, 20) ∷ [])) ≡ None)
     × (open_under 1 (book 2 ((1, 20) ∷ [])) ≡ Some 20)
 nothing_is_open_there = (refl, refl, refl)
 
@@ -44,8 +45,10 @@ numbers_go_on : (opened 50 (book 7 []) ≡ book 8 ((8, 50) ∷ [])) × (Opens 50
 numbers_go_on = (refl, (refl, refl))
 
 -- where the last was given none is left, and only there; want of memory changes nothing
-numbers_end : (Opens 50 (book (2 ^ 64 - 1) []) (book (2 ^ 64 - 1) []) (Err NumbersUsed)) × (Opens 50 (book 7 []) (book 7 []) (Err Memory))
-    × (Opens 50 (book 7 []) (book 7 []) (Err NumbersUsed) → ⊥) × (Opens 50 (book (2 ^ 64 - 1) []) (book (2 ^ 64 - 1) []) (Err Memory) → ⊥)
+numbers_end : (Opens 50 (book (2 ^ 64 - 1) []) (book (2 ^ 64 - 1) []) (Err NumbersUsed))
+    × (Opens 50 (book 7 []) (book 7 []) (Err Memory))
+    × (Opens 50 (book 7 []) (book 7 []) (Err NumbersUsed) → ⊥)
+    × (Opens 50 (book (2 ^ 64 - 1) []) (book (2 ^ 64 - 1) []) (Err Memory) → ⊥)
 numbers_end = ((refl, refl), (omega arith, refl), λ h. omega (arith, h.0), λ h. omega (arith, h.0))
 
 -- numbers rise, from 1 up to the last

@@ -1,5 +1,6 @@
 -- What is given is gone, and was opened.
-use Rattle.std.proofs.Common.{◌≡◌, ℕ, zero, suc, ◌+◌, ◌-◌, ◌≤◌, ◌<◌, Bool, true, false, List, [], ◌∷◌, ◌++◌, length, Some, None, refl, sym}
+use Rattle.std.proofs.Common.{◌≡◌, ℕ, zero, suc, ◌+◌, ◌-◌, ◌≤◌, ◌<◌, Bool, true, false, List, [], ◌∷◌, ◌++◌, length}
+use Rattle.std.proofs.Common.{Some, None, refl, sym}
 use Rattle.std.proofs.Common.{ap, subst, ◌∙◌, arith, inl, inr, append_assoc}
 use Rattle.std.specs.Prelude.{nat_lt, slice_get}
 use Rattle.std.specs.declared.cmp.Ordering.TheVariants.{Less, Greater}
@@ -44,14 +45,18 @@ module _ {T : Type 0} where
   -- a number that is no higher than all stands nowhere
   none_above : (n above last : ℕ) (es : List (ℕ × T)) → n ≤ above → Rise above last es → lookup (is n) es ≡ None
   none_above n above last [] le h = refl
-  none_above n above last (e ∷ es) le h = rw (below n e.0 (omega (arith, h.0, le))) (none_above n e.0 last es (omega (arith, h.0, le)) h.1)
+  none_above n above last (e ∷ es) le h =
+      rw (below n e.0 (omega (arith, h.0, le))) (none_above n e.0 last es (omega (arith, h.0, le)) h.1)
 
   -- what stands under a number was given by now
-  found : (n above last : ℕ) (tag : T) (es : List (ℕ × T)) → Rise above last es → lookup (is n) es ≡ Some tag → (above < n) × (n ≤ last)
+  found : (n above last : ℕ) (tag : T) (es : List (ℕ × T)) → Rise above last es → lookup (is n) es ≡ Some tag
+      → (above < n) × (n ≤ last)
   found n above last tag [] h e = absurd cc
   found n above last tag (entry ∷ es) h e = elim (cases_Bool (is n entry.0)) [
-    | inl here ↦ let it : n ≡ entry.0 = same n entry.0 here in (omega (arith, h.0, it), omega (arith, at_most entry.0 last es h.1, it))
-    | inr there ↦ let behind = found n entry.0 last tag es h.1 (rw there at e) in (omega (arith, h.0, behind.0), behind.1)
+    | inl here ↦ let it : n ≡ entry.0 =
+        same n entry.0 here in (omega (arith, h.0, it), omega (arith, at_most entry.0 last es h.1, it))
+    | inr there ↦ let behind =
+        found n entry.0 last tag es h.1 (rw there at e) in (omega (arith, h.0, behind.0), behind.1)
   ]
 
   -- what is taken away is gone
@@ -63,7 +68,8 @@ module _ {T : Type 0} where
   ]
 
   -- taking another one away brings none back
-  stays_gone : (n : ℕ) (test : ℕ → Bool) (es : List (ℕ × T)) → lookup (is n) es ≡ None → lookup (is n) (remove_entry test es) ≡ None
+  stays_gone : (n : ℕ) (test : ℕ → Bool) (es : List (ℕ × T)) → lookup (is n) es ≡ None
+      → lookup (is n) (remove_entry test es) ≡ None
   stays_gone n test [] e = refl
   stays_gone n test (entry ∷ es) e = elim (cases_Bool (is n entry.0)) [
     | inl here ↦ let no : Some entry.1 ≡ None = rw here at e in absurd cc
@@ -74,7 +80,8 @@ module _ {T : Type 0} where
   ]
 
   -- nor does a higher number
-  not_under_more : (n k : ℕ) (tag : T) (es : List (ℕ × T)) → n < k → lookup (is n) es ≡ None → lookup (is n) (es ++ (k, tag) ∷ []) ≡ None
+  not_under_more : (n k : ℕ) (tag : T) (es : List (ℕ × T)) → n < k → lookup (is n) es ≡ None
+      → lookup (is n) (es ++ (k, tag) ∷ []) ≡ None
   not_under_more n k tag [] less e = rw (below n k less) refl
   not_under_more n k tag (entry ∷ es) less e = elim (cases_Bool (is n entry.0)) [
     | inl here ↦ let no : Some entry.1 ≡ None = rw here at e in absurd cc
@@ -90,7 +97,8 @@ module _ {T : Type 0} where
   still_book (Closed n answer ∷ calls) old new b leads =
       still_book calls (closed n old) new (record { numbered = removed (is n) 0 old.last old.tags b.numbered }) leads.1
 
-  parted : (xs ys : List (Call T)) (old new : ReceiptBook T) → Leads old (xs ++ ys) new → (between : ReceiptBook T) × Leads old xs between
+  parted : (xs ys : List (Call T)) (old new : ReceiptBook T) → Leads old (xs ++ ys) new → (between : ReceiptBook T)
+      × Leads old xs between
       × Leads between ys new
   parted [] ys old new leads = (old, refl, leads)
   parted (Opened tag ∷ xs) ys old new leads = parted xs ys (opened tag old) new leads
@@ -98,11 +106,13 @@ module _ {T : Type 0} where
       let rest = parted xs ys (closed n old) new leads.1 in (rest.0, (leads.0, rest.1), rest.2)
 
   -- a number that was given and isn't open is open never again
-  stays_closed : (calls : List (Call T)) (n : ℕ) (old new : ReceiptBook T) → n ≤ old.last → open_under n old ≡ None → Leads old calls new
+  stays_closed : (calls : List (Call T)) (n : ℕ) (old new : ReceiptBook T) → n ≤ old.last → open_under n old ≡ None
+      → Leads old calls new
       → open_under n new ≡ None
   stays_closed [] n old new le e leads = rw leads e
   stays_closed (Opened tag ∷ calls) n old new le e leads =
-      stays_closed calls n (opened tag old) new (omega (arith, le)) (not_under_more n (old.last + 1) tag old.tags (omega (arith, le)) e)
+      stays_closed calls n (opened tag old) new (omega (arith, le)) (not_under_more n (old.last + 1) tag old.tags
+      (omega (arith, le)) e)
       leads
   stays_closed (Closed k answer ∷ calls) n old new le e leads =
       stays_closed calls n (closed k old) new le (stays_gone n (is k) old.tags e) leads.1
@@ -114,7 +124,8 @@ module _ {T : Type 0} where
       let first = parted before (Closed n (Some tag) ∷ between) old second.0 second.1 in
       let book = still_book before old first.0 b first.1 in
       let range = found n 0 first.0.last tag first.0.tags book.numbered (sym first.2.0) in
-      let none = stays_closed between n (closed n first.0) second.0 range.1 (gone n 0 first.0.last first.0.tags book.numbered) first.2.1 in
+      let none = stays_closed between n (closed n first.0) second.0 range.1
+      (gone n 0 first.0.last first.0.tags book.numbered) first.2.1 in
       let no : Some other ≡ None = second.2.0 ∙ none in
       absurd cc
 
@@ -139,9 +150,11 @@ module _ {T : Type 0} where
   one_opened tags n tag [] are len =
       let at : n + 1 - 1 ≡ length tags = omega (arith, len) in
       (omega arith, ap (λ (k : ℕ). slice_get (tags ++ tag ∷ []) k) at ∙ last_at tags tag, tt)
-  one_opened tags n tag (e ∷ es) are len = (are.0, kept_at tags (tag ∷ []) (e.0 - 1) e.1 are.1, one_opened tags n tag es are.2 len)
+  one_opened tags n tag (e ∷ es) are len =
+      (are.0, kept_at tags (tag ∷ []) (e.0 - 1) e.1 are.1, one_opened tags n tag es are.2 len)
 
-  fewer_opened : (tags : List T) (test : ℕ → Bool) (es : List (ℕ × T)) → AreOpened tags es → AreOpened tags (remove_entry test es)
+  fewer_opened : (tags : List T) (test : ℕ → Bool) (es : List (ℕ × T)) → AreOpened tags es
+      → AreOpened tags (remove_entry test es)
   fewer_opened tags test [] are = tt
   fewer_opened tags test (e ∷ es) are = elim (cases_Bool (test e.0)) [
     | inl taken ↦ rw taken are.2
@@ -159,14 +172,16 @@ module _ {T : Type 0} where
     | inr there ↦ opened_at tags n tag es are.2 (rw there at e)
   ]
 
-  pub given_opened : (calls : List (Call T)) (tags : List T) (old new : ReceiptBook T) → AreOpened tags old.tags → length tags ≡ old.last
+  pub given_opened : (calls : List (Call T)) (tags : List T) (old new : ReceiptBook T) → AreOpened tags old.tags
+      → length tags ≡ old.last
       → Leads old calls new
       → AreOpened (tags ++ opened_tags calls) (given calls)
   given_opened [] tags old new are len leads = tt
   given_opened (Opened tag ∷ calls) tags old new are len leads =
       let more : length (tags ++ tag ∷ []) ≡ old.last + 1 = length-append tags (tag ∷ []) ∙ ap (λ (n : ℕ). n + 1) len in
       rw (← append_assoc tags (tag ∷ []) (opened_tags calls))
-      (given_opened calls (tags ++ tag ∷ []) (opened tag old) new (one_opened tags old.last tag old.tags are len) more leads)
+      (given_opened calls (tags ++ tag ∷ []) (opened tag old) new (one_opened tags old.last tag old.tags are len) more
+      leads)
   given_opened (Closed n None ∷ calls) tags old new are len leads =
       given_opened calls tags (closed n old) new (fewer_opened tags (is n) old.tags are) len leads.1
   given_opened (Closed n (Some tag) ∷ calls) tags old new are len leads =

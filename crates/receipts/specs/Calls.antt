@@ -30,4 +30,5 @@ module _ {T : Type 0} where
   -- each of these is the tag that was opened under its number
   abbrev pub AreOpened : List T → List (ℕ × T) → Type 0
   AreOpened tags [] = Unit {0}
-  AreOpened tags (entry ∷ entries) = (0 < entry.0) × (slice_get tags (entry.0 - 1) ≡ Some entry.1) × AreOpened tags entries
+  AreOpened tags (entry ∷ entries) =
+      (0 < entry.0) × (slice_get tags (entry.0 - 1) ≡ Some entry.1) × AreOpened tags entries

@@ -10,7 +10,9 @@ pub fn a_number_is_closed_once<T: Drop>()
         → Leads old (before ++ Closed number (Some tag) ∷ between ++ Closed number (Some other) ∷ []) new → ⊥ }
 {}
 
-/// What is given under a number is the tag that was opened under it: the first that was opened under 1, the second under 2, and so on.
+/// What is given under a number is the tag that was opened under it: the first that was opened under 1, the second
+/// under 2, and so on.
 pub fn what_is_given_was_opened<T: Drop>()
-    ensures { (calls : List (Call T)) (new : ReceiptBook T) → Leads new_book calls new → AreOpened (opened_tags calls) (given calls) }
+    ensures { (calls : List (Call T)) (new : ReceiptBook T) → Leads new_book calls new
+        → AreOpened (opened_tags calls) (given calls) }
 {}

@@ -1,7 +1,9 @@
-//! Receipts: the numbers under which a connection asks to be told that a frame was processed, each with a tag that tells what was sent.
+//! Receipts: the numbers under which a connection asks to be told that a frame was processed, each with a tag that
+//! tells what was sent.
 //!
-//! Numbers are given in order, 1, 2, .., and each once. A number that is closed gives back the tag that was opened under it, and is closed
-//! for good: so each tag is given back at most once, however often its receipt comes. Closing takes no memory.
+//! Numbers are given in order, 1, 2, .., and each once. A number that is closed gives back the tag that was opened
+//! under it, and is closed for good: so each tag is given back at most once, however often its receipt comes. Closing
+//! takes no memory.
 //!
 //! ```text
 //! open a, open b      1, 2

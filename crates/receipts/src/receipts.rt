@@ -10,7 +10,8 @@ use std::alloc::{AllocError, Global};
 use std::collections::BTreeMap;
 use std::marker::Model;
 
-/// The receipts of one connection: contracts see the last number given, and the open tags with their numbers, the lowest first.
+/// The receipts of one connection: contracts see the last number given, and the open tags with their numbers, the
+/// lowest first.
 ///
 /// Opening and closing cost the logarithm of how many are open.
 #[derive(Drop)]
@@ -57,7 +58,8 @@ impl<T: Drop> Receipts<T> {
     /// Opens a receipt for a tag, under the next number.
     ///
     /// # Errors
-    /// `NumbersUsed` exactly where the last number is 2^64 - 1; else `Memory` where a growth was refused. After either nothing has changed.
+    /// `NumbersUsed` exactly where the last number is 2^64 - 1; else `Memory` where a growth was refused. After either
+    /// nothing has changed.
     pub fn open(&mut self, tag: T) -> Result<u64, ReceiptFault>
         ensures { Opens tag self.old self.new result }
     {
@@ -74,7 +76,8 @@ impl<T: Drop> Receipts<T> {
         }
     }
 
-    /// Closes the receipt of a number, and gives its tag; `None` exactly where none is open under it. It takes no memory.
+    /// Closes the receipt of a number, and gives its tag; `None` exactly where none is open under it. It takes no
+    /// memory.
     pub fn close(&mut self, number: u64) -> Option<T>
         ensures tag { result ≡ open_under number self.old }
         ensures closed { self.new ≡ closed number self.old }

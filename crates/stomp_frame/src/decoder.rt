@@ -8,14 +8,16 @@ use crate::{Frame, FrameFault};
 use std::alloc::Global;
 use std::marker::Model;
 
-/// Where it holds nothing, no more room than this is kept.
+/// Where it holds nothing, no more room than this is kept: frames of some headers fit, and a large one isn't paid for
+/// as long as a session lives.
 const RESTING: usize = 32_768;
 
 /// Reads frames from the pieces of a text: contracts see the octets that it holds, and whether it has answered a fault.
 ///
-/// However the text is cut into pieces, its frames are the same, and its fault is. Where `next` finds no whole frame, it leaves at
-/// most `BODY` and 35,910 octets held, and room for four times `BODY`, or for 32,768 octets where nothing is held. A length that is told
-/// takes no memory: its octets do as they come. Of a frame that isn't whole, a later call of `next` reads no octet again but for one.
+/// However the text is cut into pieces, its frames are the same, and its fault is. Where `next` finds no whole frame,
+/// it leaves at most `BODY` and 35,910 octets held, and room for four times `BODY`, or for 32,768 octets where nothing
+/// is held. A length that is told takes no memory: its octets do as they come. Of a frame that isn't whole, a later
+/// call of `next` reads no octet again but for one.
 #[derive(Debug, Drop)]
 pub struct Decoder<const BODY: usize> {
     alloc: Global,
@@ -70,6 +72,7 @@ impl<const BODY: usize> Decoder<BODY> {
         if piece.is_empty() {
             return Ok(());
         }
+        // once the larger part was read, so that no octet is moved more often than others are read
         if self.start > self.octets.len() / 2 {
             self.move_to_front();
         }
@@ -109,10 +112,12 @@ impl<const BODY: usize> Decoder<BODY> {
                 Ok(None)
             }
             Err(fault) => {
+                // what was begun may be half read: it begins anew, over the same octets
                 self.progress = Progress::Line(0);
                 if fault == FrameFault::Memory {
                     return Err(fault);
                 }
+                // where the next frame would begin can't be told behind a fault
                 self.failed = true;
                 Err(fault)
             }

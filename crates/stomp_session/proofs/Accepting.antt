@@ -1,5 +1,6 @@
 -- What a session accepts, and what it refuses.
-use Rattle.std.proofs.Common.{◌≡◌, ◌≢◌, ℕ, Bool, true, false, cond, ◌||◌, ◌&&◌, List, [], ◌∷◌, length, codes, Option, Some, None, Ok, Err}
+use Rattle.std.proofs.Common.{◌≡◌, ◌≢◌, ℕ, Bool, true, false, cond, ◌||◌, ◌&&◌, List, [], ◌∷◌, length, codes, Option}
+use Rattle.std.proofs.Common.{Some, None, Ok, Err}
 use Rattle.std.proofs.Common.{refl, sym, ap, arith}
 use Rattle.std.specs.Prelude.{◌==◌, not, nat_lt, unwrap_or}
 use Rattle.std.specs.List.{AllByRecursion, list_any}
@@ -7,17 +8,21 @@ use Rattle.std.specs.Str.{bytes_eq}
 use Rattle.std.proofs.lemmas.Bool.{ltb-false}
 use Rattle.base.specs.declared.limits.TheConstants.{MAX_BODY, MAX_ECHOED, MAX_OWN_HEADERS}
 use Rattle.stomp_frame.specs.declared.command.Command.{Command}
-use Rattle.stomp_frame.specs.declared.command.Command.TheVariants.{Connect, Stomp, Send, Subscribe, Unsubscribe, Ack, Nack, Begin, Commit}
-use Rattle.stomp_frame.specs.declared.command.Command.TheVariants.{Abort, Disconnect, Connected, Message, Receipt, Error}
+use Rattle.stomp_frame.specs.declared.command.Command.TheVariants.{Connect, Stomp, Send, Subscribe, Unsubscribe, Ack}
+use Rattle.stomp_frame.specs.declared.command.Command.TheVariants.{Nack, Begin, Commit}
+use Rattle.stomp_frame.specs.declared.command.Command.TheVariants.{Abort, Disconnect, Connected, Message, Receipt}
+use Rattle.stomp_frame.specs.declared.command.Command.TheVariants.{Error}
 use Rattle.stomp_frame.specs.Frames.{Header, Content, header, has, value_of, IsFrame, IsOwn}
 use Rattle.stomp_frame.proofs.Escapes.{owned_alike}
 use Rattle.stomp_frame.proofs.Scans.{or_left, or_right}
 use Rattle.stomp_session.specs.declared.fault.SessionFault.{SessionFault}
-use Rattle.stomp_session.specs.declared.fault.SessionFault.TheVariants.{NotConnected, AlreadyConnected, Version, MissingHeader}
+use Rattle.stomp_session.specs.declared.fault.SessionFault.TheVariants.{NotConnected, AlreadyConnected, Version}
+use Rattle.stomp_session.specs.declared.fault.SessionFault.TheVariants.{MissingHeader}
 use Rattle.stomp_session.specs.declared.fault.SessionFault.TheVariants.{WrongCommand, Memory, TooLarge}
 use Rattle.stomp_session.specs.declared.request.Request.{Request}
 use Rattle.stomp_session.specs.Headers.{echoed, has_long, is_long, text_of, own_headers, is_own, offers_version}
-use Rattle.stomp_session.specs.Requests.{opens, is_server, is_send, lacks, is_large, refusal_of, receipt_in, asked_by, asked}
+use Rattle.stomp_session.specs.Requests.{opens, is_server, is_send, lacks, is_large, refusal_of, receipt_in, asked_by}
+use Rattle.stomp_session.specs.Requests.{asked}
 use Rattle.stomp_session.specs.Requests.{request_unless, request_of, receipt_of}
 use Rattle.stomp_session.specs.Replies.{IsEchoed, IsEchoedIfAny, IsCarried, unless_long, receipt_told}
 use Rattle.stomp_session.specs.Fitting.{Fits}
@@ -31,7 +36,8 @@ record IsPassed {A : Type 0} (test : Bool) (rest : Option A) : Type 0 where
   here : test ≡ false
   behind : rest ≡ None
 
-passed : {A : Type 0} (test : Bool) (fault : A) (rest : Option A) → cond test (Some fault) rest ≡ None → IsPassed test rest
+passed : {A : Type 0} (test : Bool) (fault : A) (rest : Option A) → cond test (Some fault) rest ≡ None
+    → IsPassed test rest
 passed true fault rest e = absurd (let k : Some fault ≡ None = e in cc)
 passed false fault rest e = record { here = refl; behind = e }
 
@@ -63,9 +69,11 @@ never_memory connected f =
     finds (connected && opens f.command) AlreadyConnected _ (λ e. cc) (
     finds (lacks f) MissingHeader _ (λ e. cc) (
     finds (is_large f) TooLarge _ (λ e. cc) (
-    finds (opens f.command && not (offers_version (text_of f (codes "accept-version")))) Version None (λ e. cc) (λ e. cc))))))
+    finds (opens f.command && not (offers_version (text_of f (codes "accept-version")))) Version None (λ e. cc)
+    (λ e. cc))))))
 
-refused_by : (refusal : Option SessionFault) (f : Content) → refusal ≢ Some Memory → request_unless refusal f ≢ Err Memory
+refused_by : (refusal : Option SessionFault) (f : Content) → refusal ≢ Some Memory
+    → request_unless refusal f ≢ Err Memory
 refused_by None f other = λ e. cc
 refused_by (Some fault) f other = λ e. other (let same : fault ≡ Memory = cc in ap Some same)
 
@@ -75,7 +83,8 @@ no_memory_is_wanted connected f = refused_by (refusal_of connected f) f (never_m
 -- ---- the values of a frame
 
 -- a value stands in a header of its name
-owned_here : (c : Command) (name : List ℕ) (h : Header) (hs : List Header) (value : List ℕ) (b : Bool) → bytes_eq h.name name ≡ b
+owned_here : (c : Command) (name : List ℕ) (h : Header) (hs : List Header) (value : List ℕ) (b : Bool)
+    → bytes_eq h.name name ≡ b
     → IsOwn c h → (value_of name hs ≡ Some value → IsOwn c (header name value))
     → cond b (Some h.value) (value_of name hs) ≡ Some value → IsOwn c (header name value)
 owned_here c name h hs value true is own behind e =
@@ -90,7 +99,8 @@ owned_value c name (h ∷ hs) value all e =
     owned_here c name h hs value (bytes_eq h.name name) refl all.0 (owned_value c name hs value all.1) e
 
 -- a value that isn't too long is one that can be told
-told_value : (c : Command) (name value : List ℕ) → IsOwn c (header name value) → nat_lt MAX_ECHOED (length value) ≡ false → IsEchoed value
+told_value : (c : Command) (name value : List ℕ) → IsOwn c (header name value)
+    → nat_lt MAX_ECHOED (length value) ≡ false → IsEchoed value
 told_value c name value own short = record {
   plain = or_right (length name == 0 || has 0 name) (has 0 value)
       (or_left (length name == 0 || has 0 name || has 0 value) _ own.header.good);
@@ -112,7 +122,8 @@ told_text (Some value) told = told
 
 -- ---- requests
 
-any_told : (f : Content) (name : List ℕ) → IsFrame MAX_BODY f → has_long f name ≡ false → IsEchoedIfAny (value_of name f.headers)
+any_told : (f : Content) (name : List ℕ) → IsFrame MAX_BODY f → has_long f name ≡ false
+    → IsEchoedIfAny (value_of name f.headers)
 any_told f name is short = told_if_any f.command name f.headers (value_of name f.headers) is.headers refl short
 
 text_told : (f : Content) (name : List ℕ) → IsFrame MAX_BODY f → has_long f name ≡ false → IsEchoed (text_of f name)
@@ -122,16 +133,24 @@ destination_carried : (hs : List Header) (found : Option (List ℕ)) → AllByRe
     → value_of (codes "destination") hs ≡ found
     → IsOwn Message (header (codes "destination") (unwrap_or found []))
 destination_carried hs None all e =
-    owned Message (codes "destination") [] (record { good = refl; ascii = refl; own = refl; utf8 = utf8 [] refl; short = omega arith })
+    owned Message (codes "destination") [] (record {
+      good = refl;
+      ascii = refl;
+      own = refl;
+      utf8 = utf8 [] refl;
+      short = omega arith;
+    })
 destination_carried hs (Some value) all e =
-    owned_alike Send Message (header (codes "destination") value) refl (owned_value Send (codes "destination") hs value all e)
+    owned_alike Send Message (header (codes "destination") value) refl (owned_value Send (codes "destination") hs value
+    all e)
 
 all_carried : (hs : List Header) → AllByRecursion (IsOwn Send) hs → AllByRecursion (IsOwn Message) hs
 all_carried [] all = tt
 all_carried (h ∷ hs) all = (owned_alike Send Message h refl all.0, all_carried hs all.1)
 
 -- what a SEND brings, a MESSAGE can carry
-carried : (f : Content) → IsFrame MAX_BODY f → f.command ≡ Send → nat_lt MAX_OWN_HEADERS (length (own_headers f)) ≡ false
+carried : (f : Content) → IsFrame MAX_BODY f → f.command ≡ Send
+    → nat_lt MAX_OWN_HEADERS (length (own_headers f)) ≡ false
     → IsCarried (text_of f (codes "destination")) (own_headers f) f.body
 carried f is send few =
     let all : AllByRecursion (IsOwn Send) f.headers = rw send at is.headers in
@@ -161,14 +180,19 @@ three_short a b c more none =
 two_short : (a b more : Bool) → ((a || (b || false)) || more) ≡ false → AreShort a b false
 two_short a b more none =
     let both = or_left (a || (b || false)) more none in
-    record { first = or_left a (b || false) both; second = or_left b false (or_right a (b || false) both); third = refl }
+    record {
+      first = or_left a (b || false) both;
+      second = or_left b false (or_right a (b || false) both);
+      third = refl;
+    }
 
 one_short : (a more : Bool) → ((a || false) || more) ≡ false → a ≡ false
 one_short a more none = or_left a false (or_left (a || false) more none)
 
 -- the values of a frame that isn't too large
 fits_by : (c : Command) (f : Content) → IsFrame MAX_BODY f → f.command ≡ c
-    → (list_any (has_long f) (echoed c) || (is_send c && nat_lt MAX_OWN_HEADERS (length (own_headers f)))) ≡ false → Fits (asked_by c f)
+    → (list_any (has_long f) (echoed c) || (is_send c && nat_lt MAX_OWN_HEADERS (length (own_headers f)))) ≡ false
+    → Fits (asked_by c f)
 fits_by Send f is e small =
     let short = two_short (has_long f (codes "receipt")) (has_long f (codes "transaction")) _ small in (
       carried f is e (or_right (list_any (has_long f) (echoed Send)) _ small),
@@ -182,11 +206,19 @@ fits_by Unsubscribe f is e small =
     let short = two_short (has_long f (codes "receipt")) (has_long f (codes "id")) _ small in
     (text_told f (codes "id") is short.second, any_told f (codes "receipt") is short.first)
 fits_by Ack f is e small =
-    let short = three_short (has_long f (codes "receipt")) (has_long f (codes "id")) (has_long f (codes "transaction")) _ small in
-    (text_told f (codes "id") is short.second, any_told f (codes "transaction") is short.third, any_told f (codes "receipt") is short.first)
+    let short = three_short (has_long f (codes "receipt")) (has_long f (codes "id")) (has_long f (codes "transaction"))
+    _ small in (
+      text_told f (codes "id") is short.second,
+      any_told f (codes "transaction") is short.third,
+      any_told f (codes "receipt") is short.first,
+    )
 fits_by Nack f is e small =
-    let short = three_short (has_long f (codes "receipt")) (has_long f (codes "id")) (has_long f (codes "transaction")) _ small in
-    (text_told f (codes "id") is short.second, any_told f (codes "transaction") is short.third, any_told f (codes "receipt") is short.first)
+    let short = three_short (has_long f (codes "receipt")) (has_long f (codes "id")) (has_long f (codes "transaction"))
+    _ small in (
+      text_told f (codes "id") is short.second,
+      any_told f (codes "transaction") is short.third,
+      any_told f (codes "receipt") is short.first,
+    )
 fits_by Begin f is e small =
     let short = two_short (has_long f (codes "receipt")) (has_long f (codes "transaction")) _ small in
     (text_told f (codes "transaction") is short.second, any_told f (codes "receipt") is short.first)
@@ -209,12 +241,14 @@ asked_unless : (refusal : Option SessionFault) (f : Content) (request : Request)
 asked_unless None f request e = (refl, cc)
 asked_unless (Some fault) f request e = absurd (let k : Err fault ≡ Ok request = e in cc)
 
-is_asked : (connected : Bool) (f : Content) (request : Request) → request_of connected f ≡ Ok request → IsAsked connected f request
+is_asked : (connected : Bool) (f : Content) (request : Request) → request_of connected f ≡ Ok request
+    → IsAsked connected f request
 is_asked connected f request e =
     let parts = asked_unless (refusal_of connected f) f request e in
     record { accepted = accepted connected f parts.0; asked = parts.1 }
 
-pub accepted_fits : (connected : Bool) (f : Content) (request : Request) → IsFrame MAX_BODY f → request_of connected f ≡ Ok request
+pub accepted_fits : (connected : Bool) (f : Content) (request : Request) → IsFrame MAX_BODY f
+    → request_of connected f ≡ Ok request
     → Fits request
 accepted_fits connected f request is e =
     let from = is_asked connected f request e in
@@ -248,7 +282,8 @@ receipt_by Connect f client small = refl
 receipt_by Stomp f client small = refl
 receipt_by Send f client small =
     kept (receipt_in f) (two_short (has_long f (codes "receipt")) (has_long f (codes "transaction")) _ small).first
-receipt_by Subscribe f client small = kept (receipt_in f) (two_short (has_long f (codes "receipt")) (has_long f (codes "id")) _ small).first
+receipt_by Subscribe f client small =
+    kept (receipt_in f) (two_short (has_long f (codes "receipt")) (has_long f (codes "id")) _ small).first
 receipt_by Unsubscribe f client small =
     kept (receipt_in f) (two_short (has_long f (codes "receipt")) (has_long f (codes "id")) _ small).first
 receipt_by Ack f client small =

@@ -1,5 +1,6 @@
 -- What a server writes are frames.
-use Rattle.std.proofs.Common.{◌≡◌, ℕ, ◌≤◌, Bool, true, false, cond, List, [], ◌∷◌, length, codes, decimal, Option, Some, None, refl, arith}
+use Rattle.std.proofs.Common.{◌≡◌, ℕ, ◌≤◌, Bool, true, false, cond, List, [], ◌∷◌, length, codes, decimal, Option, Some}
+use Rattle.std.proofs.Common.{None, refl, arith}
 use Rattle.std.specs.Prelude.{◌==◌}
 use Rattle.std.specs.List.{AllByRecursion}
 use Rattle.std.proofs.lemmas.List.{length-append}
@@ -8,7 +9,8 @@ use Rattle.stomp_frame.specs.declared.command.Command.{Command}
 use Rattle.stomp_frame.specs.declared.command.Command.TheVariants.{Connected, Message, Receipt, Error}
 use Rattle.stomp_frame.specs.Frames.{header, is_bad, IsFrame, IsOwn}
 use Rattle.stomp_session.specs.Replies.{IsEchoed, IsEchoedIfAny, IsGiven, IsGivenIfAny, IsTold, Delivered}
-use Rattle.stomp_session.specs.Replies.{connected_frame, receipt_frame, receipt_headers, version_headers, error_message, error_frame}
+use Rattle.stomp_session.specs.Replies.{connected_frame, receipt_frame, receipt_headers, version_headers, error_message}
+use Rattle.stomp_session.specs.Replies.{error_frame}
 use Rattle.stomp_session.specs.Replies.{ack_headers, leading_headers, message_frame}
 use Rattle.stomp_session.proofs.Owning.{owned, echo_owned, utf8, told_number, told_message, all_append}
 
@@ -23,7 +25,8 @@ heart_beat_owned = owned Connected (codes "heart-beat") (codes "0,0") (record {
   short = omega arith;
 })
 
-version_owned : (c : Command) → is_bad c (header (codes "version") (codes "1.2")) ≡ false → IsOwn c (header (codes "version") (codes "1.2"))
+version_owned : (c : Command) → is_bad c (header (codes "version") (codes "1.2")) ≡ false
+    → IsOwn c (header (codes "version") (codes "1.2"))
 version_owned c good = owned c (codes "version") (codes "1.2") (record {
   good = good;
   ascii = refl;
@@ -48,7 +51,8 @@ receipt_is_a_frame receipt echoed = record {
 
 -- ---- ERROR
 
-versions_owned : (asked : Bool) → AllByRecursion (IsOwn Error) (cond asked (header (codes "version") (codes "1.2") ∷ []) [])
+versions_owned : (asked : Bool) → AllByRecursion (IsOwn Error) (cond asked (header (codes "version") (codes "1.2") ∷ [])
+    [])
 versions_owned true = (version_owned Error refl, tt)
 versions_owned false = tt
 
@@ -56,9 +60,11 @@ versions_few : (asked : Bool) → length (cond asked (header (codes "version") (
 versions_few true = omega arith
 versions_few false = omega arith
 
-receipts_owned : (receipt : Option (List ℕ)) → IsEchoedIfAny receipt → AllByRecursion (IsOwn Error) (receipt_headers receipt)
+receipts_owned : (receipt : Option (List ℕ)) → IsEchoedIfAny receipt
+    → AllByRecursion (IsOwn Error) (receipt_headers receipt)
 receipts_owned None echoed = tt
-receipts_owned (Some receipt) echoed = (echo_owned Error (codes "receipt-id") receipt refl refl refl refl (omega arith) echoed, tt)
+receipts_owned (Some receipt) echoed =
+    (echo_owned Error (codes "receipt-id") receipt refl refl refl refl (omega arith) echoed, tt)
 
 receipts_few : (receipt : Option (List ℕ)) → length (receipt_headers receipt) ≤ 1
 receipts_few None = omega arith
@@ -76,14 +82,20 @@ message_owned number name small named =
       short = omega (arith, message.short);
     })
 
-pub error_is_a_frame : (number : ℕ) (name : List ℕ) (receipt : Option (List ℕ)) → IsGiven number → IsEchoed name → IsEchoedIfAny receipt
+pub error_is_a_frame : (number : ℕ) (name : List ℕ) (receipt : Option (List ℕ)) → IsGiven number → IsEchoed name
+    → IsEchoedIfAny receipt
     → IsFrame MAX_BODY (error_frame number name receipt)
 error_is_a_frame number name receipt small named echoed =
     let lines = header (codes "message") (error_message number name) ∷ receipt_headers receipt in
     record {
       headers = all_append (IsOwn Error) (version_headers number) lines (versions_owned (number == 23))
           (message_owned number name small named, receipts_owned receipt echoed);
-      count = omega (arith, length-append (version_headers number) lines, versions_few (number == 23), receipts_few receipt);
+      count = omega (
+        arith,
+        length-append (version_headers number) lines,
+        versions_few (number == 23),
+        receipts_few receipt,
+      );
       body = omega arith;
     }
 
@@ -102,7 +114,8 @@ leading_owned : (d : Delivered) → IsTold d → AllByRecursion (IsOwn Message) 
 leading_owned d told =
     let number = echo_owned Message (codes "message-id") (decimal d.number) refl refl refl refl (omega arith)
     (told_number d.number told.number) in
-    let subscription = echo_owned Message (codes "subscription") d.subscription refl refl refl refl (omega arith) told.subscription in
+    let subscription =
+    echo_owned Message (codes "subscription") d.subscription refl refl refl refl (omega arith) told.subscription in
     (told.carried.destination, (number, (subscription, acks_owned d.ack told.ack)))
 
 pub message_is_a_frame : (d : Delivered) → IsTold d → IsFrame MAX_BODY (message_frame d)

@@ -1,5 +1,6 @@
 -- Which headers the frames of a server can own.
-use Rattle.std.proofs.Common.{◌≡◌, ℕ, ◌+◌, ◌≤◌, Bool, true, false, cond, ◌||◌, ltb, List, [], ◌∷◌, ◌++◌, length, decimal, refl, ◌∙◌, arith}
+use Rattle.std.proofs.Common.{◌≡◌, ℕ, ◌+◌, ◌≤◌, Bool, true, false, cond, ◌||◌, ltb, List, [], ◌∷◌, ◌++◌, length}
+use Rattle.std.proofs.Common.{decimal, refl, ◌∙◌, arith}
 use Rattle.std.specs.Prelude.{◌==◌, filter}
 use Rattle.std.specs.List.{AllByRecursion, list_all}
 use Rattle.std.specs.Char.{is_ascii_digit}
@@ -26,7 +27,8 @@ ascii : (text : List ℕ) → list_all (λ o. ltb o 128) text ≡ true → IsAsc
 ascii [] all = IsAscii-nil
 ascii (o ∷ text) all =
     let others = list_all (λ o. ltb o 128) text in
-    IsAscii-cons o text (ltb-true o 128 (and_left (ltb o 128) others all)) (ascii text (and_right (ltb o 128) others all))
+    IsAscii-cons o text (ltb-true o 128 (and_left (ltb o 128) others all))
+    (ascii text (and_right (ltb o 128) others all))
 
 pub utf8 : (text : List ℕ) → list_all (λ o. ltb o 128) text ≡ true → is_utf8 text ≡ true
 utf8 text all = is_utf8-from_IsUtf8 text (IsUtf8-from_ascii text (ascii text all))
@@ -78,7 +80,8 @@ owned c name value is = record {
 
 -- the same of a value that may be echoed, where a value may hold any octet but NUL
 pub echo_owned : (c : Command) (name value : List ℕ) → is_exempt c ≡ false → (length name == 0 || has 0 name) ≡ false
-    → list_all (λ o. ltb o 128) name ≡ true → gives_length (header name value) ≡ false → length name ≤ 128 → IsEchoed value
+    → list_all (λ o. ltb o 128) name ≡ true → gives_length (header name value) ≡ false → length name ≤ 128
+    → IsEchoed value
     → IsOwn c (header name value)
 echo_owned c name value escapes named letters other short echoed = owned c name value (record {
   good = rw (named, echoed.plain, escapes) refl;
@@ -106,14 +109,17 @@ told_message n name small echoed =
 
 -- ---- lists of headers
 
-pub all_append : {A : Type 0} (P : A → Type 0) (xs ys : List A) → AllByRecursion P xs → AllByRecursion P ys → AllByRecursion P (xs ++ ys)
+pub all_append : {A : Type 0} (P : A → Type 0) (xs ys : List A) → AllByRecursion P xs → AllByRecursion P ys
+    → AllByRecursion P (xs ++ ys)
 all_append P [] ys none others = others
 all_append P (x ∷ xs) ys each others = (each.0, all_append P xs ys each.1 others)
 
-pub all_filter : {A : Type 0} (P : A → Type 0) (test : A → Bool) (xs : List A) → AllByRecursion P xs → AllByRecursion P (filter test xs)
+pub all_filter : {A : Type 0} (P : A → Type 0) (test : A → Bool) (xs : List A) → AllByRecursion P xs
+    → AllByRecursion P (filter test xs)
 all_filter P test [] none = tt
 all_filter P test (x ∷ xs) each = kept (test x) (all_filter P test xs each.1)
   where
-    kept : (b : Bool) → AllByRecursion P (filter test xs) → AllByRecursion P (cond b (x ∷ filter test xs) (filter test xs))
+    kept : (b : Bool) → AllByRecursion P (filter test xs)
+        → AllByRecursion P (cond b (x ∷ filter test xs) (filter test xs))
     kept true rest = (each.0, rest)
     kept false rest = rest

@@ -1,7 +1,8 @@
 -- The numbers and names of the faults.
 use Rattle.std.specs.Prelude.{ℕ, List, codes}
 use Rattle.stomp_session.specs.declared.fault.SessionFault.{SessionFault}
-use Rattle.stomp_session.specs.declared.fault.SessionFault.TheVariants.{NotConnected, AlreadyConnected, Version, MissingHeader}
+use Rattle.stomp_session.specs.declared.fault.SessionFault.TheVariants.{NotConnected, AlreadyConnected, Version}
+use Rattle.stomp_session.specs.declared.fault.SessionFault.TheVariants.{MissingHeader}
 use Rattle.stomp_session.specs.declared.fault.SessionFault.TheVariants.{WrongCommand, Memory, TooLarge}
 
 -- a fault's number

@@ -1,6 +1,7 @@
 -- What holds of each request that a session accepts.
 use Rattle.stomp_session.specs.declared.request.Request.{Request}
-use Rattle.stomp_session.specs.declared.request.Request.TheVariants.{Connect, Send, Subscribe, Unsubscribe, Ack, Nack, Begin, Commit, Abort}
+use Rattle.stomp_session.specs.declared.request.Request.TheVariants.{Connect, Send, Subscribe, Unsubscribe, Ack, Nack}
+use Rattle.stomp_session.specs.declared.request.Request.TheVariants.{Begin, Commit, Abort}
 use Rattle.stomp_session.specs.declared.request.Request.TheVariants.{Disconnect}
 use Rattle.stomp_session.specs.Replies.{IsEchoed, IsEchoedIfAny, IsCarried}
 

@@ -1,11 +1,13 @@
 -- The headers that a client's commands use.
-use Rattle.std.specs.Prelude.{ℕ, Bool, false, ◌||◌, ◌==◌, not, nat_lt, is_none, List, [], ◌∷◌, filter, length, codes, Option, Some, None}
+use Rattle.std.specs.Prelude.{ℕ, Bool, false, ◌||◌, ◌==◌, not, nat_lt, is_none, List, [], ◌∷◌, filter, length, codes}
+use Rattle.std.specs.Prelude.{Option, Some, None}
 use Rattle.std.specs.Prelude.{unwrap_or}
 use Rattle.std.specs.List.{list_any, slice_split}
 use Rattle.std.specs.Str.{bytes_eq}
 use Rattle.base.specs.declared.limits.TheConstants.{MAX_ECHOED}
 use Rattle.stomp_frame.specs.declared.command.Command.{Command}
-use Rattle.stomp_frame.specs.declared.command.Command.TheVariants.{Connect, Stomp, Send, Subscribe, Unsubscribe, Ack, Nack, Begin, Commit}
+use Rattle.stomp_frame.specs.declared.command.Command.TheVariants.{Connect, Stomp, Send, Subscribe, Unsubscribe, Ack}
+use Rattle.stomp_frame.specs.declared.command.Command.TheVariants.{Nack, Begin, Commit}
 use Rattle.stomp_frame.specs.declared.command.Command.TheVariants.{Abort, Disconnect}
 use Rattle.stomp_frame.specs.Frames.{Header, Content, value_of}
 
@@ -55,7 +57,8 @@ text_of f name = unwrap_or (value_of name f.headers) []
 
 -- the headers of a SEND that a server uses or sets itself
 abbrev pub is_used : Header → Bool
-is_used h = bytes_eq h.name (codes "destination") || bytes_eq h.name (codes "transaction") || bytes_eq h.name (codes "receipt")
+is_used h =
+    bytes_eq h.name (codes "destination") || bytes_eq h.name (codes "transaction") || bytes_eq h.name (codes "receipt")
     || bytes_eq h.name (codes "message-id") || bytes_eq h.name (codes "subscription") || bytes_eq h.name (codes "ack")
 
 -- the others, which its MESSAGEs take over

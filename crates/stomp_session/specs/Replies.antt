@@ -1,5 +1,6 @@
 -- The frames that a server writes.
-use Rattle.std.specs.Prelude.{◌≡◌, ℕ, ◌<◌, ◌≤◌, ◌^◌, false, true, ◌==◌, if◌then◌else◌, List, [], ◌∷◌, ◌++◌, length, codes, Option, Some}
+use Rattle.std.specs.Prelude.{◌≡◌, ℕ, ◌<◌, ◌≤◌, ◌^◌, false, true, ◌==◌, if◌then◌else◌, List, [], ◌∷◌, ◌++◌, length}
+use Rattle.std.specs.Prelude.{codes, Option, Some}
 use Rattle.std.specs.Prelude.{None, Result, Ok, Err}
 use Rattle.std.specs.List.{AllByRecursion}
 use Rattle.std.specs.Fmt.{decimal}
@@ -16,7 +17,8 @@ use Rattle.stomp_session.specs.Requests.{opens, receipt_in}
 
 -- the answer to CONNECT and STOMP
 abbrev pub connected_frame : Content
-connected_frame = frame Connected (header (codes "version") (codes "1.2") ∷ header (codes "heart-beat") (codes "0,0") ∷ []) []
+connected_frame =
+    frame Connected (header (codes "version") (codes "1.2") ∷ header (codes "heart-beat") (codes "0,0") ∷ []) []
 
 -- the answer to a frame that asks for a receipt
 abbrev pub receipt_frame : List ℕ → Content
@@ -32,7 +34,8 @@ error_message number name = decimal number ++ 32 ∷ name
 abbrev pub unless_long : Option (List ℕ) → Option (List ℕ)
 unless_long value = if is_long value then None else value
 
--- the receipt that an ERROR about a frame names: it is left out where it is too long, and CONNECT and STOMP ask for none
+-- the receipt that an ERROR about a frame names: it is left out where it is too long, and CONNECT and STOMP ask for
+-- none
 abbrev pub receipt_told : Content → Option (List ℕ)
 receipt_told f = if opens f.command then None else unless_long (receipt_in f)
 
@@ -47,7 +50,8 @@ receipt_headers (Some receipt) = header (codes "receipt-id") receipt ∷ []
 
 -- the headers of an ERROR
 abbrev pub error_headers : ℕ → List ℕ → Option (List ℕ) → List Header
-error_headers number name receipt = version_headers number ++ header (codes "message") (error_message number name) ∷ receipt_headers receipt
+error_headers number name receipt =
+    version_headers number ++ header (codes "message") (error_message number name) ∷ receipt_headers receipt
 
 -- the refusal of a frame, by the fault's number and name
 abbrev pub error_frame : ℕ → List ℕ → Option (List ℕ) → Content
@@ -55,7 +59,8 @@ error_frame number name receipt = frame Error (error_headers number name receipt
 
 -- ---- MESSAGE
 
--- a message that is handed to a subscription: its number, and for other acknowledge modes than `auto` that of the delivery
+-- a message that is handed to a subscription: its number, and for other acknowledge modes than `auto` that of the
+-- delivery
 pub record Delivered : Type 0 where
   pub destination : List ℕ
   pub number : ℕ

@@ -1,19 +1,26 @@
 -- What a client frame asks of a server, and why one is refused before anything is done.
-use Rattle.std.specs.Prelude.{◌≡◌, ℕ, Bool, true, false, not, ◌&&◌, ◌||◌, if◌then◌else◌, nat_lt, List, length, codes, Option, Some, None}
+use Rattle.std.specs.Prelude.{◌≡◌, ℕ, Bool, true, false, not, ◌&&◌, ◌||◌, if◌then◌else◌, nat_lt, List, length, codes}
+use Rattle.std.specs.Prelude.{Option, Some, None}
 use Rattle.std.specs.Prelude.{Result, Ok, Err, unwrap_or}
 use Rattle.std.specs.List.{list_any}
 use Rattle.base.specs.declared.limits.TheConstants.{MAX_OWN_HEADERS}
 use Rattle.stomp_frame.specs.declared.command.Command.{Command}
-use Rattle.stomp_frame.specs.declared.command.Command.TheVariants.{Connect, Stomp, Send, Subscribe, Unsubscribe, Ack, Nack, Begin, Commit}
-use Rattle.stomp_frame.specs.declared.command.Command.TheVariants.{Abort, Disconnect, Connected, Message, Receipt, Error}
+use Rattle.stomp_frame.specs.declared.command.Command.TheVariants.{Connect, Stomp, Send, Subscribe, Unsubscribe, Ack}
+use Rattle.stomp_frame.specs.declared.command.Command.TheVariants.{Nack, Begin, Commit}
+use Rattle.stomp_frame.specs.declared.command.Command.TheVariants.{Abort, Disconnect, Connected, Message, Receipt}
+use Rattle.stomp_frame.specs.declared.command.Command.TheVariants.{Error}
 use Rattle.stomp_frame.specs.Frames.{Content, value_of}
 use Rattle.stomp_session.specs.declared.fault.SessionFault.{SessionFault}
-use Rattle.stomp_session.specs.declared.fault.SessionFault.TheVariants.{NotConnected, AlreadyConnected, Version, MissingHeader}
+use Rattle.stomp_session.specs.declared.fault.SessionFault.TheVariants.{NotConnected, AlreadyConnected, Version}
+use Rattle.stomp_session.specs.declared.fault.SessionFault.TheVariants.{MissingHeader}
 use Rattle.stomp_session.specs.declared.fault.SessionFault.TheVariants.{WrongCommand, TooLarge}
 use Rattle.stomp_session.specs.declared.request.Request.{Request}
-use Rattle.stomp_session.specs.declared.request.Request.TheVariants.{Connect as Connecting, Send as Sending, Subscribe as Subscribing}
-use Rattle.stomp_session.specs.declared.request.Request.TheVariants.{Unsubscribe as Unsubscribing, Ack as Acking, Nack as Nacking}
-use Rattle.stomp_session.specs.declared.request.Request.TheVariants.{Begin as Beginning, Commit as Committing, Abort as Aborting}
+use Rattle.stomp_session.specs.declared.request.Request.TheVariants.{Connect as Connecting, Send as Sending}
+use Rattle.stomp_session.specs.declared.request.Request.TheVariants.{Subscribe as Subscribing}
+use Rattle.stomp_session.specs.declared.request.Request.TheVariants.{Unsubscribe as Unsubscribing, Ack as Acking}
+use Rattle.stomp_session.specs.declared.request.Request.TheVariants.{Nack as Nacking}
+use Rattle.stomp_session.specs.declared.request.Request.TheVariants.{Begin as Beginning, Commit as Committing}
+use Rattle.stomp_session.specs.declared.request.Request.TheVariants.{Abort as Aborting}
 use Rattle.stomp_session.specs.declared.request.Request.TheVariants.{Disconnect as Disconnecting}
 use Rattle.stomp_session.specs.declared.request.Acknowledge.{Acknowledge}
 use Rattle.stomp_session.specs.declared.request.Demarcate.{Demarcate}
@@ -47,7 +54,8 @@ lacks f = list_any (has_none f) (required f.command)
 
 -- a value that is echoed is too long, or a SEND has too many headers of its own
 abbrev pub is_large : Content → Bool
-is_large f = list_any (has_long f) (echoed f.command) || (is_send f.command && nat_lt MAX_OWN_HEADERS (length (own_headers f)))
+is_large f =
+    list_any (has_long f) (echoed f.command) || (is_send f.command && nat_lt MAX_OWN_HEADERS (length (own_headers f)))
 
 -- why a frame is refused at once by a session that is connected, or not yet: the first that applies
 abbrev pub refusal_of : Bool → Content → Option SessionFault
@@ -99,7 +107,8 @@ asked_by Begin f = Beginning (demarcate_of f)
 asked_by Commit f = Committing (demarcate_of f)
 asked_by Abort f = Aborting (demarcate_of f)
 asked_by Disconnect f = Disconnecting (record { receipt = receipt_in f })
-asked_by _ f = Connecting (record { accept_version = text_of f (codes "accept-version"); host = text_of f (codes "host") })
+asked_by _ f =
+    Connecting (record { accept_version = text_of f (codes "accept-version"); host = text_of f (codes "host") })
 
 -- what a client frame asks
 abbrev pub asked : Content → Request
@@ -114,10 +123,12 @@ request_unless (Some fault) f = Err fault
 abbrev pub request_of : Bool → Content → Result Request SessionFault
 request_of connected f = request_unless (refusal_of connected f) f
 
--- What `accept` answers: the request, and the session is connected; or the first refusal, the frame is given back, and nothing has changed.
+-- What `accept` answers: the request, and the session is connected; or the first refusal, the frame is given back, and
+-- nothing has changed.
 abbrev pub Accepts : Bool → Content → Bool → Result Request Refused → Type 0
 Accepts connected f now (Ok request) = (request_of connected f ≡ Ok request) × (now ≡ true)
-Accepts connected f now (Err refused) = (request_of connected f ≡ Err refused.fault) × (refused.frame ≡ f) × (now ≡ connected)
+Accepts connected f now (Err refused) =
+    (request_of connected f ≡ Err refused.fault) × (refused.frame ≡ f) × (now ≡ connected)
 
 -- ---- what is read off a request
 

@@ -17,9 +17,11 @@ pub fn accepting_wants_no_memory()
     ensures { (connected : Bool) (f : Content) → request_of connected f ≢ Err Memory }
 {}
 
-/// What a server tells again of an accepted request has at most 128 octets and no NUL, and a MESSAGE can carry what a SEND brings.
+/// What a server tells again of an accepted request has at most 128 octets and no NUL, and a MESSAGE can carry what a
+/// SEND brings.
 pub fn accepted_requests_fit()
-    ensures { (connected : Bool) (f : Content) (request : Request) → IsFrame MAX_BODY f → request_of connected f ≡ Ok request
+    ensures { (connected : Bool) (f : Content) (request : Request) → IsFrame MAX_BODY f
+        → request_of connected f ≡ Ok request
         → Fits request }
 {}
 
@@ -42,7 +44,8 @@ pub fn confirmations_are_frames()
 
 /// The ERROR of each fault, with a receipt or without one, is a frame.
 pub fn errors_are_frames()
-    ensures { (number : ℕ) (name : List ℕ) (receipt : Option (List ℕ)) → IsGiven number → IsEchoed name → IsEchoedIfAny receipt
+    ensures { (number : ℕ) (name : List ℕ) (receipt : Option (List ℕ)) → IsGiven number → IsEchoed name
+        → IsEchoedIfAny receipt
         → IsFrame MAX_BODY (error_frame number name receipt) }
 {}
 

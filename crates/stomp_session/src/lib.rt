@@ -1,14 +1,16 @@
-//! The server's side of a STOMP 1.2 session: what a client frame asks, or why it is refused at once, and the frames that answer it.
+//! The server's side of a STOMP 1.2 session: what a client frame asks, or why it is refused at once, and the frames
+//! that answer it.
 //!
 //! A [`ServerSession`] is given each frame that a client sent, and answers one of two things:
 //!
-//! - the [`Request`] that the frame means, made of the frame's own parts. Nothing is copied and no memory is taken, so that no frame is
-//!   lost for want of it; a body goes from the decoder into a queue without a copy;
-//! - the first fault in the order of the tests (a server's command 33, not connected 21, connected already 22, a missing header 24, too
-//!   large 35, the version 23), and the frame as it came. Then nothing has changed.
+//! - the [`Request`] that the frame means, made of the frame's own parts. Nothing is copied and no memory is taken, so
+//!   that no frame is lost for want of it; a body goes from the decoder into a queue without a copy;
+//! - the first fault in the order of the tests (a server's command 33, not connected 21, connected already 22, a
+//!   missing header 24, too large 35, the version 23), and the frame as it came. Then nothing has changed.
 //!
-//! Which of them, and whether the session is connected then, is told by the frame and by whether it was connected before, and by nothing
-//! else. What a request holds fits what a server has to write of it: the laws say so, and that each reply is a frame.
+//! Which of them, and whether the session is connected then, is told by the frame and by whether it was connected
+//! before, and by nothing else. What a request holds fits what a server has to write of it: the laws say so, and that
+//! each reply is a frame.
 //!
 //! ```rust
 //! pub fn a_frame_before_connect_is_refused(alloc: Global) -> Option<u8> {
@@ -35,8 +37,8 @@
 //! }
 //! ```
 //!
-//! Left to the caller: destinations, subscriptions, transactions and acknowledge modes, of which a session knows nothing, and the end of a
-//! session after DISCONNECT or an ERROR.
+//! Left to the caller: destinations, subscriptions, transactions and acknowledge modes, of which a session knows
+//! nothing, and the end of a session after DISCONNECT or an ERROR.
 #![tactic(auto)]
 
 mod fault;

@@ -14,8 +14,8 @@ use stomp_frame::{Frame, encode};
 
 /// Octets on their way out: contracts see those that weren't taken yet, and how many more fit without memory.
 ///
-/// Taking a few from the front moves nothing. What was taken is given up once it is more than what wasn't, so that each octet is moved
-/// once at most for each one that is taken.
+/// Taking a few from the front moves nothing. What was taken is given up once it is more than what wasn't, so that each
+/// octet is moved once at most for each one that is taken.
 #[derive(Drop)]
 pub struct Outgoing {
     octets: Vec<u8>,
@@ -152,7 +152,8 @@ impl Outgoing {
         name: &str,
         receipt: Option<&str>,
     ) -> Result<(), SessionFault>
-        ensures { Writes (error_frame number name.now (option_copied receipt.entry)) self.old.octets self.new.octets result }
+        ensures { Writes (error_frame number name.now (option_copied receipt.entry)) self.old.octets self.new.octets
+            result }
     {
         replies::write_error(alloc, number, name, receipt, &mut self.octets)
     }

@@ -31,7 +31,8 @@ fn write(
     }
 }
 
-/// Appends the answer to CONNECT and STOMP (STOMP 1.2, section "CONNECT or STOMP Frame"): CONNECTED with version 1.2 and no heart-beat.
+/// Appends the answer to CONNECT and STOMP (STOMP 1.2, section "CONNECT or STOMP Frame"): CONNECTED with version 1.2
+/// and no heart-beat.
 ///
 /// # Errors
 /// `Memory` where a growth was refused, and then nothing was appended.
@@ -52,7 +53,8 @@ pub fn write_receipt(receipt: &str, out: &mut Vec<u8>) -> Result<(), SessionFaul
     write(Command::Receipt, &[("receipt-id", receipt)], &[], &[], out)
 }
 
-/// The receipt that an ERROR about a frame tells. It is left out where it has more than 128 octets, and CONNECT and STOMP ask for none.
+/// The receipt that an ERROR about a frame tells. It is left out where it has more than 128 octets, and CONNECT and
+/// STOMP ask for none.
 pub fn receipt_told(frame: &Frame<MAX_BODY>) -> Option<&str>
     ensures { option_copied result ≡ receipt_told frame.now }
 {
@@ -86,8 +88,8 @@ fn error_headers(
     Ok(headers)
 }
 
-/// Appends the ERROR that refuses a frame (STOMP 1.2, section "ERROR"), by the fault's number and name: with the version that would do
-/// where that is what was refused, with the receipt if one is told, and with an empty body.
+/// Appends the ERROR that refuses a frame (STOMP 1.2, section "ERROR"), by the fault's number and name: with the
+/// version that would do where that is what was refused, with the receipt if one is told, and with an empty body.
 ///
 /// # Errors
 /// `Memory` where a growth was refused, and then nothing was appended.
@@ -144,7 +146,8 @@ fn write_numbered<'a>(
     out: &mut Vec<u8>,
 ) -> Result<(), SessionFault>
     requires number { number.now ≡ decimal delivery.now.number }
-    requires ack { ack_headers delivery.now.ack ≡ (if is_some delivery.now.ack then header (codes "ack") ack.now ∷ [] else []) }
+    requires ack { ack_headers delivery.now.ack ≡ (if is_some delivery.now.ack then header (codes "ack") ack.now ∷ []
+        else []) }
     ensures { Writes (message_frame delivery.now) out.old.items out.new.items result }
 {
     let headers = [
@@ -163,8 +166,9 @@ fn write_numbered<'a>(
     )
 }
 
-/// Appends the MESSAGE of a delivery (STOMP 1.2, section "MESSAGE"): `destination`, `message-id`, `subscription` and, where the delivery
-/// has a number, `ack`; then the headers that are taken over, in order; then the body, which is copied once.
+/// Appends the MESSAGE of a delivery (STOMP 1.2, section "MESSAGE"): `destination`, `message-id`, `subscription` and,
+/// where the delivery has a number, `ack`; then the headers that are taken over, in order; then the body, which is
+/// copied once.
 ///
 /// # Errors
 /// `Memory` where a growth was refused, and then nothing was appended.

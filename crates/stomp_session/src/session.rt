@@ -64,7 +64,8 @@ impl ServerSession {
     /// # Errors
     /// The first that applies; then the frame is given back, and nothing has changed:
     /// - `WrongCommand` for a command of a server;
-    /// - `NotConnected` for another than CONNECT or STOMP before one of these, `AlreadyConnected` for one of these after it;
+    /// - `NotConnected` for another than CONNECT or STOMP before one of these, `AlreadyConnected` for one of these
+    ///   after it;
     /// - `MissingHeader` where a header is missing that the command requires;
     /// - `TooLarge` where a value that is echoed has more than 128 octets, or a SEND more than 28 headers of its own;
     /// - `Version` for CONNECT and STOMP, where `accept-version` doesn't offer 1.2.

@@ -37,7 +37,8 @@ a_put_writes_a_beginning = (((omega arith, refl), refl, refl), (refl, refl, refl
 a_put_is_never_cut : Put (link [] [] 0) (codes "abc") (Err Cut) (link [] [] 1) → ⊥
 a_put_is_never_cut cut = let same : Cut ≡ Device = cut.0 in cc
 
--- a take of at most two leaves the rest; at the end of the input it's cut, and that is counted; where memory is refused nothing changes
+-- a take of at most two leaves the rest; at the end of the input it's cut, and that is counted; where memory is refused
+-- nothing changes
 a_take_reads_the_front : (Take (link (codes "abc") [] 4) 2 (Ok (codes "ab")) (link (codes "c") [] 4))
     × (Take (link [] [] 4) 2 (Err Cut) (link [] [] 5))
     × (Take (link (codes "abc") [] 4) 2 (Err Device) (link (codes "abc") [] 5))
@@ -61,12 +62,14 @@ Pumps gone after = IsPumped Put (codes "abc") (link [] [] 0) 0 after gone
 
 -- a put of all three took two of them
 two_are_out : Puts Put (codes "abc") (link [] [] 0) 0 (link [] (codes "ab") 0) 2
-two_are_out = one_more {before = link [] [] 0} {after = link [] (codes "ab") 0} {count = 0} {n = 2} no_put ((omega arith, refl), refl, refl)
+two_are_out = one_more {before = link [] [] 0} {after = link [] (codes "ab") 0} {count = 0} {n = 2} no_put
+    ((omega arith, refl), refl, refl)
     (omega arith)
 
 -- and a put of the third took that
 three_are_out : Puts Put (codes "abc") (link [] [] 0) 0 (link [] (codes "abc") 0) 3
-three_are_out = one_more {before = link [] (codes "ab") 0} {after = link [] (codes "abc") 0} {count = 2} {n = 1} two_are_out
+three_are_out =
+    one_more {before = link [] (codes "ab") 0} {after = link [] (codes "abc") 0} {count = 2} {n = 1} two_are_out
     ((omega arith, refl), refl, refl) (omega arith)
 
 -- then all are out, and it ends without another put
@@ -83,7 +86,8 @@ a_pump_ends_at_a_put_of_none = record {
 
 -- or where that put fails, which is counted
 a_pump_ends_at_a_fault : Pumps (record { count = 2; fault = Some Device }) (link [] (codes "ab") 1)
-a_pump_ends_at_a_fault = record { last = link [] (codes "ab") 0; puts = two_are_out; ends = (omega arith, (refl, refl, refl, refl)) }
+a_pump_ends_at_a_fault =
+    record { last = link [] (codes "ab") 0; puts = two_are_out; ends = (omega arith, (refl, refl, refl, refl)) }
 
 -- with octets left it doesn't end at a put that took some
 no_pump_ends_at_a_put_of_some : IsEnd Put (codes "c") (link [] (codes "ab") 0) (link [] (codes "abc") 0) None → ⊥

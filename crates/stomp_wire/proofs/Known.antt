@@ -1,5 +1,6 @@
 -- What is known of a link's octets, over several calls.
-use Rattle.std.proofs.Common.{◌≡◌, ℕ, zero, suc, ◌+◌, ◌-◌, ◌≤◌, List, [], ◌∷◌, ◌++◌, length, take, drop, Option, Some, None, refl, sym, ap}
+use Rattle.std.proofs.Common.{◌≡◌, ℕ, zero, suc, ◌+◌, ◌-◌, ◌≤◌, List, [], ◌∷◌, ◌++◌, length, take, drop, Option, Some}
+use Rattle.std.proofs.Common.{None, refl, sym, ap}
 use Rattle.std.proofs.Common.{◌∙◌, append_assoc, arith, rules}
 use Rattle.std.proofs.lemmas.Grind.{common_steps}
 use Rattle.std.specs.Io.KnownBytes.{Appends, Keeps}
@@ -19,7 +20,8 @@ pub Appends-none : (known : Option (List ℕ)) → Appends known known []
 Appends-none None = tt
 Appends-none (Some xs) = search rules
 
-pub Appends-kept : (first second third : Option (List ℕ)) (more : List ℕ) → Appends first second more → Keeps second third
+pub Appends-kept : (first second third : Option (List ℕ)) (more : List ℕ) → Appends first second more
+    → Keeps second third
     → Appends first third more
 Appends-kept None second third more put kept = tt
 Appends-kept (Some xs) None third more put kept = absurd put
@@ -27,7 +29,8 @@ Appends-kept (Some xs) (Some ys) None more put kept = kept
 Appends-kept (Some xs) (Some ys) (Some zs) more put kept = kept ∙ put
 
 -- octets that were added one list after the other were added as one list
-pub Appends-twice : (first second third : Option (List ℕ)) (more rest whole : List ℕ) → whole ≡ more ++ rest → Appends first second more
+pub Appends-twice : (first second third : Option (List ℕ)) (more rest whole : List ℕ) → whole ≡ more ++ rest
+    → Appends first second more
     → Appends second third rest → Appends first third whole
 Appends-twice None second third more rest whole is put again = tt
 Appends-twice (Some xs) None third more rest whole is put again = absurd put
@@ -36,7 +39,8 @@ Appends-twice (Some xs) (Some ys) (Some zs) more rest whole is put again =
     again ∙ ap (λ (t : List ℕ). t ++ rest) put ∙ append_assoc xs more rest ∙ ap (λ (t : List ℕ). xs ++ t) (sym is)
 
 -- no octets were added after those
-pub Appends-then_none : (n : ℕ) (none : n ≡ 0) (octets more : List ℕ) (first second third : Option (List ℕ)) → Appends first second more
+pub Appends-then_none : (n : ℕ) (none : n ≡ 0) (octets more : List ℕ) (first second third : Option (List ℕ))
+    → Appends first second more
     → Appends second third (take n octets) → Appends first third more
 Appends-then_none n none octets more first second third put again =
     let same : more ≡ more ++ take n octets = rw none (grind (arith, common_steps)) in
@@ -61,14 +65,17 @@ drop-more (suc n) m (x ∷ xs) = let one_less : suc n + m ≡ suc (n + m) = omeg
 
 module _ (gone count : ℕ) (least : gone ≤ count) (octets : List ℕ) where
   -- from `gone` octets to `count` and `some` more
-  pub Appends-more : (some : ℕ) (first second third : Option (List ℕ)) → Appends first second (take (count - gone) (drop gone octets))
-      → Appends second third (take some (drop count octets)) → Appends first third (take (count + some - gone) (drop gone octets))
+  pub Appends-more : (some : ℕ) (first second third : Option (List ℕ))
+      → Appends first second (take (count - gone) (drop gone octets))
+      → Appends second third (take some (drop count octets))
+      → Appends first third (take (count + some - gone) (drop gone octets))
   Appends-more some first second third put again =
       let sum : count + some - gone ≡ (count - gone) + some = omega (arith, least) in
       let whole : gone + (count - gone) ≡ count = omega (arith, least) in
       let left : drop (count - gone) (drop gone octets) ≡ drop count octets = drop-more gone (count - gone) octets
       ∙ ap (λ n. drop n octets) whole in
-      let parts : take (count + some - gone) (drop gone octets) ≡ take (count - gone) (drop gone octets) ++ take some (drop count octets) =
+      let parts : take (count + some - gone) (drop gone octets) ≡ take (count - gone) (drop gone octets)
+      ++ take some (drop count octets) =
       ap (λ n. take n (drop gone octets)) sum ∙ take-more (count - gone) some (drop gone octets)
       ∙ ap (λ rest. take (count - gone) (drop gone octets) ++ take some rest) left in
       Appends-twice first second third _ _ _ parts put again

@@ -15,7 +15,8 @@ came before after = drop (length before) after
 -- at most `most` octets left the front of what comes in and were appended to a list, and at a fault none
 abbrev pub IsTake : ℕ → (before after : List ℕ) → Option (List ℕ) → Option (List ℕ) → Result ℕ LinkFault → Type 0
 IsTake most before after old new (Ok n) =
-    (after ≡ before ++ came before after) × (length (came before after) ≡ n) × (n ≤ most) × Consumes old new (came before after)
+    (after ≡ before ++ came before after) × (length (came before after) ≡ n) × (n ≤ most)
+    × Consumes old new (came before after)
 IsTake most before after old new (Err _) = (after ≡ before) × Keeps old new
 
 -- what a take answered, with the octets in the place of their number

@@ -4,22 +4,26 @@ use Rattle.stomp_wire.specs.Fault.{IsCounted}
 use Rattle.stomp_wire.specs.declared.fault.LinkFault.{LinkFault}
 use Rattle.stomp_wire.specs.declared.pump.Gone.{Gone}
 
--- Puts one after another, each of all that was left of the octets, and each took some of them. They begin at the link `first`, when
--- `gone` octets were out, and end at a link and the number of octets that are out then.
-pub data Puts {L : Type 0} (put_gives : L → List ℕ → Result ℕ LinkFault → L → Type 0) (octets : List ℕ) (first : L) (gone : ℕ) : L → ℕ
+-- Puts one after another, each of all that was left of the octets, and each took some of them. They begin at the link
+-- `first`, when `gone` octets were out, and end at a link and the number of octets that are out then.
+pub data Puts {L : Type 0} (put_gives : L → List ℕ → Result ℕ LinkFault → L → Type 0) (octets : List ℕ) (first : L)
+    (gone : ℕ) : L → ℕ
     → Type 0 where
   no_put : Puts put_gives octets first gone first gone
   one_more : {before after : L} {count n : ℕ} → Puts put_gives octets first gone before count
       → put_gives before (drop count octets) (Ok n) after → 0 < n → Puts put_gives octets first gone after (count + n)
 
 -- how a pump ends: nothing is left, and nothing more is put; or something is, and its put answered 0 or the fault
-abbrev pub IsEnd : {L : Type 0} → (L → List ℕ → Result ℕ LinkFault → L → Type 0) → (rest : List ℕ) → (last after : L) → Option LinkFault
+abbrev pub IsEnd : {L : Type 0} → (L → List ℕ → Result ℕ LinkFault → L → Type 0) → (rest : List ℕ) → (last after : L)
+    → Option LinkFault
     → Type 0
-IsEnd put_gives rest last after None = ((rest ≡ []) × (after ≡ last)) ⊎ ((0 < length rest) × put_gives last rest (Ok 0) after)
+IsEnd put_gives rest last after None =
+    ((rest ≡ []) × (after ≡ last)) ⊎ ((0 < length rest) × put_gives last rest (Ok 0) after)
 IsEnd put_gives rest last after (Some fault) = (0 < length rest) × put_gives last rest (Err fault) after
 
 -- a whole pump: its puts, and then its end
-pub record IsPumped {L : Type 0} (put_gives : L → List ℕ → Result ℕ LinkFault → L → Type 0) (octets : List ℕ) (first : L) (gone : ℕ)
+pub record IsPumped {L : Type 0} (put_gives : L → List ℕ → Result ℕ LinkFault → L → Type 0) (octets : List ℕ)
+    (first : L) (gone : ℕ)
     (after : L) (result : Gone) : Type 0 where
   pub last : L
   pub puts : Puts put_gives octets first gone last result.count

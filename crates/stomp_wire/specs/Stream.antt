@@ -1,5 +1,6 @@
 -- What answers of a reader and a writer mean for a link over them.
-use Rattle.std.specs.Prelude.{◌≡◌, ℕ, zero, suc, ◌≤◌, Bool, true, false, if◌then◌else◌, List, length, Option, Result, Ok, Err}
+use Rattle.std.specs.Prelude.{◌≡◌, ℕ, zero, suc, ◌≤◌, Bool, true, false, if◌then◌else◌, List, length, Option, Result}
+use Rattle.std.specs.Prelude.{Ok, Err}
 use Rattle.std.specs.Io.KnownBytes.{Consumes, IsAtEnd, Keeps}
 use Rattle.std.specs.IoError.{error_kind}
 use Rattle.std.specs.declared.io.Error.{Error}
@@ -42,17 +43,21 @@ count_after count (Err Memory) = count
 module _ {R W : Type 0} (remaining : R → Option (List ℕ)) (contents : W → Option (List ℕ)) where
   -- a put writes a beginning of the octets, or answers `Device` and writes nothing
   abbrev pub StreamPuts : StreamLink R W → List ℕ → Result ℕ LinkFault → StreamLink R W → Type 0
-  StreamPuts old octets (Ok n) new = IsPut octets (contents old.writer) (contents new.writer) (Ok n) × (new.failures ≡ old.failures)
+  StreamPuts old octets (Ok n) new =
+      IsPut octets (contents old.writer) (contents new.writer) (Ok n) × (new.failures ≡ old.failures)
       × (new.reader ≡ old.reader)
   StreamPuts old octets (Err fault) new = (fault ≡ Device) × Keeps (contents old.writer) (contents new.writer)
       × (new.failures ≡ next_count old.failures) × (new.reader ≡ old.reader)
 
   -- a take gives what was read, or answers `Cut` at the end of the input, `Device`, or `Memory`, which changes nothing
   abbrev pub StreamTakes : StreamLink R W → ℕ → Result (List ℕ) LinkFault → StreamLink R W → Type 0
-  StreamTakes old most (Ok octets) new = (length octets ≤ most) × Consumes (remaining old.reader) (remaining new.reader) octets
+  StreamTakes old most (Ok octets) new =
+      (length octets ≤ most) × Consumes (remaining old.reader) (remaining new.reader) octets
       × (new.failures ≡ old.failures) × (new.writer ≡ old.writer)
-  StreamTakes old most (Err Cut) new = Keeps (remaining old.reader) (remaining new.reader) × IsAtEnd (remaining new.reader)
+  StreamTakes old most (Err Cut) new =
+      Keeps (remaining old.reader) (remaining new.reader) × IsAtEnd (remaining new.reader)
       × (new.failures ≡ next_count old.failures) × (new.writer ≡ old.writer)
-  StreamTakes old most (Err Device) new = Keeps (remaining old.reader) (remaining new.reader) × (new.failures ≡ next_count old.failures)
+  StreamTakes old most (Err Device) new =
+      Keeps (remaining old.reader) (remaining new.reader) × (new.failures ≡ next_count old.failures)
       × (new.writer ≡ old.writer)
   StreamTakes old most (Err Memory) new = new ≡ old

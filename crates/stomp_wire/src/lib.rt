@@ -1,8 +1,9 @@
 //! Links: ends of connections that take octets out and bring octets in, in memory or over any reader and writer.
 //!
-//! What is taken from a wire is a beginning of what was put on it, in each direction, over any calls, and a failure of a stream is counted.
-//! A [`Link`] puts octets out and takes octets that came in. Code that speaks over a connection is written once, over this trait: over a
-//! [`MemoryWire`] in a test or a schedule, and over a [`StreamLink`] of sockets in a program.
+//! What is taken from a wire is a beginning of what was put on it, in each direction, over any calls, and a failure of
+//! a stream is counted. A [`Link`] puts octets out and takes octets that came in. Code that speaks over a connection is
+//! written once, over this trait: over a [`MemoryWire`] in a test or a schedule, and over a [`StreamLink`] of sockets
+//! in a program.
 //!
 //! ```rust
 //! pub fn what_was_put_is_taken(alloc: Global) -> Result<Vec<u8>, LinkFault> {

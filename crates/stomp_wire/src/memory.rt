@@ -12,7 +12,8 @@ use std::marker::Model;
 /// Contracts see its two queues: `waiting`, what it put and nobody carried yet, and `carried`, what was carried to it
 /// and it didn't take yet. It never fails but for want of memory.
 ///
-/// Both queues are plain vectors, so that they can be looked at as slices. What leaves a queue costs a move of the rest.
+/// Both queues are plain vectors, so that they can be looked at as slices. What leaves a queue costs a move of the
+/// rest.
 #[derive(Debug, Drop)]
 pub struct MemoryLink {
     waiting: Vec<u8>,
@@ -63,8 +64,8 @@ impl MemoryLink {
         drop(self.carried.drain(..count));
     }
 
-    /// Takes away the first `count` of the octets that wait here, which went out from where they stood, as `waiting` shows them. It
-    /// takes no memory.
+    /// Takes away the first `count` of the octets that wait here, which went out from where they stood, as `waiting`
+    /// shows them. It takes no memory.
     pub fn sent(&mut self, count: usize)
         requires { count ≤ length self.old.waiting }
         ensures { self.new ≡ record self.old { waiting = drop count self.old.waiting } }

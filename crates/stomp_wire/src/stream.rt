@@ -2,7 +2,8 @@
 
 ghost use Rattle.std.specs.Prelude.{◌≡◌};
 ghost use Rattle.stomp_wire.specs.Fault.{IsCounted};
-ghost use Rattle.stomp_wire.specs.Stream.{meaning_of_error, meaning_of_write, meaning_of_read, count_after, StreamPuts, StreamTakes};
+ghost use Rattle.stomp_wire.specs.Stream.{meaning_of_error, meaning_of_write, meaning_of_read, count_after, StreamPuts};
+ghost use Rattle.stomp_wire.specs.Stream.{StreamTakes};
 
 use crate::{Link, LinkFault};
 use std::io::{self, ErrorKind, Read, Write};

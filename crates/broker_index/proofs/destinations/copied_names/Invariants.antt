@@ -5,4 +5,5 @@ use Rattle.broker_index.proofs.destinations.copied_names.Given as goal
 
 abbrev pub invariant-loop-destination : goal.invariant-loop-destination
 invariant-loop-destination l =
-    l.names.items ++ map (λ (p : ℕ × Destination). p.1.name) l.destination-iterator ≡ map (λ e. e.0) (queues_in l.slab.slots)
+    l.names.items ++ map (λ (p : ℕ × Destination). p.1.name) l.destination-iterator
+    ≡ map (λ e. e.0) (queues_in l.slab.slots)

@@ -17,7 +17,8 @@ loop-key-preserved g c =
       tt,
       tt,
       λ key v found is. elim (Contains-cons_cases _ _ _ (rw at at (c.loop-key.invariant.2 key v found is))) [
-        | inl same ↦ absurd (c.if-key_number-number.false (c.key_number.ensures ∙ ap (λ e. g.T.Keyed.number_of e.1) same ∙ is))
+        | inl same ↦ absurd (c.if-key_number-number.false (c.key_number.ensures ∙ ap (λ e. g.T.Keyed.number_of e.1) same
+            ∙ is))
         | inr rest ↦ rest
       ],
       λ key v there. c.loop-key.invariant.3 key v (rw at (Contains-cons _ _ _ there)),

@@ -15,7 +15,8 @@ returns c = rw (
   c.take_required.ensures.value,
   behind_one (codes "destination") (codes "transaction") c.args.headers.items refl,
   behind_two (codes "destination") (codes "transaction") (codes "receipt") c.args.headers.items refl refl,
-  own_behind (codes "receipt") (without_first (codes "transaction") (without_first (codes "destination") c.args.headers.items)) refl,
+  own_behind (codes "receipt") (without_first (codes "transaction") (without_first (codes "destination")
+      c.args.headers.items)) refl,
   own_behind (codes "transaction") (without_first (codes "destination") c.args.headers.items) refl,
   own_behind (codes "destination") c.args.headers.items refl,
 ) refl

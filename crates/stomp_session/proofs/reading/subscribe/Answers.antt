@@ -3,7 +3,8 @@ use Rattle.stomp_session.proofs.Taking.{behind_one, behind_two, behind_three, se
 use Rattle.stomp_session.proofs.reading.subscribe.Goals as goal
 
 pub take_required-requires-2 : goal.take_required-requires-2
-take_required-requires-2 c = rw (c.take_required.ensures.rest, behind_one (codes "id") (codes "destination") c.args.headers.items refl)
+take_required-requires-2 c =
+    rw (c.take_required.ensures.rest, behind_one (codes "id") (codes "destination") c.args.headers.items refl)
     (second_is_there _ _ c.requires)
 
 pub returns : goal.returns

@@ -27,4 +27,5 @@ returns-clause-value c =
 pub returns-clause-rest : goal.returns-clause-rest
 returns-clause-rest c =
     let found : position (is_named c.args.name.now) c.args.headers.now.items ≡ Some c.in_ok-at.at = search rules in
-    c.remove.ensures.items ∙ sym (taken_rest c.args.name.now c.args.headers.now.items c.in_ok-at.at c.remove.result found)
+    c.remove.ensures.items ∙ sym (taken_rest c.args.name.now c.args.headers.now.items c.in_ok-at.at c.remove.result
+    found)

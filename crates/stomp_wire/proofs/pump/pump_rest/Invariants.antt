@@ -9,7 +9,8 @@ invariant-loop-count g l = record {
   most : l.count ≤ length l.bytes;
   run : (first : _) (start : ℕ) → Puts g.L.Link.put_gives l.bytes first start l.initial.link l.gone
       → Puts g.L.Link.put_gives l.bytes first start l.link l.count;
-  outgoing : Appends (g.L.Link.outgoing l.initial.link) (g.L.Link.outgoing l.link) (take (l.count - l.gone) (drop l.gone l.bytes));
+  outgoing : Appends (g.L.Link.outgoing l.initial.link) (g.L.Link.outgoing l.link)
+      (take (l.count - l.gone) (drop l.gone l.bytes));
   incoming : Keeps (g.L.Link.incoming l.initial.link) (g.L.Link.incoming l.link);
   counted : g.L.Link.failures l.link ≡ g.L.Link.failures l.initial.link;
 }

@@ -14,7 +14,8 @@ push_subscriber-requires c =
     let found = c.in-Some.ensures.found in
     let same : c.index_mut.result.now ≡ found.0 = cc (c.index_mut.ensures.value, found.1) in
     c.requires c.index_mut.result.now.queue
-    (rw (← c.self.view_is) (queue_there c.self.inside.slab c.self.inside.keys c.self.invariant.found c.args.name.now c.in-Some.key
+    (rw (← c.self.view_is) (queue_there c.self.inside.slab c.self.inside.keys c.self.invariant.found c.args.name.now
+    c.in-Some.key
     c.index_mut.result.now c.index_mut.ensures.value (ap (λ (d : Destination). d.name) same ∙ found.2)))
 
 pub returns-in-Some-clause-ok : goal.returns-in-Some-clause-ok
@@ -24,8 +25,10 @@ returns-in-Some-clause-ok c =
     on_ok c.push_subscriber.result c.push_subscriber.ensures.ok (λ changed. rw (← c.self.view_is)
     (Sets-changed c.self.inside.slab c.self.inside.keys c.self.invariant.found c.in-Some.key c.index_mut.result.now
     c.index_mut.ensures.value
-    c.push_subscriber.new.self c.args.name.now (with_subscriber c.args.place) (ap (λ (d : Destination). d.name) same ∙ found.2) changed))
+    c.push_subscriber.new.self c.args.name.now (with_subscriber c.args.place)
+    (ap (λ (d : Destination). d.name) same ∙ found.2) changed))
 
 pub returns-in-None-clause-ok : goal.returns-in-None-clause-ok
 returns-in-None-clause-ok c =
-    rw (← c.self.view_is) (Sets-absent c.self.inside.slab c.args.name.now (with_subscriber c.args.place) c.in-None.ensures.absent)
+    rw (← c.self.view_is) (Sets-absent c.self.inside.slab c.args.name.now (with_subscriber c.args.place)
+    c.in-None.ensures.absent)

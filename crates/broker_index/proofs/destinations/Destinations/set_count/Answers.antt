@@ -16,8 +16,10 @@ returns-in-Some c =
     rw (← c.self.view_is)
     (Sets-changed c.self.inside.slab c.self.inside.keys c.self.invariant.found c.in-Some.key c.index_mut.result.now
     c.index_mut.ensures.value
-    c.set_count.new.self c.args.name.now (counting c.args.count) (ap (λ (d : Destination). d.name) same ∙ found.2) c.set_count.ensures)
+    c.set_count.new.self c.args.name.now (counting c.args.count) (ap (λ (d : Destination). d.name) same ∙ found.2)
+    c.set_count.ensures)
 
 pub returns-in-None : goal.returns-in-None
 returns-in-None c =
-    rw (← c.self.view_is) (Sets-absent c.self.inside.slab c.args.name.now (counting c.args.count) c.in-None.ensures.absent)
+    rw (← c.self.view_is) (Sets-absent c.self.inside.slab c.args.name.now (counting c.args.count)
+    c.in-None.ensures.absent)

@@ -21,4 +21,5 @@ returns-in-Some c =
 
 pub returns-in-None : goal.returns-in-None
 returns-in-None c =
-    rw (← c.self.view_is) (Sets-absent c.self.inside.slab c.args.name.now (taken_from c.args.age) c.in-None.ensures.absent)
+    rw (← c.self.view_is) (Sets-absent c.self.inside.slab c.args.name.now (taken_from c.args.age)
+    c.in-None.ensures.absent)

@@ -10,23 +10,28 @@ invariant_of-self c =
     let same : c.index_mut.result.now ≡ found.0 = cc (c.index_mut.ensures.value, found.1) in
     let touched = in_order-touch (λ (x : Kept). x.number) (λ k. record k { fate = fate_of c.args.standing }) (λ z. refl)
     c.self.inside.slab.slots c.in-Some.key c.args.number
-    c.index_mut.result.now c.set_standing.new.self c.index_mut.ensures.value (ap (λ (x : Kept). x.number) same ∙ found.2)
+    c.index_mut.result.now c.set_standing.new.self c.index_mut.ensures.value
+    (ap (λ (x : Kept). x.number) same ∙ found.2)
     c.set_standing.ensures c.self.invariant in
-    rising-touch (λ (x : Kept). x.number) (λ k. record k { fate = fate_of c.args.standing }) (λ z. refl) c.args.number _ _ touched
+    rising-touch (λ (x : Kept). x.number) (λ k. record k { fate = fate_of c.args.standing }) (λ z. refl) c.args.number _
+    _ touched
     c.self.invariant
 
 pub returns-in-Some : goal.returns-in-Some
 returns-in-Some c =
     let found = c.in-Some.ensures.found in
     let same : c.index_mut.result.now ≡ found.0 = cc (c.index_mut.ensures.value, found.1) in
-    in_order-touch (λ (x : Kept). x.number) (λ k. record k { fate = fate_of c.args.standing }) (λ z. refl) c.self.inside.slab.slots
+    in_order-touch (λ (x : Kept). x.number) (λ k. record k { fate = fate_of c.args.standing }) (λ z. refl)
+    c.self.inside.slab.slots
     c.in-Some.key c.args.number
-    c.index_mut.result.now c.set_standing.new.self c.index_mut.ensures.value (ap (λ (x : Kept). x.number) same ∙ found.2)
+    c.index_mut.result.now c.set_standing.new.self c.index_mut.ensures.value
+    (ap (λ (x : Kept). x.number) same ∙ found.2)
     c.set_standing.ensures c.self.invariant
     ∙ ap (map (with_fate c.args.number (fate_of c.args.standing))) c.self.view_is
 
 pub returns-in-None : goal.returns-in-None
 returns-in-None c =
     rw (← c.self.view_is)
-    (sym (in_order-untouched (λ (x : Kept). x.number) (λ k. record k { fate = fate_of c.args.standing }) c.self.inside.slab.slots
+    (sym (in_order-untouched (λ (x : Kept). x.number) (λ k. record k { fate = fate_of c.args.standing })
+    c.self.inside.slab.slots
     c.args.number c.in-None.ensures.absent))

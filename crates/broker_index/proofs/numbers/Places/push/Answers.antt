@@ -18,7 +18,8 @@ pub returns-clause-ok : goal.returns-clause-ok
 returns-clause-ok c =
     let below = entries_below c.args.place.number c.self.inside.keys.entries
     (subst (All (λ (p : Place). p.number < c.args.place.number)) (sym c.self.view_is) c.requires) in
-    ap places_of (c.in_ok-insert.ensures.entries ∙ insert_entry_last c.args.place.number c.args.place.key c.self.inside.keys.entries
+    ap places_of (c.in_ok-insert.ensures.entries
+    ∙ insert_entry_last c.args.place.number c.args.place.key c.self.inside.keys.entries
     below)
     ∙ places_of-push c.self.inside.keys.entries c.args.place.number c.args.place.key
     ∙ ap (λ ps. ps ++ c.args.place ∷ []) c.self.view_is

@@ -7,11 +7,13 @@ use Rattle.broker_index.proofs.numbers.Places.remove.Goals as goal
 
 pub invariant_of-self : goal.invariant_of-self
 invariant_of-self c =
-    ap (is_rising key_number) (c.remove.ensures.entries ∙ remove_entry_filter c.args.number c.self.inside.keys.entries c.self.invariant)
+    ap (is_rising key_number) (c.remove.ensures.entries
+    ∙ remove_entry_filter c.args.number c.self.inside.keys.entries c.self.invariant)
     ∙ rising_keys-filter c.args.number c.self.inside.keys.entries c.self.invariant
 
 pub returns : goal.returns
 returns c =
-    ap places_of (c.remove.ensures.entries ∙ remove_entry_filter c.args.number c.self.inside.keys.entries c.self.invariant)
+    ap places_of (c.remove.ensures.entries
+    ∙ remove_entry_filter c.args.number c.self.inside.keys.entries c.self.invariant)
     ∙ places_of-without c.args.number c.self.inside.keys.entries
     ∙ ap (without c.args.number) c.self.view_is

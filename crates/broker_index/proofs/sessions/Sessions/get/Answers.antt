@@ -11,5 +11,6 @@ returns-in-Some c =
 
 pub returns-in-None : goal.returns-in-None
 returns-in-None c =
-    ap (list_in items_of) c.in-None.ensures.value ∙ sym (lookup-listed items_of c.args.session c.self.inside.places.entries)
+    ap (list_in items_of) c.in-None.ensures.value
+    ∙ sym (lookup-listed items_of c.args.session c.self.inside.places.entries)
     ∙ ap (λ ss. places_at ss c.args.session) c.self.view_is

@@ -10,5 +10,7 @@ returns-clause-ok c =
     let none = subst (λ ss. lookup (λ s. eqb c.args.session s) ss ≡ None) (sym c.self.view_is) c.requires in
     rw (← c.self.view_is)
     (Sets-like _ _ c.args.session _ _
-    (Sets-listed items_of c.args.session c.self.inside.places c.insert.new.self (Some c.push.new.self) c.in_ok-insert.ensures.updates)
-    (c.in_ok-push.ensures.items ∙ ap (λ l. l ++ c.args.place ∷ []) (c.new-places.ensures.items ∙ sym (ap (λ o. unwrap_or o []) none))))
+    (Sets-listed items_of c.args.session c.self.inside.places c.insert.new.self (Some c.push.new.self)
+    c.in_ok-insert.ensures.updates)
+    (c.in_ok-push.ensures.items ∙ ap (λ l. l ++ c.args.place ∷ []) (c.new-places.ensures.items
+    ∙ sym (ap (λ o. unwrap_or o []) none))))

@@ -1,7 +1,8 @@
 use Rattle.std.proofs.Common.{◌≡◌, ◌++◌, ◌∷◌, [], true, eqb, Some, is_some, sym, ap, subst, ◌∙◌, true≢false}
 use Rattle.std.specs.Map.{lookup}
 use Rattle.broker_index.proofs.Named.{Sets-like}
-use Rattle.broker_index.proofs.Numbered.{items_of, list_in, listed, listed-set_value, lookup-listed, is_some-listed, on_err, Sets-listed}
+use Rattle.broker_index.proofs.Numbered.{items_of, list_in, listed, listed-set_value, lookup-listed, is_some-listed}
+use Rattle.broker_index.proofs.Numbered.{on_err, Sets-listed}
 use Rattle.broker_index.proofs.sessions.Sessions.push_more.Goals as goal
 use Rattle.broker_index.proofs.sessions.Sessions.push_more.Goals.{in-Some+in_ok-push-in-Some, in-None}
 
@@ -18,13 +19,15 @@ returns-clause-ok c = elim c.match-get_mut.branch [
   | in-Some+in_ok-push-in-Some w ↦
       rw (w.result-is, w.self-inside-is, ← c.self.view_is)
       (Sets-like _ _ c.args.session _ _
-      (Sets-listed items_of c.args.session c.self.inside.places (c.get_mut.follows.lender w.push.new.self) (Some w.push.new.self)
+      (Sets-listed items_of c.args.session c.self.inside.places (c.get_mut.follows.lender w.push.new.self)
+      (Some w.push.new.self)
       ((c.get_mut.follows.holds w.push.new.self).3 (ap is_some (sym w.in-Some.ensures.value))))
       (w.in_ok-push-in-Some.ensures.items
       ∙ ap (λ l. l ++ c.args.place ∷ []) (ap (list_in items_of) w.in-Some.ensures.value
       ∙ sym (lookup-listed items_of c.args.session c.self.inside.places.entries))))
   | in-None w ↦
-      let known = subst (λ ss. is_some (lookup (λ s. eqb c.args.session s) ss) ≡ true) (sym c.self.view_is) c.requires in
+      let known =
+      subst (λ ss. is_some (lookup (λ s. eqb c.args.session s) ss) ≡ true) (sym c.self.view_is) c.requires in
       absurd (true≢false (sym known ∙ is_some-listed items_of c.args.session c.self.inside.places.entries
       ∙ ap is_some (sym w.in-None.ensures.value)))
 ]

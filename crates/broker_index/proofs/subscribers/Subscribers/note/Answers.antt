@@ -9,11 +9,13 @@ pub invariant_of-self-in-Some : goal.invariant_of-self-in-Some
 invariant_of-self-in-Some c =
     let found = c.in-Some.ensures.found in
     let same : c.index_mut.result.now ≡ found.0 = cc (c.index_mut.ensures.value, found.1) in
-    let touched = in_order-touch (λ (s : Subscriber). s.age) (λ s. record s { entries = s.entries ++ c.args.entry ∷ [] }) (λ z. refl)
+    let touched = in_order-touch (λ (s : Subscriber). s.age) (λ s. record s
+    { entries = s.entries ++ c.args.entry ∷ [] }) (λ z. refl)
     c.self.inside.slab.slots c.in-Some.key c.args.age
     c.index_mut.result.now c.note.new.self c.index_mut.ensures.value (ap (λ (s : Subscriber). s.age) same ∙ found.2)
     c.in_ok-note-in-Some.ensures.ok c.self.invariant.0 in (
-      rising-touch (λ (s : Subscriber). s.age) (λ s. record s { entries = s.entries ++ c.args.entry ∷ [] }) (λ z. refl) c.args.age _ _
+      rising-touch (λ (s : Subscriber). s.age) (λ s. record s { entries = s.entries ++ c.args.entry ∷ [] }) (λ z. refl)
+          c.args.age _ _
           touched c.self.invariant.0,
       ap (are_before c.self.inside.next) touched ∙ are_before-touch c.self.inside.next c.args.age
           (λ s. record s { entries = s.entries ++ c.args.entry ∷ [] }) (λ z. refl) _ c.self.invariant.1,

@@ -7,5 +7,6 @@ pub invariant_of-self : goal.invariant_of-self
 invariant_of-self g c = record {
   numbered =
       rw c.remove.ensures.entries
-      (removed (is_at (nat_cmp c.args.number)) 0 c.self.inside.last c.self.inside.tags.entries c.self.invariant.numbered);
+      (removed (is_at (nat_cmp c.args.number)) 0 c.self.inside.last c.self.inside.tags.entries
+      c.self.invariant.numbered);
 }

@@ -3,7 +3,8 @@ use Rattle.stomp_wire.proofs.wire.MemoryWire.carry.Goals as goal
 
 pub returns-in-Up-clause-travels : goal.returns-in-Up-clause-travels
 returns-in-Up-clause-travels c =
-    rw c.in-Up.is (carried_travels c.args.most c.args.self.now.near c.args.self.now.far c.carry_to.new.self c.carry_to.new.to
+    rw c.in-Up.is (carried_travels c.args.most c.args.self.now.near c.args.self.now.far c.carry_to.new.self
+    c.carry_to.new.to
     c.carry_to.result c.carry_to.ensures)
 
 pub returns-in-Down-clause-travels : goal.returns-in-Down-clause-travels
