@@ -152,7 +152,10 @@ def rounds(text):
         step = 1 if first <= last else -1
         return [{names: number} for number in range(first, last + step, step)]
     names = names.split(", ")
-    return [dict(zip(names, word.split(":"), strict=True)) for word in values.split()]
+    parts = [word.split(":") if len(names) > 1 else [word] for word in values.split()]
+    if any(len(part) != len(names) for part in parts):
+        raise Fault(f"for {text}")
+    return [dict(zip(names, part)) for part in parts]
 
 
 class Sayer:
