@@ -17,11 +17,12 @@ Words that begin a line:
     for N in 1..=9 .. end                the lines between, with ${N} in them, for each number; 9..=1 goes down
     for WORD in A B C .. end             and for each word; with `for K, V in a:1 b:2` each word has parts
     block NAME .. end                    the lines between, wherever `do NAME` asks for them; behind
-    do NAME CALL => ANSWER               ${call} and ${answer} in them are these
+    do NAME CALL => ANSWER               ${call} and ${answer} in them are these; the answer may stand in the next line
     echo |                               lines that begin with a bar print themselves; the answer beside such a line is kept, and
     => > &                               this is one line for each answer that was kept since the last call
 
-What stands in ${..} is an expression of Python over these names: `${"x" * 1022}`, `${n + 1}`, `${"\\ufeff"}`.
+What stands in ${..} is an expression of Python over these names: `${"x" * 1022}`, `${n + 1}`, `${"\\ufeff"}`, or `${octets(call)}`, how
+many octets a text stands for.
 
 Where the answers are a table or come from a model, the folder has a module of Python in the place of a text: its `cases()` says them.
 """
@@ -110,10 +111,15 @@ class Reader:
         """The text with the values of its expressions."""
         def value(found):
             try:
-                return str(eval(found[1], {"__builtins__": {}}, self.names | known))
+                return str(eval(found[1], {"__builtins__": {}, "octets": octets}, self.names | known))
             except Exception as fault:
                 raise Fault(f"{found[0]}: {fault}") from None
         return re.sub(r"\$\{(.*?)\}", value, text)
+
+
+def octets(text):
+    """How many octets a text stands for: an escape is one."""
+    return len(re.findall(r"\\x[0-9a-f]{2}|\\.|[^\\]", text))
 
 
 def joined(texts):
@@ -122,6 +128,8 @@ def joined(texts):
     for text in texts:
         if text.startswith(".. ") and held is not None and held.partition(" ")[0] not in ("for", "end", "block"):
             held = held.replace("=>", "=> ", held == "=>") + text[3:]
+        elif text.startswith("=> ") and held is not None and re.match(r"do \S+ (?!.* => )", held):
+            held += " " + text
         else:
             if held is not None:
                 yield held
