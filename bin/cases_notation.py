@@ -1,34 +1,36 @@
-"""The notation of cases: a call and its answer side by side, as text.
+"""The notation of cases: calls, and beside each its answer.
 
-    # A comment and an empty line are printed as they are.
-    ## A remark stays in the file, and a line that ends with three dots ...
-    wire near put up => 2; up | 0        a call, and its answer beside it
-    stock view stock/bolt                a call,
-    => 10 3 0 10                         and its answer below it, which may have several lines, each behind an arrow
-    .. order/o1 3 held                   (what is behind two dots and a space goes on with the line before it)
-    stock commit 0 stock/bolt 5          calls that stand above one answer
-    stock view stock/bolt                are each answered so
-    => 65 Unusable: the store failed before, and has to be reopened
+    # A comment and an empty line are printed as they are; a remark with two signs isn't.
+    stock commit 0 stock/nut 2 => committed 2       a call, and its answer beside it
+    stock view stock/bolt                           a call,
+    => 10 3 0 10                                    and its answer below it, each line of it behind an arrow
+    ..  order/o1 3 held                             behind two dots and a space a line goes on: here with a space
+    stock take seat 16 1                            calls that stand above one answer
+    stock arm 1 other                               are each answered so
+    => no such line
 
-Words that begin a line:
+Words that begin a line of another kind:
 
-    let NAME = TEXT                      ${NAME} is this text from here on, in this and in later files of the folder
-    let NAME(A, B) = TEXT                ${NAME("x", 2)} is it with ${A} and ${B} in it
-    for N in 1..=9 .. end                the lines between, with ${N} in them, for each number; 9..=1 goes down
-    for WORD in A B C .. end             and for each word; with `for K, V in a:1 b:2` each word has parts
-    block NAME .. end                    the lines between, wherever `do NAME` asks for them; behind
-    do NAME CALL => ANSWER               ${call} and ${answer} in them are these; the answer may stand in the next line
-    echo |                               lines that begin with a bar print themselves; the answer beside such a line is kept, and
-    => > &                               this is one line for each answer that was kept since the last call
+    let NAME = TEXT                     ${NAME} is this text from here on, in this file and in those behind it
+    let NAME(A, B) = TEXT               ${NAME("x", 2)} is this text with these for ${A} and ${B}
+    for N in 1..=9, end                 the lines between them for each number, with ${N} in them; 9..=1 goes down
+    for WORD in A B C, end              the same for each word; of `for K, V in a:1 b:2` each word has two parts
+    block NAME, end                     the lines between them, which stand wherever there is
+    do NAME                             this; behind `do NAME CALL => ANSWER` they have ${call} and ${answer} in them
+    echo |                              in this file lines that begin with a bar print themselves. What stands beside
+                                        them as an answer is kept, and in an answer of the call behind them
+    => > &                              is a line for each that was kept
 
-What stands in ${..} is an expression of Python over these names: `${"x" * 1022}`, `${n + 1}`, `${"\\ufeff"}`, or `${octets(call)}`, how
-many octets a text stands for.
+${..} holds an expression of Python over these names: ${"x" * 1022}, ${n + 1}, ${"\\ufeff"}, ${octets(call)}.
+Spaces before a line, as in loops, don't count.
 
-Where the answers are a table or come from a model, the folder has a module of Python in the place of a text: its `cases()` says them.
+Where answers are a table or come from a model, a module of Python stands in the place of a text, whose `cases()` says
+them with the functions below.
 """
 import re
 
-lines = []  # what was said: a line, and the lines of its answer; a comment, an empty line and an echoed one are printed as they are
+# What was said: a line, and the lines of its answer. A comment, an empty line and an echoed one are their own.
+lines = []
 
 
 def say(line, *answers):
@@ -57,17 +59,13 @@ class Reader:
     """The texts and blocks that a folder's files have named so far."""
 
     def __init__(self):
-        self.names, self.blocks, self.mark = {}, {}, None
+        self.names, self.blocks = {"octets": octets}, {}
 
     def read(self, text):
         """Says all that the text says."""
-        self.mark = None
-        Sayer(self.mark_of).say_all(joined(self.flat(list(joined(line.lstrip(" ") for line in text.splitlines())), {})))
-
-    def mark_of(self):
-        return self.mark
-
-    # -- lines behind lets, blocks and loops
+        texts = list(joined(line.lstrip(" ") for line in text.splitlines()))
+        mark = next((line[5:] for line in texts if line.startswith("echo ")), None)
+        Sayer(mark).say_all(joined(self.flat(texts, {})))
 
     def flat(self, texts, known):
         """The lines with what they name put in, and without those that only name something."""
@@ -90,9 +88,7 @@ class Reader:
                 yield from self.flat(self.blocks[name], known | {"call": call, "answer": answer})
             elif word == "let":
                 self.name(rest)
-            elif word == "echo":
-                self.mark = rest
-            elif word != "##":
+            elif word not in ("##", "echo"):
                 yield self.filled(texts[at], known)
             at += 1
 
@@ -111,7 +107,7 @@ class Reader:
         """The text with the values of its expressions."""
         def value(found):
             try:
-                return str(eval(found[1], {"__builtins__": {}, "octets": octets}, self.names | known))
+                return str(eval(found[1], {"__builtins__": {}}, self.names | known))
             except Exception as fault:
                 raise Fault(f"{found[0]}: {fault}") from None
         return re.sub(r"\$\{(.*?)\}", value, text)
@@ -123,7 +119,7 @@ def octets(text):
 
 
 def joined(texts):
-    """The lines, each with those that go on with it; not with those of a loop, as long as it's there."""
+    """The lines, each with those that go on with it; with what stands before a loop the loop's do, once it's gone."""
     held = None
     for text in texts:
         if text.startswith(".. ") and held is not None and held.partition(" ")[0] not in ("for", "end", "block"):
@@ -167,10 +163,11 @@ def rounds(text):
 
 
 class Sayer:
-    """Takes plain lines, and says them as calls with their answers."""
+    """Takes lines without words of the notation, and says them as calls with their answers."""
 
     def __init__(self, mark):
-        self.mark, self.calls, self.answers, self.kept, self.last = mark, [], [], [], None
+        self.mark, self.calls, self.answers = mark, [], []
+        self.kept, self.echoes = [], False  # the answers beside echoed lines, and whether such a line was the last
 
     def say_all(self, texts):
         for text in texts:
@@ -178,35 +175,38 @@ class Sayer:
         self.say_calls()
 
     def take(self, text):
-        mark = self.mark()
         if text == "=>" or text.startswith("=> "):
             self.answer(text[3:])
         elif not text or text.startswith("#"):
             self.say_calls()
-            self.last = None
+            self.echoes = False
             echo(text)
-        elif mark and text.startswith(mark):
-            self.say_calls()
-            if self.last != "echo":
-                self.kept = []
-            self.last = "echo"
-            line, found, answer = text.partition(" => ")
-            echo(line)
-            if found:
-                self.kept.append(answer)
         else:
-            if self.answers:
-                self.say_calls()
-            self.last = "call"
             line, found, answer = text.partition(" => ")
-            if found and self.calls:
-                raise Fault(f"{self.calls[-1]}: no answer")
-            self.calls.append(line)
+            if self.mark and text.startswith(self.mark):
+                self.echoed(line)
+            else:
+                self.called(line, found)
             if found:
                 self.answer(answer)
 
+    def echoed(self, line):
+        self.say_calls()
+        if not self.echoes:
+            self.kept = []
+        self.echoes = True
+        echo(line)
+
+    def called(self, line, is_answered):
+        if self.answers:
+            self.say_calls()
+        if self.calls and is_answered:
+            raise Fault(f"{self.calls[-1]}: no answer")
+        self.echoes = False
+        self.calls.append(line)
+
     def answer(self, text):
-        if self.last == "echo":
+        if self.echoes:
             self.kept.append(text)
         elif not self.calls:
             raise Fault(f"=> {text}: of no call")
