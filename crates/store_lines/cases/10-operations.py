@@ -34,9 +34,8 @@ ONE = ((O2_PLACED,), O2_ASKS, "no row", OPEN)
 TWO = ((O2_PLACED, O1_PLACED), O1_ASKS + O2_ASKS, OPEN, OPEN)
 THREE = ((O2_PLACED, O1_PLACED, O1_CANCELLED), (O1_ASKS[0], O1_GIVES_BACK[0], O1_ASKS[1], O1_GIVES_BACK[1]) + O2_ASKS,
          CANCELLED, OPEN)
-# a letter that arrives, the next one of its pair, and a settle; the rows of order/o1 behind them
+# a letter that arrives, a drain of its pair, and a settle; the row of order/o1 behind the letter
 ARRIVED = "ingest stock/bolt order/o1 1 Tentative"
-HELD = "ingest stock/bolt order/o1 2 Tentative"
 DRAINED = "drain stock/bolt order/o1"
 SETTLED = "settle order/o1 stock/bolt 1"
 ANSWERED = order("Open", "Tentative", "Requested")
