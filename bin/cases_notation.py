@@ -159,7 +159,8 @@ def rounds(text):
     parts = [word.split(":") if len(names) > 1 else [word] for word in values.split()]
     if any(len(part) != len(names) for part in parts):
         raise Fault(f"for {text}")
-    return [dict(zip(names, part)) for part in parts]
+    return [{name: int(word) if word.isdecimal() and word == str(int(word)) else word for name, word in zip(names, part)}
+            for part in parts]
 
 
 class Sayer:
