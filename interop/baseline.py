@@ -10,6 +10,8 @@ import traceback
 
 from client import Client, Closed, connected, spell
 
+if len(sys.argv) != 2 or not sys.argv[1].isdigit():
+    sys.exit(__doc__)
 PORT = int(sys.argv[1])
 STEPS = []
 

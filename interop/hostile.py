@@ -17,6 +17,8 @@ import time
 
 from client import Client, Closed, connected, spell
 
+if len(sys.argv) < 3 or not all(it.isdigit() for it in sys.argv[1:3]):
+    sys.exit(__doc__)
 PORT, PID = int(sys.argv[1]), int(sys.argv[2])
 CONNECT = spell("CONNECT", {"accept-version": "1.2", "host": "h"})
 KINDS = []

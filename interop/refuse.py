@@ -10,8 +10,10 @@ import os
 import subprocess
 import sys
 
-from client import Client, Closed, connected
+from client import Closed, connected
 
+if len(sys.argv) != 3:
+    sys.exit(__doc__)
 BROKER, LIBRARY = sys.argv[1:]
 WORDS = [["--help"], ["--version"], ["--port"], ["--port", "x"], ["--port", "0", "more"]]
 QUIET = 400  # growths that nobody misses, behind which there are no more: a run with the clients has fewer in all

@@ -9,6 +9,8 @@ import time
 
 import stomp
 
+if len(sys.argv) != 2 or not sys.argv[1].isdigit():
+    sys.exit(__doc__)
 PORT = int(sys.argv[1])
 STEPS = []
 
