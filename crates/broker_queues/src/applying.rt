@@ -6,7 +6,7 @@ ghost use Rattle.broker_queues.specs.Parts.Begun.{Acts, AnswersNoted, Applies, P
 ghost use Rattle.broker_queues.specs.Parts.Begun.{SweepsAll, TakesLast, Undoes, Unputs, UnputsAll};
 ghost use Rattle.broker_queues.specs.Parts.Held.{holding_of};
 ghost use Rattle.broker_queues.specs.Parts.Storing.{NoneGone, Sweeps};
-ghost use Rattle.broker_queues.specs.Parts.Whole.{IsShelf};
+ghost use Rattle.broker_queues.specs.Parts.Whole.{IsSound};
 
 use crate::parts::Parts;
 use crate::undoing::Logged;
@@ -30,7 +30,7 @@ impl Parts {
         sent: &Shared<Sent>,
         accepted: &mut Vec<Accepted>,
     ) -> Result<usize, QueueFault>
-        requires { IsShelf (holding_of self.old) }
+        requires { IsSound (holding_of self.old) }
         ensures { PutsAccepted full (holding_of self.old) accepted.old.items sent.now (holding_of self.new) accepted.new.items result }
     {
         let one = Accepted {
@@ -55,7 +55,7 @@ impl Parts {
         journal: &mut Journal,
         accepted: &mut Vec<Accepted>,
     ) -> Result<(), QueueFault>
-        requires { IsShelf (holding_of self.old) }
+        requires { IsSound (holding_of self.old) }
         ensures { Acts (λ b. put_of full b sent.now) (holding_of self.old) journal.old.answers.items accepted.old.items
             (holding_of self.new) journal.new.answers.items accepted.new.items result }
     {
@@ -95,7 +95,7 @@ impl Parts {
         journal: &mut Journal,
         accepted: &mut Vec<Accepted>,
     ) -> Result<(), QueueFault>
-        requires { IsShelf (holding_of self.old) }
+        requires { IsSound (holding_of self.old) }
         ensures { Acts (λ b. act_of full session b action.now) (holding_of self.old) journal.old.answers.items accepted.old.items
             (holding_of self.new) journal.new.answers.items accepted.new.items result }
     {
@@ -119,7 +119,7 @@ impl Parts {
         journal: &mut Journal,
         accepted: &mut Vec<Accepted>,
     ) -> Result<(), QueueFault>
-        requires { IsShelf (holding_of self.old) }
+        requires { IsSound (holding_of self.old) }
         ensures { Acts (λ b. apply_of full session b actions.now) (holding_of self.old) journal.old.answers.items accepted.old.items
             (holding_of self.new) journal.new.answers.items accepted.new.items result }
     {
@@ -202,7 +202,7 @@ impl Parts {
         actions: &[Action],
         accepted: &mut Vec<Accepted>,
     ) -> Result<(), QueueFault>
-        requires { IsShelf (holding_of self.old) }
+        requires { IsSound (holding_of self.old) }
         ensures applies { Applies full session actions.now (holding_of self.old) accepted.old.items (holding_of self.new)
             accepted.new.items result }
         ensures taken { NoneGone self.old.messages → NoneGone self.new.messages }

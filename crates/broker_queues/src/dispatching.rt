@@ -4,9 +4,9 @@ ghost use Rattle.std.specs.Prelude.{◌≡◌};
 ghost use Rattle.broker_queues.specs.Parts.Choosing.{Dispatching, Hands, is_auto_of};
 ghost use Rattle.broker_queues.specs.Parts.Dealings.{HandsWhole};
 ghost use Rattle.broker_queues.specs.Parts.Held.{holding_of};
-ghost use Rattle.broker_queues.specs.Parts.Shelf.{subscriber_at};
+ghost use Rattle.broker_queues.specs.Parts.Facts.{subscriber_at};
 ghost use Rattle.broker_queues.specs.Parts.Storing.{NoneGone};
-ghost use Rattle.broker_queues.specs.Parts.Whole.{IsShelf};
+ghost use Rattle.broker_queues.specs.Parts.Whole.{IsSound};
 
 use crate::parts::Parts;
 use crate::picking::Pick;
@@ -51,7 +51,7 @@ impl Parts {
     /// # Errors
     /// Where memory is refused, here or by the sink. Then some messages may have been handed out, each of them wholly.
     pub fn dispatch<S: Sink>(&mut self, sink: &mut S) -> Result<(), AllocError>
-        requires { IsShelf (holding_of self.old) }
+        requires { IsSound (holding_of self.old) }
         ensures deals { Dispatching S.takes (holding_of self.old) sink.old (holding_of self.new) sink.new result }
         ensures taken { NoneGone self.old.messages → NoneGone self.new.messages }
     {

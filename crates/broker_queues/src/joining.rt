@@ -5,9 +5,9 @@ ghost use Rattle.std.specs.List.{list_any};
 ghost use Rattle.broker_book.specs.Books.{is_named};
 ghost use Rattle.broker_index.specs.Index.{queue_at};
 ghost use Rattle.broker_queues.specs.Parts.Held.{holding_of};
-ghost use Rattle.broker_queues.specs.Parts.Shelf.{queue_of, subscriptions_of};
+ghost use Rattle.broker_queues.specs.Parts.Facts.{queue_of, subscriptions_of};
 ghost use Rattle.broker_queues.specs.Parts.Storing.{Attaches, SubscribesTo};
-ghost use Rattle.broker_queues.specs.Parts.Whole.{IsShelf};
+ghost use Rattle.broker_queues.specs.Parts.Whole.{IsSound};
 
 use crate::opening::add_subscriber;
 use crate::parts::Parts;
@@ -45,7 +45,7 @@ impl Parts {
     /// # Errors
     /// Where memory is refused; then nothing has changed but that an idle queue goes.
     pub fn subscribe(&mut self, subscription: &Subscription) -> Result<(), AllocError>
-        requires shelf { IsShelf (holding_of self.old) }
+        requires sound { IsSound (holding_of self.old) }
         requires free { list_any (is_named subscription.now.session subscription.now.id) (subscriptions_of self.old.subscribers) ≡ false }
         ensures joins { SubscribesTo (holding_of self.old) subscription.now (holding_of self.new) result }
         ensures messages { self.new.messages ≡ self.old.messages }

@@ -47,7 +47,6 @@ mod opening;
 mod parts;
 mod picking;
 mod queues;
-mod shelf;
 mod sink;
 mod steps;
 mod storing;

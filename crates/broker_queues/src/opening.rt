@@ -2,7 +2,7 @@
 
 ghost use Rattle.std.specs.Prelude.{◌≡◌, ◌<◌, ◌^◌, ◌-◌, All, OnOk, OnErr};
 ghost use Rattle.broker_index.specs.Index.{queue_at, with_subscriber};
-ghost use Rattle.broker_queues.specs.Parts.Shelf.{queue_of};
+ghost use Rattle.broker_queues.specs.Parts.Facts.{queue_of};
 ghost use Rattle.broker_queues.specs.Parts.Storing.{Becomes, Closes, adding};
 
 use crate::steps::count;

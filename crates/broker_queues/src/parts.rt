@@ -1,9 +1,9 @@
-//! What a shelf is made of.
+//! The parts of a book.
 
 ghost use Rattle.std.specs.Prelude.{◌≡◌, ◌==◌, ◌&&◌, find, length};
 ghost use Rattle.broker_index.specs.Standing.{fate_of};
 ghost use Rattle.broker_queues.specs.Parts.Fates.{back, counts_in, fate_of_kept, is_held, is_held_at, passes};
-ghost use Rattle.broker_queues.specs.Parts.Shelf.{kept_at, subscriber_at};
+ghost use Rattle.broker_queues.specs.Parts.Facts.{kept_at, subscriber_at};
 ghost use Rattle.std.specs.Str.{bytes_eq};
 ghost use Rattle.broker_book.specs.Books.{out_as};
 ghost use Rattle.broker_index.specs.Index.{places_at};
@@ -15,7 +15,7 @@ use broker_index::{
     Destinations, Entry, Holder, Messages, Place, Sessions, Standing, StoredSubscriber, Subscribers,
 };
 
-/// The messages, subscribers, destinations and sessions of a shelf, the destinations where something may be due, and the last numbers
+/// The messages, subscribers, destinations and sessions of a book, the destinations where something may be due, and the last numbers
 /// that were given to a message and to a delivery.
 #[derive(Drop)]
 pub struct Parts {

@@ -4,8 +4,8 @@ ghost use Rattle.std.specs.Prelude.{◌≡◌, ◌<◌, ◌++◌, [], false, len
 ghost use Rattle.broker_index.specs.Index.{queue_at};
 ghost use Rattle.broker_queues.specs.Parts.Choosing.{Chooses, Looks, NextDeal, Rests, earlier, is_at_most};
 ghost use Rattle.broker_queues.specs.Parts.Held.{holding_of};
-ghost use Rattle.broker_queues.specs.Parts.Shelf.{queue_of};
-ghost use Rattle.broker_queues.specs.Parts.Whole.{IsShelf};
+ghost use Rattle.broker_queues.specs.Parts.Facts.{queue_of};
+ghost use Rattle.broker_queues.specs.Parts.Whole.{IsSound};
 
 use crate::parts::Parts;
 use crate::steps::ready_from;
@@ -97,7 +97,7 @@ impl Parts {
 
     /// Names all destinations, where a name could not be noted before.
     fn rouse(&mut self) -> Result<(), AllocError>
-        ensures rests { IsShelf (holding_of self.old) → Rests (holding_of self.old) (holding_of self.new) }
+        ensures rests { IsSound (holding_of self.old) → Rests (holding_of self.old) (holding_of self.new) }
         ensures named { OnOk result (self.new.active.all ≡ false) }
     {
         if self.active.all {

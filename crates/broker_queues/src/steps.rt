@@ -2,7 +2,7 @@
 
 ghost use Rattle.std.specs.Prelude.{◌≡◌};
 ghost use Rattle.broker_index.specs.Index.{queue_at};
-ghost use Rattle.broker_queues.specs.Parts.Shelf.{queue_of};
+ghost use Rattle.broker_queues.specs.Parts.Facts.{queue_of};
 ghost use Rattle.broker_queues.specs.Parts.Queues.{CountsFewer, Frees, LooksFrom, Marks, TakesFrom, awake_in};
 
 use crate::active::Active;

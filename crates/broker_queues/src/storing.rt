@@ -4,10 +4,10 @@ ghost use Rattle.std.specs.Prelude.{◌≡◌, ◌<◌, ◌^◌, ◌-◌, find};
 ghost use Rattle.broker_index.specs.Index.{queue_at};
 ghost use Rattle.broker_index.specs.Standing.{fate_of};
 ghost use Rattle.broker_queues.specs.Parts.Held.{Responds, holding_of};
-ghost use Rattle.broker_queues.specs.Parts.Shelf.{queue_of, subscriber_at};
+ghost use Rattle.broker_queues.specs.Parts.Facts.{queue_of, subscriber_at};
 ghost use Rattle.broker_queues.specs.Parts.Storing.{Clears, Forgets, NoneGone, PutsIn, Stores, Sweeps, SweepsOne, TakesOut};
 ghost use Rattle.broker_queues.specs.Parts.Storing.{first_stale, is_gone, is_stale};
-ghost use Rattle.broker_queues.specs.Parts.Whole.{IsShelf};
+ghost use Rattle.broker_queues.specs.Parts.Whole.{IsSound};
 
 use crate::opening::add_number;
 use crate::parts::Parts;
@@ -32,7 +32,7 @@ impl Parts {
     /// # Errors
     /// Where memory is refused; then an idle queue goes at most.
     fn store(&mut self, sent: &Shared<Sent>) -> Result<usize, AllocError>
-        requires shelf { IsShelf (holding_of self.old) }
+        requires sound { IsSound (holding_of self.old) }
         requires number { self.old.last < 2 ^ 64 - 1 }
         requires count { (queue_of (queue_at self.old.destinations) sent.now.destination).count < 2 ^ 64 - 1 }
         ensures { Stores (holding_of self.old) sent.now (holding_of self.new) result }
@@ -60,7 +60,7 @@ impl Parts {
     /// Where its destination has `full` messages, no number is left, or memory is refused; then nothing has changed but that an idle queue
     /// goes.
     pub fn put(&mut self, full: usize, sent: &Shared<Sent>) -> Result<usize, QueueFault>
-        requires { IsShelf (holding_of self.old) }
+        requires { IsSound (holding_of self.old) }
         ensures { PutsIn full (holding_of self.old) sent.now (holding_of self.new) result }
     {
         self.destinations.seek(&sent.get().destination);
@@ -79,7 +79,7 @@ impl Parts {
     pub fn purge(&mut self, number: u64, key: usize)
         ensures sweeps { Sweeps (holding_of self.old) (holding_of self.new) }
         ensures taken { TakesOut (holding_of self.old) number (holding_of self.new) }
-        ensures rest { IsShelf (holding_of self.old) → Forgets (holding_of self.old) number (holding_of self.new) }
+        ensures rest { IsSound (holding_of self.old) → Forgets (holding_of self.old) number (holding_of self.new) }
         ensures subscribers { self.new.subscribers ≡ self.old.subscribers }
     {
         let Some(stored) = self.messages.get(number, key) else {
@@ -137,7 +137,7 @@ impl Parts {
     /// Where no delivery of this number is out to the session; then nothing has changed.
     pub fn answer_whole(&mut self, session: u64, ack: u64, again: bool) -> Result<(), QueueFault>
         ensures step { Responds (holding_of self.old) session ack again (holding_of self.new) result }
-        ensures taken { IsShelf (holding_of self.old) → NoneGone self.old.messages → NoneGone self.new.messages }
+        ensures taken { IsSound (holding_of self.old) → NoneGone self.old.messages → NoneGone self.new.messages }
     {
         let Some(place) = self.holder(session, ack) else {
             return Err(QueueFault::NoSuchAck);

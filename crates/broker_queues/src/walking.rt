@@ -3,7 +3,7 @@
 ghost use Rattle.broker_index.specs.Index.{queue_at};
 ghost use Rattle.broker_queues.specs.Parts.Dealings.{FirstOf, SeeksReady, SeeksTaker, number_or, opens, takes_more};
 ghost use Rattle.broker_queues.specs.Parts.Fates.{passes};
-ghost use Rattle.broker_queues.specs.Parts.Shelf.{may_have};
+ghost use Rattle.broker_queues.specs.Parts.Facts.{may_have};
 ghost use Rattle.broker_book.specs.Books.{is_ready_fate};
 ghost use Rattle.broker_index.specs.Standing.{fate_of};
 ghost use Rattle.std.specs.Prelude.{◌≡◌};

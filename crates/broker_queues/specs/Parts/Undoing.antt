@@ -6,7 +6,7 @@ use Rattle.broker_book.specs.Books.{Fate, Ready, Out}
 use Rattle.broker_index.specs.Index.{Kept}
 use Rattle.broker_index.specs.Standing.{fate_of}
 use Rattle.broker_queues.specs.declared.undoing.Logged.{Logged}
-use Rattle.broker_queues.specs.Parts.Shelf.{kept_at, notes}
+use Rattle.broker_queues.specs.Parts.Facts.{kept_at, notes}
 use Rattle.broker_queues.specs.Parts.Fates.{passes, fated, fate_of_kept}
 use Rattle.broker_index.specs.declared.places.Entry.{Entry}
 

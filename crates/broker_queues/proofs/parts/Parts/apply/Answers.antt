@@ -33,5 +33,5 @@ returns-clause-taken c none =
     let nothing : c.new.result.items ≡ [] = c.new.ensures.items in
     let b = c.in_default.ensures.begun h (rw nothing (begins h c.requires)) in
     let swept = rw c.deref.ensures.value at c.sweep_all.ensures.taken in
-    swept b.shelf b.held
+    swept b.sound b.held
     (begun_noted h (holding_of c.act_all.new.self) c.act_all.new.journal.answers.items b none)

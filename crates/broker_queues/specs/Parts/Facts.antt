@@ -1,4 +1,4 @@
--- What the parts of a shelf hold, and what they must agree on.
+-- What the parts of a book hold, and what they must agree on.
 use Rattle.std.specs.Prelude.{◌≡◌, ◌≤◌, ℕ, ◌+◌, ◌^◌, ◌-◌, Bool, true, ◌&&◌, ◌||◌}
 use Rattle.std.specs.Prelude.{◌==◌, nat_lt, nat_le, List, [], ◌∷◌, map, find, count_by, filter_map}
 use Rattle.std.specs.Prelude.{Option, Some, None}
