@@ -10,7 +10,7 @@ ghost use Rattle.broker_index.specs.Index.{places_at};
 
 use crate::active::Active;
 use crate::steps::{free, mark};
-use broker_book::{QueueFault, Subscription};
+use broker_book::Subscription;
 use broker_index::{
     Destinations, Entry, Holder, Messages, Place, Sessions, Standing, StoredSubscriber, Subscribers,
 };
@@ -72,7 +72,7 @@ fn is_standing_as(standing: &Standing, subscription: &Subscription, ack: u64) ->
 }
 
 impl Parts {
-    ghost use Rattle.broker_queues.specs.Parts.Held.{Responds, TakesBack, TurnsAll, TurnsNext, entries_of, holding_of};
+    ghost use Rattle.broker_queues.specs.Parts.Held.{TakesBack, TurnsAll, TurnsNext, entries_of, holding_of};
 
     /// Takes back the delivery of a message to a subscriber: the message is ready again, or else gone.
     pub fn take_back(&mut self, number: u64, key: usize, age: u64, age_key: usize, again: bool)
@@ -213,19 +213,5 @@ impl Parts {
         ensures { result ≡ find (is_held_at self.now.messages self.now.subscribers ack) (places_at self.now.sessions session) }
     {
         self.first_held(self.sessions.get(session), ack)
-    }
-
-    /// An ACK of a session, or a NACK where the messages are to be ready again. It does the same where memory is refused.
-    ///
-    /// # Errors
-    /// Where no delivery of this number is out to the session; then nothing has changed.
-    pub fn respond(&mut self, session: u64, ack: u64, again: bool) -> Result<(), QueueFault>
-        ensures { Responds (holding_of self.old) session ack again (holding_of self.new) result }
-    {
-        let Some(place) = self.holder(session, ack) else {
-            return Err(QueueFault::NoSuchAck);
-        };
-        self.answer(place.number, place.key, Some(ack), again);
-        Ok(())
     }
 }
