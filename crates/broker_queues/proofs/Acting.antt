@@ -13,7 +13,7 @@ use Rattle.broker_book.specs.Books.{Book}
 use Rattle.broker_book.specs.Steps.{UnlessMemory, act_of, apply_of, put_of, then_all}
 use Rattle.broker_index.specs.Index.{Subscriber}
 use Rattle.broker_index.specs.declared.places.Place.{Place}
-use Rattle.broker_queues.specs.declared.undoing.Logged.{Logged}
+use Rattle.broker_queues.specs.declared.transactions.Logged.{Logged}
 use Rattle.broker_queues.specs.Parts.Begun.{Accepts, Acts, Applies, Goes, Grows, IsBegun, Noted}
 use Rattle.broker_queues.specs.Parts.Fates.{is_held_at}
 use Rattle.broker_queues.specs.Parts.Held.{TurnsAll}

@@ -9,7 +9,7 @@ use Rattle.broker_book.specs.declared.parts.Sent.{Sent}
 use Rattle.broker_book.specs.Books.{Fate, Ready, Out}
 use Rattle.broker_index.specs.Index.{Kept, Subscriber, has_number}
 use Rattle.broker_index.specs.declared.places.Entry.{Entry}
-use Rattle.broker_queues.specs.declared.undoing.Logged.{Logged}
+use Rattle.broker_queues.specs.declared.transactions.Logged.{Logged}
 use Rattle.broker_queues.specs.Parts.Begun.{IsHeldBy, AreHeld, IsBegun, Noted, goes_to}
 use Rattle.broker_queues.specs.Parts.Fates.{back, counts_in, passes, turn_among}
 use Rattle.broker_queues.specs.Parts.Held.{IsSame, Turns}

@@ -8,7 +8,7 @@ use Rattle.std.proofs.lemmas.Bool.{cases_Bool, leb-true, le-leb, leb-false}
 use Rattle.std.proofs.lemmas.List.{take_at, length-take-le, drop_more, take_all, take-append-drop, length-append, length-drop}
 use Rattle.std.proofs.lemmas.List.Folds.{list_any-append, list_any_more}
 use Rattle.broker_index.specs.Index.{Kept, Subscriber, Queue, queue_at}
-use Rattle.broker_queues.specs.declared.picking.Pick.{Pick}
+use Rattle.broker_queues.specs.declared.deals.Pick.{Pick}
 use Rattle.broker_queues.specs.Parts.Choosing.{Rests, IsDueAt, MayGo, Looked, Covers, IsPick, IsNext, is_at_most, earlier}
 use Rattle.broker_queues.specs.Parts.Queues.{awake_in}
 use Rattle.broker_queues.specs.Parts.Facts.{lists, queue_of, AreAwake}

@@ -11,7 +11,7 @@ use Rattle.std.proofs.lemmas.Slice.Eq.{bytes_eq-Decides}
 use Rattle.broker_book.specs.Books.{QueuedMessage, Fate, Ready, Out, out_to, is_for, is_named}
 use Rattle.broker_index.specs.Index.{Kept, Subscriber, Queue, Sets, counting, opened, has_age, with_count, with_fate}
 use Rattle.broker_index.specs.Standing.{fate_of}
-use Rattle.broker_queues.specs.declared.undoing.Logged.{Logged}
+use Rattle.broker_queues.specs.declared.transactions.Logged.{Logged}
 use Rattle.broker_queues.specs.Parts.Begun.{CountsMore, IsBegun, IsHeldBy}
 use Rattle.broker_queues.specs.Parts.Fates.{passes, counts_for, recounted, weight, fated}
 use Rattle.broker_queues.specs.Parts.Held.{IsSame}

@@ -8,7 +8,7 @@ use Rattle.std.proofs.lemmas.Bool.{and_parts, cases_Bool, cases_eq, eqb-true, le
 use Rattle.broker_book.specs.Books.{Fate, Ready}
 use Rattle.broker_index.specs.Index.{Kept, Subscriber, has_number, with_fate}
 use Rattle.broker_index.specs.declared.places.Entry.{Entry}
-use Rattle.broker_queues.specs.declared.undoing.Logged.{Logged}
+use Rattle.broker_queues.specs.declared.transactions.Logged.{Logged}
 use Rattle.broker_queues.specs.Parts.Begun.{AreHeld, GoneAreNoted, IsBegun}
 use Rattle.broker_queues.specs.Parts.Fates.{fated, passes, turn_among}
 use Rattle.broker_queues.specs.Parts.Held.{entries_of}

@@ -5,7 +5,7 @@ use Rattle.std.specs.Prelude.{◌==◌, nat_le, filter}
 use Rattle.std.specs.Str.{bytes_eq}
 use Rattle.std.proofs.lemmas.Bool.{cases_Bool, cases_eq, eqb-true, lt-leb}
 use Rattle.broker_index.specs.Index.{Kept, with_fate}
-use Rattle.broker_queues.specs.declared.undoing.Logged.{Logged}
+use Rattle.broker_queues.specs.declared.transactions.Logged.{Logged}
 use Rattle.broker_queues.specs.Parts.Begun.{IsBegun, LetsGo, goes_to}
 use Rattle.broker_queues.specs.Parts.Fates.{fated, recounted}
 use Rattle.broker_queues.specs.Parts.Facts.{kept_at, lists, queue_of, subscriptions_of}

@@ -1,4 +1,7 @@
-//! The queues, as callers see them.
+//! The queues, as callers see them: a book.
+//!
+//! The book is what the parts stand for, with the SENDs that were accepted since they were last taken. What in the
+//! parts is believed and what is a hint, `parts.rt` says.
 
 ghost use Rattle.std.specs.Prelude.{◌≡◌, ◌==◌, [], OnOk, IfErr, count_by, false, is_some};
 ghost use Rattle.std.specs.List.{list_any};
@@ -69,12 +72,12 @@ impl<const FULL: usize> Queues<FULL> {
         self.parts.last
     }
 
-    /// Accepts a SEND: its message is ready, and has the next number, which [`last`](Queues::last) tells then. What it brings is shared
-    /// and not copied.
+    /// Accepts a SEND: its message is ready, and has the next number, which [`last`](Queues::last) tells then. What it
+    /// brings is shared and not copied.
     ///
     /// # Errors
-    /// `QueueFull` where its destination holds `FULL` messages, `TooMany` where no number is left, `Memory` where a growth was refused.
-    /// Then nothing has changed.
+    /// `QueueFull` where its destination holds `FULL` messages, `TooMany` where no number is left, `Memory` where a
+    /// growth was refused. Then nothing has changed.
     pub fn put(&mut self, sent: &Shared<Sent>) -> Result<(), QueueFault>
         ensures { UnlessMemory (put_of FULL self.old sent.now) self.old self.new result }
     {
@@ -90,8 +93,8 @@ impl<const FULL: usize> Queues<FULL> {
         replace(&mut self.accepted, Vec::new(self.parts.active.alloc))
     }
 
-    /// Adds a subscription, the youngest, of a name that the session's others don't have, as [`has_named`](Queues::has_named) tells. Its
-    /// texts are shared and not copied.
+    /// Adds a subscription, the youngest, of a name that the session's others don't have, as
+    /// [`has_named`](Queues::has_named) tells. Its texts are shared and not copied.
     ///
     /// # Errors
     /// `Memory` where a growth was refused, and then nothing has changed.
@@ -118,15 +121,16 @@ impl<const FULL: usize> Queues<FULL> {
         self.parts.sessions.get(session).len()
     }
 
-    /// Ends a session's subscription of this name: what is out to it is ready again, in its old place. It does the same where memory is
-    /// refused.
+    /// Ends a session's subscription of this name: what is out to it is ready again, in its old place. It does the same
+    /// where memory is refused.
     pub fn release(&mut self, session: u64, id: &Text)
         ensures { self.new ≡ released self.old session id.now }
     {
         self.parts.release(session, id)
     }
 
-    /// Ends all subscriptions of a session: what is out to them is ready again, in its old place. It does the same where memory is refused.
+    /// Ends all subscriptions of a session: what is out to them is ready again, in its old place. It does the same
+    /// where memory is refused.
     pub fn end(&mut self, session: u64)
         ensures { self.new ≡ ended self.old session }
     {
@@ -140,8 +144,8 @@ impl<const FULL: usize> Queues<FULL> {
         self.parts.holder(session, number).is_some()
     }
 
-    /// An ACK of a session (STOMP 1.2, section "ACK"): the message that is out as this delivery is gone, and in mode `client` those of the
-    /// subscription's earlier deliveries. It does the same where memory is refused.
+    /// An ACK of a session (STOMP 1.2, section "ACK"): the message that is out as this delivery is gone, and in mode
+    /// `client` those of the subscription's earlier deliveries. It does the same where memory is refused.
     ///
     /// # Errors
     /// `NoSuchAck` where no such delivery is out to the session, and then nothing has changed.
@@ -151,8 +155,9 @@ impl<const FULL: usize> Queues<FULL> {
         self.parts.answer_whole(session, number, false)
     }
 
-    /// A NACK of a session (STOMP 1.2, section "NACK"): the message that is out as this delivery is ready again, in its old place, and in
-    /// mode `client` those of the subscription's earlier deliveries. It does the same where memory is refused.
+    /// A NACK of a session (STOMP 1.2, section "NACK"): the message that is out as this delivery is ready again, in its
+    /// old place, and in mode `client` those of the subscription's earlier deliveries. It does the same where memory is
+    /// refused.
     ///
     /// # Errors
     /// `NoSuchAck` where no such delivery is out to the session, and then nothing has changed.
@@ -165,15 +170,16 @@ impl<const FULL: usize> Queues<FULL> {
     /// The actions of a session's transaction: all in order, or none.
     ///
     /// # Errors
-    /// The first fault of an action, as `put`, `ack` and `nack` have them behind those before, or `Memory` where a growth was refused.
-    /// Then nothing has changed.
+    /// The first fault of an action, as `put`, `ack` and `nack` have them behind those before, or `Memory` where a
+    /// growth was refused. Then nothing has changed.
     pub fn apply(&mut self, session: u64, actions: &[Action]) -> Result<(), QueueFault>
         ensures { UnlessMemory (apply_of FULL session self.old actions.now) self.old self.new result }
     {
         self.parts.apply(FULL, session, actions, &mut self.accepted)
     }
 
-    /// Hands out what is ready until no message can go out: always the first that can, to the oldest subscription that may take it.
+    /// Hands out what is ready until no message can go out: always the first that can, to the oldest subscription that
+    /// may take it.
     ///
     /// # Errors
     /// Where memory is refused, here or by the sink. Then some messages may have been handed out, each of them wholly.

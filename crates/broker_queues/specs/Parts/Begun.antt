@@ -13,7 +13,7 @@ use Rattle.broker_book.specs.Steps.{UnlessMemory, apply_of, put_of}
 use Rattle.broker_index.specs.Index.{Kept, Queue, Subscriber}
 use Rattle.broker_index.specs.Standing.{fate_of}
 use Rattle.broker_index.specs.declared.places.Entry.{Entry}
-use Rattle.broker_queues.specs.declared.undoing.Logged.{Logged}
+use Rattle.broker_queues.specs.declared.transactions.Logged.{Logged}
 use Rattle.broker_queues.specs.Parts.Fates.{counts_in, fate_of_kept, passes}
 use Rattle.broker_queues.specs.Parts.Held.{step_of}
 use Rattle.broker_queues.specs.Parts.Facts.{kept_at, subscriber_at, subscriptions_of, lists, notes, queue_of}

@@ -5,7 +5,7 @@ use Rattle.broker_book.specs.declared.parts.Accepted.{Accepted}
 use Rattle.broker_book.specs.Books.{Ready, is_auto}
 use Rattle.broker_book.specs.Steps.{Dispatches, Handed}
 use Rattle.broker_index.specs.Index.{Kept, Subscriber}
-use Rattle.broker_queues.specs.declared.picking.Pick.{Pick}
+use Rattle.broker_queues.specs.declared.deals.Pick.{Pick}
 use Rattle.broker_queues.specs.Parts.Dealings.{DealsOne}
 use Rattle.broker_queues.specs.Parts.Facts.{kept_at, subscriber_at, may_have}
 use Rattle.broker_queues.specs.Parts.Whole.{Holding, IsSound, Picks, book_of}
