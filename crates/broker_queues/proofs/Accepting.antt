@@ -10,20 +10,20 @@ use Rattle.broker_book.specs.declared.parts.Sent.{Sent}
 use Rattle.broker_book.specs.Books.{Ready, is_for}
 use Rattle.broker_book.specs.Steps.{put_of}
 use Rattle.broker_index.specs.Index.{Kept}
-use Rattle.broker_queues.specs.Parts.Shelf.{living_of, queue_of}
+use Rattle.broker_queues.specs.Parts.Facts.{living_of, queue_of}
 use Rattle.broker_queues.specs.Parts.Storing.{ListsOnly, PutsIn, PutsOne}
-use Rattle.broker_queues.specs.Parts.Whole.{Holding, IsShelf, Moves, Puts, book_of, new_kept}
+use Rattle.broker_queues.specs.Parts.Whole.{Holding, IsSound, Moves, Puts, book_of, new_kept}
 use Rattle.broker_queues.proofs.Listing.{all_found, push_filter}
 use Rattle.broker_queues.proofs.Living.{living_push}
 use Rattle.broker_queues.proofs.Moving.{moved}
 use Rattle.broker_queues.proofs.Putting.{put_keeps}
 
-pub memory_refused : {A : Type 0} (full : ℕ) (h : Holding) (sent : Sent) (i : Holding) → IsShelf h → Moves h i
+pub memory_refused : {A : Type 0} (full : ℕ) (h : Holding) (sent : Sent) (i : Holding) → IsSound h → Moves h i
     → (r : Result A QueueFault) → IsErrAnd r (λ fault. fault ≡ Memory) → PutsIn full h sent i r
 memory_refused full h sent i is m (Ok x) e = absurd e
-memory_refused full h sent i is m (Err fault) e = record { shelf = moved h i is m; moves = m; refused = inl e }
+memory_refused full h sent i is m (Err fault) e = record { sound = moved h i is m; moves = m; refused = inl e }
 
-module _ (full : ℕ) (h : Holding) (sent : Sent) (i : Holding) (is : IsShelf h) (p : Puts h sent i) (only : ListsOnly h sent i)
+module _ (full : ℕ) (h : Holding) (sent : Sent) (i : Holding) (is : IsSound h) (p : Puts h sent i) (only : ListsOnly h sent i)
     (few : (queue_of h.queues sent.destination).count < full) (room : h.last < 2 ^ 64 - 1) where
   puts_step : (accepted : List Accepted) → put_of full (book_of h accepted) sent
       ≡ Ok (book_of i (accepted ++ record { number = h.last + 1; sent = sent } ∷ []))
@@ -36,15 +36,15 @@ module _ (full : ℕ) (h : Holding) (sent : Sent) (i : Holding) (is : IsShelf h)
       rw (counts, numbers, living, p.subscribers, p.last, p.given) refl
 
   pub accepts : PutsOne full h sent i
-  accepts = record { shelf = put_keeps h sent i is p; puts = p; only = only; step = puts_step }
+  accepts = record { sound = put_keeps h sent i is p; puts = p; only = only; step = puts_step }
 
 -- each number is below the next one
-pub all_earlier : (h : Holding) → IsShelf h → All (λ (k : Kept). k.number < h.last + 1) h.kept
+pub all_earlier : (h : Holding) → IsSound h → All (λ (k : Kept). k.number < h.last + 1) h.kept
 all_earlier h is =
     all_found (λ (k : Kept). k.number) (λ (k : Kept). k.number < h.last + 1) 0 h.kept is.numbers
     (λ k there. omega (arith, is.last k.number k there))
 
 -- a message that was put in is taken out again
-pub taken_out : (h : Holding) → IsShelf h → (n : ℕ) (sent : Sent) → n ≡ h.last + 1
+pub taken_out : (h : Holding) → IsSound h → (n : ℕ) (sent : Sent) → n ≡ h.last + 1
     → filter (λ (k : Kept). not (k.number == n)) (h.kept ++ new_kept n sent ∷ []) ≡ h.kept
 taken_out h is n sent next = rw next (push_filter (λ (k : Kept). k.number) h.kept (new_kept (h.last + 1) sent) (all_earlier h is))

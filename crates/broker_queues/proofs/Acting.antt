@@ -13,14 +13,14 @@ use Rattle.broker_book.specs.Books.{Book}
 use Rattle.broker_book.specs.Steps.{UnlessMemory, act_of, apply_of, put_of, then_all}
 use Rattle.broker_index.specs.Index.{Subscriber}
 use Rattle.broker_index.specs.declared.places.Place.{Place}
-use Rattle.broker_queues.specs.declared.undoing.Logged.{Logged}
+use Rattle.broker_queues.specs.declared.transactions.Logged.{Logged}
 use Rattle.broker_queues.specs.Parts.Begun.{Accepts, Acts, Applies, Goes, Grows, IsBegun, Noted}
 use Rattle.broker_queues.specs.Parts.Fates.{is_held_at}
 use Rattle.broker_queues.specs.Parts.Held.{TurnsAll}
-use Rattle.broker_queues.specs.Parts.Shelf.{living_of, subscriber_at}
+use Rattle.broker_queues.specs.Parts.Facts.{living_of, subscriber_at}
 use Rattle.broker_queues.specs.Parts.Storing.{PutsNone, Tidies}
 use Rattle.broker_queues.specs.Parts.Undoing.{before}
-use Rattle.broker_queues.specs.Parts.Whole.{Holding, IsShelf, book_of}
+use Rattle.broker_queues.specs.Parts.Whole.{Holding, IsSound, book_of}
 use Rattle.broker_queues.proofs.Answering.{IsHolder, the_holder}
 use Rattle.broker_queues.proofs.Begun.{answer_begun, begins, map_nothing, noted_begun, put_begun, same_begun, up_to}
 use Rattle.broker_queues.proofs.Responding.{found_lists}
@@ -71,8 +71,8 @@ module _ (full : ℕ) (h i : Holding) (noted : List Logged) (given accepted : Li
   pub put_acts : Accepts full h given sent i accepted
       → Acts {A = Unit {0}} (λ b. put_of full b sent) h noted given i noted accepted (Ok tt)
   put_acts a = record {
-    shelf = a.shelf;
-    begun = λ start b. put_begun start h i noted sent b a.shelf a.puts a.only;
+    sound = a.sound;
+    begun = λ start b. put_begun start h i noted sent b a.sound a.puts a.only;
     goes = a.step;
     grows = a.grows;
   }
@@ -81,8 +81,8 @@ module _ (full : ℕ) (h i : Holding) (noted : List Logged) (given accepted : Li
   pub put_lost : Accepts full h given sent i accepted
       → Acts {A = Unit {0}} (λ b. put_of full b sent) h noted given i noted accepted (Err Memory)
   put_lost a = record {
-    shelf = a.shelf;
-    begun = λ start b. put_begun start h i noted sent b a.shelf a.puts a.only;
+    sound = a.sound;
+    begun = λ start b. put_begun start h i noted sent b a.sound a.puts a.only;
     goes = tt;
     grows = a.grows;
   }
@@ -90,8 +90,8 @@ module _ (full : ℕ) (h i : Holding) (noted : List Logged) (given accepted : Li
   pub put_refused : (fault : QueueFault) → PutsNone full h sent fault i → accepted ≡ given
       → Acts {A = Unit {0}} (λ b. put_of full b sent) h noted given i noted accepted (Err fault)
   put_refused fault n same = record {
-    shelf = n.shelf;
-    begun = λ start b. same_begun start h i noted b n.shelf n.moves.kept n.moves.subscribers n.moves.last n.moves.given
+    sound = n.sound;
+    begun = λ start b. same_begun start h i noted b n.sound n.moves.kept n.moves.subscribers n.moves.last n.moves.given
         (λ d m listed. rw (n.moves.numbers d) at listed);
     goes = goes_refused (Unit {0}) (put_of full (book_of h given) sent) (book_of i accepted) fault (elim n.refused [
       | inl memory ↦ inl memory
@@ -104,22 +104,22 @@ module _ (full : ℕ) (h i : Holding) (noted : List Logged) (given accepted : Li
 
 module _ (h : Holding) (x number : ℕ) (again : Bool) (p : Place) (noted now : List Logged)
     (found : find (is_held_at h.kept h.subscribers number) (h.sessions x) ≡ Some p) where
-  holds_it : IsShelf h → IsHolder h x number p.number
+  holds_it : IsSound h → IsHolder h x number p.number
   holds_it is = the_holder h is x number p found (found_lists (is_held_at h.kept h.subscribers number) (h.sessions x) p found)
 
   pub noting_begun : ((s : Subscriber) → subscriber_at p.number h.subscribers ≡ Some s → Noted h s (Some number) [] noted now)
       → (start : Holding) → IsBegun start noted h → IsBegun start now h
   noting_begun notes start b =
-      let held = holds_it b.shelf in
+      let held = holds_it b.sound in
       noted_begun start h noted held.subscriber (Some number) [] now b (notes held.subscriber held.sits)
 
   pub answering_begun : (i : Holding)
       → ((s : Subscriber) → subscriber_at p.number h.subscribers ≡ Some s → Noted h s (Some number) s.entries noted now)
       → TurnsAll h p.number (Some number) again i → (start : Holding) → IsBegun start noted h → IsBegun start now i
   answering_begun i notes turns start b =
-      let held = holds_it b.shelf in
+      let held = holds_it b.sound in
       answer_begun start h i noted p.number held.subscriber again (Some number) now b (notes held.subscriber held.sits)
-      (turns held.subscriber b.shelf held.sits)
+      (turns held.subscriber b.sound held.sits)
 
 -- ---- one action after another
 
@@ -144,12 +144,12 @@ left_first full session actions index a b short is =
 pub tidy_book : (h i : Holding) (accepted now : List Accepted) → Tidies h i → now ≡ accepted → book_of i now ≡ book_of h accepted
 tidy_book h i accepted now t same = rw (t.living, t.last, t.given, t.subscriptions, same) refl
 
-pub tidies_none : (h : Holding) → IsShelf h → Tidies h h
-tidies_none h is = record { shelf = is; living = refl; subscriptions = refl; last = refl; given = refl }
+pub tidies_none : (h : Holding) → IsSound h → Tidies h h
+tidies_none h is = record { sound = is; living = refl; subscriptions = refl; last = refl; given = refl }
 
 pub tidies_again : (h i j : Holding) → Tidies h i → Tidies i j → Tidies h j
 tidies_again h i j one two = record {
-  shelf = two.shelf;
+  sound = two.sound;
   living = two.living ∙ one.living;
   subscriptions = two.subscriptions ∙ one.subscriptions;
   last = two.last ∙ one.last;
@@ -159,12 +159,12 @@ tidies_again h i j one two = record {
 -- all is undone
 pub undone_kept : (start h : Holding) → IsBegun start [] h → h.last ≡ start.last → h.kept ≡ start.kept
 undone_kept start h b last =
-    sym (up_to h b.shelf) ∙ sym (ap (filter (λ k. nat_le k.number h.last)) (map_nothing h.kept)) ∙ ap (λ n. before n [] h.kept) last
+    sym (up_to h b.sound) ∙ sym (ap (filter (λ k. nat_le k.number h.last)) (map_nothing h.kept)) ∙ ap (λ n. before n [] h.kept) last
     ∙ b.kept
 
 pub undone_tidies : (start h : Holding) → IsBegun start [] h → h.last ≡ start.last → Tidies start h
 undone_tidies start h b last = record {
-  shelf = b.shelf;
+  sound = b.sound;
   living = ap living_of (undone_kept start h b last);
   subscriptions = b.subscriptions;
   last = last;
@@ -174,19 +174,19 @@ undone_tidies start h b last = record {
 -- all was done, and put away
 pub applied : (full session : ℕ) (actions : List Action) (h i j : Holding) (noted now : List Logged) (given accepted : List Accepted)
     → Acts {A = Unit {0}} (λ b. apply_of full session b actions) h noted given i now accepted (Ok tt)
-    → (IsShelf i → Tidies i j) → Applies {A = Unit {0}} full session actions h given j accepted (Ok tt)
+    → (IsSound i → Tidies i j) → Applies {A = Unit {0}} full session actions h given j accepted (Ok tt)
 applied full session actions h i j noted now given accepted acts sweeps =
-    let t : Tidies i j = sweeps acts.shelf in
-    (t.shelf, acts.goes ∙ ap (λ b. Ok b) (sym (tidy_book i j accepted accepted t refl)))
+    let t : Tidies i j = sweeps acts.sound in
+    (t.sound, acts.goes ∙ ap (λ b. Ok b) (sym (tidy_book i j accepted accepted t refl)))
 
 -- or it was refused, and undone
 pub unapplied : (full session : ℕ) (actions : List Action) (h i j : Holding) (noted now : List Logged) (given accepted cut : List Accepted)
-    (fault : QueueFault) → IsShelf h → noted ≡ []
+    (fault : QueueFault) → IsSound h → noted ≡ []
     → Acts {A = Unit {0}} (λ b. apply_of full session b actions) h noted given i now accepted (Err fault)
     → (IsBegun h now i → Tidies h j) → cut ≡ given → Applies {A = Unit {0}} full session actions h given j cut (Err fault)
 unapplied full session actions h i j noted now given accepted cut fault is none acts undoes same =
     let t : Tidies h j = undoes (acts.begun h (rw none (begins h is))) in (
-      t.shelf,
+      t.sound,
       goes_back (Unit {0}) (Unit {0}) (apply_of full session (book_of h given) actions) (book_of i accepted) (book_of h given)
           (book_of j cut) fault (tidy_book h j given cut t same) acts.goes,
     )

@@ -10,10 +10,10 @@ use Rattle.broker_book.specs.Books.{Fate, is_for}
 use Rattle.broker_index.specs.Index.{Kept, Queue, Sets, opened, empty_queue, is_idle, unless_idle, with_number, with_subscriber, counting}
 use Rattle.broker_index.specs.declared.places.Place.{Place}
 use Rattle.broker_queues.specs.Parts.Queues.{LooksFrom}
-use Rattle.broker_queues.specs.Parts.Shelf.{kept_at, lists, queue_of, living_as, message_of}
+use Rattle.broker_queues.specs.Parts.Facts.{kept_at, lists, queue_of, living_as, message_of}
 use Rattle.broker_queues.specs.Parts.Fates.{weight}
 use Rattle.broker_queues.specs.Parts.Storing.{Becomes, Closes, ListsOnly, adding}
-use Rattle.broker_queues.specs.Parts.Whole.{Holding, IsShelf, Moves, Puts, Wakes, new_kept}
+use Rattle.broker_queues.specs.Parts.Whole.{Holding, IsSound, Moves, Puts, Wakes, new_kept}
 use Rattle.broker_queues.proofs.Listing.{lists_still, lists_last, lists_was}
 use Rattle.broker_queues.proofs.Living.{count_zero}
 use Rattle.broker_queues.proofs.Subscribing.{same_texts, itself}
@@ -110,7 +110,7 @@ no_length : {A : Type 0} (xs : List A) → (length xs == 0) ≡ true → xs ≡ 
 no_length [] on = refl
 no_length (x ∷ xs) on = absurd (omega (arith, eqb-true (length (x ∷ xs)) 0 on))
 
-module _ (h : Holding) (is : IsShelf h) (i : Holding) (c : Closes h.queues i.queues) where
+module _ (h : Holding) (is : IsSound h) (i : Holding) (c : Closes h.queues i.queues) where
   idle_parts : (d : List ℕ) → is_idle (queue_of h.queues d) ≡ true
       → ((queue_of h.queues d).numbers ≡ []) × ((queue_of h.queues d).subscribers ≡ [])
   idle_parts d idle =
@@ -172,7 +172,7 @@ module _ (h : Holding) (is : IsShelf h) (i : Holding) (c : Closes h.queues i.que
   }
 
 -- nothing happens
-pub stays : (h : Holding) → IsShelf h → Moves h h
+pub stays : (h : Holding) → IsSound h → Moves h h
 stays h is = record {
   kept = refl;
   subscribers = refl;
@@ -189,7 +189,7 @@ stays h is = record {
 
 -- ---- a message comes
 
-module _ (h : Holding) (is : IsShelf h) (sent : Sent) (place : Place) (q : List ℕ → Option Queue) (i : Holding)
+module _ (h : Holding) (is : IsSound h) (sent : Sent) (place : Place) (q : List ℕ → Option Queue) (i : Holding)
     (number : place.number ≡ h.last + 1) (b : Becomes (adding place) h.queues q sent.destination)
     (l : LooksFrom q i.queues sent.destination place.number) where
   -- the queue of its destination, or another one

@@ -13,9 +13,9 @@ use Rattle.broker_book.specs.Steps.{covered, ready_if}
 use Rattle.broker_index.specs.Index.{Kept, Subscriber, with_fate, has_number}
 use Rattle.broker_index.specs.declared.places.Entry.{Entry}
 use Rattle.broker_index.specs.declared.places.Place.{Place}
-use Rattle.broker_queues.specs.Parts.Shelf.{rise, kept_at, subscriber_at, lists, living_of, holds_number, notes}
+use Rattle.broker_queues.specs.Parts.Facts.{rise, kept_at, subscriber_at, lists, living_of, holds_number, notes}
 use Rattle.broker_queues.specs.Parts.Fates.{passes, fated, turn_if, turn_among, fate_of_kept, is_held, held_by, is_held_at}
-use Rattle.broker_queues.specs.Parts.Whole.{Holding, IsShelf}
+use Rattle.broker_queues.specs.Parts.Whole.{Holding, IsSound}
 use Rattle.broker_queues.proofs.Finding.{find_map, map_map, any_implies, SomePasses}
 use Rattle.broker_queues.proofs.Finding.{any_some, same_tests, find_passes, find_none, none_found}
 use Rattle.broker_queues.proofs.Living.{living_gone, living_back}
@@ -161,7 +161,7 @@ module _ (to : Option Fate) (test : Fate → Bool) (fails : passes test to ≡ f
 -- ---- what a subscriber notes
 
 -- each message that is out to a subscriber is among its deliveries
-pub noted_by : (h : Holding) → IsShelf h → (a : ℕ) (s : Subscriber) → subscriber_at a h.subscribers ≡ Some s → (n : ℕ) (k : Kept)
+pub noted_by : (h : Holding) → IsSound h → (a : ℕ) (s : Subscriber) → subscriber_at a h.subscribers ≡ Some s → (n : ℕ) (k : Kept)
     → kept_at n h.kept ≡ Some k → passes (out_to s.subscription.session s.subscription.id) k.fate ≡ true → notes n s.entries ≡ true
 noted_by h is a s sits n k there on =
     let x : ℕ = s.subscription.session in
@@ -203,7 +203,7 @@ any_living test (k ∷ kept) = by_fate k.fate (any_living test kept)
     by_fate (Some f) rest = ap (λ b. test f || b) rest
 
 -- a delivery that is out to a subscriber is among those it notes
-pub held_is : (h : Holding) → IsShelf h → (a : ℕ) (s : Subscriber) → subscriber_at a h.subscribers ≡ Some s → (number : ℕ)
+pub held_is : (h : Holding) → IsSound h → (a : ℕ) (s : Subscriber) → subscriber_at a h.subscribers ≡ Some s → (number : ℕ)
     → is_held h.kept number s ≡ list_any (λ m. out_as s.subscription.session s.subscription.id number m.fate) (living_of h.kept)
 held_is h is a s sits number =
     let test : Fate → Bool = out_as s.subscription.session s.subscription.id number in
@@ -246,14 +246,14 @@ pub record IsHolder (h : Holding) (x number age : ℕ) : Type 0 where
   pub first : find (holds_out_in h x number) h.subscribers ≡ Some subscriber
 
 -- a subscriber at a place of a session is the session's
-pub own : (h : Holding) → IsShelf h → (x a : ℕ) (s : Subscriber) → lists a (h.sessions x) ≡ true → subscriber_at a h.subscribers ≡ Some s
+pub own : (h : Holding) → IsSound h → (x a : ℕ) (s : Subscriber) → lists a (h.sessions x) ≡ true → subscriber_at a h.subscribers ≡ Some s
     → s.subscription.session ≡ x
 own h is x a s listed sits =
     let e : Some s.subscription.session ≡ Some x = sym (ap (λ o. option_map (λ s. s.subscription.session) o) sits)
     ∙ is.owners x a listed in
     cc
 
-module _ (h : Holding) (is : IsShelf h) (x number : ℕ) where
+module _ (h : Holding) (is : IsSound h) (x number : ℕ) where
   -- a subscriber that holds it is at a place of its session
   at_place : (a : ℕ) (s : Subscriber) → subscriber_at a h.subscribers ≡ Some s → holds_out_in h x number s ≡ true
       → IsAmong (λ p. p.number) (λ p. p.number == a) (h.sessions x)
@@ -322,7 +322,7 @@ module _ (h : Holding) (is : IsShelf h) (x number : ℕ) where
 
 -- ---- what the book becomes
 
-module _ (h : Holding) (is : IsShelf h) (a : ℕ) (s : Subscriber) (sits : subscriber_at a h.subscribers ≡ Some s) where
+module _ (h : Holding) (is : IsSound h) (a : ℕ) (s : Subscriber) (sits : subscriber_at a h.subscribers ≡ Some s) where
   -- an answer's messages are gone
   pub acked_living : (number : ℕ) → living_of (map (turn_among None (covered s.subscription number) s.entries) h.kept)
       ≡ filter (λ m. not (covered s.subscription number m.fate)) (living_of h.kept)

@@ -1,4 +1,4 @@
--- What a shelf tells of a session, and what its book does.
+-- What the parts tell of a session, and what their book does.
 use Rattle.std.proofs.Common.{◌≡◌, ◌≤◌, ◌<◌, ◌+◌, ℕ, Bool, true, false, cond, suc, List, [], ◌∷◌, length}
 use Rattle.std.proofs.Common.{Option, Some, None, refl, sym, ap, ◌∙◌, arith, inl, inr}
 use Rattle.std.specs.Prelude.{◌==◌, nat_le, find, filter, count_by, is_some}
@@ -12,9 +12,9 @@ use Rattle.broker_book.specs.Steps.{holder}
 use Rattle.broker_index.specs.Index.{Subscriber, is_place_of}
 use Rattle.broker_index.specs.declared.places.Place.{Place}
 use Rattle.broker_queues.specs.Parts.Fates.{is_held_at}
-use Rattle.broker_queues.specs.Parts.Shelf.{rise, subscriber_at, subscriptions_of, lists}
+use Rattle.broker_queues.specs.Parts.Facts.{rise, subscriber_at, subscriptions_of, lists}
 use Rattle.broker_queues.specs.Parts.Storing.{is_named_at, named_by}
-use Rattle.broker_queues.specs.Parts.Whole.{Holding, IsShelf, book_of}
+use Rattle.broker_queues.specs.Parts.Whole.{Holding, IsSound, book_of}
 use Rattle.broker_queues.proofs.Answering.{IsHolder, no_holder, the_holder}
 use Rattle.broker_queues.proofs.Finding.{IsMapped, is_mapped, any_map, same_tests}
 use Rattle.broker_queues.proofs.Responding.{found_lists, holder_is}
@@ -30,7 +30,7 @@ found_any test (x ∷ xs) = elim (cases_Bool (test x)) [ inl on ↦ rw on refl |
 
 -- ---- names
 
-module _ (h : Holding) (is : IsShelf h) (x : ℕ) (i : List ℕ) where
+module _ (h : Holding) (is : IsSound h) (x : ℕ) (i : List ℕ) where
   -- a place of the session whose subscriber has the name
   named_place : list_any (is_named_at h.subscribers x i) (h.sessions x) ≡ true
       → list_any (λ s. is_named x i s.subscription) h.subscribers ≡ true
@@ -70,7 +70,7 @@ module _ (h : Holding) (is : IsShelf h) (x : ℕ) (i : List ℕ) where
 
 -- ---- deliveries
 
-pub asks_holder : (h : Holding) (accepted : List Accepted) (x number : ℕ) → IsShelf h
+pub asks_holder : (h : Holding) (accepted : List Accepted) (x number : ℕ) → IsSound h
     → is_some (find (is_held_at h.kept h.subscribers number) (h.sessions x)) ≡ is_some (holder (book_of h accepted) x number)
 asks_holder h accepted x number is = by_place (find (is_held_at h.kept h.subscribers number) (h.sessions x)) refl
   where
@@ -208,7 +208,7 @@ same_length {X} {Y} number other low (x ∷ xs) (y ∷ ys) rises more same =
           rw (off, off_two) at both
     ]
 
-module _ (h : Holding) (is : IsShelf h) (x : ℕ) where
+module _ (h : Holding) (is : IsSound h) (x : ℕ) where
   listed_there : (n : ℕ) → lists n (h.sessions x) ≡ true
       → list_any (λ s. s.age == n) (filter (λ s. s.subscription.session == x) h.subscribers) ≡ true
   listed_there n listed =

@@ -14,9 +14,9 @@ use Rattle.broker_book.specs.Books.{is_named}
 use Rattle.broker_book.specs.Steps.{subscribed}
 use Rattle.broker_index.specs.Index.{Subscriber, Queue, Sets, is_idle, opened, unless_idle, with_subscriber, without, without_subscriber}
 use Rattle.broker_index.specs.declared.places.Place.{Place}
-use Rattle.broker_queues.specs.Parts.Shelf.{subscriber_at, subscriptions_of, lists, queue_of, rise}
+use Rattle.broker_queues.specs.Parts.Facts.{subscriber_at, subscriptions_of, lists, queue_of, rise}
 use Rattle.broker_queues.specs.Parts.Storing.{Attached, Becomes, Closes, SubscribesTo, Tidies}
-use Rattle.broker_queues.specs.Parts.Whole.{Holding, IsShelf, Subscribes, book_of}
+use Rattle.broker_queues.specs.Parts.Whole.{Holding, IsSound, Subscribes, book_of}
 use Rattle.broker_queues.proofs.Adding.{closes, either, shut}
 use Rattle.broker_queues.proofs.Finding.{IsMapped, any_map, is_mapped}
 use Rattle.broker_queues.proofs.Listing.{found_all, found_listed, lists_last, lists_still, lists_was, push_filter}
@@ -68,7 +68,7 @@ detaches_again a b c e name place above becomes without closed d = elim (closes 
 abbrev pub newcomer : Subscription → Place → Subscriber
 newcomer sub place = record { age = place.number; subscription = sub; count = 0; entries = [] }
 
-module _ (h : Holding) (is : IsShelf h) (n : ℕ) (young : All (λ (s : Subscriber). s.age < n) h.subscribers) where
+module _ (h : Holding) (is : IsSound h) (n : ℕ) (young : All (λ (s : Subscriber). s.age < n) h.subscribers) where
   pub lower : (a : ℕ) (s : Subscriber) → subscriber_at a h.subscribers ≡ Some s → a < n
   lower a s there =
       let below : s.age < n =
@@ -87,7 +87,7 @@ module _ (h : Holding) (is : IsShelf h) (n : ℕ) (young : All (λ (s : Subscrib
       is_mapped (λ s. s.subscription.session) (subscriber_at a h.subscribers) x (is.owners x a listed) in
       lower a was.from was.found
 
-module _ (h i : Holding) (is : IsShelf h) (sub : Subscription) (place : Place) (subs : List Subscriber)
+module _ (h i : Holding) (is : IsSound h) (sub : Subscription) (place : Place) (subs : List Subscriber)
     (pushed : subs ≡ h.subscribers ++ newcomer sub place ∷ [])
     (young : All (λ (s : Subscriber). s.age < place.number) h.subscribers)
     (free : list_any (is_named sub.session sub.id) (subscriptions_of h.subscribers) ≡ false)
@@ -202,7 +202,7 @@ module _ (h i : Holding) (is : IsShelf h) (sub : Subscription) (place : Place) (
     awake = t.frees.awake;
   }
 
-  pub joined : IsShelf i × ((accepted : List Accepted) → book_of i accepted ≡ subscribed (book_of h accepted) sub)
+  pub joined : IsSound i × ((accepted : List Accepted) → book_of i accepted ≡ subscribed (book_of h accepted) sub)
   joined = (
     came h (newcomer sub place) i is subscribes,
     λ accepted.
@@ -218,12 +218,12 @@ pub not_joined : {A E : Type 0} (h i : Holding) (sub : Subscription) (r : Result
 not_joined h i sub (Ok x) err t = let never : false ≡ true = err in cc
 not_joined h i sub (Err e) err t = t
 
-pub tidy_same : (h : Holding) → IsShelf h → (subs : List Subscriber) → subs ≡ h.subscribers
+pub tidy_same : (h : Holding) → IsSound h → (subs : List Subscriber) → subs ≡ h.subscribers
     → Tidies h (record h { subscribers = subs })
 tidy_same h is subs same = rw same (tidy h is)
 
 -- the subscriber goes again
-module _ (h i : Holding) (is : IsShelf h) (sub : Subscription) (place : Place) (subs back : List Subscriber)
+module _ (h i : Holding) (is : IsSound h) (sub : Subscription) (place : Place) (subs back : List Subscriber)
     (pushed : subs ≡ h.subscribers ++ newcomer sub place ∷ [])
     (young : All (λ (s : Subscriber). s.age < place.number) h.subscribers)
     (closed : Closes h.queues i.queues) (rest : i ≡ record h { subscribers = subs; queues = i.queues }) where

@@ -9,13 +9,13 @@ use Rattle.broker_book.specs.declared.parts.Sent.{Sent}
 use Rattle.broker_book.specs.Books.{Fate, Ready, Out}
 use Rattle.broker_index.specs.Index.{Kept, Subscriber, has_number}
 use Rattle.broker_index.specs.declared.places.Entry.{Entry}
-use Rattle.broker_queues.specs.declared.undoing.Logged.{Logged}
+use Rattle.broker_queues.specs.declared.transactions.Logged.{Logged}
 use Rattle.broker_queues.specs.Parts.Begun.{IsHeldBy, AreHeld, IsBegun, Noted, goes_to}
 use Rattle.broker_queues.specs.Parts.Fates.{back, counts_in, passes, turn_among}
 use Rattle.broker_queues.specs.Parts.Held.{IsSame, Turns}
-use Rattle.broker_queues.specs.Parts.Shelf.{kept_at, subscriber_at, lists, notes, queue_of, subscriptions_of}
+use Rattle.broker_queues.specs.Parts.Facts.{kept_at, subscriber_at, lists, notes, queue_of, subscriptions_of}
 use Rattle.broker_queues.specs.Parts.Undoing.{is_out_fate, undone, before}
-use Rattle.broker_queues.specs.Parts.Whole.{Holding, IsShelf, Puts, new_kept}
+use Rattle.broker_queues.specs.Parts.Whole.{Holding, IsSound, Puts, new_kept}
 use Rattle.broker_queues.proofs.Finding.{is_mapped, find_map, none_unless, or_some}
 use Rattle.broker_queues.proofs.Logging.{before_answer, before_noted, before_put}
 use Rattle.broker_queues.proofs.Rising.{at_push, filter_same}
@@ -33,15 +33,15 @@ map_nothing [] = refl
 map_nothing (k ∷ kept) = ap (λ l. k ∷ l) (map_nothing kept)
 
 -- what is kept has numbers up to the last
-pub up_to : (h : Holding) → IsShelf h → filter (λ k. nat_le k.number h.last) h.kept ≡ h.kept
+pub up_to : (h : Holding) → IsSound h → filter (λ k. nat_le k.number h.last) h.kept ≡ h.kept
 up_to h is =
     filter_same (λ k. k.number) (λ k. nat_le k.number h.last) (λ k. true) 0 h.kept is.numbers
     (λ k found. le-leb k.number h.last (is.last k.number k found))
     ∙ filter_every h.kept
 
-pub begins : (h : Holding) → IsShelf h → IsBegun h [] h
+pub begins : (h : Holding) → IsSound h → IsBegun h [] h
 begins h is = record {
-  shelf = is;
+  sound = is;
   kept = ap (filter (λ k. nat_le k.number h.last)) (map_nothing h.kept) ∙ up_to h is;
   subscriptions = refl;
   given = refl;
@@ -96,8 +96,8 @@ never_out false = refl
 pub noted_begun : (start h : Holding) (log : List Logged) (s : Subscriber) (answered : Option ℕ) (es : List Entry) (now : List Logged)
     → IsBegun start log h → Noted h s answered es log now → IsBegun start now h
 noted_begun start h log s answered es now b n = record {
-  shelf = b.shelf;
-  kept = ap (λ l. before start.last l h.kept) n.more ∙ before_noted start.last log n.later h.kept b.shelf.numbers n.holds ∙ b.kept;
+  sound = b.sound;
+  kept = ap (λ l. before start.last l h.kept) n.more ∙ before_noted start.last log n.later h.kept b.sound.numbers n.holds ∙ b.kept;
   subscriptions = b.subscriptions;
   given = b.given;
   last = b.last;
@@ -150,9 +150,9 @@ module _ (start h i : Holding) (log : List Logged) (age : ℕ) (s : Subscriber) 
 
   pub answer_begun : IsBegun start now i
   answer_begun = record {
-    shelf = t.shelf;
+    sound = t.sound;
     kept = ap (λ l. before start.last l i.kept) n.more ∙ ap (before start.last (log ++ n.later)) t.kept
-        ∙ before_answer start.last log n.later h.kept (back again) (counts_in s.subscription answered) s.entries b.shelf.numbers
+        ∙ before_answer start.last log n.later h.kept (back again) (counts_in s.subscription answered) s.entries b.sound.numbers
         (never_out again) n.holds n.all
         ∙ b.kept;
     subscriptions = t.subscriptions ∙ b.subscriptions;
@@ -166,11 +166,11 @@ module _ (start h i : Holding) (log : List Logged) (age : ℕ) (s : Subscriber) 
 
 -- ---- a put
 
-module _ (start h i : Holding) (log : List Logged) (sent : Sent) (b : IsBegun start log h) (is : IsShelf i) (p : Puts h sent i)
+module _ (start h i : Holding) (log : List Logged) (sent : Sent) (b : IsBegun start log h) (is : IsSound i) (p : Puts h sent i)
     (only : (d : List ℕ) (m : ℕ) → lists m (queue_of i.queues d).numbers ≡ true
     → (lists m (queue_of h.queues d).numbers ≡ true) ⊎ ((m ≡ h.last + 1) × (d ≡ sent.destination))) where
   new_at : kept_at (h.last + 1) h.kept ≡ None
-  new_at = none_unless (kept_at (h.last + 1) h.kept) (λ k there. omega (arith, b.shelf.last (h.last + 1) k there))
+  new_at = none_unless (kept_at (h.last + 1) h.kept) (λ k there. omega (arith, b.sound.last (h.last + 1) k there))
 
   put_at : (m : ℕ) → kept_at m i.kept ≡ option_or (kept_at m h.kept) (cond ((h.last + 1) == m) (Some (new_kept (h.last + 1) sent)) None)
   put_at m = ap (kept_at m) p.kept ∙ at_push (λ k. k.number) m h.kept (new_kept (h.last + 1) sent)
@@ -203,7 +203,7 @@ module _ (start h i : Holding) (log : List Logged) (sent : Sent) (b : IsBegun st
 
   pub put_begun : IsBegun start log i
   put_begun = record {
-    shelf = is;
+    sound = is;
     kept = ap (before start.last log) p.kept ∙ before_put start.last log h.kept (new_kept (h.last + 1) sent)
         (lt-leb (h.last + 1) start.last (omega (arith, b.last))) ∙ b.kept;
     subscriptions = ap subscriptions_of p.subscribers ∙ b.subscriptions;
@@ -216,12 +216,12 @@ module _ (start h i : Holding) (log : List Logged) (sent : Sent) (b : IsBegun st
 
 -- ---- a change of places alone
 
-pub same_begun : (start h i : Holding) (log : List Logged) → IsBegun start log h → IsShelf i → i.kept ≡ h.kept
+pub same_begun : (start h i : Holding) (log : List Logged) → IsBegun start log h → IsSound i → i.kept ≡ h.kept
     → i.subscribers ≡ h.subscribers → i.last ≡ h.last → i.given ≡ h.given
     → ((d : List ℕ) (m : ℕ) → lists m (queue_of i.queues d).numbers ≡ true → lists m (queue_of h.queues d).numbers ≡ true)
     → IsBegun start log i
 same_begun start h i log b is kept subscribers last given listed = record {
-  shelf = is;
+  sound = is;
   kept = ap (before start.last log) kept ∙ b.kept;
   subscriptions = ap subscriptions_of subscribers ∙ b.subscriptions;
   given = given ∙ b.given;

@@ -8,11 +8,11 @@ use Rattle.std.proofs.lemmas.Slice.Eq.{bytes_eq-Decides}
 use Rattle.base.specs.declared.limits.TheConstants.{MAX_UNANSWERED}
 use Rattle.broker_book.specs.Books.{Fate, Ready, Out, out_to, is_for, is_named, is_auto}
 use Rattle.broker_index.specs.Index.{Kept, Subscriber, with_fate, has_age}
-use Rattle.broker_queues.specs.Parts.Shelf.{kept_at, subscriber_at, session_at, destination_at, lists}
-use Rattle.broker_queues.specs.Parts.Shelf.{queue_of, message_of, living_of, holds_number, may_have}
-use Rattle.broker_queues.specs.Parts.Shelf.{ArePlaced, AreCounted, AreNoted, AreAhead}
+use Rattle.broker_queues.specs.Parts.Facts.{kept_at, subscriber_at, session_at, destination_at, lists}
+use Rattle.broker_queues.specs.Parts.Facts.{queue_of, message_of, living_of, holds_number, may_have}
+use Rattle.broker_queues.specs.Parts.Facts.{ArePlaced, AreCounted, AreNoted, AreAhead}
 use Rattle.broker_queues.specs.Parts.Fates.{passes, counts_for, recounted, weight, fated}
-use Rattle.broker_queues.specs.Parts.Whole.{Holding, IsShelf, Changes}
+use Rattle.broker_queues.specs.Parts.Whole.{Holding, IsSound, Changes}
 use Rattle.broker_queues.proofs.Finding.{IsMapped, is_mapped, find_map, any_map, option_map_map}
 use Rattle.broker_queues.proofs.Living.{count_change, weight_fate}
 use Rattle.broker_queues.proofs.Rising.{at_edit, at_edit_other, rise_edit, rise_map}
@@ -27,7 +27,7 @@ may_before false full top count more given later fewer earlier may =
     let b : later < top = ltb-true later top parts.1 in
     and_from (nat_lt count full) (nat_lt given top) (lt-ltb count full (omega arith)) (lt-ltb given top (omega arith))
 
-module _ (h i : Holding) (n : ℕ) (k : Kept) (f : Option Fate) (is : IsShelf h) (found : kept_at n h.kept
+module _ (h i : Holding) (n : ℕ) (k : Kept) (f : Option Fate) (is : IsSound h) (found : kept_at n h.kept
     ≡ Some k) (c : Changes h n k f i) where
   -- a kept message is the changed one, or was there
   kept_was : (m : ℕ) (l : Kept) → kept_at m i.kept ≡ Some l → ((m ≡ n) × (l ≡ fated f k)) ⊎ (kept_at m h.kept ≡ Some l)
@@ -162,7 +162,7 @@ module _ (h i : Holding) (n : ℕ) (k : Kept) (f : Option Fate) (is : IsShelf h)
       (option_map_map (λ s. s.subscription.session) (recounted k.fate f) (λ s. s.subscription.session) (λ s. refl)
       (subscriber_at a h.subscribers))
 
-  pub changed : IsShelf i
+  pub changed : IsSound i
   changed = record {
     placed = placed;
     counted = counted;

@@ -8,22 +8,22 @@ use Rattle.std.proofs.lemmas.Bool.{cases_Bool, leb-true, le-leb, leb-false}
 use Rattle.std.proofs.lemmas.List.{take_at, length-take-le, drop_more, take_all, take-append-drop, length-append, length-drop}
 use Rattle.std.proofs.lemmas.List.Folds.{list_any-append, list_any_more}
 use Rattle.broker_index.specs.Index.{Kept, Subscriber, Queue, queue_at}
-use Rattle.broker_queues.specs.declared.picking.Pick.{Pick}
+use Rattle.broker_queues.specs.declared.deals.Pick.{Pick}
 use Rattle.broker_queues.specs.Parts.Choosing.{Rests, IsDueAt, MayGo, Looked, Covers, IsPick, IsNext, is_at_most, earlier}
 use Rattle.broker_queues.specs.Parts.Queues.{awake_in}
-use Rattle.broker_queues.specs.Parts.Shelf.{lists, queue_of, AreAwake}
-use Rattle.broker_queues.specs.Parts.Whole.{Holding, IsShelf}
+use Rattle.broker_queues.specs.Parts.Facts.{lists, queue_of, AreAwake}
+use Rattle.broker_queues.specs.Parts.Whole.{Holding, IsSound}
 use Rattle.broker_queues.proofs.Moving.{moved}
 use Rattle.broker_queues.proofs.Subscribing.{itself, same_texts}
 
 -- ---- the parts rest
 
-pub rests_same : (h : Holding) → IsShelf h → Rests h h
-rests_same h is = record { shelf = is; kept = refl; subscribers = refl; last = refl; given = refl }
+pub rests_same : (h : Holding) → IsSound h → Rests h h
+rests_same h is = record { sound = is; kept = refl; subscribers = refl; last = refl; given = refl }
 
 pub rests_on : (h i j : Holding) → Rests h i → Rests i j → Rests h j
 rests_on h i j r s = record {
-  shelf = s.shelf;
+  sound = s.sound;
   kept = s.kept ∙ r.kept;
   subscribers = s.subscribers ∙ r.subscribers;
   last = s.last ∙ r.last;
@@ -106,7 +106,7 @@ pub can_still : (h i : Holding) (best : Option Pick) → Rests h i → IsPick i.
 can_still h i best r can = rw (← r.kept, ← r.subscribers, ← r.given) can
 
 -- nothing is ready at a destination before where its queue looks for one
-pub behind_covers : (h : Holding) → IsShelf h → (d : List ℕ) (best : Option Pick) → is_at_most best (queue_of h.queues d).ready_from ≡ true
+pub behind_covers : (h : Holding) → IsSound h → (d : List ℕ) (best : Option Pick) → is_at_most best (queue_of h.queues d).ready_from ≡ true
     → Covers h.kept h.subscribers h.given d best
 behind_covers h is d best on n due = by_best best on
   where
@@ -137,7 +137,7 @@ left_or names index d short among =
       | inr off ↦ let both = rw off at split in inr (rest ∙ both)
     ]
 
-module _ (h : Holding) (is : IsShelf h) (all : Bool) (names : List (List ℕ)) (index : ℕ) (short : index < length names)
+module _ (h : Holding) (is : IsSound h) (all : Bool) (names : List (List ℕ)) (index : ℕ) (short : index < length names)
     (awake : h.awake ≡ awake_in all names) (covers : Covers h.kept h.subscribers h.given (get_or names index []) None) where
   still_awake : AreAwake h.given h.kept h.subscribers (awake_in all (remove names index))
   still_awake n k a s there ready sits same may =
@@ -167,7 +167,7 @@ module _ (h : Holding) (is : IsShelf h) (all : Bool) (names : List (List ℕ)) (
 
   pub slept : Rests h (record h { awake = awake_in all (remove names index) })
   slept = record {
-    shelf = moved h (record h { awake = awake_in all (remove names index) }) is (record {
+    sound = moved h (record h { awake = awake_in all (remove names index) }) is (record {
       kept = refl;
       subscribers = refl;
       sessions = refl;
@@ -198,10 +198,10 @@ named_there (e ∷ qs) d n listed = elim (cases_Bool (bytes_eq d e.0)) [
       elim (cases_Bool (bytes_eq e.0 d)) [ inl here ↦ rw here refl | inr there ↦ rw there (named_there qs d n rest) ]
 ]
 
-pub roused : (h : Holding) → IsShelf h → (qs : List (List ℕ × Queue)) (names : List (List ℕ)) → h.queues ≡ queue_at qs
+pub roused : (h : Holding) → IsSound h → (qs : List (List ℕ × Queue)) (names : List (List ℕ)) → h.queues ≡ queue_at qs
     → names ≡ map (λ e. e.0) qs → Rests h (record h { awake = awake_in false names })
 roused h is qs names queues all = record {
-  shelf = moved h (record h { awake = awake_in false names }) is (record {
+  sound = moved h (record h { awake = awake_in false names }) is (record {
     kept = refl;
     subscribers = refl;
     sessions = refl;
@@ -231,7 +231,7 @@ pub record Choosing (h i : Holding) (index : ℕ) (names : List (List ℕ)) (bes
   pub covers : CoversFirst h.kept h.subscribers h.given index names best
 
 -- before the first
-pub chooses_none : (h : Holding) (names : List (List ℕ)) → IsShelf h → Choosing h h 0 names None
+pub chooses_none : (h : Holding) (names : List (List ℕ)) → IsSound h → Choosing h h 0 names None
 chooses_none h names is = record {
   rests = rests_same h is;
   within = omega arith;
@@ -248,7 +248,7 @@ module _ (h i : Holding) (index : ℕ) (names : List (List ℕ)) (best : Option 
     within = omega (arith, short);
     can = c.can;
     covers = covers_next h.kept h.subscribers h.given index names best short c.covers
-        (covers_still h i (get_or names index []) best c.rests (behind_covers i c.rests.shelf (get_or names index []) best on));
+        (covers_still h i (get_or names index []) best c.rests (behind_covers i c.rests.sound (get_or names index []) best on));
   }
 
   -- a deal can be made there
@@ -271,7 +271,7 @@ module _ (h i : Holding) (index : ℕ) (names : List (List ℕ)) (best : Option 
       rw (l.rests.kept, l.rests.subscribers, l.rests.given) l.covers in
       rw (same, fewer) (record {
         rests = rests_on h j (record j { awake = awake_in all (remove names index) }) (rests_on h i j c.rests l.rests)
-            (slept j l.rests.shelf all names index short awake covers);
+            (slept j l.rests.sound all names index short awake covers);
         within = omega (
           arith,
           short,
@@ -292,7 +292,7 @@ chosen h i index names best c awake end = by_best best c.can covers
         let all : take index names ≡ names = take_all index names end in
         let due2 : IsDueAt i.kept i.subscribers i.given d n = rw (c.rests.kept, c.rests.subscribers, c.rests.given) due in
         let on : i.awake due2.message.sent.destination ≡ true =
-        c.rests.shelf.awake n due2.message due2.age due2.subscriber due2.there due2.ready due2.sits due2.same due2.may in
+        c.rests.sound.awake n due2.message due2.age due2.subscriber due2.there due2.ready due2.sits due2.same due2.may in
         let named : list_any (λ x. bytes_eq x due2.message.sent.destination) names ≡ true = rw awake at on in
         c.covers d (rw (all, ← due2.for_it) named) n due
 

@@ -12,10 +12,10 @@ use Rattle.broker_index.specs.declared.places.Entry.{Entry}
 use Rattle.broker_index.specs.declared.places.Place.{Place}
 use Rattle.broker_queues.specs.Parts.Fates.{back, counts_in, fate_of_kept, is_held_at, passes, turn_among}
 use Rattle.broker_queues.specs.Parts.Held.{Turns, TurnsAll, entries_of}
-use Rattle.broker_queues.specs.Parts.Shelf.{kept_at, subscriber_at, notes}
+use Rattle.broker_queues.specs.Parts.Facts.{kept_at, subscriber_at, notes}
 use Rattle.broker_queues.specs.Parts.Storing.{Cleared, Clearing, Clears, Forgets, NoneGone, SweepsOne, SweptOne, Tidies}
 use Rattle.broker_queues.specs.Parts.Storing.{first_stale, is_gone, is_stale}
-use Rattle.broker_queues.specs.Parts.Whole.{Holding, IsShelf}
+use Rattle.broker_queues.specs.Parts.Whole.{Holding, IsSound}
 use Rattle.broker_queues.proofs.Answering.{IsHolder, the_holder}
 use Rattle.broker_queues.proofs.Finding.{IsMapped, any_implies, find_map, find_none, find_passes, is_mapped}
 use Rattle.broker_queues.proofs.Listing.{notes_other}
@@ -173,7 +173,7 @@ module _ (i : Holding) (age : ℕ) (s : Subscriber) (t : Clearing age s i)
   }
 
 -- the delivery is forgotten
-pub forgets_stale : (i : Holding) → IsShelf i → (age : ℕ) (e : Entry) (subs : List Subscriber)
+pub forgets_stale : (i : Holding) → IsSound i → (age : ℕ) (e : Entry) (subs : List Subscriber)
     → Some e ≡ first_stale i.kept (subscriber_at age i.subscribers) → subs ≡ map (without_entries age e.number) i.subscribers
     → Tidies i (record i { subscribers = subs })
 forgets_stale i is age e subs stale is_so = by_subscriber (subscriber_at age i.subscribers) refl stale
@@ -200,7 +200,7 @@ among_number to test es k = elim (cases_Bool (passes test k.fate && notes k.numb
   | inr off ↦ rw off refl
 ]
 
-pub none_gone : (h i j : Holding) → IsShelf h → (x number : ℕ) (again : Bool) (p : Place)
+pub none_gone : (h i j : Holding) → IsSound h → (x number : ℕ) (again : Bool) (p : Place)
     → find (is_held_at h.kept h.subscribers number) (h.sessions x) ≡ Some p → TurnsAll h p.number (Some number) again i
     → Clears i p.number j → SweepsOne i p.number j → NoneGone h.kept → NoneGone j.kept
 none_gone h i j is x number again p found turns clears swept none n k there =
@@ -223,7 +223,7 @@ none_gone h i j is x number again p found turns clears swept none n k there =
     t = turns held.subscriber is held.sits
 
     c : Cleared p.number t.now j
-    c = clears t.now t.shelf t.sits
+    c = clears t.now t.sound t.sits
 
     was : IsMapped (turn_among (back again) (counts_in held.subscriber.subscription (Some number)) held.subscriber.entries)
         (kept_at n h.kept) k
@@ -234,4 +234,4 @@ none_gone h i j is x number again p found turns clears swept none n k there =
         held.subscriber.entries)
         (λ l. ap (λ m. m == n) (among_number (back again) (counts_in held.subscriber.subscription (Some number))
         held.subscriber.entries l)) h.kept)
-        ∙ sym (ap (λ l. kept_at n l) t.kept) ∙ (swept t.shelf).kept n k there)
+        ∙ sym (ap (λ l. kept_at n l) t.kept) ∙ (swept t.sound).kept n k there)

@@ -11,9 +11,9 @@ use Rattle.broker_book.specs.declared.parts.Accepted.{Accepted}
 use Rattle.broker_book.specs.Books.{Book, QueuedMessage, Fate, Ready, Out, is_auto, has_credit, may_take, is_due, IsQuiet}
 use Rattle.broker_book.specs.Steps.{Deal, left_of, last_given, next_ack}
 use Rattle.broker_index.specs.Index.{Kept, Subscriber, with_fate}
-use Rattle.broker_queues.specs.Parts.Shelf.{rise, kept_at, subscriber_at, living_of, message_of, living_as, subscriptions_of, may_have}
+use Rattle.broker_queues.specs.Parts.Facts.{rise, kept_at, subscriber_at, living_of, message_of, living_as, subscriptions_of, may_have}
 use Rattle.broker_queues.specs.Parts.Fates.{fated, dealt_fate}
-use Rattle.broker_queues.specs.Parts.Whole.{Holding, IsShelf, Picks, book_of}
+use Rattle.broker_queues.specs.Parts.Whole.{Holding, IsSound, Picks, book_of}
 use Rattle.broker_queues.proofs.Finding.{any_map, find_mapped}
 use Rattle.broker_queues.proofs.Living.{tests, any_of_living, living_append}
 use Rattle.broker_queues.proofs.Rising.{at_number, IsAmong, any_at, least_first, front_of}
@@ -39,7 +39,7 @@ ready_one b k None is on = let never : false ≡ true = on in cc
 ready_one b k (Some (Out x i a)) is on = let never : false ≡ true = on in cc
 ready_one b k (Some Ready) is on = record { ready = is; taken = on }
 
-module _ (h : Holding) (accepted : List Accepted) (is : IsShelf h) where
+module _ (h : Holding) (accepted : List Accepted) (is : IsSound h) where
   -- credit by the count that is kept is credit
   credit : (a : ℕ) (s : Subscriber) → subscriber_at a h.subscribers ≡ Some s
       → has_credit (book_of h accepted) s.subscription ≡ may_have h.given s

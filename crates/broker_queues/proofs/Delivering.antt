@@ -16,9 +16,9 @@ use Rattle.broker_index.specs.Index.{Kept, Subscriber, has_age, with_fate, with_
 use Rattle.broker_index.specs.declared.places.Entry.{Entry}
 use Rattle.broker_queues.specs.Parts.Fates.{passes, counts_for, dealt_fate, recounted, weight}
 use Rattle.broker_queues.specs.Parts.Queues.{CountsFewer}
-use Rattle.broker_queues.specs.Parts.Shelf.{kept_at, subscriber_at, living_of, subscriptions_of, message_of, holds_number, notes}
+use Rattle.broker_queues.specs.Parts.Facts.{kept_at, subscriber_at, living_of, subscriptions_of, message_of, holds_number, notes}
 use Rattle.broker_queues.specs.Parts.Storing.{Sweeps, Tidies}
-use Rattle.broker_queues.specs.Parts.Whole.{Holding, IsShelf, Changes, Renotes, Picks, book_of}
+use Rattle.broker_queues.specs.Parts.Whole.{Holding, IsSound, Changes, Renotes, Picks, book_of}
 use Rattle.broker_queues.proofs.Changing.{changed}
 use Rattle.broker_queues.proofs.Dealing.{dealt}
 use Rattle.broker_queues.proofs.Finding.{find_map, map_map}
@@ -41,7 +41,7 @@ never_ready f ready x i on = let no : false ≡ true = rw ready at on in (let ne
 no_count : (s : Subscriber) (f : Option Fate) → f ≡ Some Ready → counts_for s f ≡ 0
 no_count s f ready = rw ready refl
 
-module _ (h : Holding) (is : IsShelf h) (n : ℕ) (k : Kept) (found : kept_at n h.kept ≡ Some k) (ready : k.fate ≡ Some Ready) where
+module _ (h : Holding) (is : IsSound h) (n : ℕ) (k : Kept) (found : kept_at n h.kept ≡ Some k) (ready : k.fate ≡ Some Ready) where
   -- no subscriber counts a message that is ready, nor one that is gone
   counts_stay : map (recounted k.fate None) h.subscribers ≡ h.subscribers
   counts_stay = map_stays (recounted k.fate None) each h.subscribers
@@ -112,7 +112,7 @@ noting_notes a e n s on = elim (cases_Bool (s.age == a)) [
   | inr off ↦ rw off on
 ]
 
-module _ (h : Holding) (is : IsShelf h) (a : ℕ) (e : Entry) where
+module _ (h : Holding) (is : IsSound h) (a : ℕ) (e : Entry) where
   -- the subscriber of an age notes one delivery more
   noted_more : Renotes h (with_entry a e) (record h { subscribers = map (with_entry a e) h.subscribers })
   noted_more = record {
@@ -129,8 +129,8 @@ module _ (h : Holding) (is : IsShelf h) (a : ℕ) (e : Entry) where
           and_from (is_named x i (with_entry a e s).subscription) (notes n (with_entry a e s).entries)
           (rw (noting_subscription a e s) parts.0) (noting_notes a e n s parts.1)
 
-  pub noted_shelf : IsShelf (record h { subscribers = map (with_entry a e) h.subscribers })
-  noted_shelf = renoted h (with_entry a e) is noted_more
+  pub noted_sound : IsSound (record h { subscribers = map (with_entry a e) h.subscribers })
+  noted_sound = renoted h (with_entry a e) is noted_more
 
   pub noted_subscriptions : subscriptions_of (map (with_entry a e) h.subscribers) ≡ subscriptions_of h.subscribers
   noted_subscriptions =
@@ -144,7 +144,7 @@ module _ (h : Holding) (is : IsShelf h) (a : ℕ) (e : Entry) where
 abbrev pub noting : Entry → Subscriber → Subscriber
 noting e s = record s { entries = s.entries ++ e ∷ [] }
 
-module _ (h : Holding) (is : IsShelf h) (n a : ℕ) (k : Kept) (s : Subscriber) (e : Entry) (ack : ℕ)
+module _ (h : Holding) (is : IsSound h) (n a : ℕ) (k : Kept) (s : Subscriber) (e : Entry) (ack : ℕ)
     (found : kept_at n h.kept ≡ Some k) (ready : k.fate ≡ Some Ready) (sits : subscriber_at a h.subscribers ≡ Some s)
     (number : e.number ≡ n) where
   pub sits_still : subscriber_at a (map (with_entry a e) h.subscribers) ≡ Some (noting e s)
@@ -179,7 +179,7 @@ module _ (h : Holding) (is : IsShelf h) (n a : ℕ) (k : Kept) (s : Subscriber) 
       let stays : with_count a (s.count + 1) t ≡ t = rw number refl in
       elim (cases_Bool (passes (out_to t.subscription.session t.subscription.id) (Some
       (Out s.subscription.session s.subscription.id ack)))) [
-        | inl on ↦ absurd (other (sym (only_one (record h { subscribers = map (with_entry a e) h.subscribers }) (noted_shelf h is a e)
+        | inl on ↦ absurd (other (sym (only_one (record h { subscribers = map (with_entry a e) h.subscribers }) (noted_sound h is a e)
             (Some (Out s.subscription.session s.subscription.id ack)) a t.age (noting e s) t sits_still there
             (out_passes s.subscription.session s.subscription.id ack (Some (Out s.subscription.session s.subscription.id ack)) refl) on)))
         | inr off ↦
@@ -193,7 +193,7 @@ module _ (h : Holding) (is : IsShelf h) (n a : ℕ) (k : Kept) (s : Subscriber) 
   counts_one : map (with_count a (s.count + 1)) (map (with_entry a e) h.subscribers)
       ≡ map (recounted k.fate (Some (Out s.subscription.session s.subscription.id ack))) (map (with_entry a e) h.subscribers)
   counts_one =
-      let now : IsShelf (record h { subscribers = map (with_entry a e) h.subscribers }) = noted_shelf h is a e in
+      let now : IsSound (record h { subscribers = map (with_entry a e) h.subscribers }) = noted_sound h is a e in
       map_same (λ s. s.age) (with_count a (s.count + 1))
       (recounted k.fate (Some (Out s.subscription.session s.subscription.id ack))) 0 (map (with_entry a e) h.subscribers) now.ages each
     where
@@ -253,11 +253,11 @@ same_books l m p q r t u v accepted e1 e2 e3 e4 = rw (e1, e2, e3, e4) refl
 recounted_subscriptions : (f g : Option Fate) (ss : List Subscriber) → subscriptions_of (map (recounted f g) ss) ≡ subscriptions_of ss
 recounted_subscriptions f g ss = map_map (λ s. s.subscription) (recounted f g) ss
 
-module _ (h : Holding) (is : IsShelf h) (n a : ℕ) (k : Kept) (s : Subscriber) (p : Picks h n k a s) (sent : Sent) (to : Subscription)
+module _ (h : Holding) (is : IsSound h) (n a : ℕ) (k : Kept) (s : Subscriber) (p : Picks h n k a s) (sent : Sent) (to : Subscription)
     (is_sent : sent ≡ k.sent) (is_to : to ≡ s.subscription) (accepted : List Accepted) where
   -- in mode `auto`
   pub auto_dealt : (i j : Holding) → is_auto s.subscription.mode ≡ true → Changes h n k None i → i.given ≡ h.given → Sweeps i j
-      → IsShelf j × Deal (book_of h accepted) (record { number = n; sent = sent; to = to; ack = None }) (book_of j accepted)
+      → IsSound j × Deal (book_of h accepted) (record { number = n; sent = sent; to = to; ack = None }) (book_of j accepted)
   auto_dealt i j auto c given sweeps =
       let t : Tidies i j = sweeps (changed h i n k None is p.there c) in
       let same : book_of j accepted ≡ record (book_of h accepted) {
@@ -267,17 +267,17 @@ module _ (h : Holding) (is : IsShelf h) (n a : ℕ) (k : Kept) (s : Subscriber) 
       (subscriptions_of j.subscribers) (subscriptions_of h.subscribers) accepted (t.living ∙ ap living_of c.kept) (t.last ∙ c.last)
       (t.given ∙ given)
       (t.subscriptions ∙ ap subscriptions_of c.subscribers ∙ recounted_subscriptions k.fate None h.subscribers) in
-      (t.shelf, rw (is_sent, is_to, same) (dealt h accepted is n k a s p None (rw auto refl)))
+      (t.sound, rw (is_sent, is_to, same) (dealt h accepted is n k a s p None (rw auto refl)))
 
   -- to one that is to answer
   pub out_dealt : (i : Holding) (e : Entry) (ack : ℕ) → is_auto s.subscription.mode ≡ false → ack ≡ h.given + 1
       → Changes (record h { subscribers = map (with_entry a e) h.subscribers }) n k
       (Some (Out s.subscription.session s.subscription.id ack)) i → i.given ≡ ack
-      → IsShelf i × Deal (book_of h accepted) (record { number = n; sent = sent; to = to; ack = Some ack }) (book_of i accepted)
+      → IsSound i × Deal (book_of h accepted) (record { number = n; sent = sent; to = to; ack = Some ack }) (book_of i accepted)
   out_dealt i e ack auto next c given =
       let noted : Holding = record h { subscribers = map (with_entry a e) h.subscribers } in
       let f : Option Fate = Some (Out s.subscription.session s.subscription.id ack) in
-      let shelf : IsShelf i = changed noted i n k f (noted_shelf h is a e) p.there c in
+      let sound : IsSound i = changed noted i n k f (noted_sound h is a e) p.there c in
       let same : book_of i accepted ≡ record (book_of h accepted) {
         living = living_of (map (with_fate n (dealt_fate s.subscription (Some ack))) h.kept);
         given = last_given h.given (Some ack);
@@ -286,14 +286,14 @@ module _ (h : Holding) (is : IsShelf h) (n a : ℕ) (k : Kept) (s : Subscriber) 
       (ap subscriptions_of c.subscribers ∙ recounted_subscriptions k.fate f (map (with_entry a e) h.subscribers)
       ∙ noted_subscriptions h is a e) in
       let ack_is : Some ack ≡ next_ack (book_of h accepted) s.subscription = rw (auto, next) refl in
-      (shelf, rw (is_sent, is_to, same) (dealt h accepted is n k a s p (Some ack) ack_is))
+      (sound, rw (is_sent, is_to, same) (dealt h accepted is n k a s p (Some ack) ack_is))
 
 -- memory was refused behind the note
-pub noted_only : (h : Holding) → IsShelf h → (a : ℕ) (e : Entry) (accepted : List Accepted) (l : List Subscriber)
+pub noted_only : (h : Holding) → IsSound h → (a : ℕ) (e : Entry) (accepted : List Accepted) (l : List Subscriber)
     → l ≡ map (with_entry a e) h.subscribers
-    → IsShelf (record h { subscribers = l }) × (book_of (record h { subscribers = l }) accepted ≡ book_of h accepted)
+    → IsSound (record h { subscribers = l }) × (book_of (record h { subscribers = l }) accepted ≡ book_of h accepted)
 noted_only h is a e accepted l same = rw same (
-  noted_shelf h is a e,
+  noted_sound h is a e,
   same_books (living_of h.kept) (living_of h.kept) h.last h.last h.given h.given
       (subscriptions_of (map (with_entry a e) h.subscribers)) (subscriptions_of h.subscribers) accepted refl refl refl
       (noted_subscriptions h is a e),

@@ -10,9 +10,9 @@ use Rattle.broker_index.specs.Index.{Kept, Subscriber, Queue, Sets, opened, unle
 use Rattle.broker_index.specs.declared.places.Place.{Place}
 use Rattle.broker_queues.specs.Parts.Fates.{passes, back, counts_in, turn_among}
 use Rattle.broker_queues.specs.Parts.Held.{Turns}
-use Rattle.broker_queues.specs.Parts.Shelf.{kept_at, subscriber_at, destination_at, session_at, lists, queue_of}
+use Rattle.broker_queues.specs.Parts.Facts.{kept_at, subscriber_at, destination_at, session_at, lists, queue_of}
 use Rattle.broker_queues.specs.Parts.Storing.{Detached, Detaches, Releases}
-use Rattle.broker_queues.specs.Parts.Whole.{Holding, IsShelf, Leaves, Moves, book_of}
+use Rattle.broker_queues.specs.Parts.Whole.{Holding, IsSound, Leaves, Moves, book_of}
 use Rattle.broker_queues.proofs.Adding.{closes, shut}
 use Rattle.broker_queues.proofs.Listing.{lists_gone, lists_other}
 use Rattle.broker_queues.proofs.Moving.{moved}
@@ -22,7 +22,7 @@ use Rattle.broker_queues.proofs.Setting.{sets_map}
 use Rattle.broker_queues.proofs.Subscribing.{went}
 use Rattle.broker_queues.proofs.Swept.{none_same, none_turned}
 
-module _ (h i : Holding) (is : IsShelf h) (age : ℕ) (s : Subscriber) (q : List ℕ → Option Queue)
+module _ (h i : Holding) (is : IsSound h) (age : ℕ) (s : Subscriber) (q : List ℕ → Option Queue)
     (sits : subscriber_at age h.subscribers ≡ Some s)
     (quiet : (n : ℕ) (k : Kept) → kept_at n h.kept ≡ Some k
     → passes (out_to s.subscription.session s.subscription.id) k.fate ≡ false)
@@ -155,14 +155,14 @@ module _ (h i : Holding) (is : IsShelf h) (age : ℕ) (s : Subscriber) (q : List
 pub same_book : (h i : Holding) → Moves h i → (accepted : List Accepted) → book_of i accepted ≡ book_of h accepted
 same_book h i m accepted = rw (m.kept, m.subscribers, m.last, m.given) refl
 
-module _ (h i j : Holding) (is : IsShelf h) (age : ℕ) (s : Subscriber) (sits : subscriber_at age h.subscribers ≡ Some s)
+module _ (h i j : Holding) (is : IsSound h) (age : ℕ) (s : Subscriber) (sits : subscriber_at age h.subscribers ≡ Some s)
     (t : Turns h age s (back true) (counts_in s.subscription None) s.entries i) (detaches : Detaches i age j) where
   goes : Detached i age t.now j
-  goes = detaches t.now t.shelf t.sits (none_out h i is age s sits t)
+  goes = detaches t.now t.sound t.sits (none_out h i is age s sits t)
 
   pub releases : Releases h age s j
   releases = record {
-    shelf = moved goes.between j (went i age t.now goes.between t.shelf goes.leaves) goes.moves;
+    sound = moved goes.between j (went i age t.now goes.between t.sound goes.leaves) goes.moves;
     book = λ accepted. same_book goes.between j goes.moves accepted ∙ released_book h i is age s sits t accepted goes.between goes.leaves;
     session = ap (λ (u : Subscription). j.sessions u.session) (sym t.subscription) ∙ goes.session
         ∙ ap (λ (u : Subscription). without age (i.sessions u.session)) t.subscription

@@ -9,7 +9,7 @@ use Rattle.std.proofs.lemmas.Map.Views.{any-filter_same}
 use Rattle.broker_index.specs.Index.{entries_without, is_place_of, without}
 use Rattle.broker_index.specs.declared.places.Entry.{Entry}
 use Rattle.broker_index.specs.declared.places.Place.{Place}
-use Rattle.broker_queues.specs.Parts.Shelf.{lists, notes, rise}
+use Rattle.broker_queues.specs.Parts.Facts.{lists, notes, rise}
 use Rattle.broker_queues.proofs.Rising.{any_from_at, at, at_number, behind}
 
 pub lists_push : (m : ℕ) (ps : List Place) (p : Place) → lists m (ps ++ p ∷ []) ≡ (lists m ps || ((p.number == m) || false))

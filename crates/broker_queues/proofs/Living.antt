@@ -9,7 +9,7 @@ use Rattle.broker_book.specs.declared.parts.Sent.{Sent}
 use Rattle.broker_book.specs.Books.{QueuedMessage, Fate, Ready}
 use Rattle.broker_book.specs.Steps.{ready_if}
 use Rattle.broker_index.specs.Index.{Kept, with_fate}
-use Rattle.broker_queues.specs.Parts.Shelf.{rise, kept_at, message_of, living_as, living_of}
+use Rattle.broker_queues.specs.Parts.Facts.{rise, kept_at, message_of, living_as, living_of}
 use Rattle.broker_queues.specs.Parts.Fates.{passes, weight, fated, turn_if}
 use Rattle.broker_queues.proofs.Rising.{sum_edit, sum_filter, sum_zero, none_below, filter_none}
 

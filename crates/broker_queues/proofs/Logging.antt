@@ -7,8 +7,8 @@ use Rattle.broker_book.specs.Books.{Fate}
 use Rattle.broker_index.specs.Index.{Kept}
 use Rattle.broker_index.specs.Standing.{fate_of}
 use Rattle.broker_index.specs.declared.places.Entry.{Entry}
-use Rattle.broker_queues.specs.declared.undoing.Logged.{Logged}
-use Rattle.broker_queues.specs.Parts.Shelf.{rise, kept_at, notes}
+use Rattle.broker_queues.specs.declared.transactions.Logged.{Logged}
+use Rattle.broker_queues.specs.Parts.Facts.{rise, kept_at, notes}
 use Rattle.broker_queues.specs.Parts.Fates.{passes, fated, fate_of_kept, turn_among}
 use Rattle.broker_queues.specs.Parts.Undoing.{is_out_fate, with_back, undone, mentions, AreTrue, AreAll, before}
 use Rattle.broker_queues.proofs.Finding.{map_map}

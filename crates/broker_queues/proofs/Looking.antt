@@ -11,8 +11,8 @@ use Rattle.broker_index.specs.declared.places.Place.{Place}
 use Rattle.broker_queues.specs.Parts.Choosing.{Rests, Looked}
 use Rattle.broker_queues.specs.Parts.Dealings.{SeeksReady, SeeksTaker, FirstOf, is_open, is_free, opens, takes_more}
 use Rattle.broker_queues.specs.Parts.Fates.{passes}
-use Rattle.broker_queues.specs.Parts.Shelf.{kept_at, subscriber_at, lists, may_have, queue_of, AreAhead, AreTakers}
-use Rattle.broker_queues.specs.Parts.Whole.{Holding, IsShelf, Moves}
+use Rattle.broker_queues.specs.Parts.Facts.{kept_at, subscriber_at, lists, may_have, queue_of, AreAhead, AreTakers}
+use Rattle.broker_queues.specs.Parts.Whole.{Holding, IsSound, Moves}
 use Rattle.broker_queues.proofs.Moving.{moved}
 use Rattle.broker_queues.proofs.Rising.{at_number}
 use Rattle.broker_queues.proofs.Subscribing.{itself, same_texts}
@@ -65,7 +65,7 @@ it_opens kept name n k there ready for_it =
     let dest : bytes_eq k.sent.destination name ≡ true = rw for_it (itself name) in
     rw there (and_from (passes is_ready_fate k.fate) (bytes_eq k.sent.destination name) fate dest)
 
-module _ (h : Holding) (is : IsShelf h) (name : List ℕ) (q : List ℕ → Option Queue) (found : Option Place)
+module _ (h : Holding) (is : IsSound h) (name : List ℕ) (q : List ℕ → Option Queue) (found : Option Place)
     (r : SeeksReady h.kept h.last name h.queues q found) where
   -- what is ready there is no earlier than what was found
   pub ready_later : (n : ℕ) (k : Kept) → kept_at n h.kept ≡ Some k → k.fate ≡ Some Ready → k.sent.destination ≡ name → NoLater found n
@@ -108,7 +108,7 @@ module _ (h : Holding) (is : IsShelf h) (name : List ℕ) (q : List ℕ → Opti
     awake = is.awake;
   }
 
-  pub sought_ready : IsShelf (record h { queues = q })
+  pub sought_ready : IsSound (record h { queues = q })
   sought_ready = moved h (record h { queues = q }) is ready_moves
 
 -- ---- subscribers
@@ -144,7 +144,7 @@ all_at P a (x ∷ ss) s all found = elim (cases_Bool (x.age == a)) [
   | inr off ↦ all_at P a ss s (All-tail P x ss all) (rw off at found)
 ]
 
-module _ (h : Holding) (is : IsShelf h) (name : List ℕ) (q : List ℕ → Option Queue) (found : Option Place)
+module _ (h : Holding) (is : IsSound h) (name : List ℕ) (q : List ℕ → Option Queue) (found : Option Place)
     (r : SeeksTaker h.subscribers h.given name h.queues q found) where
   pub taker_later : (a : ℕ) (s : Subscriber) → subscriber_at a h.subscribers ≡ Some s → s.subscription.destination ≡ name
       → may_have h.given s ≡ true → NoLater found a
@@ -174,7 +174,7 @@ module _ (h : Holding) (is : IsShelf h) (name : List ℕ) (q : List ℕ → Opti
       by_found None from never = absurd never
       by_found (Some p) from later = omega (arith, from, later)
 
-  pub sought_taker : IsShelf (record h { queues = q })
+  pub sought_taker : IsSound (record h { queues = q })
   sought_taker = moved h (record h { queues = q }) is (record {
     kept = refl;
     subscribers = refl;
@@ -192,10 +192,10 @@ module _ (h : Holding) (is : IsShelf h) (name : List ℕ) (q : List ℕ → Opti
 -- ---- both
 
 -- the same parts, with other queues
-rests_with : (h : Holding) (q : List ℕ → Option Queue) → IsShelf (record h { queues = q }) → Rests h (record h { queues = q })
-rests_with h q shelf = record { shelf = shelf; kept = refl; subscribers = refl; last = refl; given = refl }
+rests_with : (h : Holding) (q : List ℕ → Option Queue) → IsSound (record h { queues = q }) → Rests h (record h { queues = q })
+rests_with h q sound = record { sound = sound; kept = refl; subscribers = refl; last = refl; given = refl }
 
-module _ (h : Holding) (is : IsShelf h) (name : List ℕ) (q : List ℕ → Option Queue) where
+module _ (h : Holding) (is : IsSound h) (name : List ℕ) (q : List ℕ → Option Queue) where
   -- nothing is ready there
   pub looked_none : SeeksReady h.kept h.last name h.queues q None → Looked h name (record h { queues = q }) None
   looked_none r = record {
@@ -208,7 +208,7 @@ module _ (h : Holding) (is : IsShelf h) (name : List ℕ) (q : List ℕ → Opti
     -- one is, and none takes it
     pub looked_untaken : SeeksTaker h.subscribers h.given name q r None → Looked h name (record h { queues = r }) None
     looked_untaken two =
-        let mid : IsShelf (record h { queues = q }) = sought_ready h is name q (Some m) one in
+        let mid : IsSound (record h { queues = q }) = sought_ready h is name q (Some m) one in
         record {
           rests = rests_with h r (sought_taker (record h { queues = q }) mid name r None two);
           can = tt;
@@ -220,7 +220,7 @@ module _ (h : Holding) (is : IsShelf h) (name : List ℕ) (q : List ℕ → Opti
     pub looked_some : (a : Place) → SeeksTaker h.subscribers h.given name q r (Some a)
         → Looked h name (record h { queues = r }) (Some (record { message = m; taker = a }))
     looked_some a two =
-        let mid : IsShelf (record h { queues = q }) = sought_ready h is name q (Some m) one in
+        let mid : IsSound (record h { queues = q }) = sought_ready h is name q (Some m) one in
         let open_one : IsOpen h.kept name m.number = what_opens h.kept name m.number one.first.0 in
         let free_one : IsFree h.subscribers h.given name a.number = who_takes h.subscribers h.given name a.number two.first.0 in
         record {

@@ -4,15 +4,15 @@ use Rattle.std.specs.Prelude.{count_by}
 use Rattle.std.specs.Str.{bytes_eq}
 use Rattle.broker_book.specs.Books.{Ready, out_to, is_named}
 use Rattle.broker_index.specs.Index.{Kept, Subscriber, has_age}
-use Rattle.broker_queues.specs.Parts.Shelf.{kept_at, subscriber_at, session_at, destination_at, lists}
-use Rattle.broker_queues.specs.Parts.Shelf.{queue_of, living_of, holds_number, may_have}
-use Rattle.broker_queues.specs.Parts.Shelf.{AreNoted}
-use Rattle.broker_queues.specs.Parts.Whole.{Holding, IsShelf, Renotes, Moves}
+use Rattle.broker_queues.specs.Parts.Facts.{kept_at, subscriber_at, session_at, destination_at, lists}
+use Rattle.broker_queues.specs.Parts.Facts.{queue_of, living_of, holds_number, may_have}
+use Rattle.broker_queues.specs.Parts.Facts.{AreNoted}
+use Rattle.broker_queues.specs.Parts.Whole.{Holding, IsSound, Renotes, Moves}
 use Rattle.broker_queues.proofs.Finding.{IsMapped, is_mapped, find_map, option_map_map}
 use Rattle.broker_queues.proofs.Rising.{IsAmong, any_at, any_from_at, rise_map}
 
-module _ (h i : Holding) (is : IsShelf h) (m : Moves h i) where
-  pub moved : IsShelf i
+module _ (h i : Holding) (is : IsSound h) (m : Moves h i) where
+  pub moved : IsSound i
   moved = record {
     placed = λ n k there. rw (m.numbers k.sent.destination) (is.placed n k (rw m.kept at there));
     counted = λ d. rw (m.count d, m.kept) (is.counted d);
@@ -35,7 +35,7 @@ module _ (h i : Holding) (is : IsShelf h) (m : Moves h i) where
   }
 
 module _ (h : Holding) (change : Subscriber
-    → Subscriber) (is : IsShelf h) (r : Renotes h change (record h { subscribers = map change h.subscribers })) where
+    → Subscriber) (is : IsSound h) (r : Renotes h change (record h { subscribers = map change h.subscribers })) where
   -- what a subscriber was
   abbrev Noting : ℕ → Subscriber → Type 0
   Noting a s = IsMapped change (subscriber_at a h.subscribers) s
@@ -106,7 +106,7 @@ module _ (h : Holding) (change : Subscriber
       (option_map_map (λ s. s.subscription.session) change (λ s. s.subscription.session) (λ s. ap (λ t. t.session) (r.subscription s))
       (subscriber_at a h.subscribers))
 
-  pub renoted : IsShelf (record h { subscribers = map change h.subscribers })
+  pub renoted : IsSound (record h { subscribers = map change h.subscribers })
   renoted = record {
     placed = is.placed;
     counted = is.counted;

@@ -9,10 +9,10 @@ use Rattle.broker_book.specs.declared.parts.Subscription.{Subscription}
 use Rattle.broker_book.specs.Books.{Fate, out_to}
 use Rattle.broker_index.specs.Index.{Kept, Subscriber}
 use Rattle.broker_index.specs.declared.places.Entry.{Entry}
-use Rattle.broker_queues.specs.declared.undoing.Logged.{Logged}
+use Rattle.broker_queues.specs.declared.transactions.Logged.{Logged}
 use Rattle.broker_queues.specs.Parts.Begun.{Noted, NotesIf, NotesIt}
 use Rattle.broker_queues.specs.Parts.Fates.{counts_in, fate_of_kept, passes}
-use Rattle.broker_queues.specs.Parts.Shelf.{kept_at, subscriber_at, notes}
+use Rattle.broker_queues.specs.Parts.Facts.{kept_at, subscriber_at, notes}
 use Rattle.broker_queues.specs.Parts.Undoing.{is_out_fate, mentions, AreTrue}
 use Rattle.broker_queues.specs.Parts.Whole.{Holding}
 use Rattle.broker_queues.proofs.Begun.{held_append}

@@ -5,14 +5,14 @@ use Rattle.std.proofs.lemmas.Bool.{cases_Bool, cases_eq, eqb-true}
 use Rattle.broker_book.specs.declared.parts.Sent.{Sent}
 use Rattle.broker_book.specs.Books.{Ready, Out, out_to, is_for}
 use Rattle.broker_index.specs.Index.{Kept}
-use Rattle.broker_queues.specs.Parts.Shelf.{kept_at, subscriber_at}
-use Rattle.broker_queues.specs.Parts.Shelf.{ArePlaced, AreCounted, AreNoted, AreCredited, AreAhead, AreAwake}
-use Rattle.broker_queues.specs.Parts.Whole.{Holding, IsShelf, Puts, Purges, new_kept}
+use Rattle.broker_queues.specs.Parts.Facts.{kept_at, subscriber_at}
+use Rattle.broker_queues.specs.Parts.Facts.{ArePlaced, AreCounted, AreNoted, AreCredited, AreAhead, AreAwake}
+use Rattle.broker_queues.specs.Parts.Whole.{Holding, IsSound, Puts, Purges, new_kept}
 use Rattle.broker_queues.proofs.Finding.{or_some}
 use Rattle.broker_queues.proofs.Living.{count_push, count_purge}
 use Rattle.broker_queues.proofs.Rising.{at_push, rise_push, at_filter, at_filter_other, rise_filter}
 
-module _ (h : Holding) (sent : Sent) (i : Holding) (is : IsShelf h) (p : Puts h sent i) where
+module _ (h : Holding) (sent : Sent) (i : Holding) (is : IsSound h) (p : Puts h sent i) where
   -- a kept message is the new one, or was there
   kept_was : (m : ℕ) (l : Kept) → kept_at m i.kept ≡ Some l
       → ((m ≡ h.last + 1) × (l ≡ new_kept (h.last + 1) sent)) ⊎ (kept_at m h.kept ≡ Some l)
@@ -73,7 +73,7 @@ module _ (h : Holding) (sent : Sent) (i : Holding) (is : IsShelf h) (p : Puts h 
     | inr old ↦ omega (arith, is.last m l old)
   ])
 
-  pub put_keeps : IsShelf i
+  pub put_keeps : IsSound i
   put_keeps = record {
     placed = put_placed;
     counted = put_counted;
@@ -99,7 +99,7 @@ module _ (h : Holding) (sent : Sent) (i : Holding) (is : IsShelf h) (p : Puts h 
     owned_rise = λ x. rw p.sessions (is.owned_rise x);
   }
 
-module _ (h : Holding) (n : ℕ) (k : Kept) (i : Holding) (is : IsShelf h) (found : kept_at n h.kept ≡ Some k) (gone : k.fate ≡ None)
+module _ (h : Holding) (n : ℕ) (k : Kept) (i : Holding) (is : IsSound h) (found : kept_at n h.kept ≡ Some k) (gone : k.fate ≡ None)
     (p : Purges h n i) where
   -- a kept message was there, and is another
   left_was : (m : ℕ) (l : Kept) → kept_at m i.kept ≡ Some l → (m ≡ n → ⊥) × (kept_at m h.kept ≡ Some l)
@@ -118,7 +118,7 @@ module _ (h : Holding) (n : ℕ) (k : Kept) (i : Holding) (is : IsShelf h) (foun
       rw (p.kept, count_purge (λ m. out_to s.subscription.session s.subscription.id m.fate) n h.kept k is.numbers found gone)
       (is.credited a s was)
 
-  pub purge_keeps : IsShelf i
+  pub purge_keeps : IsSound i
   purge_keeps = record {
     placed = λ m l there. let was = left_was m l there in p.numbers l.sent.destination m was.0 (is.placed m l was.1);
     counted = λ d. rw (p.kept, count_purge (is_for d) n h.kept k is.numbers found gone, p.count d) (is.counted d);

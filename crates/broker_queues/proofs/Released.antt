@@ -14,9 +14,9 @@ use Rattle.broker_book.specs.Steps.{ended, ready_if, released}
 use Rattle.broker_index.specs.Index.{Kept, Subscriber, is_place_of, without}
 use Rattle.broker_index.specs.declared.places.Place.{Place}
 use Rattle.broker_queues.specs.Parts.Fates.{passes, turn_if}
-use Rattle.broker_queues.specs.Parts.Shelf.{kept_at, subscriber_at, subscriptions_of, living_of, lists, holds_number, notes}
+use Rattle.broker_queues.specs.Parts.Facts.{kept_at, subscriber_at, subscriptions_of, living_of, lists, holds_number, notes}
 use Rattle.broker_queues.specs.Parts.Storing.{EndsOne, EndsSome, NoneGone, Releases, is_named_at, named_by}
-use Rattle.broker_queues.specs.Parts.Whole.{Holding, IsShelf, book_of}
+use Rattle.broker_queues.specs.Parts.Whole.{Holding, IsSound, book_of}
 use Rattle.broker_queues.proofs.Finding.{IsMapped, any_implies, find_none, find_passes, is_mapped}
 use Rattle.broker_queues.proofs.Listing.{all_found}
 use Rattle.broker_queues.proofs.Living.{living_back}
@@ -31,7 +31,7 @@ filter_fixed p (x ∷ xs) all =
 
 -- ---- nothing is out, and none goes
 
-module _ (h : Holding) (is : IsShelf h) (test : Fate → Bool) (mine : Subscription → Bool) (ready : test Ready ≡ false)
+module _ (h : Holding) (is : IsSound h) (test : Fate → Bool) (mine : Subscription → Bool) (ready : test Ready ≡ false)
     (theirs : (x : ℕ) (j : List ℕ) (a : ℕ) (s : Subscription) → test (Out x j a) ≡ true → is_named x j s ≡ true → mine s ≡ true)
     (nobody : (a : ℕ) (s : Subscriber) → subscriber_at a h.subscribers ≡ Some s → mine s.subscription ≡ false) where
   quiet : (n : ℕ) (k : Kept) → kept_at n h.kept ≡ Some k → passes test k.fate ≡ false
@@ -70,7 +70,7 @@ module _ (h : Holding) (is : IsShelf h) (test : Fate → Bool) (mine : Subscript
 -- ---- by name
 
 -- none has the name
-module _ (h : Holding) (is : IsShelf h) (x : ℕ) (j : List ℕ) (none : find (is_named_at h.subscribers x j) (h.sessions x) ≡ None) where
+module _ (h : Holding) (is : IsSound h) (x : ℕ) (j : List ℕ) (none : find (is_named_at h.subscribers x j) (h.sessions x) ≡ None) where
   unnamed : (a : ℕ) (s : Subscriber) → subscriber_at a h.subscribers ≡ Some s → is_named x j s.subscription ≡ false
   unnamed a s there = elim (cases_Bool (is_named x j s.subscription)) [
     | inr off ↦ off
@@ -116,15 +116,15 @@ is_the_named h x j p named = by_subscriber (subscriber_at p.number h.subscribers
         record { subscriber = s; sits = at; session = name.0; id = name.1 }
 
 -- one has it
-pub released_found : (h i : Holding) → IsShelf h → (x : ℕ) (j : List ℕ) (p : Place)
+pub released_found : (h i : Holding) → IsSound h → (x : ℕ) (j : List ℕ) (p : Place)
     → find (is_named_at h.subscribers x j) (h.sessions x) ≡ Some p → EndsOne h p.number i
-    → IsShelf i × ((accepted : List Accepted) → book_of i accepted ≡ released (book_of h accepted) x j)
+    → IsSound i × ((accepted : List Accepted) → book_of i accepted ≡ released (book_of h accepted) x j)
     × (NoneGone h.kept → NoneGone i.kept)
 released_found h i is x j p found ends =
     let it : IsNamed h x j p.number =
     is_the_named h x j p (find_passes (is_named_at h.subscribers x j) (h.sessions x) p found) in
     let r : Releases h p.number it.subscriber i = ends it.subscriber is it.sits in (
-      r.shelf,
+      r.sound,
       λ accepted. r.book accepted
           ∙ ap (λ y. released (book_of h accepted) y it.subscriber.subscription.id) it.session
           ∙ ap (λ k. released (book_of h accepted) x k) it.id,
@@ -134,7 +134,7 @@ released_found h i is x j p found ends =
 -- ---- all of a session
 
 -- none is left
-module _ (h : Holding) (is : IsShelf h) (x : ℕ) (none : length (h.sessions x) ≤ 0) where
+module _ (h : Holding) (is : IsSound h) (x : ℕ) (none : length (h.sessions x) ≤ 0) where
   no_places : (ps : List Place) → length ps ≤ 0 → (a : ℕ) → lists a ps ≡ false
   no_places [] short a = refl
   no_places (p ∷ ps) short a = absurd (omega arith)
@@ -218,7 +218,7 @@ first_listed p (r ∷ ps) first =
     rw number refl
 
 -- the first goes
-pub ends_first : (h i : Holding) → IsShelf h → (x : ℕ) (p : Place) → slice_get (h.sessions x) 0 ≡ Some p → EndsOne h p.number i
+pub ends_first : (h i : Holding) → IsSound h → (x : ℕ) (p : Place) → slice_get (h.sessions x) 0 ≡ Some p → EndsOne h p.number i
     → EndsSome h x (length (h.sessions x) - 1) i
 ends_first h i is x p first ends =
     let was : IsMapped (λ (s : Subscriber). s.subscription.session) (subscriber_at p.number h.subscribers) x =
@@ -228,7 +228,7 @@ ends_first h i is x p first ends =
     let session : i.sessions x ≡ without p.number (h.sessions x) =
     ap i.sessions (sym was.to) ∙ r.session ∙ ap (λ y. without p.number (h.sessions y)) was.to in
     record {
-      shelf = r.shelf;
+      sound = r.sound;
       book = λ accepted. ap (λ b. ended b x) (r.book accepted
           ∙ ap (λ y. released (book_of h accepted) y was.from.subscription.id) was.to)
           ∙ ended_released x was.from.subscription.id (book_of h accepted);
@@ -237,8 +237,8 @@ ends_first h i is x p first ends =
     }
 
 -- there is none
-pub ends_nothing : (h : Holding) → IsShelf h → (x most : ℕ) → length (h.sessions x) ≤ most → EndsSome h x most h
-ends_nothing h is x most few = record { shelf = is; book = λ accepted. refl; left = few; none_gone = λ none. none }
+pub ends_nothing : (h : Holding) → IsSound h → (x most : ℕ) → length (h.sessions x) ≤ most → EndsSome h x most h
+ends_nothing h is x most few = record { sound = is; book = λ accepted. refl; left = few; none_gone = λ none. none }
 
 pub no_first : (ps : List Place) → slice_get ps 0 ≡ None → length ps ≤ length ps - 1
 no_first [] none = omega arith
@@ -248,7 +248,7 @@ no_first (p ∷ ps) none = let never : Some p ≡ None = none in cc
 pub ends_more : (h i j : Holding) (x most fewer : ℕ) → EndsSome h x most i → EndsSome i x (length (i.sessions x) - 1) j → fewer + 1 ≡ most
     → EndsSome h x fewer j
 ends_more h i j x most fewer p q one = record {
-  shelf = q.shelf;
+  sound = q.sound;
   book = λ accepted. q.book accepted ∙ p.book accepted;
   left = omega (arith, p.left, q.left);
   none_gone = λ none. q.none_gone (p.none_gone none);
@@ -256,6 +256,6 @@ ends_more h i j x most fewer p q one = record {
 
 -- all went
 pub ends_all : (h i : Holding) (x most : ℕ) → EndsSome h x most i → most ≤ 0
-    → IsShelf i × ((accepted : List Accepted) → book_of i accepted ≡ ended (book_of h accepted) x) × (NoneGone h.kept → NoneGone i.kept)
+    → IsSound i × ((accepted : List Accepted) → book_of i accepted ≡ ended (book_of h accepted) x) × (NoneGone h.kept → NoneGone i.kept)
 ends_all h i x most p none =
-    (p.shelf, λ accepted. ended_none i p.shelf x (omega (arith, p.left)) accepted ∙ p.book accepted, p.none_gone)
+    (p.sound, λ accepted. ended_none i p.sound x (omega (arith, p.left)) accepted ∙ p.book accepted, p.none_gone)

@@ -7,10 +7,10 @@ use Rattle.broker_book.specs.declared.parts.Subscription.{Subscription}
 use Rattle.broker_book.specs.Books.{Fate, Ready, out_to, is_named}
 use Rattle.broker_book.specs.Steps.{released, ready_if}
 use Rattle.broker_index.specs.Index.{Kept, Subscriber, has_number}
-use Rattle.broker_queues.specs.Parts.Shelf.{kept_at, subscriber_at, living_of, subscriptions_of}
+use Rattle.broker_queues.specs.Parts.Facts.{kept_at, subscriber_at, living_of, subscriptions_of}
 use Rattle.broker_queues.specs.Parts.Fates.{passes, back, counts_in, fated, turn_if}
 use Rattle.broker_queues.specs.Parts.Held.{Turns}
-use Rattle.broker_queues.specs.Parts.Whole.{Holding, IsShelf, Leaves, book_of}
+use Rattle.broker_queues.specs.Parts.Whole.{Holding, IsSound, Leaves, book_of}
 use Rattle.broker_queues.proofs.Answering.{whole, noted_by, released_living}
 use Rattle.broker_queues.proofs.Finding.{IsMapped, is_mapped, find_map}
 use Rattle.broker_queues.proofs.Rising.{filter_same}
@@ -40,7 +40,7 @@ turned_fails to test fails k = elim (cases_Bool (passes test k.fate)) [
 turned_number : (to : Option Fate) (test : Fate → Bool) (k : Kept) → (turn_if to test k).number ≡ k.number
 turned_number to test k = elim (cases_Bool (passes test k.fate)) [ inl on ↦ rw on refl | inr off ↦ rw off refl ]
 
-module _ (h : Holding) (is : IsShelf h) (a : ℕ) (s : Subscriber) (sits : subscriber_at a h.subscribers ≡ Some s) where
+module _ (h : Holding) (is : IsSound h) (a : ℕ) (s : Subscriber) (sits : subscriber_at a h.subscribers ≡ Some s) where
   -- the others are those of other names
   others : map (λ (u : Subscriber). u.subscription) (filter (λ (u : Subscriber). not (u.age == a)) h.subscribers)
       ≡ filter (λ u. not (is_named s.subscription.session s.subscription.id u)) (subscriptions_of h.subscribers)
@@ -73,7 +73,7 @@ module _ (h : Holding) (is : IsShelf h) (a : ℕ) (s : Subscriber) (sits : subsc
             ]
       ]
 
-module _ (h i : Holding) (is : IsShelf h) (a : ℕ) (s : Subscriber) (sits : subscriber_at a h.subscribers ≡ Some s)
+module _ (h i : Holding) (is : IsSound h) (a : ℕ) (s : Subscriber) (sits : subscriber_at a h.subscribers ≡ Some s)
     (t : Turns h a s (back true) (counts_in s.subscription None) s.entries i) where
   -- none is out to it any more
   pub none_out : (n : ℕ) (k : Kept) → kept_at n i.kept ≡ Some k
@@ -100,7 +100,7 @@ module _ (h i : Holding) (is : IsShelf h) (a : ℕ) (s : Subscriber) (sits : sub
       ap living_of (p.kept ∙ t.kept) ∙ released_living h is a s sits in
       let subscriptions : subscriptions_of j.subscribers
       ≡ filter (λ u. not (is_named s.subscription.session s.subscription.id u)) (subscriptions_of h.subscribers) =
-      ap subscriptions_of p.subscribers ∙ others i t.shelf a t.now t.sits
+      ap subscriptions_of p.subscribers ∙ others i t.sound a t.now t.sits
       ∙ ap (λ (u : Subscription). filter (λ v. not (is_named u.session u.id v)) (subscriptions_of i.subscribers)) t.subscription
       ∙ ap (λ l. filter (λ u. not (is_named s.subscription.session s.subscription.id u)) l) t.subscriptions in
       let last : j.last ≡ h.last = p.last ∙ t.last in

@@ -8,10 +8,10 @@ use Rattle.broker_book.specs.declared.parts.Accepted.{Accepted}
 use Rattle.broker_book.specs.Steps.{covered, ready_if, holder, holds_out, acked, nacked}
 use Rattle.broker_index.specs.Index.{Subscriber}
 use Rattle.broker_index.specs.declared.places.Place.{Place}
-use Rattle.broker_queues.specs.Parts.Shelf.{lists, living_of}
+use Rattle.broker_queues.specs.Parts.Facts.{lists, living_of}
 use Rattle.broker_queues.specs.Parts.Fates.{back, is_held_at}
 use Rattle.broker_queues.specs.Parts.Held.{Turns, TurnsAll, step_of}
-use Rattle.broker_queues.specs.Parts.Whole.{Holding, IsShelf, book_of}
+use Rattle.broker_queues.specs.Parts.Whole.{Holding, IsSound, book_of}
 use Rattle.broker_queues.proofs.Answering.{holds_out_in, IsHolder, no_holder, the_holder, acked_living, nacked_living}
 use Rattle.broker_queues.proofs.Finding.{find_mapped}
 
@@ -36,7 +36,7 @@ pub holder_is : (h : Holding) (accepted : List Accepted) (x number : ℕ)
 holder_is h accepted x number = find_mapped (holds_out (book_of h accepted) x number) (λ s. s.subscription) h.subscribers
 
 -- none holds it
-pub refused : (h : Holding) (accepted : List Accepted) (x number : ℕ) (again : Bool) → IsShelf h
+pub refused : (h : Holding) (accepted : List Accepted) (x number : ℕ) (again : Bool) → IsSound h
     → find (is_held_at h.kept h.subscribers number) (h.sessions x) ≡ None → step_of again (book_of h accepted) x number ≡ Err NoSuchAck
 refused h accepted x number again is none = by_step again
   where
@@ -48,7 +48,7 @@ refused h accepted x number again is none = by_step again
     by_step false = ap (acked (book_of h accepted) number) nobody
 
 -- one holds it, and its deliveries were gone through
-module _ (h i : Holding) (accepted : List Accepted) (x number : ℕ) (is : IsShelf h) (a : ℕ) (held : IsHolder h x number a) where
+module _ (h i : Holding) (accepted : List Accepted) (x number : ℕ) (is : IsSound h) (a : ℕ) (held : IsHolder h x number a) where
   it : holder (book_of h accepted) x number ≡ Some held.subscriber.subscription
   it = holder_is h accepted x number ∙ ap (λ o. option_map (λ (s : Subscriber). s.subscription) o) held.first
 
@@ -72,12 +72,12 @@ module _ (h i : Holding) (accepted : List Accepted) (x number : ℕ) (is : IsShe
   stepped true t = again_ready t
   stepped false t = gone t
 
-pub responded : (h i : Holding) (accepted : List Accepted) (x number : ℕ) (again : Bool) (p : Place) → IsShelf h
+pub responded : (h i : Holding) (accepted : List Accepted) (x number : ℕ) (again : Bool) (p : Place) → IsSound h
     → find (is_held_at h.kept h.subscribers number) (h.sessions x) ≡ Some p → TurnsAll h p.number (Some number) again i
-    → IsShelf i × (step_of again (book_of h accepted) x number ≡ Ok (book_of i accepted))
+    → IsSound i × (step_of again (book_of h accepted) x number ≡ Ok (book_of i accepted))
 responded h i accepted x number again p is found turns =
     let held : IsHolder h x number p.number =
     the_holder h is x number p found (found_lists (is_held_at h.kept h.subscribers number) (h.sessions x) p found) in
     let t : Turns h p.number held.subscriber (back again) (covered held.subscriber.subscription number) held.subscriber.entries i =
     turns held.subscriber is held.sits in
-    (t.shelf, stepped h i accepted x number is p.number held again t)
+    (t.sound, stepped h i accepted x number is p.number held again t)

@@ -11,16 +11,16 @@ use Rattle.std.proofs.lemmas.Slice.Eq.{bytes_eq-Decides}
 use Rattle.broker_book.specs.Books.{QueuedMessage, Fate, Ready, Out, out_to, is_for, is_named}
 use Rattle.broker_index.specs.Index.{Kept, Subscriber, Queue, Sets, counting, opened, has_age, with_count, with_fate}
 use Rattle.broker_index.specs.Standing.{fate_of}
-use Rattle.broker_queues.specs.declared.undoing.Logged.{Logged}
+use Rattle.broker_queues.specs.declared.transactions.Logged.{Logged}
 use Rattle.broker_queues.specs.Parts.Begun.{CountsMore, IsBegun, IsHeldBy}
 use Rattle.broker_queues.specs.Parts.Fates.{passes, counts_for, recounted, weight, fated}
 use Rattle.broker_queues.specs.Parts.Held.{IsSame}
 use Rattle.broker_queues.specs.Parts.Queues.{CountsFewer}
-use Rattle.broker_queues.specs.Parts.Shelf.{kept_at, subscriber_at, subscriptions_of, lists, notes, living_of, message_of, holds_number}
-use Rattle.broker_queues.specs.Parts.Shelf.{queue_of}
+use Rattle.broker_queues.specs.Parts.Facts.{kept_at, subscriber_at, subscriptions_of, lists, notes, living_of, message_of, holds_number}
+use Rattle.broker_queues.specs.Parts.Facts.{queue_of}
 use Rattle.broker_queues.specs.Parts.Storing.{is_gone}
 use Rattle.broker_queues.specs.Parts.Undoing.{before, is_out_fate, with_back}
-use Rattle.broker_queues.specs.Parts.Whole.{Changes, Holding, IsShelf}
+use Rattle.broker_queues.specs.Parts.Whole.{Changes, Holding, IsSound}
 use Rattle.broker_queues.proofs.Begun.{held_front, held_last, held_still}
 use Rattle.broker_queues.proofs.Changing.{changed}
 use Rattle.broker_queues.proofs.Finding.{find_map, map_map}
@@ -147,7 +147,7 @@ map_id (x ∷ xs) = ap (λ l. x ∷ l) (map_id xs)
 
 -- ---- a noted message is out again
 
-module _ (h i : Holding) (e : Logged) (k : Kept) (is : IsShelf h) (found : kept_at e.number h.kept ≡ Some k)
+module _ (h i : Holding) (e : Logged) (k : Kept) (is : IsSound h) (found : kept_at e.number h.kept ≡ Some k)
     (off : passes is_out_fate k.fate ≡ false) (m : IsHeldBy (subscriber_at e.age h.subscribers) e) where
   -- the fate that is given back is out to the holder
   out_again : passes (out_to m.holder.subscription.session m.holder.subscription.id) (fate_of e.standing) ≡ true
@@ -265,7 +265,7 @@ module _ (start h : Holding) (log : List Logged) (e : Logged) (b : IsBegun start
   left_begun : map (with_back e.number (fate_of e.standing)) h.kept ≡ h.kept → IsBegun start log h × (h.last ≡ start.last)
   left_begun stays = (
     record {
-      shelf = b.shelf;
+      sound = b.sound;
       kept = back_first stays;
       subscriptions = b.subscriptions;
       given = b.given;
@@ -280,7 +280,7 @@ module _ (start h : Holding) (log : List Logged) (e : Logged) (b : IsBegun start
   -- there is no such message
   pub back_none : kept_at e.number h.kept ≡ None → IsBegun start log h × (h.last ≡ start.last)
   back_none none =
-      left_begun (map_same (λ k. k.number) (with_back e.number (fate_of e.standing)) (λ k. k) 0 h.kept b.shelf.numbers each
+      left_begun (map_same (λ k. k.number) (with_back e.number (fate_of e.standing)) (λ k. k) 0 h.kept b.sound.numbers each
       ∙ map_id h.kept)
     where
       each : (k : Kept) → kept_at k.number h.kept ≡ Some k → with_back e.number (fate_of e.standing) k ≡ k
@@ -293,7 +293,7 @@ module _ (start h : Holding) (log : List Logged) (e : Logged) (b : IsBegun start
   pub back_stays : (k : Kept) → kept_at e.number h.kept ≡ Some k → passes is_out_fate k.fate ≡ true
       → IsBegun start log h × (h.last ≡ start.last)
   back_stays k found on =
-      left_begun (map_same (λ k. k.number) (with_back e.number (fate_of e.standing)) (λ k. k) 0 h.kept b.shelf.numbers each
+      left_begun (map_same (λ k. k.number) (with_back e.number (fate_of e.standing)) (λ k. k) 0 h.kept b.sound.numbers each
       ∙ map_id h.kept)
     where
       each : (l : Kept) → kept_at l.number h.kept ≡ Some l → with_back e.number (fate_of e.standing) l ≡ l
@@ -310,9 +310,9 @@ module _ (start h : Holding) (log : List Logged) (e : Logged) (b : IsBegun start
       → Changes h e.number k (fate_of e.standing) i → i.given ≡ h.given → IsBegun start log i × (i.last ≡ start.last)
   back_again i k found off c given = (
     record {
-      shelf = shelf;
+      sound = sound;
       kept = ap (before start.last log) (c.kept ∙ sym (map_same (λ k. k.number) (with_back e.number (fate_of e.standing))
-          (with_fate e.number (fate_of e.standing)) 0 h.kept b.shelf.numbers each))
+          (with_fate e.number (fate_of e.standing)) 0 h.kept b.sound.numbers each))
           ∙ sym (before_step start.last log e h.kept) ∙ b.kept;
       subscriptions = ap subscriptions_of c.subscribers
           ∙ map_map (λ s. s.subscription) (recounted k.fate (fate_of e.standing)) h.subscribers ∙ b.subscriptions;
@@ -320,14 +320,14 @@ module _ (start h : Holding) (log : List Logged) (e : Logged) (b : IsBegun start
       last = omega (arith, c.last, last);
       held = held_still h.subscribers i.subscribers (same_recounted h i k.fate (fate_of e.standing) c.subscribers) log
           (held_front h.subscribers log (e ∷ []) b.held);
-      fresh = λ n l there later. absurd (omega (arith, shelf.last n l there, later, c.last, last));
-      listed = λ d n listed later. absurd (omega (arith, shelf.listed_last d n listed, later, c.last, last));
+      fresh = λ n l there later. absurd (omega (arith, sound.last n l there, later, c.last, last));
+      listed = λ d n listed later. absurd (omega (arith, sound.listed_last d n listed, later, c.last, last));
     },
     c.last ∙ last,
   )
     where
-      shelf : IsShelf i
-      shelf = changed h i e.number k (fate_of e.standing) b.shelf found c
+      sound : IsSound i
+      sound = changed h i e.number k (fate_of e.standing) b.sound found c
 
       each : (l : Kept) → kept_at l.number h.kept ≡ Some l
           → with_back e.number (fate_of e.standing) l ≡ with_fate e.number (fate_of e.standing) l
@@ -355,7 +355,7 @@ recount_none (s ∷ subscribers) =
     let first : recounted (Some Ready) None s ≡ s = ap (λ n. record s { count = n }) count in
     ap (λ t. t ∷ map (recounted (Some Ready) None) subscribers) first ∙ ap (λ l. s ∷ l) (recount_none subscribers)
 
-pub gone_changes : (h i : Holding) (n : ℕ) (k : Kept) (name : List ℕ) → IsShelf h → kept_at n h.kept ≡ Some k
+pub gone_changes : (h i : Holding) (n : ℕ) (k : Kept) (name : List ℕ) → IsSound h → kept_at n h.kept ≡ Some k
     → k.fate ≡ Some Ready → name ≡ k.sent.destination → CountsFewer h.queues i.queues name
     → i.kept ≡ map (with_fate n None) h.kept → i.subscribers ≡ h.subscribers
     → i.sessions ≡ h.sessions → i.awake ≡ h.awake → i.last ≡ h.last → i.given ≡ h.given → Changes h n k None i
@@ -404,11 +404,11 @@ restored start h i log e k s was name most count b last found off sits e1 e2 e3 
     let both : Some s ≡ Some m.holder = sits ∙ m.there in
     let it : s ≡ m.holder = cc in
     let counts2 : CountsMore k.fate (length h.kept) h.queues i.queues k.sent.destination = rw (e1, e2, e3) at counts in
-    let below : m.holder.count < length h.kept = holder_count h i e k b.shelf found2 off m in
+    let below : m.holder.count < length h.kept = holder_count h i e k b.sound found2 off m in
     let same : s.count ≡ m.holder.count = ap (λ (t : Subscriber). t.count) it in
     let one : count ≡ m.holder.count + 1 = more (omega arith) ∙ ap (λ n. n + 1) same in
     back_again start h log e b last i k found2 off
-    (out_changes h i e k b.shelf found2 off m count counts2 one kept subscribers sessions awake lasts given) given
+    (out_changes h i e k b.sound found2 off m count counts2 one kept subscribers sessions awake lasts given) given
 
 -- nothing of a noted message's subscriber can be missing
 pub no_holder : (start h : Holding) (log : List Logged) (e : Logged) → IsBegun start (log ++ e ∷ []) h → h.last ≡ start.last

@@ -8,10 +8,10 @@ use Rattle.std.proofs.lemmas.Bool.{cases_Bool, cases_eq, eq-eqb, ne_eqb}
 use Rattle.std.proofs.lemmas.List.Folds.{list_any-append}
 use Rattle.broker_book.specs.Books.{Fate, Ready, Out, out_to, is_for}
 use Rattle.broker_index.specs.Index.{Kept, Subscriber, Queue, with_fate, with_count}
-use Rattle.broker_queues.specs.Parts.Shelf.{kept_at, subscriber_at, queue_of, message_of, holds_number}
+use Rattle.broker_queues.specs.Parts.Facts.{kept_at, subscriber_at, queue_of, message_of, holds_number}
 use Rattle.broker_queues.specs.Parts.Fates.{passes, counts_for, recounted, weight, fated, back}
 use Rattle.broker_queues.specs.Parts.Queues.{Marks, Frees, awake_in}
-use Rattle.broker_queues.specs.Parts.Whole.{Holding, IsShelf, Changes, Lowers, Wakes}
+use Rattle.broker_queues.specs.Parts.Whole.{Holding, IsSound, Changes, Lowers, Wakes}
 use Rattle.broker_queues.proofs.Living.{count_change}
 use Rattle.broker_queues.proofs.Rising.{map_same}
 use Rattle.broker_queues.proofs.Subscribing.{is_out, IsOut, named_from, itself}
@@ -25,7 +25,7 @@ Lowers-trans a b c p q = record {
 }
 
 -- the message of a subscriber is out to no other
-pub only_one : (h : Holding) → IsShelf h → (f : Option Fate) (a b : ℕ) (s t : Subscriber) → subscriber_at a h.subscribers ≡ Some s
+pub only_one : (h : Holding) → IsSound h → (f : Option Fate) (a b : ℕ) (s t : Subscriber) → subscriber_at a h.subscribers ≡ Some s
     → subscriber_at b h.subscribers ≡ Some t → passes (out_to s.subscription.session s.subscription.id) f ≡ true
     → passes (out_to t.subscription.session t.subscription.id) f ≡ true → a ≡ b
 only_one h is f a b s t sits there on also =
@@ -38,7 +38,7 @@ only_one h is f a b s t sits there on also =
     is.apart a b s t sits there (named_from s.subscription.session s.subscription.id t.subscription session id)
 
 -- its count alone changes
-recount_one : (h : Holding) → IsShelf h → (f to : Option Fate) (a : ℕ) (s : Subscriber) → subscriber_at a h.subscribers ≡ Some s
+recount_one : (h : Holding) → IsSound h → (f to : Option Fate) (a : ℕ) (s : Subscriber) → subscriber_at a h.subscribers ≡ Some s
     → passes (out_to s.subscription.session s.subscription.id) f ≡ true
     → ((x : ℕ) (i : List ℕ) → passes (out_to x i) to ≡ false)
     → map (with_count a (s.count - 1)) h.subscribers ≡ map (recounted f to) h.subscribers
@@ -90,7 +90,7 @@ weight_back true k d x i a name out = rw out (omega arith)
 weight_back false k d x i a name out = rw out (omega arith)
 
 module _ (h : Holding) (n age : ℕ) (again : Bool) (k : Kept) (s : Subscriber) (q r : List ℕ → Option Queue) (v w : List ℕ → Bool)
-    (is : IsShelf h) (found : kept_at n h.kept ≡ Some k) (sits : subscriber_at age h.subscribers ≡ Some s)
+    (is : IsSound h) (found : kept_at n h.kept ≡ Some k) (sits : subscriber_at age h.subscribers ≡ Some s)
     (on : passes (out_to s.subscription.session s.subscription.id) k.fate ≡ true)
     (m : Marks again k.sent.destination n h.queues q h.awake v) (f : Frees s.subscription.destination age q r v w) where
   recounts : (d : List ℕ) → (queue_of r d).count + weight (is_for d) (message_of k)
@@ -147,7 +147,7 @@ module _ (h : Holding) (n age : ℕ) (again : Bool) (k : Kept) (s : Subscriber) 
 
 -- the same, by what each step says
 pub taken_back_in : (h i : Holding) (n age count : ℕ) (again : Bool) (fate : Option Fate) (k : Kept) (s : Subscriber) (name there : List ℕ)
-    (q : List ℕ → Option Queue) (v : List ℕ → Bool) → IsShelf h → kept_at n h.kept ≡ Some k → subscriber_at age h.subscribers ≡ Some s
+    (q : List ℕ → Option Queue) (v : List ℕ → Bool) → IsSound h → kept_at n h.kept ≡ Some k → subscriber_at age h.subscribers ≡ Some s
     → passes (out_to s.subscription.session s.subscription.id) k.fate ≡ true
     → name ≡ k.sent.destination → there ≡ s.subscription.destination → count ≡ s.count - 1 → fate ≡ back again
     → Marks again name n h.queues q h.awake v → Frees there age q i.queues v i.awake

@@ -7,7 +7,7 @@ use Rattle.std.specs.Option.{option_or, option_map}
 use Rattle.std.proofs.lemmas.Bool.{and_parts, and_from, leb-true, eqb-true, ne_eqb, eq-eqb, cases_Bool, le-leb}
 use Rattle.std.proofs.lemmas.List.Sums.{sum_by-cons}
 use Rattle.std.proofs.lemmas.List.Folds.{find-append}
-use Rattle.broker_queues.specs.Parts.Shelf.{rise}
+use Rattle.broker_queues.specs.Parts.Facts.{rise}
 
 module _ {X : Type 0} (number : X → ℕ) where
   -- the first value of a number

@@ -7,8 +7,8 @@ use Rattle.broker_book.specs.declared.parts.Subscription.{Subscription}
 use Rattle.broker_book.specs.Books.{Book, QueuedMessage, Out, IsQuiet, is_ready}
 use Rattle.broker_book.specs.Steps.{Handed, Deal, Deals, Taken, Dealt, left_of}
 use Rattle.broker_queues.specs.Parts.Choosing.{Rests, IsNext}
-use Rattle.broker_queues.specs.Parts.Shelf.{living_of}
-use Rattle.broker_queues.specs.Parts.Whole.{Holding, IsShelf, book_of}
+use Rattle.broker_queues.specs.Parts.Facts.{living_of}
+use Rattle.broker_queues.specs.Parts.Whole.{Holding, IsSound, book_of}
 use Rattle.broker_queues.proofs.Dealing.{quiet}
 
 deals_more : (old mid new : Book) (ds : List Handed) (d : Handed) → Deals old ds mid → Deal mid d new → Deals old (ds ++ d ∷ []) new
@@ -59,7 +59,7 @@ fewer_ready old new d deal =
     ))
 
 -- where nothing is due anywhere, the book is quiet
-pub ends_quiet : (h : Holding) → IsShelf h → IsNext h None → (accepted : List Accepted) → IsQuiet (book_of h accepted)
+pub ends_quiet : (h : Holding) → IsSound h → IsNext h None → (accepted : List Accepted) → IsQuiet (book_of h accepted)
 ends_quiet h is none accepted = quiet h accepted is (λ due. none due.message.sent.destination due.message.number (record {
   message = due.message;
   there = due.there;

@@ -9,7 +9,7 @@ use Rattle.std.proofs.lemmas.List.Elements.{All-head, All-tail}
 use Rattle.broker_index.specs.Index.{Kept, Subscriber, Queue, Sets, opened, is_from, ready_from, taken_from}
 use Rattle.broker_index.specs.declared.places.Place.{Place}
 use Rattle.broker_queues.specs.Parts.Dealings.{FirstOf, SeeksReady, SeeksTaker, number_or, opens, takes_more}
-use Rattle.broker_queues.specs.Parts.Shelf.{lists, queue_of}
+use Rattle.broker_queues.specs.Parts.Facts.{lists, queue_of}
 use Rattle.broker_queues.proofs.Finding.{find_none, find_passes}
 use Rattle.broker_queues.proofs.Setting.{sets_map, at_name}
 

@@ -5,7 +5,7 @@ use Rattle.std.specs.Str.{bytes_eq}
 use Rattle.std.proofs.lemmas.Bool.{cases_Bool}
 use Rattle.std.proofs.lemmas.Slice.Eq.{bytes_eq-Decides}
 use Rattle.broker_index.specs.Index.{Queue, Sets, opened, empty_queue, ready_from, taken_from, counting}
-use Rattle.broker_queues.specs.Parts.Shelf.{queue_of}
+use Rattle.broker_queues.specs.Parts.Facts.{queue_of}
 use Rattle.broker_queues.specs.Parts.Whole.{Lowers}
 use Rattle.broker_queues.specs.Parts.Queues.{LooksFrom, TakesFrom, CountsFewer}
 

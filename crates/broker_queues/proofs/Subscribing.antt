@@ -10,11 +10,11 @@ use Rattle.std.proofs.lemmas.Slice.Eq.{bytes_eq-Decides}
 use Rattle.broker_book.specs.declared.parts.Subscription.{Subscription}
 use Rattle.broker_book.specs.Books.{Fate, Ready, Out, out_to, is_named}
 use Rattle.broker_index.specs.Index.{Subscriber}
-use Rattle.broker_queues.specs.Parts.Shelf.{kept_at, subscriber_at, session_at, destination_at, lists}
-use Rattle.broker_queues.specs.Parts.Shelf.{queue_of, living_of, holds_number, notes}
-use Rattle.broker_queues.specs.Parts.Shelf.{AreNoted, AreCredited, AreListening, AreOwned, AreTakers, AreAwake}
+use Rattle.broker_queues.specs.Parts.Facts.{kept_at, subscriber_at, session_at, destination_at, lists}
+use Rattle.broker_queues.specs.Parts.Facts.{queue_of, living_of, holds_number, notes}
+use Rattle.broker_queues.specs.Parts.Facts.{AreNoted, AreCredited, AreListening, AreOwned, AreTakers, AreAwake}
 use Rattle.broker_queues.specs.Parts.Fates.{passes}
-use Rattle.broker_queues.specs.Parts.Whole.{Holding, IsShelf, Subscribes, Leaves}
+use Rattle.broker_queues.specs.Parts.Whole.{Holding, IsSound, Subscribes, Leaves}
 use Rattle.broker_queues.proofs.Finding.{or_some, is_there, is_mapped}
 use Rattle.broker_queues.proofs.Living.{count_zero, weight_fate}
 use Rattle.broker_queues.proofs.Rising.{at_push, rise_push, at_filter, at_filter_other, rise_filter, IsAmong, any_at, any_from_at}
@@ -55,7 +55,7 @@ out_passes x j a f out = rw out (and_from (x == x) (bytes_eq j j) (eq-eqb x x re
 
 -- ---- one comes
 
-module _ (h : Holding) (s : Subscriber) (i : Holding) (is : IsShelf h) (p : Subscribes h s i) where
+module _ (h : Holding) (s : Subscriber) (i : Holding) (is : IsSound h) (p : Subscribes h s i) where
   subscriber_was : (a : ℕ) (t : Subscriber) → subscriber_at a i.subscribers ≡ Some t
       → ((a ≡ s.age) × (t ≡ s)) ⊎ (subscriber_at a h.subscribers ≡ Some t)
   subscriber_was a t there =
@@ -185,7 +185,7 @@ module _ (h : Holding) (s : Subscriber) (i : Holding) (is : IsShelf h) (p : Subs
         rw (p.subscribers, at_push (λ s. s.age) a h.subscribers s, was.found) (ap (λ y. Some y) was.to)
   ]
 
-  pub came : IsShelf i
+  pub came : IsSound i
   came = record {
     placed = λ n k there. rw (p.numbers k.sent.destination) (is.placed n k (rw p.kept at there));
     counted = λ d. rw (p.count d, p.kept) (is.counted d);
@@ -208,7 +208,7 @@ module _ (h : Holding) (s : Subscriber) (i : Holding) (is : IsShelf h) (p : Subs
 
 -- ---- one goes
 
-module _ (h : Holding) (age : ℕ) (s : Subscriber) (i : Holding) (is : IsShelf h) (p : Leaves h age s i) where
+module _ (h : Holding) (age : ℕ) (s : Subscriber) (i : Holding) (is : IsSound h) (p : Leaves h age s i) where
   left_was : (a : ℕ) (t : Subscriber) → subscriber_at a i.subscribers ≡ Some t → (a ≡ age → ⊥) × (subscriber_at a h.subscribers ≡ Some t)
   left_was a t there =
       let e : subscriber_at a (filter (λ s. not (s.age == age)) h.subscribers) ≡ Some t = rw p.subscribers at there in
@@ -241,7 +241,7 @@ module _ (h : Holding) (age : ℕ) (s : Subscriber) (i : Holding) (is : IsShelf 
       any_from_at (λ s. s.age) (holds_number x j n) one.value.age i.subscribers one.value
       (left_there one.value.age one.value other one.found) one.passes
 
-  pub went : IsShelf i
+  pub went : IsSound i
   went = record {
     placed = λ n k there. rw (p.numbers k.sent.destination) (is.placed n k (rw p.kept at there));
     counted = λ d. rw (p.count d, p.kept) (is.counted d);

@@ -10,9 +10,9 @@ use Rattle.broker_index.specs.declared.places.Entry.{Entry}
 use Rattle.broker_index.specs.declared.places.Place.{Place}
 use Rattle.broker_queues.specs.Parts.Fates.{passes, fate_of_kept, is_held_at}
 use Rattle.broker_queues.specs.Parts.Held.{TurnsAll, step_of}
-use Rattle.broker_queues.specs.Parts.Shelf.{kept_at, subscriber_at, living_of, subscriptions_of, lists, notes, queue_of, holds_number}
+use Rattle.broker_queues.specs.Parts.Facts.{kept_at, subscriber_at, living_of, subscriptions_of, lists, notes, queue_of, holds_number}
 use Rattle.broker_queues.specs.Parts.Storing.{Forgets, Sweeps, Takes, Tidies, is_gone}
-use Rattle.broker_queues.specs.Parts.Whole.{Holding, IsShelf, Moves, Purges, Renotes, book_of}
+use Rattle.broker_queues.specs.Parts.Whole.{Holding, IsSound, Moves, Purges, Renotes, book_of}
 use Rattle.broker_queues.proofs.Adding.{closes, shut}
 use Rattle.broker_queues.proofs.Listing.{lists_gone, lists_other, map_after, notes_other}
 use Rattle.broker_queues.proofs.Living.{living_purge}
@@ -25,21 +25,21 @@ use Rattle.broker_queues.proofs.Subscribing.{name_parts, out_passes}
 
 -- ---- nothing, one thing after another, places alone
 
-pub tidy : (h : Holding) → IsShelf h → Tidies h h
-tidy h is = record { shelf = is; living = refl; subscriptions = refl; last = refl; given = refl }
+pub tidy : (h : Holding) → IsSound h → Tidies h h
+tidy h is = record { sound = is; living = refl; subscriptions = refl; last = refl; given = refl }
 
 pub tidies : (h i j : Holding) → Tidies h i → Tidies i j → Tidies h j
 tidies h i j p q = record {
-  shelf = q.shelf;
+  sound = q.sound;
   living = q.living ∙ p.living;
   subscriptions = q.subscriptions ∙ p.subscriptions;
   last = q.last ∙ p.last;
   given = q.given ∙ p.given;
 }
 
-pub tidy_moves : (h i : Holding) → IsShelf h → Moves h i → Tidies h i
+pub tidy_moves : (h i : Holding) → IsSound h → Moves h i → Tidies h i
 tidy_moves h i is m = record {
-  shelf = moved h i is m;
+  sound = moved h i is m;
   living = ap living_of m.kept;
   subscriptions = ap subscriptions_of m.subscribers;
   last = m.last;
@@ -53,7 +53,7 @@ pub gone_none : (f : Option Fate) → is_gone f ≡ true → f ≡ None
 gone_none None gone = refl
 gone_none (Some f) gone = let never : false ≡ true = gone in cc
 
-module _ (h i : Holding) (is : IsShelf h) (n : ℕ) (k : Kept) (q : List ℕ → Option Queue) (name : List ℕ)
+module _ (h i : Holding) (is : IsSound h) (n : ℕ) (k : Kept) (q : List ℕ → Option Queue) (name : List ℕ)
     (found : kept_at n h.kept ≡ Some k) (gone : k.fate ≡ None)
     (p : Sets h.queues q name (option_map (without_number n) (h.queues name)))
     (r : Sets q i.queues name (option_and_then unless_idle (q name))) where
@@ -92,10 +92,10 @@ module _ (h i : Holding) (is : IsShelf h) (n : ℕ) (k : Kept) (q : List ℕ →
   pub purged : i.kept ≡ filter (λ k. not (k.number == n)) h.kept → i.subscribers ≡ h.subscribers → i.sessions ≡ h.sessions
       → i.awake ≡ h.awake → i.last ≡ h.last → i.given ≡ h.given → Tidies h i
   purged kept subscribers sessions awake last given =
-      let before : IsShelf taken = purge_keeps h n k taken is found gone takes_out in
+      let before : IsSound taken = purge_keeps h n k taken is found gone takes_out in
       let m : Moves taken i = shut taken before i (closes q i.queues name r) kept subscribers sessions awake last given in
       record {
-        shelf = moved taken i before m;
+        sound = moved taken i before m;
         living = ap living_of kept ∙ living_purge n 0 h.kept k is.numbers found gone;
         subscriptions = ap subscriptions_of subscribers;
         last = last;
@@ -114,7 +114,7 @@ module _ (h i : Holding) (is : IsShelf h) (n : ℕ) (k : Kept) (q : List ℕ →
   pub taken_away : name ≡ k.sent.destination → i.kept ≡ filter (λ k. not (k.number == n)) h.kept → i.subscribers ≡ h.subscribers
       → i.sessions ≡ h.sessions → i.awake ≡ h.awake → i.last ≡ h.last → i.given ≡ h.given → Takes h n k i
   taken_away own kept subscribers sessions awake last given =
-      let before : IsShelf taken = purge_keeps h n k taken is found gone takes_out in
+      let before : IsSound taken = purge_keeps h n k taken is found gone takes_out in
       let m : Moves taken i = shut taken before i (closes q i.queues name r) kept subscribers sessions awake last given in
       record {
         kept = kept;
@@ -148,7 +148,7 @@ leaves_others h i n kept subscribers = record {
 
 -- ---- a delivery is forgotten
 
-module _ (h : Holding) (is : IsShelf h) (age n : ℕ) (s : Subscriber) (sits : subscriber_at age h.subscribers ≡ Some s)
+module _ (h : Holding) (is : IsSound h) (age n : ℕ) (s : Subscriber) (sits : subscriber_at age h.subscribers ≡ Some s)
     (off : passes (out_to s.subscription.session s.subscription.id) (fate_of_kept (kept_at n h.kept)) ≡ false) where
   abbrev after : Holding
   after = record h { subscribers = map (without_entries age n) h.subscribers }
@@ -209,7 +209,7 @@ module _ (h : Holding) (is : IsShelf h) (age n : ℕ) (s : Subscriber) (sits : s
   pub forgot : (subscribers : List Subscriber) → subscribers ≡ map (without_entries age n) h.subscribers
       → Tidies h (record h { subscribers = subscribers })
   forgot subscribers is_so = rw is_so (record {
-    shelf = renoted h (without_entries age n) is forgets;
+    sound = renoted h (without_entries age n) is forgets;
     living = refl;
     subscriptions = map_after (λ (u : Subscriber). u.subscription) (without_entries age n) forgets_subscription h.subscribers;
     last = refl;
@@ -222,10 +222,10 @@ pub tidy_book : (h i : Holding) → Tidies h i → (accepted : List Accepted) �
 tidy_book h i t accepted = rw (t.living, t.subscriptions, t.last, t.given) refl
 
 -- an answer, and then a subscriber's deliveries are swept
-pub answered : (h i j : Holding) (accepted : List Accepted) (x number : ℕ) (again : Bool) (p : Place) → IsShelf h
+pub answered : (h i j : Holding) (accepted : List Accepted) (x number : ℕ) (again : Bool) (p : Place) → IsSound h
     → find (is_held_at h.kept h.subscribers number) (h.sessions x) ≡ Some p → TurnsAll h p.number (Some number) again i → Sweeps i j
-    → IsShelf j × (step_of again (book_of h accepted) x number ≡ Ok (book_of j accepted))
+    → IsSound j × (step_of again (book_of h accepted) x number ≡ Ok (book_of j accepted))
 answered h i j accepted x number again p is found turns sweeps =
     let step = responded h i accepted x number again p is found turns in
     let t : Tidies i j = sweeps step.0 in
-    (t.shelf, step.1 ∙ ap (λ b. Ok b) (sym (tidy_book i j t accepted)))
+    (t.sound, step.1 ∙ ap (λ b. Ok b) (sym (tidy_book i j t accepted)))

@@ -8,14 +8,14 @@ use Rattle.std.proofs.lemmas.Bool.{and_parts, cases_Bool, cases_eq, eqb-true, le
 use Rattle.broker_book.specs.Books.{Fate, Ready}
 use Rattle.broker_index.specs.Index.{Kept, Subscriber, has_number, with_fate}
 use Rattle.broker_index.specs.declared.places.Entry.{Entry}
-use Rattle.broker_queues.specs.declared.undoing.Logged.{Logged}
+use Rattle.broker_queues.specs.declared.transactions.Logged.{Logged}
 use Rattle.broker_queues.specs.Parts.Begun.{AreHeld, GoneAreNoted, IsBegun}
 use Rattle.broker_queues.specs.Parts.Fates.{fated, passes, turn_among}
 use Rattle.broker_queues.specs.Parts.Held.{entries_of}
-use Rattle.broker_queues.specs.Parts.Shelf.{kept_at, subscriber_at, notes}
+use Rattle.broker_queues.specs.Parts.Facts.{kept_at, subscriber_at, notes}
 use Rattle.broker_queues.specs.Parts.Storing.{Clears, Forgets, NoneGone, SweptOne, is_gone}
 use Rattle.broker_queues.specs.Parts.Undoing.{mentions, undone}
-use Rattle.broker_queues.specs.Parts.Whole.{Changes, Holding, IsShelf, Picks}
+use Rattle.broker_queues.specs.Parts.Whole.{Changes, Holding, IsSound, Picks}
 use Rattle.broker_queues.proofs.Changing.{changed}
 use Rattle.broker_queues.proofs.Clearing.{among_number}
 use Rattle.broker_queues.proofs.Finding.{IsMapped, any_implies, find_map, is_mapped, or_some}
@@ -70,8 +70,8 @@ none_pushed k left old none n l there =
     new false it = let never : None ≡ Some l = it in cc
 
 -- one is gone as it goes out, and is taken out
-pub none_handed : (h i j : Holding) → IsShelf h → (n a : ℕ) (k : Kept) (s : Subscriber) → Picks h n k a s → Changes h n k None i
-    → (IsShelf i → Forgets i n j) → NoneGone h.kept → NoneGone j.kept
+pub none_handed : (h i j : Holding) → IsSound h → (n a : ℕ) (k : Kept) (s : Subscriber) → Picks h n k a s → Changes h n k None i
+    → (IsSound i → Forgets i n j) → NoneGone h.kept → NoneGone j.kept
 none_handed h i j is n a k s p c forgets none m l there =
     elim (cases_eq m n) [
       | inl same ↦ f.gone m l there same
@@ -143,7 +143,7 @@ held_waits subscribers n (e ∷ log) held on = elim (cases_Bool (e.number == n))
 pub left_first : (h : Holding) (log : List Logged) → AreHeld h.subscribers log → GoneAreNoted h.kept log → AreLeft h log
 left_first h log held noted n k there gone = held_waits h.subscribers n log held (noted n k there gone)
 
-module _ (i j : Holding) (e : Logged) (is : IsShelf i) (swept : SweptOne i e.age j) (clears : Clears i e.age j) (n : ℕ) (k : Kept)
+module _ (i j : Holding) (e : Logged) (is : IsSound i) (swept : SweptOne i e.age j) (clears : Clears i e.age j) (n : ℕ) (k : Kept)
     (there : kept_at n j.kept ≡ Some k) (gone : is_gone k.fate ≡ true) where
   -- the subscriber that was swept doesn't note it any more
   no_more : (o : Option Subscriber) → subscriber_at e.age i.subscribers ≡ o → notes n (entries_of o) ≡ true → ⊥
@@ -169,13 +169,13 @@ module _ (i j : Holding) (e : Logged) (is : IsShelf i) (swept : SweptOne i e.age
   ]
 
 -- one more was swept
-pub left_next : (i j : Holding) (log : List Logged) (index : ℕ) (e : Logged) → index < length log → e ≡ get_or log index e → IsShelf i
+pub left_next : (i j : Holding) (log : List Logged) (index : ℕ) (e : Logged) → index < length log → e ≡ get_or log index e → IsSound i
     → SweptOne i e.age j → Clears i e.age j → AreLeft i (drop index log) → AreLeft j (drop (index + 1) log)
-left_next i j log index e short is shelf swept clears left n k there gone =
+left_next i j log index e short is sound swept clears left n k there gone =
     let one : suc index ≡ index + 1 = omega arith in
     let first : drop index log ≡ e ∷ drop (index + 1) log =
     drop-cons log index e short ∙ ap (λ x. x ∷ drop (suc index) log) (sym is) ∙ ap (λ m. e ∷ drop m log) one in
-    waits_later i j e shelf swept clears n k there gone (drop (index + 1) log)
+    waits_later i j e sound swept clears n k there gone (drop (index + 1) log)
     (ap (λ l. list_any (waits i.subscribers n) l) (sym first) ∙ left n k (swept.kept n k there) gone)
 
 -- all were

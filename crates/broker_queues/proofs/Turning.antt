@@ -7,19 +7,19 @@ use Rattle.broker_book.specs.declared.parts.Subscription.{Subscription}
 use Rattle.broker_book.specs.Books.{Fate, out_to}
 use Rattle.broker_index.specs.Index.{Kept, Subscriber, with_fate, has_age}
 use Rattle.broker_index.specs.declared.places.Entry.{Entry}
-use Rattle.broker_queues.specs.Parts.Shelf.{kept_at, subscriber_at, subscriptions_of}
+use Rattle.broker_queues.specs.Parts.Facts.{kept_at, subscriber_at, subscriptions_of}
 use Rattle.broker_queues.specs.Parts.Fates.{passes, recounted, fate_of_kept, back, counts_in}
 use Rattle.broker_queues.specs.Parts.Held.{IsSame, Turns, TakesBack}
-use Rattle.broker_queues.specs.Parts.Whole.{Holding, IsShelf, Changes}
+use Rattle.broker_queues.specs.Parts.Whole.{Holding, IsSound, Changes}
 use Rattle.broker_queues.proofs.Answering.{hit, miss, first, covered_out}
 use Rattle.broker_queues.proofs.Changing.{changed}
 use Rattle.broker_queues.proofs.Finding.{find_map, map_map}
 
 -- before the first delivery
-pub turns_none : (h : Holding) (age : ℕ) (s : Subscriber) (to : Option Fate) (test : Fate → Bool) → passes test to ≡ false → IsShelf h
+pub turns_none : (h : Holding) (age : ℕ) (s : Subscriber) (to : Option Fate) (test : Fate → Bool) → passes test to ≡ false → IsSound h
     → subscriber_at age h.subscribers ≡ Some s → Turns h age s to test [] h
 turns_none h age s to test fails is sits = record {
-  shelf = is;
+  sound = is;
   kept = sym (first to test fails h.kept);
   subscriptions = refl;
   now = s;
@@ -33,13 +33,13 @@ turns_none h age s to test fails is sits = record {
   others = λ b u there. record { now = u; there = there; subscription = refl; entries = refl };
 }
 
-module _ (h i : Holding) (is : IsShelf h) (age : ℕ) (s : Subscriber) (to : Option Fate) (test : Fate
+module _ (h i : Holding) (is : IsSound h) (age : ℕ) (s : Subscriber) (to : Option Fate) (test : Fate
     → Bool) (fails : passes test to ≡ false)
     (es : List Entry) (e : Entry) (t : Turns h age s to test es i) where
   -- a delivery that doesn't count
   pub turns_miss : passes test (fate_of_kept (kept_at e.number i.kept)) ≡ false → Turns h age s to test (es ++ e ∷ []) i
   turns_miss off = record {
-    shelf = t.shelf;
+    sound = t.sound;
     kept = t.kept ∙ miss to test fails es e h.kept is.numbers (λ k there.
         let there2 : kept_at e.number i.kept ≡ Some k = ap (λ l. kept_at e.number l) t.kept ∙ there in
         sym (ap (λ o. passes test (fate_of_kept o)) there2) ∙ off);
@@ -59,7 +59,7 @@ module _ (h i : Holding) (is : IsShelf h) (age : ℕ) (s : Subscriber) (to : Opt
   turned_one : (k : Kept) (j : Holding) → kept_at e.number i.kept ≡ Some k → passes test k.fate ≡ true → Changes i e.number k to j
       → j.given ≡ i.given → Turns h age s to test (es ++ e ∷ []) j
   turned_one k j there on c given = record {
-    shelf = changed i j e.number k to t.shelf there c;
+    sound = changed i j e.number k to t.sound there c;
     kept = c.kept ∙ ap (λ l. map (with_fate e.number to) l) t.kept
         ∙ hit to test fails es e h.kept k is.numbers (sym (ap (λ l. kept_at e.number l) t.kept) ∙ there) on;
     subscriptions = ap subscriptions_of c.subscribers ∙ map_map (λ s. s.subscription) (recounted k.fate to) i.subscribers
@@ -86,7 +86,7 @@ module _ (h i : Holding) (is : IsShelf h) (age : ℕ) (s : Subscriber) (to : Opt
       }
 
 -- a delivery that is taken back
-pub turns_hit : (h i j : Holding) → IsShelf h → (age : ℕ) (s : Subscriber) (again : Bool) (test : Fate → Bool)
+pub turns_hit : (h i j : Holding) → IsSound h → (age : ℕ) (s : Subscriber) (again : Bool) (test : Fate → Bool)
     → passes test (back again) ≡ false
     → ((f : Option Fate) → passes test f ≡ true → passes (out_to s.subscription.session s.subscription.id) f ≡ true)
     → (es : List Entry) (e : Entry) → Turns h age s (back again) test es i
@@ -100,7 +100,7 @@ turns_hit h i j is age s again test fails out es e t on takes given = by_kept (k
     by_kept (Some k) there on2 =
         let to_it : passes (out_to t.now.subscription.session t.now.subscription.id) k.fate ≡ true =
         ap (λ (u : Subscription). passes (out_to u.session u.id) k.fate) t.subscription ∙ out k.fate on2 in
-        turned_one h i is age s (back again) test fails es e t k j there on2 (takes k t.now t.shelf there t.sits to_it) given
+        turned_one h i is age s (back again) test fails es e t k j there on2 (takes k t.now t.sound there t.sits to_it) given
 
 -- one delivery more of a list
 pub take_next : (es : List Entry) (i : ℕ) (e : Entry) → i < length es → get_or es i e ≡ e → take (i + 1) es ≡ take i es ++ e ∷ []
@@ -119,7 +119,7 @@ pub counts_out : (s : Subscription) (answered : Option ℕ) (f : Option Fate) �
 counts_out s None f on = on
 counts_out s (Some answered) f on = covered_out s answered f on
 
-module _ (h i : Holding) (is : IsShelf h) (age : ℕ) (s : Subscriber) (again : Bool) (answered : Option ℕ) (index : ℕ)
+module _ (h i : Holding) (is : IsSound h) (age : ℕ) (s : Subscriber) (again : Bool) (answered : Option ℕ) (index : ℕ)
     (u : Subscriber) (es : List Entry)
     (sub : Subscription) (e d : Entry) (there : Some u ≡ subscriber_at age i.subscribers) (list : es ≡ u.entries) (own : sub
     ≡ u.subscription)

@@ -5,13 +5,13 @@ use Rattle.std.specs.Prelude.{◌==◌, nat_le, filter}
 use Rattle.std.specs.Str.{bytes_eq}
 use Rattle.std.proofs.lemmas.Bool.{cases_Bool, cases_eq, eqb-true, lt-leb}
 use Rattle.broker_index.specs.Index.{Kept, with_fate}
-use Rattle.broker_queues.specs.declared.undoing.Logged.{Logged}
+use Rattle.broker_queues.specs.declared.transactions.Logged.{Logged}
 use Rattle.broker_queues.specs.Parts.Begun.{IsBegun, LetsGo, goes_to}
 use Rattle.broker_queues.specs.Parts.Fates.{fated, recounted}
-use Rattle.broker_queues.specs.Parts.Shelf.{kept_at, lists, queue_of, subscriptions_of}
+use Rattle.broker_queues.specs.Parts.Facts.{kept_at, lists, queue_of, subscriptions_of}
 use Rattle.broker_queues.specs.Parts.Storing.{Sweeps, Takes, TakesOut}
 use Rattle.broker_queues.specs.Parts.Undoing.{before, undone}
-use Rattle.broker_queues.specs.Parts.Whole.{Changes, Holding, IsShelf}
+use Rattle.broker_queues.specs.Parts.Whole.{Changes, Holding, IsSound}
 use Rattle.broker_queues.proofs.Begun.{held_still}
 use Rattle.broker_queues.proofs.Changing.{changed}
 use Rattle.broker_queues.proofs.Finding.{map_map}
@@ -23,8 +23,8 @@ use Rattle.broker_queues.proofs.Subscribing.{same_texts}
 -- ---- the last number is given back
 
 -- where nothing has the last number, it can be given again
-lowered_last : (h : Holding) → IsShelf h → kept_at h.last h.kept ≡ None
-    → ((d : List ℕ) → lists h.last (queue_of h.queues d).numbers ≡ true → ⊥) → IsShelf (record h { last = h.last - 1 })
+lowered_last : (h : Holding) → IsSound h → kept_at h.last h.kept ≡ None
+    → ((d : List ℕ) → lists h.last (queue_of h.queues d).numbers ≡ true → ⊥) → IsSound (record h { last = h.last - 1 })
 lowered_last h is none unlisted = record {
   placed = is.placed;
   counted = is.counted;
@@ -84,7 +84,7 @@ before_taken last n log (k ∷ kept) later = elim (cases_Bool (k.number == n)) [
 pub unput_none : (start h : Holding) (log : List Logged) → IsBegun start log h → start.last < h.last → kept_at h.last h.kept ≡ None
     → IsBegun start log (record h { last = h.last - 1 })
 unput_none start h log b later none = record {
-  shelf = lowered_last h b.shelf none (λ d listed. (let never : false ≡ true =
+  sound = lowered_last h b.sound none (λ d listed. (let never : false ≡ true =
       sym (ap (goes_to d) none) ∙ b.listed d h.last listed later in cc));
   kept = b.kept;
   subscriptions = b.subscriptions;
@@ -96,7 +96,7 @@ unput_none start h log b later none = record {
 }
 
 module _ (start h i j : Holding) (log : List Logged) (k : Kept) (b : IsBegun start log h) (later : start.last < h.last)
-    (found : kept_at h.last h.kept ≡ Some k) (c : Changes h h.last k None i) (given : i.given ≡ h.given) (is : IsShelf j)
+    (found : kept_at h.last h.kept ≡ Some k) (c : Changes h h.last k None i) (given : i.given ≡ h.given) (is : IsSound j)
     (t : Takes i h.last (fated None k) j) where
   -- what is kept then was, and has another number
   other_at : (m : ℕ) → (m ≡ h.last → ⊥) → kept_at m j.kept ≡ kept_at m h.kept
@@ -127,7 +127,7 @@ module _ (start h i j : Holding) (log : List Logged) (k : Kept) (b : IsBegun sta
 
   pub unput_begun : IsBegun start log (record j { last = h.last - 1 })
   unput_begun = record {
-    shelf = lower_shelf;
+    sound = lower_sound;
     kept = ap (before start.last log) (t.kept ∙ ap (filter (λ k. not (k.number == h.last))) c.kept)
         ∙ before_taken start.last h.last log h.kept later ∙ b.kept;
     subscriptions = ap subscriptions_of (t.subscribers ∙ c.subscribers)
@@ -140,8 +140,8 @@ module _ (start h i j : Holding) (log : List Logged) (k : Kept) (b : IsBegun sta
     listed = λ d m listed high. ap (goes_to d) (other_at m (other_than_last d m listed)) ∙ b.listed d m (was_listed d m listed) high;
   }
     where
-      lower_shelf : IsShelf (record j { last = h.last - 1 })
-      lower_shelf =
+      lower_sound : IsSound (record j { last = h.last - 1 })
+      lower_sound =
           let s = lowered_last j is (ap (λ n. kept_at n j.kept) same_last ∙ none_there)
           (λ d listed. nowhere d (ap (λ n. lists n (queue_of j.queues d).numbers) (sym same_last) ∙ listed)) in
           rw same_last at s
@@ -155,8 +155,8 @@ none_taken start h i log b later gone = rw gone.1 (unput_none start h log b late
 pub one_taken : (start h i j : Holding) (log : List Logged) → IsBegun start log h → start.last < h.last → LetsGo h h.last i true
     → Sweeps i j → TakesOut i h.last j → IsBegun start log (record j { last = h.last - 1 })
 one_taken start h i j log b later gone sweeps takes =
-    let changes = gone.2 b.shelf (b.fresh h.last gone.0 gone.1 later) in
-    let is : IsShelf i = changed h i h.last gone.0 None b.shelf gone.1 changes.0 in
+    let changes = gone.2 b.sound (b.fresh h.last gone.0 gone.1 later) in
+    let is : IsSound i = changed h i h.last gone.0 None b.sound gone.1 changes.0 in
     let found : kept_at h.last i.kept ≡ Some (fated None gone.0) =
     ap (kept_at h.last) changes.0.kept ∙ at_edit (λ k. k.number) h.last (fated None) (λ x. refl) h.kept gone.0 gone.1 in
-    unput_begun start h i j log gone.0 b later gone.1 changes.0 changes.1 (sweeps is).shelf (takes (fated None gone.0) is found refl)
+    unput_begun start h i j log gone.0 b later gone.1 changes.0 changes.1 (sweeps is).sound (takes (fated None gone.0) is found refl)

@@ -2,10 +2,10 @@
 pub mod Begun
 pub mod Choosing
 pub mod Dealings
+pub mod Facts
 pub mod Fates
 pub mod Held
 pub mod Queues
-pub mod Shelf
 pub mod Storing
 pub mod Undoing
 pub mod Whole

@@ -1,4 +1,7 @@
 //! The destinations where something may be due.
+//!
+//! All of it is a hint: a name here says only that its destination is to be looked at. What holds is one thing, that a
+//! destination is awake where a ready message and a subscriber with credit are.
 
 ghost use Rattle.std.specs.Prelude.{◌≡◌, ◌<◌, true, length, remove, OnOk};
 ghost use Rattle.std.specs.List.{list_any};
@@ -9,7 +12,8 @@ ghost use Rattle.broker_queues.specs.Parts.Whole.{Wakes};
 use std::alloc::{AllocError, Global};
 use stomp_session::Text;
 
-/// The destinations where something may be due: those of these names, or all where a name could not be noted for want of memory.
+/// The destinations where something may be due: those of these names, or all where a name could not be noted for want
+/// of memory.
 #[derive(Drop)]
 pub struct Active {
     pub alloc: Global,
@@ -56,6 +60,7 @@ impl Active {
         ensures wakes { Wakes (awake_in self.old.all self.old.names.items) (awake_in self.new.all self.new.names.items) }
         ensures awake { awake_in self.new.all self.new.names.items name.now ≡ true }
     {
+        // A message that is accepted must not fail for want of a hint: all are looked at until there is memory again.
         if !self.is_awake(name) && self.note(name).is_err() {
             self.all = true;
         }

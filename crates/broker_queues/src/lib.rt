@@ -1,16 +1,18 @@
 //! A broker's queues: messages that are ready or out to subscriptions, and what goes out next.
 //!
-//! [`Queues`] keeps a book of `broker_book`. Each call is one of its steps, or it is refused and has changed nothing. What goes out is
-//! handed to a [`Sink`] of the caller's: always the first message that can go out, to the oldest subscription that may take it. A
-//! subscription has at most 16 unanswered deliveries, and a message that comes back stands in its old place.
+//! [`Queues`] keeps a book of `broker_book`. Each call is one of its steps, or it is refused and has changed nothing.
+//! What goes out is handed to a [`Sink`] of the caller's: always the first message that can go out, to the oldest
+//! subscription that may take it. A subscription has at most 16 unanswered deliveries, and a message that comes back
+//! stands in its old place.
 //!
-//! What a SEND brought and the names of subscriptions are shared, so that no body is copied. Answers and the end of subscriptions take no
-//! memory. Where memory is refused, a call has changed nothing, but that a dispatch may have handed out some messages before.
+//! What a SEND brought and the names of subscriptions are shared, so that no body is copied. Answers and the end of
+//! subscriptions take no memory. Where memory is refused, a call has changed nothing, but that a dispatch may have
+//! handed out some messages before.
 //!
-//! What a call costs is in no contract. As the code stands, a message is found by its number and a key, a destination by its name and a
-//! session's subscriptions by its number; an answer goes through the deliveries to the session's subscriptions, and a deal looks at the
-//! destinations where something may be due. So none looks through all messages, subscriptions or sessions, unless memory was refused
-//! before.
+//! What a call costs is in no contract. As the code stands, a message is found by its number and a key, a destination
+//! by its name and a session's subscriptions by its number; an answer goes through the deliveries to the session's
+//! subscriptions, and a deal looks at the destinations where something may be due. So none looks through all messages,
+//! subscriptions or sessions, unless memory was refused before.
 //!
 //! ```rust
 //! pub fn a_message_is_accepted(alloc: Global) -> Result<usize, QueueFault> {
@@ -38,21 +40,14 @@
 #![tactic(auto)]
 
 mod active;
-mod applying;
-mod dispatching;
-mod ending;
-mod handing;
-mod joining;
-mod opening;
+mod deals;
+mod deliveries;
+mod destinations;
 mod parts;
-mod picking;
 mod queues;
-mod shelf;
 mod sink;
-mod steps;
-mod storing;
-mod undoing;
-mod walking;
+mod subscriptions;
+mod transactions;
 
 pub use queues::Queues;
 pub use sink::Sink;

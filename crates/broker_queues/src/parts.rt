@@ -1,22 +1,31 @@
-//! What a shelf is made of.
+//! The parts of a book, and how a message comes in and is taken out.
+//!
+//! What is believed are the messages, each with its standing (ready, out and to whom, or gone), the subscribers with
+//! their subscriptions and counts, and the last numbers that were given. The rest is kept so that no step searches them
+//! all:
+//!
+//! - exact: how many living messages a queue counts, the subscribers that it lists, and those of a session;
+//! - perhaps too much, so that what is found is looked up and tested: the numbers that a queue lists, the deliveries
+//!   that a subscriber notes, the destinations that are awake;
+//! - perhaps too low, which costs a walk: the number and the age from which a queue looks;
+//! - perhaps wrong, which costs a search: keys. With any key an answer is the same.
 
-ghost use Rattle.std.specs.Prelude.{◌≡◌, ◌==◌, ◌&&◌, find, length};
+ghost use Rattle.broker_index.specs.Index.{queue_at};
 ghost use Rattle.broker_index.specs.Standing.{fate_of};
-ghost use Rattle.broker_queues.specs.Parts.Fates.{back, counts_in, fate_of_kept, is_held, is_held_at, passes};
-ghost use Rattle.broker_queues.specs.Parts.Shelf.{kept_at, subscriber_at};
-ghost use Rattle.std.specs.Str.{bytes_eq};
-ghost use Rattle.broker_book.specs.Books.{out_as};
-ghost use Rattle.broker_index.specs.Index.{places_at};
+ghost use Rattle.broker_queues.specs.Parts.Facts.{queue_of};
+ghost use Rattle.broker_queues.specs.Parts.Held.{holding_of};
+ghost use Rattle.broker_queues.specs.Parts.Storing.{Forgets, PutsIn, Stores, Sweeps, TakesOut, is_gone};
+ghost use Rattle.broker_queues.specs.Parts.Whole.{IsSound};
+ghost use Rattle.std.specs.Prelude.{◌-◌, ◌<◌, ◌^◌, ◌≡◌};
 
 use crate::active::Active;
-use crate::steps::{free, mark};
-use broker_book::{QueueFault, Subscription};
-use broker_index::{
-    Destinations, Entry, Holder, Messages, Place, Sessions, Standing, StoredSubscriber, Subscribers,
-};
+use crate::destinations::{add_number, count, look_from};
+use broker_book::{QueueFault, Sent, Shared};
+use broker_index::{Destinations, Messages, Place, Sessions, Standing, Subscribers};
+use std::alloc::AllocError;
 
-/// The messages, subscribers, destinations and sessions of a shelf, the destinations where something may be due, and the last numbers
-/// that were given to a message and to a delivery.
+/// The messages, subscribers, destinations and sessions of a book, the destinations where something may be due, and the
+/// last numbers that were given to a message and to a delivery.
 #[derive(Drop)]
 pub struct Parts {
     pub messages: Messages,
@@ -28,204 +37,84 @@ pub struct Parts {
     pub given: u64,
 }
 
-/// Where a message is whose delivery is taken back: ready again, or else gone.
-fn standing_back(again: bool) -> Standing
-    ensures { fate_of result ≡ back again }
-{
-    if again {
-        Standing::Ready
-    } else {
-        Standing::Gone
-    }
-}
-
-/// Whether a delivery that is out belongs to a subscription.
-fn belongs(holder: &Holder, subscription: &Subscription) -> bool
-    ensures { result ≡ (holder.now.session == subscription.now.session && bytes_eq holder.now.id subscription.now.id) }
-{
-    holder.session == subscription.session && holder.id.get().same(subscription.id.get())
-}
-
-/// Whether an answer to the delivery `answered` of a subscription counts for a message that is there; without an answer, whether the
-/// message is out to the subscription.
-pub fn covers(standing: &Standing, subscription: &Subscription, answered: Option<u64>) -> bool
-    ensures { result ≡ passes (counts_in subscription.now answered) (fate_of standing.now) }
+/// Whether a message is gone.
+fn is_gone(standing: &Standing) -> bool
+    ensures { result ≡ is_gone (fate_of standing.now) }
 {
     match standing {
-        Standing::Out(holder) => match answered {
-            Some(answered) => belongs(holder, subscription)
-                && subscription.mode.reaches(answered, holder.ack),
-            None => belongs(holder, subscription),
-        },
-        Standing::Ready | Standing::Gone => false,
-    }
-}
-
-/// Whether a message that is there is out to a subscription as the delivery of this number.
-fn is_standing_as(standing: &Standing, subscription: &Subscription, ack: u64) -> bool
-    ensures { result ≡ passes (out_as subscription.now.session subscription.now.id ack) (fate_of standing.now) }
-{
-    match standing {
-        Standing::Out(holder) => { belongs(holder, subscription) && holder.ack == ack }
-        Standing::Ready | Standing::Gone => false,
+        Standing::Ready | Standing::Out(_) => false,
+        Standing::Gone => true,
     }
 }
 
 impl Parts {
-    ghost use Rattle.broker_queues.specs.Parts.Held.{Responds, TakesBack, TurnsAll, TurnsNext, entries_of, holding_of};
+    /// Puts in a message that is ready, and gives its key.
+    ///
+    /// # Errors
+    /// Where memory is refused; then an idle queue goes at most.
+    fn store(&mut self, sent: &Shared<Sent>) -> Result<usize, AllocError>
+        requires sound { IsSound (holding_of self.old) }
+        requires number { self.old.last < 2 ^ 64 - 1 }
+        requires count { (queue_of (queue_at self.old.destinations) sent.now.destination).count < 2 ^ 64 - 1 }
+        ensures { Stores (holding_of self.old) sent.now (holding_of self.new) result }
+    {
+        let number = self.last + 1;
+        let name = &sent.get().destination;
+        let key = self.messages.push(number, sent)?;
+        match add_number(&mut self.destinations, name, Place { number, key }) {
+            Ok(()) => {
+                // Nothing can fail from here on: a name that can't be noted wakes all.
+                look_from(&mut self.destinations, name, number);
+                self.active.wake(name);
+                self.last = number;
+                Ok(key)
+            }
+            Err(error) => {
+                self.messages.remove(number, key);
+                Err(error)
+            }
+        }
+    }
 
-    /// Takes back the delivery of a message to a subscriber: the message is ready again, or else gone.
-    pub fn take_back(&mut self, number: u64, key: usize, age: u64, age_key: usize, again: bool)
-        ensures change { TakesBack (holding_of self.old) number age again (holding_of self.new) }
-        ensures given { self.new.given ≡ self.old.given }
+    /// Puts in a message that is ready, and gives its key; its number is the next one.
+    ///
+    /// # Errors
+    /// Where its destination has `full` messages, no number is left, or memory is refused; then nothing has changed but
+    /// that an idle queue goes.
+    pub fn put(&mut self, full: usize, sent: &Shared<Sent>) -> Result<usize, QueueFault>
+        requires { IsSound (holding_of self.old) }
+        ensures { PutsIn full (holding_of self.old) sent.now (holding_of self.new) result }
+    {
+        // Looked up once: the calls behind find the same name by the hint that this leaves.
+        self.destinations.seek(&sent.get().destination);
+        if count(&self.destinations, &sent.get().destination) >= full {
+            return Err(QueueFault::QueueFull);
+        }
+        if self.last == u64::MAX {
+            return Err(QueueFault::TooMany);
+        }
+        let key = self.store(sent)?;
+        Ok(key)
+    }
+
+    /// Takes out a message that is gone, and its destination with it if nothing goes there any more and none listens.
+    /// Any other message stays. It takes no memory.
+    pub fn purge(&mut self, number: u64, key: usize)
+        ensures sweeps { Sweeps (holding_of self.old) (holding_of self.new) }
+        ensures taken { TakesOut (holding_of self.old) number (holding_of self.new) }
+        ensures rest { IsSound (holding_of self.old) → Forgets (holding_of self.old) number (holding_of self.new) }
+        ensures subscribers { self.new.subscribers ≡ self.old.subscribers }
     {
         let Some(stored) = self.messages.get(number, key) else {
             return;
         };
-        mark(
-            &mut self.destinations,
-            &mut self.active,
-            &stored.sent().get().destination,
-            number,
-            again,
-        );
-        let Some(subscriber) = self.subscribers.get(age, age_key) else {
-            return;
-        };
-        free(
-            &mut self.destinations,
-            &mut self.active,
-            subscriber.subscription().destination.get(),
-            age,
-        );
-        let count = subscriber.count().saturating_sub(1);
-        self.subscribers.set_count(age, age_key, count);
-        self.messages.set(number, key, standing_back(again));
-    }
-
-    /// Whether an answer to the delivery `answered` of a subscription counts for a message; without an answer, whether it is out to it.
-    pub fn is_covered(
-        &self,
-        number: u64,
-        key: usize,
-        subscription: &Subscription,
-        answered: Option<u64>,
-    ) -> bool
-        ensures { result ≡ passes (counts_in subscription.now answered) (fate_of_kept (kept_at number self.now.messages)) }
-    {
-        match self.messages.get(number, key) {
-            Some(stored) => covers(stored.standing(), subscription, answered),
-            None => false,
-        }
-    }
-
-    /// How many deliveries a subscriber notes; 0 where there is none of this age.
-    pub fn entries_len(&self, age: u64, age_key: usize) -> usize
-        ensures { result ≡ length (entries_of (subscriber_at age self.now.subscribers)) }
-    {
-        match self.subscribers.get(age, age_key) {
-            Some(subscriber) => subscriber.entries().len(),
-            None => 0,
-        }
-    }
-
-    /// Takes back the delivery at a place of a subscriber's, if an answer to the delivery `answered` counts for it, or without an answer.
-    fn answer_one(
-        &mut self,
-        age: u64,
-        age_key: usize,
-        index: usize,
-        answered: Option<u64>,
-        again: bool,
-    )
-        ensures { TurnsNext (holding_of self.old) age index answered again (holding_of self.new) }
-    {
-        let Some(subscriber) = self.subscribers.get(age, age_key) else {
-            return;
-        };
-        let entries = subscriber.entries();
-        if index >= entries.len() {
+        if !is_gone(stored.standing()) {
             return;
         }
-        let entry = entries[index];
-        if self.is_covered(entry.number, entry.key, subscriber.subscription(), answered) {
-            self.take_back(entry.number, entry.key, age, age_key, again);
-        }
-    }
-
-    /// Takes back the deliveries of a subscriber for which an answer to the delivery `answered` counts, without an answer all: their
-    /// messages are ready again, or else gone. It does the same where memory is refused.
-    pub fn answer(&mut self, age: u64, age_key: usize, answered: Option<u64>, again: bool)
-        ensures { TurnsAll (holding_of self.old) age answered again (holding_of self.new) }
-    {
-        let len = self.entries_len(age, age_key);
-        for index in 0..len {
-            self.answer_one(age, age_key, index, answered, again);
-        }
-    }
-
-    /// Whether a message is out to a subscription as the delivery of this number.
-    fn is_out_as(&self, entry: &Entry, subscription: &Subscription, ack: u64) -> bool
-        ensures { result ≡ passes (out_as subscription.now.session subscription.now.id ack) (fate_of_kept
-            (kept_at entry.now.number self.now.messages)) }
-    {
-        match self.messages.get(entry.number, entry.key) {
-            Some(stored) => is_standing_as(stored.standing(), subscription, ack),
-            None => false,
-        }
-    }
-
-    /// Whether a delivery of this number is out to a subscriber.
-    fn is_held(&self, subscriber: &StoredSubscriber, ack: u64) -> bool
-        ensures { result ≡ is_held self.now.messages ack subscriber.now }
-    {
-        let subscription = subscriber.subscription();
-        subscriber
-            .entries()
-            .iter()
-            .any(|entry| self.is_out_as(entry, subscription, ack))
-    }
-
-    /// Whether a delivery of this number is out to the subscriber at a place.
-    fn is_held_at(&self, place: &Place, ack: u64) -> bool
-        ensures { result ≡ is_held_at self.now.messages self.now.subscribers ack place.now }
-    {
-        match self.subscribers.get(place.number, place.key) {
-            Some(subscriber) => self.is_held(subscriber, ack),
-            None => false,
-        }
-    }
-
-    /// The first of these places whose subscriber holds a delivery of this number.
-    fn first_held(&self, places: &[Place], ack: u64) -> Option<Place>
-        ensures { result ≡ find (is_held_at self.now.messages self.now.subscribers ack) places.now }
-    {
-        for place in places {
-            if self.is_held_at(place, ack) {
-                return Some(*place);
-            }
-        }
-        None
-    }
-
-    /// The place of the oldest subscriber of a session to whom a delivery of this number is out.
-    pub fn holder(&self, session: u64, ack: u64) -> Option<Place>
-        ensures { result ≡ find (is_held_at self.now.messages self.now.subscribers ack) (places_at self.now.sessions session) }
-    {
-        self.first_held(self.sessions.get(session), ack)
-    }
-
-    /// An ACK of a session, or a NACK where the messages are to be ready again. It does the same where memory is refused.
-    ///
-    /// # Errors
-    /// Where no delivery of this number is out to the session; then nothing has changed.
-    pub fn respond(&mut self, session: u64, ack: u64, again: bool) -> Result<(), QueueFault>
-        ensures { Responds (holding_of self.old) session ack again (holding_of self.new) result }
-    {
-        let Some(place) = self.holder(session, ack) else {
-            return Err(QueueFault::NoSuchAck);
-        };
-        self.answer(place.number, place.key, Some(ack), again);
-        Ok(())
+        let name = &stored.sent().get().destination;
+        // The queue first: the name that it is found by is the message's own.
+        self.destinations.remove_number(name, number);
+        self.destinations.close(name);
+        self.messages.remove(number, key);
     }
 }

@@ -1,4 +1,7 @@
-//! The queues, as callers see them.
+//! The queues, as callers see them: a book.
+//!
+//! The book is what the parts stand for, with the SENDs that were accepted since they were last taken. What in the
+//! parts is believed and what is a hint, `parts.rt` says.
 
 ghost use Rattle.std.specs.Prelude.{◌≡◌, ◌==◌, [], OnOk, IfErr, count_by, false, is_some};
 ghost use Rattle.std.specs.List.{list_any};
@@ -8,16 +11,21 @@ ghost use Rattle.broker_book.specs.Steps.{Dispatches, Exactly, UnlessMemory, ack
 ghost use Rattle.broker_book.specs.Steps.{put_of, released, subscribed};
 
 use crate::Sink;
-use crate::shelf::Shelf;
+use crate::active::Active;
+use crate::parts::Parts;
 use broker_book::{Accepted, Action, QueueFault, Sent, Shared, Subscription};
+use broker_index::{Destinations, Messages, Sessions, Subscribers};
 use std::alloc::{AllocError, Global};
 use std::marker::Model;
+use std::mem::replace;
 use stomp_session::Text;
 
 /// A broker's queues: contracts see their book. A destination holds at most `FULL` messages, ready or out.
 #[derive(Drop)]
 pub struct Queues<const FULL: usize> {
-    shelf: Shelf,
+    // Between calls they agree, and keep no message that is gone.
+    parts: Parts,
+    accepted: Vec<Accepted>,
 }
 
 impl<const FULL: usize> Model for Queues<FULL> {
@@ -25,7 +33,13 @@ impl<const FULL: usize> Model for Queues<FULL> {
 
     ghost Value = { Book };
 
-    ghost view = { λ q. q.shelf };
+    ghost use Rattle.broker_queues.specs.Parts.Held.{holding_of};
+    ghost use Rattle.broker_queues.specs.Parts.Storing.{IsTidy};
+    ghost use Rattle.broker_queues.specs.Parts.Whole.{book_of};
+
+    ghost view = { λ q. book_of (holding_of q.parts) q.accepted.items };
+
+    ghost invariant = { λ q. IsTidy (holding_of q.parts) };
 }
 
 impl<const FULL: usize> Queues<FULL> {
@@ -34,7 +48,20 @@ impl<const FULL: usize> Queues<FULL> {
         ensures { result ≡ empty_book }
     {
         Queues {
-            shelf: Shelf::new(alloc),
+            parts: Parts {
+                messages: Messages::new(alloc),
+                subscribers: Subscribers::new(alloc),
+                destinations: Destinations::new(alloc),
+                sessions: Sessions::new(alloc),
+                active: Active {
+                    alloc,
+                    names: Vec::new(alloc),
+                    all: false,
+                },
+                last: 0,
+                given: 0,
+            },
+            accepted: Vec::new(alloc),
         }
     }
 
@@ -42,19 +69,20 @@ impl<const FULL: usize> Queues<FULL> {
     pub fn last(&self) -> u64
         ensures { result ≡ self.now.last }
     {
-        self.shelf.last()
+        self.parts.last
     }
 
-    /// Accepts a SEND: its message is ready, and has the next number, which [`last`](Queues::last) tells then. What it brings is shared
-    /// and not copied.
+    /// Accepts a SEND: its message is ready, and has the next number, which [`last`](Queues::last) tells then. What it
+    /// brings is shared and not copied.
     ///
     /// # Errors
-    /// `QueueFull` where its destination holds `FULL` messages, `TooMany` where no number is left, `Memory` where a growth was refused.
-    /// Then nothing has changed.
+    /// `QueueFull` where its destination holds `FULL` messages, `TooMany` where no number is left, `Memory` where a
+    /// growth was refused. Then nothing has changed.
     pub fn put(&mut self, sent: &Shared<Sent>) -> Result<(), QueueFault>
         ensures { UnlessMemory (put_of FULL self.old sent.now) self.old self.new result }
     {
-        self.shelf.put(FULL, sent)
+        self.parts.put_accepted(FULL, sent, &mut self.accepted)?;
+        Ok(())
     }
 
     /// The SENDs accepted since they were last taken, the oldest first. It takes no memory.
@@ -62,11 +90,11 @@ impl<const FULL: usize> Queues<FULL> {
         ensures accepted { result.items ≡ self.old.accepted }
         ensures rest { self.new ≡ record self.old { accepted = [] } }
     {
-        self.shelf.take_accepted()
+        replace(&mut self.accepted, Vec::new(self.parts.active.alloc))
     }
 
-    /// Adds a subscription, the youngest, of a name that the session's others don't have, as [`has_named`](Queues::has_named) tells. Its
-    /// texts are shared and not copied.
+    /// Adds a subscription, the youngest, of a name that the session's others don't have, as
+    /// [`has_named`](Queues::has_named) tells. Its texts are shared and not copied.
     ///
     /// # Errors
     /// `Memory` where a growth was refused, and then nothing has changed.
@@ -75,85 +103,89 @@ impl<const FULL: usize> Queues<FULL> {
         ensures ok { OnOk result (self.new ≡ subscribed self.old subscription.now) }
         ensures err { IfErr result (λ fault. (fault ≡ Memory) × (self.new ≡ self.old)) }
     {
-        self.shelf.subscribe(subscription)
+        self.parts.subscribe(subscription)?;
+        Ok(())
     }
 
     /// Whether a session has a subscription of this name.
     pub fn has_named(&self, session: u64, id: &Text) -> bool
         ensures { result ≡ list_any (is_named session id.now) self.now.subscriptions }
     {
-        self.shelf.has_named(session, id)
+        self.parts.named(session, id).is_some()
     }
 
     /// How many subscriptions a session has.
     pub fn count_of(&self, session: u64) -> usize
         ensures { result ≡ count_by (λ s. s.session == session) self.now.subscriptions }
     {
-        self.shelf.count_of(session)
+        self.parts.sessions.get(session).len()
     }
 
-    /// Ends a session's subscription of this name: what is out to it is ready again, in its old place. It does the same where memory is
-    /// refused.
+    /// Ends a session's subscription of this name: what is out to it is ready again, in its old place. It does the same
+    /// where memory is refused.
     pub fn release(&mut self, session: u64, id: &Text)
         ensures { self.new ≡ released self.old session id.now }
     {
-        self.shelf.release(session, id)
+        self.parts.release(session, id)
     }
 
-    /// Ends all subscriptions of a session: what is out to them is ready again, in its old place. It does the same where memory is refused.
+    /// Ends all subscriptions of a session: what is out to them is ready again, in its old place. It does the same
+    /// where memory is refused.
     pub fn end(&mut self, session: u64)
         ensures { self.new ≡ ended self.old session }
     {
-        self.shelf.end(session)
+        self.parts.end(session)
     }
 
     /// Whether a delivery of this number is out to a session.
     pub fn holds(&self, session: u64, number: u64) -> bool
         ensures { result ≡ is_some (holder self.now session number) }
     {
-        self.shelf.holds(session, number)
+        self.parts.holder(session, number).is_some()
     }
 
-    /// An ACK of a session (STOMP 1.2, section "ACK"): the message that is out as this delivery is gone, and in mode `client` those of the
-    /// subscription's earlier deliveries. It does the same where memory is refused.
+    /// An ACK of a session (STOMP 1.2, section "ACK"): the message that is out as this delivery is gone, and in mode
+    /// `client` those of the subscription's earlier deliveries. It does the same where memory is refused.
     ///
     /// # Errors
     /// `NoSuchAck` where no such delivery is out to the session, and then nothing has changed.
     pub fn ack(&mut self, session: u64, number: u64) -> Result<(), QueueFault>
         ensures { Exactly (ack_of self.old session number) self.old self.new result }
     {
-        self.shelf.ack(session, number)
+        self.parts.answer_whole(session, number, false)
     }
 
-    /// A NACK of a session (STOMP 1.2, section "NACK"): the message that is out as this delivery is ready again, in its old place, and in
-    /// mode `client` those of the subscription's earlier deliveries. It does the same where memory is refused.
+    /// A NACK of a session (STOMP 1.2, section "NACK"): the message that is out as this delivery is ready again, in its
+    /// old place, and in mode `client` those of the subscription's earlier deliveries. It does the same where memory is
+    /// refused.
     ///
     /// # Errors
     /// `NoSuchAck` where no such delivery is out to the session, and then nothing has changed.
     pub fn nack(&mut self, session: u64, number: u64) -> Result<(), QueueFault>
         ensures { Exactly (nack_of self.old session number) self.old self.new result }
     {
-        self.shelf.nack(session, number)
+        self.parts.answer_whole(session, number, true)
     }
 
     /// The actions of a session's transaction: all in order, or none.
     ///
     /// # Errors
-    /// The first fault of an action, as `put`, `ack` and `nack` have them behind those before, or `Memory` where a growth was refused.
-    /// Then nothing has changed.
+    /// The first fault of an action, as `put`, `ack` and `nack` have them behind those before, or `Memory` where a
+    /// growth was refused. Then nothing has changed.
     pub fn apply(&mut self, session: u64, actions: &[Action]) -> Result<(), QueueFault>
         ensures { UnlessMemory (apply_of FULL session self.old actions.now) self.old self.new result }
     {
-        self.shelf.apply(FULL, session, actions)
+        self.parts.apply(FULL, session, actions, &mut self.accepted)
     }
 
-    /// Hands out what is ready until no message can go out: always the first that can, to the oldest subscription that may take it.
+    /// Hands out what is ready until no message can go out: always the first that can, to the oldest subscription that
+    /// may take it.
     ///
     /// # Errors
     /// Where memory is refused, here or by the sink. Then some messages may have been handed out, each of them wholly.
     pub fn dispatch<S: Sink>(&mut self, sink: &mut S) -> Result<(), AllocError>
         ensures { Dispatches S.takes self.old sink.old self.new sink.new result }
     {
-        self.shelf.dispatch(sink)
+        self.parts.dispatch(sink)
     }
 }

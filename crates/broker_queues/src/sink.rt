@@ -11,8 +11,8 @@ pub trait Sink {
     /// What it is after one.
     ghost takes: { Self → Handed → Self → Type 0 };
 
-    /// Takes the message of this number with what its SEND brought, which goes to a subscription: as the delivery `ack`, or with no
-    /// number in mode `auto`.
+    /// Takes the message of this number with what its SEND brought, which goes to a subscription: as the delivery
+    /// `ack`, or with no number in mode `auto`.
     ///
     /// # Errors
     /// Where memory is refused; then nothing has changed.
@@ -23,6 +23,7 @@ pub trait Sink {
         to: &Subscription,
         ack: Option<u64>,
     ) -> Result<(), AllocError>
-        ensures ok { OnOk result (takes self.old (record { number = number; sent = sent.now; to = to.now; ack = ack }) self.new) }
+        ensures ok { OnOk result (takes self.old (record { number = number; sent = sent.now; to = to.now; ack = ack })
+            self.new) }
         ensures err { OnErr result (self.new ≡ self.old) };
 }

@@ -13,13 +13,13 @@ use Rattle.broker_book.specs.Steps.{UnlessMemory, apply_of, put_of}
 use Rattle.broker_index.specs.Index.{Kept, Queue, Subscriber}
 use Rattle.broker_index.specs.Standing.{fate_of}
 use Rattle.broker_index.specs.declared.places.Entry.{Entry}
-use Rattle.broker_queues.specs.declared.undoing.Logged.{Logged}
+use Rattle.broker_queues.specs.declared.transactions.Logged.{Logged}
 use Rattle.broker_queues.specs.Parts.Fates.{counts_in, fate_of_kept, passes}
 use Rattle.broker_queues.specs.Parts.Held.{step_of}
-use Rattle.broker_queues.specs.Parts.Shelf.{kept_at, subscriber_at, subscriptions_of, lists, notes, queue_of}
+use Rattle.broker_queues.specs.Parts.Facts.{kept_at, subscriber_at, subscriptions_of, lists, notes, queue_of}
 use Rattle.broker_queues.specs.Parts.Undoing.{AreAll, AreTrue, before, mentions}
 use Rattle.broker_queues.specs.Parts.Storing.{ListsOnly, NoneGone, PutsNone, Tidies, is_gone}
-use Rattle.broker_queues.specs.Parts.Whole.{Changes, Holding, IsShelf, Lowers, Puts, book_of}
+use Rattle.broker_queues.specs.Parts.Whole.{Changes, Holding, IsSound, Lowers, Puts, book_of}
 
 -- whether a message that may be there goes to a destination
 abbrev pub goes_to : List ℕ → Option Kept → Bool
@@ -41,7 +41,7 @@ AreHeld subscribers (e ∷ log) = IsHeldBy (subscriber_at e.age subscribers) e �
 
 -- What was there when a transaction began is there, but for fates that were noted; what came since is ready, and is listed where it goes.
 pub record IsBegun (start : Holding) (log : List Logged) (now : Holding) : Type 0 where
-  pub shelf : IsShelf now
+  pub sound : IsSound now
   pub kept : before start.last log now.kept ≡ start.kept
   pub subscriptions : subscriptions_of now.subscribers ≡ subscriptions_of start.subscribers
   pub given : now.given ≡ start.given
@@ -97,8 +97,8 @@ Goes step new (Err fault) = step ≡ Err fault
 -- an answer within a transaction can be undone
 abbrev pub AnswersNoted : {A : Type 0} → ℕ → ℕ → Bool → Holding → List Logged → Holding → List Logged → Result A QueueFault → Type 0
 AnswersNoted session ack again old noted new now result = ((start : Holding) → IsBegun start noted old → IsBegun start now new)
-    × ((accepted : List Accepted) → IsShelf old
-    → IsShelf new × Goes (step_of again (book_of old accepted) session ack) (book_of new accepted) result)
+    × ((accepted : List Accepted) → IsSound old
+    → IsSound new × Goes (step_of again (book_of old accepted) session ack) (book_of new accepted) result)
 
 -- something was put behind
 pub record Grows {A : Type 0} (old new : List A) : Type 0 where
@@ -108,7 +108,7 @@ pub record Grows {A : Type 0} (old new : List A) : Type 0 where
 -- a step of a transaction can be undone
 pub record Acts {A : Type 0} (step : Book → Result Book QueueFault) (old : Holding) (noted : List Logged) (given : List Accepted)
     (new : Holding) (now : List Logged) (accepted : List Accepted) (result : Result A QueueFault) : Type 0 where
-  pub shelf : IsShelf new
+  pub sound : IsSound new
   pub begun : (start : Holding) → IsBegun start noted old → IsBegun start now new
   pub goes : Goes (step (book_of old given)) (book_of new accepted) result
   pub grows : Grows given accepted
@@ -116,7 +116,7 @@ pub record Acts {A : Type 0} (step : Book → Result Book QueueFault) (old : Hol
 -- A SEND was accepted.
 pub record Accepts (full : ℕ) (old : Holding) (given : List Accepted) (sent : Sent) (new : Holding) (accepted : List Accepted)
     : Type 0 where
-  pub shelf : IsShelf new
+  pub sound : IsSound new
   pub puts : Puts old sent new
   pub only : ListsOnly old sent new
   pub step : put_of full (book_of old given) sent ≡ Ok (book_of new accepted)
@@ -171,11 +171,11 @@ GoneAreNoted kept log = (n : ℕ) (k : Kept) → kept_at n kept ≡ Some k → i
 
 -- where all that is gone was noted, none of it is kept any more
 abbrev pub SweepsAll : Holding → List Logged → Holding → Type 0
-SweepsAll old log new = IsShelf old → AreHeld old.subscribers log → GoneAreNoted old.kept log → NoneGone new.kept
+SweepsAll old log new = IsSound old → AreHeld old.subscribers log → GoneAreNoted old.kept log → NoneGone new.kept
 
 -- a message that is kept and was ready is gone, or there is none
 abbrev pub LetsGo : Holding → ℕ → Holding → Bool → Type 0
-LetsGo old n new true = (k : Kept) × (kept_at n old.kept ≡ Some k) × (IsShelf old → k.fate ≡ Some Ready
+LetsGo old n new true = (k : Kept) × (kept_at n old.kept ≡ Some k) × (IsSound old → k.fate ≡ Some Ready
     → Changes old n k None new × (new.given ≡ old.given))
 LetsGo old n new false = (kept_at n old.kept ≡ None) × (new ≡ old)
 
@@ -183,5 +183,5 @@ LetsGo old n new false = (kept_at n old.kept ≡ None) × (new ≡ old)
 
 -- actions were done in order, or refused and nothing has changed
 abbrev pub Applies : {A : Type 0} → ℕ → ℕ → List Action → Holding → List Accepted → Holding → List Accepted → Result A QueueFault → Type 0
-Applies full session actions old accepted new now result = IsShelf new
+Applies full session actions old accepted new now result = IsSound new
     × UnlessMemory (apply_of full session (book_of old accepted) actions) (book_of old accepted) (book_of new now) result

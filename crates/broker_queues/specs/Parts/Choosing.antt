@@ -5,14 +5,14 @@ use Rattle.broker_book.specs.declared.parts.Accepted.{Accepted}
 use Rattle.broker_book.specs.Books.{Ready, is_auto}
 use Rattle.broker_book.specs.Steps.{Dispatches, Handed}
 use Rattle.broker_index.specs.Index.{Kept, Subscriber}
-use Rattle.broker_queues.specs.declared.picking.Pick.{Pick}
+use Rattle.broker_queues.specs.declared.deals.Pick.{Pick}
 use Rattle.broker_queues.specs.Parts.Dealings.{DealsOne}
-use Rattle.broker_queues.specs.Parts.Shelf.{kept_at, subscriber_at, may_have}
-use Rattle.broker_queues.specs.Parts.Whole.{Holding, IsShelf, Picks, book_of}
+use Rattle.broker_queues.specs.Parts.Facts.{kept_at, subscriber_at, may_have}
+use Rattle.broker_queues.specs.Parts.Whole.{Holding, IsSound, Picks, book_of}
 
 -- The parts agree, and no message or subscriber changed.
 pub record Rests (old new : Holding) : Type 0 where
-  pub shelf : IsShelf new
+  pub sound : IsSound new
   pub kept : new.kept ≡ old.kept
   pub subscribers : new.subscribers ≡ old.subscribers
   pub last : new.last ≡ old.last
@@ -69,7 +69,7 @@ pub record Looked (old : Holding) (name : List ℕ) (new : Holding) (found : Opt
 
 -- it is so, if the parts agreed
 abbrev pub Looks : Holding → List ℕ → Holding → Option Pick → Type 0
-Looks old name new found = IsShelf old → Looked old name new found
+Looks old name new found = IsSound old → Looked old name new found
 
 -- a message that can go out, before all others, to the oldest subscriber that may take it; or nothing is due anywhere
 abbrev pub IsNext : Holding → Option Pick → Type 0
@@ -78,12 +78,12 @@ IsNext h (Some p) = (k : Kept) × (s : Subscriber) × Picks h p.message.number k
 
 -- the next deal is chosen, where not all destinations count as awake
 abbrev pub Chooses : Holding → Bool → Holding → Option Pick → Type 0
-Chooses old all new found = IsShelf old → all ≡ false → Rests old new × IsNext new found
+Chooses old all new found = IsSound old → all ≡ false → Rests old new × IsNext new found
 
 -- the next deal; or memory was refused
 abbrev pub NextDeal : {E : Type 0} → Holding → Holding → Result (Option Pick) E → Type 0
-NextDeal old new (Ok found) = IsShelf old → Rests old new × IsNext new found
-NextDeal old new (Err _) = IsShelf old → Rests old new
+NextDeal old new (Ok found) = IsSound old → Rests old new × IsNext new found
+NextDeal old new (Err _) = IsSound old → Rests old new
 
 -- whether a subscriber, where there is one, gives no answers
 abbrev pub is_auto_of : Option Subscriber → Bool
@@ -92,10 +92,10 @@ is_auto_of (Some s) = is_auto s.subscription.mode
 
 -- the first message that can go out does
 abbrev pub Hands : {S E : Type 0} → (S → Handed → S → Type 0) → ℕ → ℕ → Holding → S → Holding → S → Result (Unit {0}) E → Type 0
-Hands takes n a old from new to result = (accepted : List Accepted) (k : Kept) (s : Subscriber) → IsShelf old → Picks old n k a s
-    → IsShelf new × DealsOne takes (book_of old accepted) from (book_of new accepted) to result
+Hands takes n a old from new to result = (accepted : List Accepted) (k : Kept) (s : Subscriber) → IsSound old → Picks old n k a s
+    → IsSound new × DealsOne takes (book_of old accepted) from (book_of new accepted) to result
 
 -- the parts still agree, and the book was dealt from until nothing more can go out, or until memory was refused
 abbrev pub Dispatching : {S E : Type 0} → (S → Handed → S → Type 0) → Holding → S → Holding → S → Result (Unit {0}) E → Type 0
-Dispatching takes old from new to result = (accepted : List Accepted) → IsShelf old
-    → IsShelf new × Dispatches takes (book_of old accepted) from (book_of new accepted) to result
+Dispatching takes old from new to result = (accepted : List Accepted) → IsSound old
+    → IsSound new × Dispatches takes (book_of old accepted) from (book_of new accepted) to result

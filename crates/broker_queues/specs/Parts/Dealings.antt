@@ -1,4 +1,4 @@
--- What a shelf says of the next message that can go out, and of one that does.
+-- What the parts say of the next message that can go out, and of one that does.
 use Rattle.std.specs.Prelude.{◌≡◌, ◌≤◌, ◌<◌, ℕ, Bool, true, false, ◌&&◌, List, Option, Some, None, Result, Ok, Err}
 use Rattle.std.specs.Str.{bytes_eq}
 use Rattle.broker_book.specs.declared.parts.Accepted.{Accepted}
@@ -7,10 +7,10 @@ use Rattle.broker_book.specs.Steps.{Handed, Deal}
 use Rattle.std.specs.Prelude.{All, IfSome}
 use Rattle.broker_index.specs.Index.{Kept, Subscriber, Queue}
 use Rattle.broker_index.specs.declared.places.Place.{Place}
-use Rattle.broker_queues.specs.Parts.Shelf.{kept_at, subscriber_at, lists, may_have, queue_of}
+use Rattle.broker_queues.specs.Parts.Facts.{kept_at, subscriber_at, lists, may_have, queue_of}
 use Rattle.broker_queues.specs.Parts.Fates.{passes}
 use Rattle.broker_queues.specs.Parts.Storing.{NoneGone}
-use Rattle.broker_queues.specs.Parts.Whole.{Holding, IsShelf, Picks, SameCounts, book_of}
+use Rattle.broker_queues.specs.Parts.Whole.{Holding, IsSound, Picks, SameCounts, book_of}
 
 -- the number of a place, or this one where there is none
 abbrev pub number_or : Option Place → ℕ → ℕ
@@ -72,10 +72,10 @@ DealsOne takes old from new to (Err _) = (new ≡ old) × (to ≡ from)
 -- The first message that can go out does, to the oldest subscriber that may take it, whose mode is `auto` or not.
 abbrev pub HandsOut : {S E : Type 0} → (S → Handed → S → Type 0) → Bool → ℕ → ℕ → Holding → S → Holding → S
     → Result (Unit {0}) E → Type 0
-HandsOut takes auto n a old from new to result = (accepted : List Accepted) (k : Kept) (s : Subscriber) → IsShelf old → Picks old n k a s
+HandsOut takes auto n a old from new to result = (accepted : List Accepted) (k : Kept) (s : Subscriber) → IsSound old → Picks old n k a s
     → is_auto s.subscription.mode ≡ auto
-    → IsShelf new × DealsOne takes (book_of old accepted) from (book_of new accepted) to result
+    → IsSound new × DealsOne takes (book_of old accepted) from (book_of new accepted) to result
 
 -- and nothing that is gone is kept, where nothing was
 abbrev pub HandsWhole : Holding → ℕ → ℕ → Holding → Type 0
-HandsWhole old n a new = (k : Kept) (s : Subscriber) → IsShelf old → Picks old n k a s → NoneGone old.kept → NoneGone new.kept
+HandsWhole old n a new = (k : Kept) (s : Subscriber) → IsSound old → Picks old n k a s → NoneGone old.kept → NoneGone new.kept

@@ -1,4 +1,4 @@
--- What a shelf does with the fates of its messages.
+-- What a step does with the fates of messages.
 use Rattle.std.specs.Prelude.{ℕ, ◌+◌, ◌-◌, Bool, false, ◌&&◌, if◌then◌else◌, List, Option, Some, None}
 use Rattle.broker_book.specs.declared.parts.Subscription.{Subscription}
 use Rattle.broker_book.specs.Books.{Fate, Ready, Out, QueuedMessage, out_to}
@@ -8,7 +8,7 @@ use Rattle.broker_index.specs.Index.{Kept, Subscriber}
 use Rattle.broker_index.specs.declared.places.Entry.{Entry}
 use Rattle.std.specs.List.{list_any}
 use Rattle.broker_index.specs.declared.places.Place.{Place}
-use Rattle.broker_queues.specs.Parts.Shelf.{notes, kept_at, subscriber_at}
+use Rattle.broker_queues.specs.Parts.Facts.{notes, kept_at, subscriber_at}
 
 -- whether a fate passes a test; what is gone fails
 abbrev pub passes : (Fate → Bool) → Option Fate → Bool

@@ -1,4 +1,4 @@
--- What the parts of a shelf hold.
+-- What the parts of a book hold.
 use Rattle.std.specs.Prelude.{◌≡◌, ◌<◌, ◌+◌, ℕ, Bool, true, List, [], length, map, take, Option, Some, None, Result, if◌then◌else◌}
 use Rattle.broker_book.specs.declared.fault.QueueFault.{QueueFault}
 use Rattle.broker_book.specs.declared.parts.Accepted.{Accepted}
@@ -9,8 +9,8 @@ use Rattle.broker_index.specs.declared.places.Entry.{Entry}
 use Rattle.broker_queues.specs.declared.parts.Parts.{Parts}
 use Rattle.broker_queues.specs.Parts.Fates.{passes, back, counts_in, turn_among}
 use Rattle.broker_queues.specs.Parts.Queues.{awake_in}
-use Rattle.broker_queues.specs.Parts.Shelf.{kept_at, subscriber_at, subscriptions_of, queue_of}
-use Rattle.broker_queues.specs.Parts.Whole.{Holding, IsShelf, Changes, book_of}
+use Rattle.broker_queues.specs.Parts.Facts.{kept_at, subscriber_at, subscriptions_of, queue_of}
+use Rattle.broker_queues.specs.Parts.Whole.{Holding, IsSound, Changes, book_of}
 
 -- what they hold
 abbrev pub holding_of : Parts → Holding
@@ -26,7 +26,7 @@ holding_of p = record {
 
 -- a delivery of a message to a subscriber is taken back
 abbrev pub TakesBack : Holding → ℕ → ℕ → Bool → Holding → Type 0
-TakesBack old n age again new = (k : Kept) (s : Subscriber) → IsShelf old → kept_at n old.kept ≡ Some k
+TakesBack old n age again new = (k : Kept) (s : Subscriber) → IsSound old → kept_at n old.kept ≡ Some k
     → subscriber_at age old.subscribers ≡ Some s → passes (out_to s.subscription.session s.subscription.id) k.fate ≡ true
     → Changes old n k (back again) new
 
@@ -40,7 +40,7 @@ pub record IsSame (s : Subscriber) (o : Option Subscriber) : Type 0 where
 -- A subscriber's deliveries were gone through: the messages among them that pass a test turned to a fate, and nothing else changed.
 pub record Turns (old : Holding) (age : ℕ) (s : Subscriber) (to : Option Fate) (test : Fate
     → Bool) (es : List Entry) (new : Holding) : Type 0 where
-  pub shelf : IsShelf new
+  pub sound : IsSound new
   pub kept : new.kept ≡ map (turn_among to test es) old.kept
   pub subscriptions : subscriptions_of new.subscribers ≡ subscriptions_of old.subscribers
   pub now : Subscriber
@@ -60,13 +60,13 @@ entries_of (Some s) = s.entries
 
 -- one delivery more was gone through, whatever began
 abbrev pub TurnsNext : Holding → ℕ → ℕ → Option ℕ → Bool → Holding → Type 0
-TurnsNext old age index answered again new = (h : Holding) (s : Subscriber) → IsShelf h → index < length s.entries
+TurnsNext old age index answered again new = (h : Holding) (s : Subscriber) → IsSound h → index < length s.entries
     → Turns h age s (back again) (counts_in s.subscription answered) (take index s.entries) old
     → Turns h age s (back again) (counts_in s.subscription answered) (take (index + 1) s.entries) new
 
 -- all were
 abbrev pub TurnsAll : Holding → ℕ → Option ℕ → Bool → Holding → Type 0
-TurnsAll old age answered again new = (s : Subscriber) → IsShelf old → subscriber_at age old.subscribers ≡ Some s
+TurnsAll old age answered again new = (s : Subscriber) → IsSound old → subscriber_at age old.subscribers ≡ Some s
     → Turns old age s (back again) (counts_in s.subscription answered) s.entries new
 
 -- A session answered a delivery: an ACK, or a NACK where the messages are to be ready again.
@@ -75,5 +75,5 @@ step_of again b session number = if again then nack_of b session number else ack
 
 -- the parts still agree, and the book took the step, or nothing has changed
 abbrev pub Responds : {A : Type 0} → Holding → ℕ → ℕ → Bool → Holding → Result A QueueFault → Type 0
-Responds old session number again new result = (accepted : List Accepted) → IsShelf old
-    → IsShelf new × Exactly (step_of again (book_of old accepted) session number) (book_of old accepted) (book_of new accepted) result
+Responds old session number again new result = (accepted : List Accepted) → IsSound old
+    → IsSound new × Exactly (step_of again (book_of old accepted) session number) (book_of old accepted) (book_of new accepted) result

@@ -3,7 +3,7 @@ use Rattle.std.specs.Prelude.{◌≡◌, ◌≤◌, ℕ, ◌-◌, Bool, true, �
 use Rattle.std.specs.List.{list_any}
 use Rattle.std.specs.Str.{bytes_eq}
 use Rattle.broker_index.specs.Index.{Queue}
-use Rattle.broker_queues.specs.Parts.Shelf.{queue_of}
+use Rattle.broker_queues.specs.Parts.Facts.{queue_of}
 use Rattle.broker_queues.specs.Parts.Whole.{Lowers, SameCounts, Wakes}
 
 -- a destination is looked at from this message on, or from an earlier one

@@ -1,4 +1,4 @@
--- What becomes of a shelf as messages and subscribers come and go.
+-- What becomes of the parts as messages and subscribers come and go.
 use Rattle.std.specs.Prelude.{◌≡◌, ◌≤◌, ◌+◌, ◌-◌, ◌⊎◌, ℕ, Bool, true, false, not, ◌==◌, if◌then◌else◌}
 use Rattle.std.specs.Prelude.{List, [], ◌∷◌, ◌++◌, length, filter, find}
 use Rattle.std.specs.Prelude.{Option, Some, None, Result, Ok, Err}
@@ -15,8 +15,8 @@ use Rattle.broker_index.specs.declared.places.Entry.{Entry}
 use Rattle.broker_index.specs.declared.places.Place.{Place}
 use Rattle.broker_queues.specs.Parts.Fates.{fate_of_kept, passes}
 use Rattle.broker_queues.specs.Parts.Queues.{Frees}
-use Rattle.broker_queues.specs.Parts.Shelf.{kept_at, subscriber_at, living_of, subscriptions_of, lists, notes, queue_of}
-use Rattle.broker_queues.specs.Parts.Whole.{Holding, IsShelf, Leaves, Moves, Puts, book_of}
+use Rattle.broker_queues.specs.Parts.Facts.{kept_at, subscriber_at, living_of, subscriptions_of, lists, notes, queue_of}
+use Rattle.broker_queues.specs.Parts.Whole.{Holding, IsSound, Leaves, Moves, Puts, book_of}
 
 -- ---- the queue of one destination
 
@@ -47,7 +47,7 @@ Stores old sent new (Err _) = Moves old new
 
 -- A SEND is accepted.
 pub record PutsOne (full : ℕ) (old : Holding) (sent : Sent) (new : Holding) : Type 0 where
-  pub shelf : IsShelf new
+  pub sound : IsSound new
   pub puts : Puts old sent new
   pub only : ListsOnly old sent new
   pub step : (accepted : List Accepted) → put_of full (book_of old accepted) sent
@@ -55,7 +55,7 @@ pub record PutsOne (full : ℕ) (old : Holding) (sent : Sent) (new : Holding) : 
 
 -- A SEND is refused.
 pub record PutsNone (full : ℕ) (old : Holding) (sent : Sent) (fault : QueueFault) (new : Holding) : Type 0 where
-  pub shelf : IsShelf new
+  pub sound : IsSound new
   pub moves : Moves old new
   pub refused : (fault ≡ Memory) ⊎ ((accepted : List Accepted) → put_of full (book_of old accepted) sent ≡ Err fault)
 
@@ -73,7 +73,7 @@ is_gone (Some fate) = false
 
 -- The parts agree, and nothing of the book changed.
 pub record Tidies (old new : Holding) : Type 0 where
-  pub shelf : IsShelf new
+  pub sound : IsSound new
   pub living : living_of new.kept ≡ living_of old.kept
   pub subscriptions : subscriptions_of new.subscribers ≡ subscriptions_of old.subscribers
   pub last : new.last ≡ old.last
@@ -81,7 +81,7 @@ pub record Tidies (old new : Holding) : Type 0 where
 
 -- what is no longer needed goes
 abbrev pub Sweeps : Holding → Holding → Type 0
-Sweeps old new = IsShelf old → Tidies old new
+Sweeps old new = IsSound old → Tidies old new
 
 -- A message that is gone is taken out: nothing lists it at its destination.
 pub record Takes (old : Holding) (n : ℕ) (k : Kept) (new : Holding) : Type 0 where
@@ -94,7 +94,7 @@ pub record Takes (old : Holding) (n : ℕ) (k : Kept) (new : Holding) : Type 0 w
 
 -- so it is for the message of a number, where it is gone
 abbrev pub TakesOut : Holding → ℕ → Holding → Type 0
-TakesOut old n new = (k : Kept) → IsShelf old → kept_at n old.kept ≡ Some k → k.fate ≡ None → Takes old n k new
+TakesOut old n new = (k : Kept) → IsSound old → kept_at n old.kept ≡ Some k → k.fate ≡ None → Takes old n k new
 
 -- What becomes of the other messages and of the subscribers where a message is taken out if it is gone.
 pub record Forgets (old : Holding) (n : ℕ) (new : Holding) : Type 0 where
@@ -130,7 +130,7 @@ pub record Cleared (age : ℕ) (s : Subscriber) (new : Holding) : Type 0 where
 
 -- so it is then for the subscriber of an age
 abbrev pub Clears : Holding → ℕ → Holding → Type 0
-Clears old age new = (s : Subscriber) → IsShelf old → subscriber_at age old.subscribers ≡ Some s → Cleared age s new
+Clears old age new = (s : Subscriber) → IsSound old → subscriber_at age old.subscribers ≡ Some s → Cleared age s new
 
 -- Messages were taken out at most, and of the subscribers none but the one of an age has changed.
 pub record SweptOne (old : Holding) (age : ℕ) (new : Holding) : Type 0 where
@@ -139,7 +139,7 @@ pub record SweptOne (old : Holding) (age : ℕ) (new : Holding) : Type 0 where
 
 -- so it is where a subscriber was swept
 abbrev pub SweepsOne : Holding → ℕ → Holding → Type 0
-SweepsOne old age new = IsShelf old → SweptOne old age new
+SweepsOne old age new = IsSound old → SweptOne old age new
 
 -- none of these messages is gone
 abbrev pub NoneGone : List Kept → Type 0
@@ -147,7 +147,7 @@ NoneGone kept = (n : ℕ) (k : Kept) → kept_at n kept ≡ Some k → is_gone k
 
 -- The parts agree, and nothing that is gone is kept.
 pub record IsTidy (h : Holding) : Type 0 where
-  pub shelf : IsShelf h
+  pub sound : IsSound h
   pub none_gone : NoneGone h.kept
 
 -- ---- subscriptions come and go
@@ -167,7 +167,7 @@ Attaches old name session place new (Err _) = Closes old.queues new.queues × (n
 
 -- a subscription comes; where memory is refused, nothing of the book changes
 abbrev pub SubscribesTo : {A E : Type 0} → Holding → Subscription → Holding → Result A E → Type 0
-SubscribesTo old s new (Ok _) = IsShelf new
+SubscribesTo old s new (Ok _) = IsSound new
     × ((accepted : List Accepted) → book_of new accepted ≡ subscribed (book_of old accepted) s)
 SubscribesTo old s new (Err _) = Tidies old new
 
@@ -180,13 +180,13 @@ pub record Detached (old : Holding) (age : ℕ) (s : Subscriber) (new : Holding)
 
 -- so it is for the subscriber of an age, if there is one
 abbrev pub Detaches : Holding → ℕ → Holding → Type 0
-Detaches old age new = (s : Subscriber) → IsShelf old → subscriber_at age old.subscribers ≡ Some s
+Detaches old age new = (s : Subscriber) → IsSound old → subscriber_at age old.subscribers ≡ Some s
     → ((n : ℕ) (k : Kept) → kept_at n old.kept ≡ Some k → passes (out_to s.subscription.session s.subscription.id) k.fate ≡ false)
     → Detached old age s new
 
 -- A subscription has ended.
 pub record Releases (old : Holding) (age : ℕ) (s : Subscriber) (new : Holding) : Type 0 where
-  pub shelf : IsShelf new
+  pub sound : IsSound new
   pub book : (accepted : List Accepted) → book_of new accepted
       ≡ released (book_of old accepted) s.subscription.session s.subscription.id
   pub session : new.sessions s.subscription.session ≡ without age (old.sessions s.subscription.session)
@@ -194,7 +194,7 @@ pub record Releases (old : Holding) (age : ℕ) (s : Subscriber) (new : Holding)
 
 -- that of the subscriber of an age ends, if there is one
 abbrev pub EndsOne : Holding → ℕ → Holding → Type 0
-EndsOne old age new = (s : Subscriber) → IsShelf old → subscriber_at age old.subscribers ≡ Some s → Releases old age s new
+EndsOne old age new = (s : Subscriber) → IsSound old → subscriber_at age old.subscribers ≡ Some s → Releases old age s new
 
 -- whether a subscriber has this name
 abbrev pub named_by : ℕ → List ℕ → Option Subscriber → Bool
@@ -207,23 +207,23 @@ is_named_at subscribers session id p = named_by session id (subscriber_at p.numb
 
 -- a session's subscription of this name has ended
 abbrev pub ReleasesNamed : Holding → ℕ → List ℕ → Holding → Type 0
-ReleasesNamed old session id new = IsShelf old
-    → IsShelf new × ((accepted : List Accepted) → book_of new accepted ≡ released (book_of old accepted) session id)
+ReleasesNamed old session id new = IsSound old
+    → IsSound new × ((accepted : List Accepted) → book_of new accepted ≡ released (book_of old accepted) session id)
     × (NoneGone old.kept → NoneGone new.kept)
 
 -- Some subscriptions of a session have ended; at most so many are left.
 pub record EndsSome (old : Holding) (session most : ℕ) (new : Holding) : Type 0 where
-  pub shelf : IsShelf new
+  pub sound : IsSound new
   pub book : (accepted : List Accepted) → ended (book_of new accepted) session ≡ ended (book_of old accepted) session
   pub left : length (new.sessions session) ≤ most
   pub none_gone : NoneGone old.kept → NoneGone new.kept
 
 -- one of them has, if there is any
 abbrev pub EndsFirst : Holding → ℕ → Holding → Type 0
-EndsFirst old session new = IsShelf old → EndsSome old session (length (old.sessions session) - 1) new
+EndsFirst old session new = IsSound old → EndsSome old session (length (old.sessions session) - 1) new
 
 -- all subscriptions of a session have
 abbrev pub EndsAll : Holding → ℕ → Holding → Type 0
-EndsAll old session new = IsShelf old
-    → IsShelf new × ((accepted : List Accepted) → book_of new accepted ≡ ended (book_of old accepted) session)
+EndsAll old session new = IsSound old
+    → IsSound new × ((accepted : List Accepted) → book_of new accepted ≡ ended (book_of old accepted) session)
     × (NoneGone old.kept → NoneGone new.kept)

@@ -5,8 +5,8 @@ use Rattle.std.specs.List.{list_any}
 use Rattle.broker_book.specs.Books.{Fate, Ready, Out}
 use Rattle.broker_index.specs.Index.{Kept}
 use Rattle.broker_index.specs.Standing.{fate_of}
-use Rattle.broker_queues.specs.declared.undoing.Logged.{Logged}
-use Rattle.broker_queues.specs.Parts.Shelf.{kept_at, notes}
+use Rattle.broker_queues.specs.declared.transactions.Logged.{Logged}
+use Rattle.broker_queues.specs.Parts.Facts.{kept_at, notes}
 use Rattle.broker_queues.specs.Parts.Fates.{passes, fated, fate_of_kept}
 use Rattle.broker_index.specs.declared.places.Entry.{Entry}
 

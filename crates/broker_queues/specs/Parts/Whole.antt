@@ -1,4 +1,4 @@
--- What the parts of a shelf agree on, together.
+-- What the parts of a book agree on, together.
 use Rattle.std.specs.Prelude.{◌≡◌, ◌≤◌, ◌<◌, ◌⊎◌, ℕ, ◌+◌, Bool, true, false, not}
 use Rattle.std.specs.Prelude.{◌==◌, List, [], ◌∷◌, ◌++◌, map, filter, Option, Some}
 use Rattle.broker_book.specs.declared.parts.Sent.{Sent}
@@ -8,10 +8,10 @@ use Rattle.broker_book.specs.declared.parts.Accepted.{Accepted}
 use Rattle.broker_book.specs.Books.{Book, Fate, Ready, Out, is_for, is_named, out_to}
 use Rattle.broker_index.specs.Index.{Kept, Subscriber, Queue, with_fate}
 use Rattle.broker_index.specs.declared.places.Place.{Place}
-use Rattle.broker_queues.specs.Parts.Shelf.{ArePlaced, AreCounted, AreNoted, AreCredited}
-use Rattle.broker_queues.specs.Parts.Shelf.{AreListening, AreOwned, AreAhead, AreTakers, AreAwake}
-use Rattle.broker_queues.specs.Parts.Shelf.{rise, kept_at, subscriber_at, session_at, destination_at, lists}
-use Rattle.broker_queues.specs.Parts.Shelf.{queue_of, message_of, holds_number, living_of, subscriptions_of, may_have}
+use Rattle.broker_queues.specs.Parts.Facts.{ArePlaced, AreCounted, AreNoted, AreCredited}
+use Rattle.broker_queues.specs.Parts.Facts.{AreListening, AreOwned, AreAhead, AreTakers, AreAwake}
+use Rattle.broker_queues.specs.Parts.Facts.{rise, kept_at, subscriber_at, session_at, destination_at, lists}
+use Rattle.broker_queues.specs.Parts.Facts.{queue_of, message_of, holds_number, living_of, subscriptions_of, may_have}
 use Rattle.broker_queues.specs.Parts.Fates.{recounted, weight, fated, passes}
 
 -- the messages, gone ones too; the subscribers; the queue of each destination; the subscribers of each session; the destinations where
@@ -36,7 +36,7 @@ book_of h accepted = record {
 }
 
 -- the parts agree
-pub record IsShelf (h : Holding) : Type 0 where
+pub record IsSound (h : Holding) : Type 0 where
   pub placed : ArePlaced h.kept h.queues
   pub counted : AreCounted h.kept h.queues
   pub noted : AreNoted h.kept h.subscribers

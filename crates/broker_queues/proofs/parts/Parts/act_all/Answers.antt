@@ -8,13 +8,13 @@ use Rattle.broker_queues.proofs.Acting.{goes_on, grows_again, left_first, refuse
 use Rattle.broker_queues.proofs.parts.Parts.act_all.Goals as goal
 
 pub act-requires : goal.act-requires
-act-requires c = c.loop-action.invariant.shelf
+act-requires c = c.loop-action.invariant.sound
 
 pub loop-action-preserved : goal.loop-action-preserved
 loop-action-preserved c =
     let rest = drop (c.loop-action.action-index + 1) c.args.actions.now in
     record {
-      shelf = c.in_ok-act.ensures.shelf;
+      sound = c.in_ok-act.ensures.sound;
       begun = λ start b. c.in_ok-act.ensures.begun start (c.loop-action.invariant.begun start b);
       left = ap (then_all c.args.full c.args.session rest) (sym c.in_ok-act.ensures.goes)
           ∙ sym (left_first c.args.full c.args.session c.args.actions.now c.loop-action.action-index c.action-item.result
@@ -30,7 +30,7 @@ returns-in_err-act c =
     let rest = drop (c.loop-action.action-index + 1) c.args.actions.now in
     let b = book_of (holding_of c.loop-action.self) c.loop-action.accepted.items in
     rw (p.1, p.2) (record {
-      shelf = c.in_err-act.ensures.shelf;
+      sound = c.in_err-act.ensures.sound;
       begun = λ start b. c.in_err-act.ensures.begun start (c.loop-action.invariant.begun start b);
       goes = goes_on (Unit {0}) (Unit {0}) (act_of c.args.full c.args.session b c.action-item.result)
           (apply_of c.args.full c.args.session (book_of (holding_of c.args.self.now) c.args.accepted.now.items) c.args.actions.now)
@@ -52,7 +52,7 @@ returns c =
     let none : drop c.loop-action.action-index c.args.actions.now ≡ [] =
     drop_all c.loop-action.action-index c.args.actions.now c.loop-action-test.false in
     record {
-      shelf = c.loop-action.invariant.shelf;
+      sound = c.loop-action.invariant.sound;
       begun = c.loop-action.invariant.begun;
       goes = sym (rw none at c.loop-action.invariant.left);
       grows = c.loop-action.invariant.grows;

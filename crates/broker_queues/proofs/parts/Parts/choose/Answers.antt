@@ -22,7 +22,7 @@ loop-index-preserved-in-Some c =
           (c.loop-index.index + 1) names (Some c.earlier.result) in
           subst P (sym same) (chooses_found (holding_of c.args.self.now) (holding_of c.loop-index.self) c.loop-index.index
           c.loop-index.self.active.names.items c.loop-index.best i (omega arith) (holding_of c.look.new.self) c.in-Some.pick
-          c.earlier.result (c.in-Some.ensures.looks i.rests.shelf) c.earlier.ensures)),
+          c.earlier.result (c.in-Some.ensures.looks i.rests.sound) c.earlier.ensures)),
     )
 
 pub loop-index-preserved : goal.loop-index-preserved
@@ -33,7 +33,7 @@ loop-index-preserved c =
           let i = c.loop-index.invariant.1 is in
           chooses_left (holding_of c.args.self.now) (holding_of c.loop-index.self) c.loop-index.index
           c.loop-index.self.active.names.items c.loop-index.best i (omega arith) (holding_of c.look.new.self) c.look.new.self.active.all
-          c.sleep.new.self.all c.sleep.new.self.names.items (c.in_default.ensures.looks i.rests.shelf)
+          c.sleep.new.self.all c.sleep.new.self.names.items (c.in_default.ensures.looks i.rests.sound)
           (ap (λ names. awake_in c.look.new.self.active.all names) same) c.sleep.ensures.all
           (c.sleep.ensures.names ∙ ap (λ names. remove names c.loop-index.index) same)),
     )

@@ -1,12 +1,12 @@
 use Rattle.std.proofs.Common.{◌≡◌, ◌-◌, length}
 use Rattle.broker_queues.specs.Parts.Held.{holding_of}
-use Rattle.broker_queues.specs.Parts.Whole.{IsShelf}
+use Rattle.broker_queues.specs.Parts.Whole.{IsSound}
 use Rattle.broker_queues.proofs.Choosing.{Choosing}
 use Rattle.broker_queues.proofs.parts.Parts.choose.Given as goal
 
 abbrev pub invariant-loop-index : goal.invariant-loop-index
 invariant-loop-index l = (l.self.active.all ≡ l.initial.self.active.all)
-    × (IsShelf (holding_of l.initial.self)
+    × (IsSound (holding_of l.initial.self)
     → Choosing (holding_of l.initial.self) (holding_of l.self) l.index l.self.active.names.items l.best)
 
 abbrev pub decreases-loop-index : goal.decreases-loop-index

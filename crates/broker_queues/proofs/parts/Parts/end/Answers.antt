@@ -12,7 +12,7 @@ loop-preserved c is =
     let before = c.loop.invariant is in
     ends_more (holding_of c.args.self.now) (holding_of c.loop.self) (holding_of c.end_first.new.self) c.args.session
     (c.subscribers_len-len.result - c.loop.counter) (c.subscribers_len-len.result - (c.loop.counter + 1)) before
-    (c.end_first.ensures before.shelf) (omega arith)
+    (c.end_first.ensures before.sound) (omega arith)
 
 pub returns : goal.returns
 returns c is =

@@ -8,7 +8,7 @@ use Rattle.broker_book.specs.Books.{Out}
 use Rattle.broker_index.specs.Index.{Subscriber, with_count, with_fate}
 use Rattle.broker_index.specs.declared.places.Entry.{Entry}
 use Rattle.broker_queues.specs.Parts.Held.{holding_of}
-use Rattle.broker_queues.specs.Parts.Shelf.{subscriber_at}
+use Rattle.broker_queues.specs.Parts.Facts.{subscriber_at}
 use Rattle.broker_queues.specs.Parts.Whole.{Holding}
 use Rattle.broker_queues.proofs.Delivering.{handed_out, out_dealt, noted_only, sits_still, noting}
 use Rattle.broker_queues.proofs.Swept.{none_fated, none_same}

@@ -2,7 +2,7 @@ use Rattle.std.proofs.Common.{◌≡◌, Some, take}
 use Rattle.broker_index.specs.Index.{Subscriber}
 use Rattle.broker_queues.specs.Parts.Begun.{Noted}
 use Rattle.broker_queues.specs.Parts.Held.{holding_of}
-use Rattle.broker_queues.specs.Parts.Shelf.{subscriber_at}
+use Rattle.broker_queues.specs.Parts.Facts.{subscriber_at}
 use Rattle.broker_queues.proofs.parts.Parts.note_all.Given as goal
 
 abbrev pub invariant-loop-entry : goal.invariant-loop-entry

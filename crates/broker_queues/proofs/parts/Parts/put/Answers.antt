@@ -1,7 +1,7 @@
 use Rattle.std.proofs.Common.{◌≡◌, arith}
 use Rattle.broker_index.specs.Index.{queue_at}
 use Rattle.broker_queues.specs.Parts.Held.{holding_of}
-use Rattle.broker_queues.specs.Parts.Shelf.{queue_of}
+use Rattle.broker_queues.specs.Parts.Facts.{queue_of}
 use Rattle.broker_queues.proofs.Accepting.{accepts, memory_refused}
 use Rattle.broker_queues.proofs.parts.Parts.put.Goals as goal
 

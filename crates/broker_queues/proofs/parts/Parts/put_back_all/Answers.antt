@@ -1,5 +1,5 @@
 use Rattle.std.proofs.Common.{◌≡◌, ◌∙◌, ◌-◌, ◌++◌, List, [], ap, take}
-use Rattle.broker_queues.specs.declared.undoing.Logged.{Logged}
+use Rattle.broker_queues.specs.declared.transactions.Logged.{Logged}
 use Rattle.broker_queues.proofs.parts.Parts.put_back_all.Goals as goal
 
 pub loop-logged-init : goal.loop-logged-init

@@ -3,7 +3,7 @@ use Rattle.std.specs.Prelude.{filter, not, ◌==◌}
 use Rattle.broker_index.specs.Index.{queue_at}
 use Rattle.broker_index.specs.declared.places.Place.{Place}
 use Rattle.broker_queues.specs.Parts.Held.{holding_of}
-use Rattle.broker_queues.specs.Parts.Shelf.{queue_of}
+use Rattle.broker_queues.specs.Parts.Facts.{queue_of}
 use Rattle.broker_queues.specs.Parts.Storing.{Becomes, adding}
 use Rattle.broker_queues.specs.Parts.Queues.{awake_in}
 use Rattle.broker_queues.specs.Parts.Whole.{Holding}
@@ -13,12 +13,12 @@ use Rattle.broker_queues.proofs.Listing.{all_below}
 use Rattle.broker_queues.proofs.parts.Parts.store.Goals as goal
 
 pub push-requires : goal.push-requires
-push-requires c = all_earlier (holding_of c.args.self.now) c.requires.shelf
+push-requires c = all_earlier (holding_of c.args.self.now) c.requires.sound
 
 pub add_number-requires-clause-above : goal.add_number-requires-clause-above
 add_number-requires-clause-above c =
     all_below (c.args.self.now.last + 1) (queue_of (queue_at c.args.self.now.destinations) c.get.result.now.destination).numbers
-    (λ m listed. omega (arith, c.requires.shelf.listed_last c.get.result.now.destination m listed))
+    (λ m listed. omega (arith, c.requires.sound.listed_last c.get.result.now.destination m listed))
 
 pub returns-in-Ok : goal.returns-in-Ok
 returns-in-Ok c =
@@ -34,13 +34,13 @@ returns-in-Ok c =
     let b : Becomes (adding place) h.queues q c.args.sent.now.destination = rw c.get.ensures at c.in-Ok.ensures.ok in
     let l = rw c.get.ensures at c.look_from.ensures in
     let awake = rw c.get.ensures at c.wake.ensures.awake in (
-      stored h c.requires.shelf c.args.sent.now place q i refl b l c.in_ok-key.ensures.ok refl refl refl refl c.wake.ensures.wakes awake,
-      lists_only h c.requires.shelf c.args.sent.now place q i refl b l,
+      stored h c.requires.sound c.args.sent.now place q i refl b l c.in_ok-key.ensures.ok refl refl refl refl c.wake.ensures.wakes awake,
+      lists_only h c.requires.sound c.args.sent.now place q i refl b l,
     )
 
 pub returns-in-Err : goal.returns-in-Err
 returns-in-Err c =
-    shut (holding_of c.args.self.now) c.requires.shelf _ c.in-Err.ensures.err
+    shut (holding_of c.args.self.now) c.requires.sound _ c.in-Err.ensures.err
     (c.remove.ensures ∙ ap (λ kept. filter (λ k. not (k.number == c.args.self.now.last + 1)) kept) c.in_ok-key.ensures.ok
-    ∙ taken_out (holding_of c.args.self.now) c.requires.shelf (c.args.self.now.last + 1) c.args.sent.now refl)
+    ∙ taken_out (holding_of c.args.self.now) c.requires.sound (c.args.self.now.last + 1) c.args.sent.now refl)
     refl refl refl refl refl

@@ -19,11 +19,11 @@ loop-logged-preserved c =
     record {
       sweeps = λ is.
           let before = c.loop-logged.invariant.sweeps is in
-          tidies_again h i j before (c.sweep.ensures.sweeps before.shelf);
+          tidies_again h i j before (c.sweep.ensures.sweeps before.sound);
       left = λ is held noted.
-          let shelf = (c.loop-logged.invariant.sweeps is).shelf in
-          left_next i j c.args.log.now c.loop-logged.logged-index c.logged-item.result c.loop-logged-test.true c.logged-item.is shelf
-          (c.sweep.ensures.rest shelf) c.sweep.ensures.clears (c.loop-logged.invariant.left is held noted);
+          let sound = (c.loop-logged.invariant.sweeps is).sound in
+          left_next i j c.args.log.now c.loop-logged.logged-index c.logged-item.result c.loop-logged-test.true c.logged-item.is sound
+          (c.sweep.ensures.rest sound) c.sweep.ensures.clears (c.loop-logged.invariant.left is held noted);
     }
 
 pub returns-clause-taken : goal.returns-clause-taken

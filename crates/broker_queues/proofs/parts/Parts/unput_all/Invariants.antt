@@ -1,5 +1,5 @@
 use Rattle.std.proofs.Common.{◌≡◌, List}
-use Rattle.broker_queues.specs.declared.undoing.Logged.{Logged}
+use Rattle.broker_queues.specs.declared.transactions.Logged.{Logged}
 use Rattle.broker_queues.specs.Parts.Begun.{IsBegun}
 use Rattle.broker_queues.specs.Parts.Held.{holding_of}
 use Rattle.broker_queues.specs.Parts.Whole.{Holding}

@@ -1,0 +1,253 @@
+//! Deals: which message goes out next and to whom, and how it goes, until none can.
+//!
+//! The names of the destinations that are awake are hints, and so is the number from which each looks: they tell where
+//! a look is needed. A pick is made from messages that are ready and subscribers with credit as they stand.
+
+ghost use Rattle.broker_index.specs.Index.{queue_at};
+ghost use Rattle.broker_queues.specs.Parts.Choosing.{Chooses, Dispatching, Hands, Looks, NextDeal, Rests, earlier};
+ghost use Rattle.broker_queues.specs.Parts.Choosing.{is_at_most, is_auto_of};
+ghost use Rattle.broker_queues.specs.Parts.Dealings.{HandsOut, HandsWhole};
+ghost use Rattle.broker_queues.specs.Parts.Facts.{queue_of, subscriber_at};
+ghost use Rattle.broker_queues.specs.Parts.Held.{holding_of};
+ghost use Rattle.broker_queues.specs.Parts.Storing.{NoneGone};
+ghost use Rattle.broker_queues.specs.Parts.Whole.{IsSound};
+ghost use Rattle.std.specs.Prelude.{[], ◌<◌, ◌≡◌, OnOk, false, length, slice_index_or, true};
+
+use crate::destinations::{count_fewer, ready_from, seek_ready, seek_taker};
+use crate::parts::Parts;
+use crate::sink::Sink;
+use broker_index::{Entry, Holder, Place, Standing};
+use std::alloc::AllocError;
+
+/// A deal that can be made: where its message is, and where its taker is.
+#[derive(Clone, Copy)]
+pub struct Pick {
+    pub message: Place,
+    pub taker: Place,
+}
+
+/// Whether a pick's message has at most this number.
+fn is_at_most(best: Option<Pick>, number: u64) -> bool
+    ensures { result ≡ is_at_most best number }
+{
+    match best {
+        Some(pick) => pick.message.number <= number,
+        None => false,
+    }
+}
+
+/// The pick with the earlier message.
+fn earlier(best: Option<Pick>, pick: Pick) -> Pick
+    ensures { result ≡ earlier best pick }
+{
+    match best {
+        Some(best) => {
+            if best.message.number <= pick.message.number {
+                best
+            } else {
+                pick
+            }
+        }
+        None => pick,
+    }
+}
+
+impl Parts {
+    /// Whether the destination at a place among those that are awake can have no message before a pick's.
+    fn is_behind(&self, index: usize, best: Option<Pick>) -> bool
+        requires { index < length self.now.active.names.items }
+        ensures { result ≡ is_at_most best (queue_of (queue_at self.now.destinations)
+            (slice_index_or self.now.active.names.items index [])).ready_from }
+    {
+        let from = ready_from(&self.destinations, &self.active.names[index]);
+        is_at_most(best, from)
+    }
+
+    /// The deal of the destination at a place among those that are awake, if one can be made there. The destination
+    /// notes how far it looked.
+    fn look(&mut self, index: usize) -> Option<Pick>
+        requires { index < length self.old.active.names.items }
+        ensures looks { Looks (holding_of self.old) (slice_index_or self.old.active.names.items index [])
+            (holding_of self.new) result }
+        ensures active { self.new.active ≡ self.old.active }
+    {
+        let name = &self.active.names[index];
+        let Some(message) = seek_ready(&self.messages, &mut self.destinations, self.last, name)
+        else {
+            return None;
+        };
+        let Some(taker) = seek_taker(&self.subscribers, &mut self.destinations, self.given, name)
+        else {
+            return None;
+        };
+        Some(Pick { message, taker })
+    }
+
+    /// The next deal, where the destinations that are awake are all named. Those that are looked at in vain sleep then.
+    fn choose(&mut self) -> Option<Pick>
+        ensures { Chooses (holding_of self.old) self.old.active.all (holding_of self.new) result }
+    {
+        let mut best = None;
+        let mut index = 0;
+        while index < self.active.names.len() {
+            // The hint first: it is one look-up, and saves the walk where a message can't be the first.
+            if self.is_behind(index, best) {
+                index += 1;
+            } else if let Some(pick) = self.look(index) {
+                best = Some(earlier(best, pick));
+                index += 1;
+            } else {
+                // The next name stands at this place then.
+                self.active.sleep(index);
+            }
+        }
+        best
+    }
+
+    /// Names all destinations, where a name could not be noted before.
+    fn rouse(&mut self) -> Result<(), AllocError>
+        ensures rests { IsSound (holding_of self.old) → Rests (holding_of self.old) (holding_of self.new) }
+        ensures named { OnOk result (self.new.active.all ≡ false) }
+    {
+        if self.active.all {
+            let names = self.destinations.names()?;
+            self.active.names = names;
+            self.active.all = false;
+        }
+        Ok(())
+    }
+
+    /// The next deal, if any can be made.
+    ///
+    /// # Errors
+    /// Where memory is refused; then nothing can be said of the next deal, and nothing has changed.
+    fn next_deal(&mut self) -> Result<Option<Pick>, AllocError>
+        ensures { NextDeal (holding_of self.old) (holding_of self.new) result }
+    {
+        self.rouse()?;
+        Ok(self.choose())
+    }
+
+    /// Hands a message out to a subscriber in mode `auto`: it is gone.
+    ///
+    /// # Errors
+    /// Where memory is refused; then nothing has changed.
+    fn hand_auto<S: Sink>(
+        &mut self,
+        message: Place,
+        to: Place,
+        sink: &mut S,
+    ) -> Result<(), AllocError>
+        ensures hands { HandsOut S.takes true message.number to.number (holding_of self.old) sink.old
+            (holding_of self.new) sink.new result }
+        ensures whole { HandsWhole (holding_of self.old) message.number to.number (holding_of self.new) }
+    {
+        let Some(stored) = self.messages.get(message.number, message.key) else {
+            return Ok(());
+        };
+        let Some(subscriber) = self.subscribers.get(to.number, to.key) else {
+            return Ok(());
+        };
+        let sent = stored.sent().get();
+        // Before all else, since only the sink can fail here.
+        sink.deliver(message.number, sent, subscriber.subscription(), None)?;
+        count_fewer(&mut self.destinations, &sent.destination);
+        self.messages
+            .set(message.number, message.key, Standing::Gone);
+        self.purge(message.number, message.key);
+        Ok(())
+    }
+
+    /// Hands a message out to a subscriber that is to answer, as the next delivery; the subscriber notes it.
+    ///
+    /// # Errors
+    /// Where memory is refused; then nothing has changed, but that the subscriber may have noted a delivery that wasn't
+    /// made.
+    fn hand_out<S: Sink>(
+        &mut self,
+        message: Place,
+        to: Place,
+        sink: &mut S,
+    ) -> Result<(), AllocError>
+        ensures hands { HandsOut S.takes false message.number to.number (holding_of self.old) sink.old
+            (holding_of self.new) sink.new result }
+        ensures whole { HandsWhole (holding_of self.old) message.number to.number (holding_of self.new) }
+    {
+        let ack = self.given.saturating_add(1);
+        let entry = Entry {
+            ack,
+            number: message.number,
+            key: message.key,
+        };
+        // Noted before it is made: a note too many is only stale, and a delivery without one could not be answered.
+        self.subscribers.note(to.number, to.key, entry)?;
+        let Some(stored) = self.messages.get(message.number, message.key) else {
+            return Ok(());
+        };
+        let Some(subscriber) = self.subscribers.get(to.number, to.key) else {
+            return Ok(());
+        };
+        let subscription = subscriber.subscription();
+        let holder = Holder {
+            session: subscription.session,
+            id: subscription.id.share()?,
+            ack,
+        };
+        let count = subscriber.count().saturating_add(1);
+        // The last that can fail: what follows takes no memory, so a message that the sink has is out.
+        sink.deliver(message.number, stored.sent().get(), subscription, Some(ack))?;
+        self.subscribers.set_count(to.number, to.key, count);
+        self.messages
+            .set(message.number, message.key, Standing::Out(holder));
+        self.given = ack;
+        Ok(())
+    }
+
+    /// Whether the subscriber at a place wants to give no answers.
+    fn is_auto_at(&self, place: Place) -> bool
+        ensures { result ≡ is_auto_of (subscriber_at place.number self.now.subscribers) }
+    {
+        match self.subscribers.get(place.number, place.key) {
+            Some(subscriber) => subscriber.subscription().mode.is_auto(),
+            None => false,
+        }
+    }
+
+    /// Makes a deal.
+    ///
+    /// # Errors
+    /// Where memory is refused; then no message has gone out.
+    fn hand<S: Sink>(&mut self, pick: Pick, sink: &mut S) -> Result<(), AllocError>
+        ensures hands { Hands S.takes pick.message.number pick.taker.number (holding_of self.old) sink.old
+            (holding_of self.new) sink.new result }
+        ensures whole { HandsWhole (holding_of self.old) pick.message.number pick.taker.number (holding_of self.new) }
+    {
+        if self.is_auto_at(pick.taker) {
+            self.hand_auto(pick.message, pick.taker, sink)
+        } else {
+            self.hand_out(pick.message, pick.taker, sink)
+        }
+    }
+
+    /// Hands out what is ready until no message can go out: always the first that can, to the oldest subscription that
+    /// may take it.
+    ///
+    /// Each deal looks at the destinations that are awake: at most by a search for their names, where they can have no
+    /// message before the best so far. Where nothing can be dealt a destination sleeps, until a message or a subscriber
+    /// wakes it; and each notes how far it looked, so that messages that are out and subscribers without credit are
+    /// passed once, until one of them comes back. So a deal costs nothing for messages that wait, destinations that
+    /// sleep or other sessions.
+    ///
+    /// # Errors
+    /// Where memory is refused, here or by the sink. Then some messages may have been handed out, each of them wholly.
+    pub fn dispatch<S: Sink>(&mut self, sink: &mut S) -> Result<(), AllocError>
+        requires { IsSound (holding_of self.old) }
+        ensures deals { Dispatching S.takes (holding_of self.old) sink.old (holding_of self.new) sink.new result }
+        ensures taken { NoneGone self.old.messages → NoneGone self.new.messages }
+    {
+        while let Some(pick) = self.next_deal()? {
+            self.hand(pick, sink)?;
+        }
+        Ok(())
+    }
+}

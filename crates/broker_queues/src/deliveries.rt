@@ -1,0 +1,266 @@
+//! Deliveries that are out, and the answers that take them back.
+//!
+//! What is believed is a message's standing. The deliveries that a subscriber notes are a hint at which messages may be
+//! out to it: one may be noted that was answered since or never made, and each is tested by its message. Each message
+//! that is out is noted, so none is missed.
+
+ghost use Rattle.broker_book.specs.Books.{out_as};
+ghost use Rattle.broker_index.specs.Index.{places_at};
+ghost use Rattle.broker_index.specs.Standing.{fate_of};
+ghost use Rattle.broker_queues.specs.Parts.Facts.{kept_at, subscriber_at};
+ghost use Rattle.broker_queues.specs.Parts.Fates.{back, counts_in, fate_of_kept, is_held, is_held_at, passes};
+ghost use Rattle.broker_queues.specs.Parts.Held.{Responds, TakesBack, TurnsAll, TurnsNext, entries_of, holding_of};
+ghost use Rattle.broker_queues.specs.Parts.Storing.{Clears, NoneGone, Sweeps, SweepsOne, first_stale, is_stale};
+ghost use Rattle.broker_queues.specs.Parts.Whole.{IsSound};
+ghost use Rattle.std.specs.Prelude.{◌&&◌, ◌==◌, ◌≡◌, find, length};
+ghost use Rattle.std.specs.Str.{bytes_eq};
+
+use crate::destinations::{free, mark};
+use crate::parts::Parts;
+use broker_book::{QueueFault, Subscription};
+use broker_index::{Entry, Holder, Place, Standing, StoredSubscriber};
+
+/// Where a message is whose delivery is taken back: ready again, or else gone.
+fn standing_back(again: bool) -> Standing
+    ensures { fate_of result ≡ back again }
+{
+    if again {
+        Standing::Ready
+    } else {
+        Standing::Gone
+    }
+}
+
+/// Whether a delivery that is out belongs to a subscription.
+fn belongs(holder: &Holder, subscription: &Subscription) -> bool
+    ensures { result ≡ (holder.now.session == subscription.now.session && bytes_eq holder.now.id subscription.now.id) }
+{
+    holder.session == subscription.session && holder.id.get().same(subscription.id.get())
+}
+
+/// Whether an answer to the delivery `answered` of a subscription counts for a message that is there; without an
+/// answer, whether the message is out to the subscription.
+pub fn covers(standing: &Standing, subscription: &Subscription, answered: Option<u64>) -> bool
+    ensures { result ≡ passes (counts_in subscription.now answered) (fate_of standing.now) }
+{
+    match standing {
+        Standing::Out(holder) => match answered {
+            Some(answered) => belongs(holder, subscription)
+                && subscription.mode.reaches(answered, holder.ack),
+            None => belongs(holder, subscription),
+        },
+        Standing::Ready | Standing::Gone => false,
+    }
+}
+
+/// Whether a message that is there is out to a subscription as the delivery of this number.
+fn is_standing_as(standing: &Standing, subscription: &Subscription, ack: u64) -> bool
+    ensures { result ≡ passes (out_as subscription.now.session subscription.now.id ack) (fate_of standing.now) }
+{
+    match standing {
+        Standing::Out(holder) => { belongs(holder, subscription) && holder.ack == ack }
+        Standing::Ready | Standing::Gone => false,
+    }
+}
+
+impl Parts {
+    /// Takes back the delivery of a message to a subscriber: the message is ready again, or else gone.
+    fn take_back(&mut self, number: u64, key: usize, age: u64, age_key: usize, again: bool)
+        ensures change { TakesBack (holding_of self.old) number age again (holding_of self.new) }
+        ensures given { self.new.given ≡ self.old.given }
+    {
+        let Some(stored) = self.messages.get(number, key) else {
+            return;
+        };
+        mark(
+            &mut self.destinations,
+            &mut self.active,
+            &stored.sent().get().destination,
+            number,
+            again,
+        );
+        let Some(subscriber) = self.subscribers.get(age, age_key) else {
+            return;
+        };
+        free(
+            &mut self.destinations,
+            &mut self.active,
+            subscriber.subscription().destination.get(),
+            age,
+        );
+        let count = subscriber.count().saturating_sub(1);
+        self.subscribers.set_count(age, age_key, count);
+        self.messages.set(number, key, standing_back(again));
+    }
+
+    /// Whether an answer to the delivery `answered` of a subscription counts for a message; without an answer, whether
+    /// it is out to it.
+    fn is_covered(
+        &self,
+        number: u64,
+        key: usize,
+        subscription: &Subscription,
+        answered: Option<u64>,
+    ) -> bool
+        ensures { result ≡ passes (counts_in subscription.now answered)
+            (fate_of_kept (kept_at number self.now.messages)) }
+    {
+        match self.messages.get(number, key) {
+            Some(stored) => covers(stored.standing(), subscription, answered),
+            None => false,
+        }
+    }
+
+    /// How many deliveries a subscriber notes; 0 where there is none of this age.
+    fn entries_len(&self, age: u64, age_key: usize) -> usize
+        ensures { result ≡ length (entries_of (subscriber_at age self.now.subscribers)) }
+    {
+        match self.subscribers.get(age, age_key) {
+            Some(subscriber) => subscriber.entries().len(),
+            None => 0,
+        }
+    }
+
+    /// Takes back the delivery at a place of a subscriber's, if an answer to the delivery `answered` counts for it, or
+    /// without an answer.
+    fn answer_one(
+        &mut self,
+        age: u64,
+        age_key: usize,
+        index: usize,
+        answered: Option<u64>,
+        again: bool,
+    )
+        ensures { TurnsNext (holding_of self.old) age index answered again (holding_of self.new) }
+    {
+        let Some(subscriber) = self.subscribers.get(age, age_key) else {
+            return;
+        };
+        let entries = subscriber.entries();
+        if index >= entries.len() {
+            return;
+        }
+        let entry = entries[index];
+        if self.is_covered(entry.number, entry.key, subscriber.subscription(), answered) {
+            self.take_back(entry.number, entry.key, age, age_key, again);
+        }
+    }
+
+    /// Takes back the deliveries of a subscriber for which an answer to the delivery `answered` counts, without an
+    /// answer all: their messages are ready again, or else gone. It does the same where memory is refused.
+    pub fn answer(&mut self, age: u64, age_key: usize, answered: Option<u64>, again: bool)
+        ensures { TurnsAll (holding_of self.old) age answered again (holding_of self.new) }
+    {
+        // No entry goes here, so the places stay: what is stale is swept once nothing can be undone any more.
+        let len = self.entries_len(age, age_key);
+        for index in 0..len {
+            self.answer_one(age, age_key, index, answered, again);
+        }
+    }
+
+    /// Whether a message is out to a subscription as the delivery of this number.
+    fn is_out_as(&self, entry: &Entry, subscription: &Subscription, ack: u64) -> bool
+        ensures { result ≡ passes (out_as subscription.now.session subscription.now.id ack) (fate_of_kept
+            (kept_at entry.now.number self.now.messages)) }
+    {
+        match self.messages.get(entry.number, entry.key) {
+            Some(stored) => is_standing_as(stored.standing(), subscription, ack),
+            None => false,
+        }
+    }
+
+    /// Whether a delivery of this number is out to a subscriber.
+    fn is_held(&self, subscriber: &StoredSubscriber, ack: u64) -> bool
+        ensures { result ≡ is_held self.now.messages ack subscriber.now }
+    {
+        let subscription = subscriber.subscription();
+        subscriber
+            .entries()
+            .iter()
+            .any(|entry| self.is_out_as(entry, subscription, ack))
+    }
+
+    /// Whether a delivery of this number is out to the subscriber at a place.
+    fn is_held_at(&self, place: &Place, ack: u64) -> bool
+        ensures { result ≡ is_held_at self.now.messages self.now.subscribers ack place.now }
+    {
+        match self.subscribers.get(place.number, place.key) {
+            Some(subscriber) => self.is_held(subscriber, ack),
+            None => false,
+        }
+    }
+
+    /// The first of these places whose subscriber holds a delivery of this number.
+    fn first_held(&self, places: &[Place], ack: u64) -> Option<Place>
+        ensures { result ≡ find (is_held_at self.now.messages self.now.subscribers ack) places.now }
+    {
+        for place in places {
+            if self.is_held_at(place, ack) {
+                return Some(*place);
+            }
+        }
+        None
+    }
+
+    /// The place of the oldest subscriber of a session to whom a delivery of this number is out.
+    pub fn holder(&self, session: u64, ack: u64) -> Option<Place>
+        ensures { result ≡ find (is_held_at self.now.messages self.now.subscribers ack)
+            (places_at self.now.sessions session) }
+    {
+        self.first_held(self.sessions.get(session), ack)
+    }
+
+    /// The first of these deliveries that isn't out to a subscription any more.
+    fn first_stale_in(&self, entries: &[Entry], subscription: &Subscription) -> Option<Entry>
+        ensures { result ≡ find (is_stale self.now.messages subscription.now) entries.now }
+    {
+        for entry in entries {
+            if !self.is_covered(entry.number, entry.key, subscription, None) {
+                return Some(*entry);
+            }
+        }
+        None
+    }
+
+    /// The first of a subscriber's deliveries that isn't out to it any more.
+    fn first_stale(&self, age: u64, age_key: usize) -> Option<Entry>
+        ensures { result ≡ first_stale self.now.messages (subscriber_at age self.now.subscribers) }
+    {
+        match self.subscribers.get(age, age_key) {
+            Some(subscriber) => {
+                self.first_stale_in(subscriber.entries(), subscriber.subscription())
+            }
+            None => None,
+        }
+    }
+
+    /// Forgets a subscriber's deliveries that aren't out to it any more, and takes out their messages that are gone. It
+    /// takes no memory.
+    pub fn sweep(&mut self, age: u64, age_key: usize)
+        ensures sweeps { Sweeps (holding_of self.old) (holding_of self.new) }
+        ensures clears { Clears (holding_of self.old) age (holding_of self.new) }
+        ensures rest { SweepsOne (holding_of self.old) age (holding_of self.new) }
+    {
+        while let Some(entry) = self.first_stale(age, age_key) {
+            self.subscribers.forget(age, age_key, entry.number);
+            self.purge(entry.number, entry.key);
+        }
+    }
+
+    /// An ACK of a session, or a NACK where the messages are to be ready again; what is gone then is taken out. It does
+    /// the same where memory is refused.
+    ///
+    /// # Errors
+    /// Where no delivery of this number is out to the session; then nothing has changed.
+    pub fn answer_whole(&mut self, session: u64, ack: u64, again: bool) -> Result<(), QueueFault>
+        ensures step { Responds (holding_of self.old) session ack again (holding_of self.new) result }
+        ensures taken { IsSound (holding_of self.old) → NoneGone self.old.messages → NoneGone self.new.messages }
+    {
+        let Some(place) = self.holder(session, ack) else {
+            return Err(QueueFault::NoSuchAck);
+        };
+        self.answer(place.number, place.key, Some(ack), again);
+        self.sweep(place.number, place.key);
+        Ok(())
+    }
+}

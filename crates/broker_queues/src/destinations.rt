@@ -1,0 +1,293 @@
+//! The queues of destinations: what comes to them, and what they have next.
+//!
+//! A queue counts its living messages and lists its subscribers exactly. The numbers that it lists may be of messages
+//! that are out or gone: what is believed is the standing that the message itself has. The number and the age from
+//! which it looks are hints that may be too low, and never too high: what is too low costs a walk, and what is too high
+//! would pass over a message or a subscriber.
+
+ghost use Rattle.broker_book.specs.Books.{is_ready_fate};
+ghost use Rattle.broker_index.specs.Index.{queue_at, with_subscriber};
+ghost use Rattle.broker_index.specs.Standing.{fate_of};
+ghost use Rattle.broker_queues.specs.Parts.Dealings.{FirstOf, SeeksReady, SeeksTaker, number_or, opens, takes_more};
+ghost use Rattle.broker_queues.specs.Parts.Facts.{may_have, queue_of};
+ghost use Rattle.broker_queues.specs.Parts.Fates.{passes};
+ghost use Rattle.broker_queues.specs.Parts.Queues.{CountsFewer, Frees, LooksFrom, Marks, TakesFrom, awake_in};
+ghost use Rattle.broker_queues.specs.Parts.Storing.{Becomes, Closes, adding};
+ghost use Rattle.std.specs.Prelude.{◌-◌, ◌<◌, ◌^◌, ◌≡◌, All, OnErr, OnOk};
+
+use crate::active::Active;
+use base::limits::MAX_UNANSWERED;
+use broker_index::{
+    Destinations, Messages, Place, Standing, StoredQueue, StoredSubscriber, Subscribers,
+};
+use std::alloc::AllocError;
+use stomp_session::Text;
+
+/// The number from which a destination's queue looks for a ready message; 0 where there is none.
+pub fn ready_from(destinations: &Destinations, name: &Text) -> u64
+    ensures { result ≡ (queue_of (queue_at destinations.now) name.now).ready_from }
+{
+    match destinations.get(name) {
+        Some(queue) => queue.ready_from(),
+        None => 0,
+    }
+}
+
+/// The age from which a destination's queue looks for a taker; 0 where there is none.
+fn taker_from(destinations: &Destinations, name: &Text) -> u64
+    ensures { result ≡ (queue_of (queue_at destinations.now) name.now).taker_from }
+{
+    match destinations.get(name) {
+        Some(queue) => queue.taker_from(),
+        None => 0,
+    }
+}
+
+/// How many living messages a destination has.
+pub fn count(destinations: &Destinations, name: &Text) -> usize
+    ensures { result ≡ (queue_of (queue_at destinations.now) name.now).count }
+{
+    match destinations.get(name) {
+        Some(queue) => queue.count(),
+        None => 0,
+    }
+}
+
+/// Sees to it that a destination's queue looks for ready messages from this number on, or from an earlier one.
+pub fn look_from(destinations: &mut Destinations, name: &Text, number: u64)
+    ensures { LooksFrom (queue_at destinations.old) (queue_at destinations.new) name.now number }
+{
+    if number < ready_from(destinations, name) {
+        destinations.set_ready_from(name, number);
+    }
+}
+
+/// Sees to it that a destination's queue looks for takers from this age on, or from a lower one.
+fn take_from(destinations: &mut Destinations, name: &Text, age: u64)
+    ensures { TakesFrom (queue_at destinations.old) (queue_at destinations.new) name.now age }
+{
+    if age < taker_from(destinations, name) {
+        destinations.set_taker_from(name, age);
+    }
+}
+
+/// One living message of a destination fewer.
+pub fn count_fewer(destinations: &mut Destinations, name: &Text)
+    ensures { CountsFewer (queue_at destinations.old) (queue_at destinations.new) name.now }
+{
+    // Where the parts agree the message that goes is counted. That isn't required here, so it must not wrap.
+    let count = count(destinations, name).saturating_sub(1);
+    destinations.set_count(name, count);
+}
+
+/// Tells a message's destination that the message is ready again, or else that it has one living message fewer.
+pub fn mark(
+    destinations: &mut Destinations,
+    active: &mut Active,
+    name: &Text,
+    number: u64,
+    again: bool,
+)
+    ensures { Marks again name.now number (queue_at destinations.old) (queue_at destinations.new)
+        (awake_in active.old.all active.old.names.items) (awake_in active.new.all active.new.names.items) }
+{
+    if again {
+        look_from(destinations, name, number);
+        active.wake(name);
+    } else {
+        count_fewer(destinations, name);
+    }
+}
+
+/// Tells a subscriber's destination that the subscriber has credit.
+pub fn free(destinations: &mut Destinations, active: &mut Active, name: &Text, age: u64)
+    ensures { Frees name.now age (queue_at destinations.old) (queue_at destinations.new)
+        (awake_in active.old.all active.old.names.items) (awake_in active.new.all active.new.names.items) }
+{
+    take_from(destinations, name, age);
+    active.wake(name);
+}
+
+/// Adds a living message to a destination, behind all others; where there was no queue, it has one then.
+///
+/// # Errors
+/// Where memory is refused; then an idle queue goes at most.
+pub fn add_number(
+    destinations: &mut Destinations,
+    name: &Text,
+    place: Place,
+) -> Result<(), AllocError>
+    requires above { All (λ p. p.number < place.number) (queue_of (queue_at destinations.old) name.now).numbers }
+    requires room { (queue_of (queue_at destinations.old) name.now).count < 2 ^ 64 - 1 }
+    ensures ok { OnOk result (Becomes (adding place) (queue_at destinations.old) (queue_at destinations.new) name.now) }
+    ensures err { OnErr result (Closes (queue_at destinations.old) (queue_at destinations.new)) }
+{
+    let count = count(destinations, name) + 1;
+    destinations.open(name)?;
+    // A queue that was opened in vain is closed again, or names that nothing goes to would pile up.
+    match destinations.push_number(name, place) {
+        Ok(()) => {
+            destinations.set_count(name, count);
+            Ok(())
+        }
+        Err(error) => {
+            destinations.close(name);
+            Err(error)
+        }
+    }
+}
+
+/// Adds a subscriber to a destination, the youngest; where there was no queue, it has one then.
+///
+/// # Errors
+/// Where memory is refused; then an idle queue goes at most.
+pub fn add_subscriber(
+    destinations: &mut Destinations,
+    name: &Text,
+    place: Place,
+) -> Result<(), AllocError>
+    requires { All (λ p. p.number < place.number) (queue_of (queue_at destinations.old) name.now).subscribers }
+    ensures ok { OnOk result (Becomes (with_subscriber place) (queue_at destinations.old) (queue_at destinations.new)
+        name.now) }
+    ensures err { OnErr result (Closes (queue_at destinations.old) (queue_at destinations.new)) }
+{
+    destinations.open(name)?;
+    match destinations.push_subscriber(name, place) {
+        Ok(()) => Ok(()),
+        Err(error) => {
+            destinations.close(name);
+            Err(error)
+        }
+    }
+}
+
+/// Whether a message that is there is ready.
+fn is_ready(standing: &Standing) -> bool
+    ensures { result ≡ passes is_ready_fate (fate_of standing.now) }
+{
+    match standing {
+        Standing::Ready => true,
+        Standing::Out(_) | Standing::Gone => false,
+    }
+}
+
+/// The number of a place, or this one where there is none.
+fn number_or(place: Option<Place>, number: u64) -> u64
+    ensures { result ≡ number_or place number }
+{
+    match place {
+        Some(place) => place.number,
+        None => number,
+    }
+}
+
+/// Whether the message at a place is ready and goes to a destination.
+fn is_open_at(messages: &Messages, place: Place, name: &Text) -> bool
+    ensures { result ≡ opens messages.now name.now place.number }
+{
+    match messages.get(place.number, place.key) {
+        Some(stored) => is_ready(stored.standing()) && stored.sent().get().destination.same(name),
+        None => false,
+    }
+}
+
+/// Whether a subscriber may take one message more.
+fn may_take_more(subscriber: &StoredSubscriber, given: u64) -> bool
+    ensures { result ≡ may_have given subscriber.now }
+{
+    // Mode `auto` comes first: it gives no answers, so it needs neither credit nor a delivery's number.
+    subscriber.subscription().mode.is_auto()
+        || (subscriber.count() < MAX_UNANSWERED && given < u64::MAX)
+}
+
+/// Whether the subscriber at a place listens on a destination and may take one message more.
+fn is_free_at(subscribers: &Subscribers, given: u64, place: Place, name: &Text) -> bool
+    ensures { result ≡ takes_more subscribers.now given name.now place.number }
+{
+    match subscribers.get(place.number, place.key) {
+        Some(subscriber) => {
+            subscriber.subscription().destination.get().same(name)
+                && may_take_more(subscriber, given)
+        }
+        None => false,
+    }
+}
+
+/// The first ready message of a destination among those up to the last number, from where its queue looks for one.
+fn first_ready(messages: &Messages, queue: &StoredQueue, last: u64, name: &Text) -> Option<Place>
+    ensures { FirstOf (opens messages.now name.now) queue.now.numbers queue.now.ready_from last result }
+{
+    let mut from = queue.ready_from();
+    while let Some(place) = queue.first_number_from(from) {
+        if is_open_at(messages, place, name) {
+            return Some(place);
+        }
+        // Behind the look, since the message of the last number counts too; before the sum, which can't wrap then.
+        if place.number >= last {
+            return None;
+        }
+        from = place.number + 1;
+    }
+    None
+}
+
+/// The oldest subscriber of a destination that may take one message more, up to the last age, from where its queue
+/// looks for one.
+fn first_taker(
+    subscribers: &Subscribers,
+    queue: &StoredQueue,
+    given: u64,
+    last: u64,
+    name: &Text,
+) -> Option<Place>
+    ensures { FirstOf (takes_more subscribers.now given name.now) queue.now.subscribers queue.now.taker_from last result }
+{
+    let mut from = queue.taker_from();
+    while let Some(place) = queue.first_subscriber_from(from) {
+        if is_free_at(subscribers, given, place, name) {
+            return Some(place);
+        }
+        if place.number >= last {
+            return None;
+        }
+        from = place.number + 1;
+    }
+    None
+}
+
+/// The first ready message of a destination among those up to the last number. Its queue looks for one from there on
+/// later.
+pub fn seek_ready(
+    messages: &Messages,
+    destinations: &mut Destinations,
+    last: u64,
+    name: &Text,
+) -> Option<Place>
+    ensures { SeeksReady messages.now last name.now (queue_at destinations.old) (queue_at destinations.new) result }
+{
+    let Some(queue) = destinations.get(name) else {
+        return None;
+    };
+    let found = first_ready(messages, queue, last, name);
+    // At what was found and not behind it: another destination's deal may be made first.
+    destinations.set_ready_from(name, number_or(found, last));
+    found
+}
+
+/// The oldest subscriber of a destination that may take one message more. Its queue looks for one from there on later.
+pub fn seek_taker(
+    subscribers: &Subscribers,
+    destinations: &mut Destinations,
+    given: u64,
+    name: &Text,
+) -> Option<Place>
+    ensures { SeeksTaker subscribers.now given name.now (queue_at destinations.old) (queue_at destinations.new) result }
+{
+    let last = subscribers.next_age();
+    let Some(queue) = destinations.get(name) else {
+        return None;
+    };
+    let found = first_taker(subscribers, queue, given, last, name);
+    destinations.set_taker_from(name, number_or(found, last));
+    found
+}
