@@ -179,15 +179,15 @@ WORDS = [
 
 # ---- examples: of a definition (crate, file, name), the lemma of one that holds and of one that doesn't (crate, file of proofs/, lemma)
 
-ACTIVITIES, AGREEMENT, ACCORD = ("activities", "Examples"), ("agreement", "Examples"), ("accord", "Examples")
+TRADE, AGREEMENT, ACCORD = ("trade", "Examples"), ("agreement", "Examples"), ("accord", "Examples")
 TOLD, PATH, WORLDS = (("schedule_runner", f"{it}Examples") for it in ("Told", "Path", "Good"))
 EXAMPLES = [
-    ("activities", "specs/Journal", "state_of", (*ACTIVITIES, "states_are_by_order"), None),
-    ("activities", "specs/Journal", "sent_of", (*ACTIVITIES, "letters_are_by_pair"), None),
-    ("activities", "specs/Journal", "handled_of", (*ACTIVITIES, "handled_letters_are_counted"), None),
-    ("activities", "specs/Journal", "IsLegal", (*ACTIVITIES, "placed_and_answered"), (*ACTIVITIES, "a_repeated_letter_is_not_legal")),
-    ("activities", "specs/Orders", "order_reactions", (*ACTIVITIES, "all_have_to_hold"), None),
-    ("activities", "specs/Follow", "MayFollow", (*ACTIVITIES, "the_next_letter_may_follow"), (*ACTIVITIES, "no_other_seat_may_command")),
+    ("activities", "specs/Journal", "state_of", (*TRADE, "states_are_by_order"), None),
+    ("activities", "specs/Journal", "sent_of", (*TRADE, "letters_are_by_pair"), None),
+    ("activities", "specs/Journal", "handled_of", (*TRADE, "handled_letters_are_counted"), None),
+    ("activities", "specs/Journal", "IsLegal", (*TRADE, "placed_and_answered"), (*TRADE, "a_repeated_letter_is_not_legal")),
+    ("trade", "specs/Orders", "order_reactions", (*TRADE, "all_have_to_hold"), None),
+    ("activities", "specs/Follow", "MayFollow", (*TRADE, "the_next_letter_may_follow"), (*TRADE, "no_other_seat_may_command")),
     ("agreement", "specs/Journals", "HandlesPrefixes", (*AGREEMENT, "beginnings_are_handled"), (*AGREEMENT, "nobody_asked")),
     ("agreement", "specs/Envelopes", "IsAuthentic", (*AGREEMENT, "a_request_is_authentic"), (*AGREEMENT, "others_are_not_authentic")),
     ("agreement", "specs/Envelopes", "SettledAreHandled", (*AGREEMENT, "marks_are_of_what_was_handled"),
@@ -328,8 +328,8 @@ CORE = {
          [("activities", "specs/Journal", it) for it in ("state_of", "sent_of", "handled_of", "IsLegal")]),
         ("What orders, stocks and accounts do with what they take in",
          ["The reactions by which a journal of each of the three services is read."],
-         [("activities", "specs/Orders", "order_reactions"), ("activities", "specs/Stocks", "stock_reactions"),
-          ("activities", "specs/Accounts", "account_reactions")]),
+         [("trade", "specs/Orders", "order_reactions"), ("trade", "specs/Stocks", "stock_reactions"),
+          ("trade", "specs/Accounts", "account_reactions")]),
         ("Three journals that fit each other",
          ["What each sender's journal sends, its receiver's journal handles in that order, and no further; and what is said of a journal,"
           " by an envelope or by a mark, is true of it."],

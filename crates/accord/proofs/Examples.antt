@@ -12,14 +12,14 @@ use Rattle.envelope.specs.declared.message.Envelope.TheVariants.{Letter, Settle}
 use Rattle.envelope.specs.declared.message.Letter as letter
 use Rattle.envelope.specs.declared.message.Message.{Message}
 use Rattle.envelope.specs.declared.message.Message.TheVariants.{Request, Tentative, Confirm, Cancel}
-use Rattle.activities.specs.declared.commands.StockCommand.{StockCommand}
-use Rattle.activities.specs.declared.commands.StockCommand.TheVariants.{Receive}
-use Rattle.activities.specs.declared.commands.AccountCommand.TheVariants.{SetLimit}
+use Rattle.trade.specs.declared.commands.StockCommand.{StockCommand}
+use Rattle.trade.specs.declared.commands.StockCommand.TheVariants.{Receive}
+use Rattle.trade.specs.declared.commands.AccountCommand.TheVariants.{SetLimit}
 use Rattle.activities.specs.declared.input.Input.TheVariants.{FromSeat, FromEntity}
 use Rattle.activities.specs.declared.input.JournalRow.{JournalRow}
-use Rattle.activities.specs.Lines.{is_before}
+use Rattle.trade.specs.Lines.{is_before}
 use Rattle.activities.specs.Numbered.{nth}
-use Rattle.activities.specs.Orders.{order_reactions}
+use Rattle.trade.specs.Orders.{order_reactions}
 use Rattle.activities.specs.Service.{Service}
 use Rattle.activities.proofs.Legal.{legal-none}
 use Rattle.agreement.specs.Agreement.{states_in, AreSound}
@@ -33,8 +33,7 @@ use Rattle.keep.specs.Seen.{Seen}
 use Rattle.keep.specs.Tables.{empty, set_message}
 use Rattle.endpoint.specs.Deeds.{Kept, kept, Did, Deed, Nothing, TakesIn, Holds, Settles}
 use Rattle.endpoint.specs.Matches.{AllMatch, TablesMatchJournal}
-use Rattle.endpoint.proofs.Examples.{o1, bolts, acme, placing}
-use Rattle.endpoint.proofs.CallExamples.{before, after, before_matches, taken_in}
+use Rattle.endpoint.proofs.Examples.{o1, bolts, acme}
 use Rattle.accord.specs.Deeds.{DeedIs, Moves, Turns, OfPurchasing, OfWarehouse, OfBilling, ComesOf}
 use Rattle.accord.specs.Good.{journals_of, settled_by, settled_in, held_by, IsHeldIn, HoldsAuthentic, IsGenuine, IsGood, AllAgree}
 use Rattle.accord.specs.Sight.{AllTables, Sight, MayLeave, AreClean, AreMatching, OrderTables, StockTables, AccountTables, all_empty}
@@ -42,6 +41,7 @@ use Rattle.accord.specs.Sight.{orders_service, stocks_service, accounts_service}
 use Rattle.accord.specs.Writing.{IsTrueIn}
 use Rattle.accord.proofs.Beginning.{empty_good}
 use Rattle.accord.proofs.Doing.{both_same}
+use Rattle.accord.proofs.Placed.{placing, before, after, before_matches, taken_in}
 
 -- the pair of an order and its stock, or another
 abbrev from_to : Name → Name → Pair

@@ -5,9 +5,9 @@ use Rattle.envelope.specs.declared.message.Envelope.{Envelope}
 use Rattle.envelope.specs.declared.message.Envelope.TheVariants.{Letter, Settle}
 use Rattle.activities.specs.Journal.{AreOf}
 use Rattle.activities.specs.Numbered.{nth}
-use Rattle.activities.specs.Orders.{order_reactions}
-use Rattle.activities.specs.Stocks.{stock_reactions}
-use Rattle.activities.specs.Accounts.{account_reactions}
+use Rattle.trade.specs.Orders.{order_reactions}
+use Rattle.trade.specs.Stocks.{stock_reactions}
+use Rattle.trade.specs.Accounts.{account_reactions}
 use Rattle.activities.proofs.Sameness.{either}
 use Rattle.agreement.specs.Envelopes.{IsAuthentic}
 use Rattle.agreement.specs.Journals.{sent_by, letters_by}

@@ -5,4 +5,5 @@ pub mod Keeping
 pub mod Writing
 pub mod Genuine
 pub mod Beginning
+pub mod Placed
 mod Examples

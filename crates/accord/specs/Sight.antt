@@ -1,12 +1,12 @@
 -- Three services, as their stores show them.
 use Rattle.std.specs.Prelude.{◌≡◌, Option, is_none, false}
 use Rattle.base.specs.declared.entity.Kind.TheVariants.{Order, Stock, Account}
-use Rattle.activities.specs.declared.commands.OrderCommand.{OrderCommand}
-use Rattle.activities.specs.declared.commands.StockCommand.{StockCommand}
-use Rattle.activities.specs.declared.commands.AccountCommand.{AccountCommand}
-use Rattle.activities.specs.Orders.{OrderState, order_reactions}
-use Rattle.activities.specs.Stocks.{StockState, stock_reactions}
-use Rattle.activities.specs.Accounts.{AccountState, account_reactions}
+use Rattle.trade.specs.declared.commands.OrderCommand.{OrderCommand}
+use Rattle.trade.specs.declared.commands.StockCommand.{StockCommand}
+use Rattle.trade.specs.declared.commands.AccountCommand.{AccountCommand}
+use Rattle.trade.specs.Orders.{OrderState, order_reactions}
+use Rattle.trade.specs.Stocks.{StockState, stock_reactions}
+use Rattle.trade.specs.Accounts.{AccountState, account_reactions}
 use Rattle.activities.specs.Service.{Service}
 use Rattle.keep.specs.Seen.{Seen}
 use Rattle.keep.specs.Tables.{Tables, empty}

@@ -8,16 +8,16 @@ use Rattle.envelope.specs.declared.message.Envelope.{Envelope}
 use Rattle.envelope.specs.declared.message.Envelope.TheVariants.{Letter, Settle}
 use Rattle.envelope.specs.declared.message.Message.{Message}
 use Rattle.envelope.specs.declared.message.Message.TheVariants.{Request, Confirm, Cancel}
-use Rattle.activities.specs.declared.commands.OrderCommand.TheVariants.{Place}
-use Rattle.activities.specs.declared.commands.StockCommand.{StockCommand}
-use Rattle.activities.specs.declared.commands.StockCommand.TheVariants.{Receive}
-use Rattle.activities.specs.declared.commands.AccountCommand.TheVariants.{SetLimit}
+use Rattle.trade.specs.declared.commands.OrderCommand.TheVariants.{Place}
+use Rattle.trade.specs.declared.commands.StockCommand.{StockCommand}
+use Rattle.trade.specs.declared.commands.StockCommand.TheVariants.{Receive}
+use Rattle.trade.specs.declared.commands.AccountCommand.TheVariants.{SetLimit}
 use Rattle.activities.specs.declared.input.Input.{Input}
 use Rattle.activities.specs.declared.input.Input.TheVariants.{FromSeat, FromEntity}
 use Rattle.activities.specs.declared.phase.Phase.{Phase}
-use Rattle.activities.specs.declared.phase.Status.TheVariants.{Cancelled}
-use Rattle.activities.specs.Items.{item}
-use Rattle.activities.specs.Lines.{is_before}
+use Rattle.trade.specs.declared.status.Status.TheVariants.{Cancelled}
+use Rattle.trade.specs.Items.{item}
+use Rattle.trade.specs.Lines.{is_before}
 use Rattle.agreement.specs.Agreement.{states_in, line_at, HasRefused, PartnersAgree, RefusedAreLeftAlone}
 use Rattle.agreement.specs.Envelopes.{IsAuthentic, SettledAreHandled, Raises}
 use Rattle.agreement.specs.Growth.{IsFrom, AddsRow, AddsOrder, AddsStock, AddsAccount}

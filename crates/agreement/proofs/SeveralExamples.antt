@@ -4,18 +4,18 @@ use Rattle.std.specs.Prelude.{codes}
 use Rattle.base.specs.Entity.{Name, stock_of}
 use Rattle.base.specs.Order.{same_entity, same_pair}
 use Rattle.envelope.specs.declared.message.Message.TheVariants.{Request, Confirm, Cancel}
-use Rattle.activities.specs.declared.commands.OrderCommand.TheVariants.{Place}
-use Rattle.activities.specs.declared.commands.StockCommand.TheVariants.{Receive}
-use Rattle.activities.specs.declared.commands.AccountCommand.TheVariants.{SetLimit}
+use Rattle.trade.specs.declared.commands.OrderCommand.TheVariants.{Place}
+use Rattle.trade.specs.declared.commands.StockCommand.TheVariants.{Receive}
+use Rattle.trade.specs.declared.commands.AccountCommand.TheVariants.{SetLimit}
 use Rattle.activities.specs.declared.phase.Phase.{Phase}
-use Rattle.activities.specs.declared.phase.LinePhase.{LinePhase}
-use Rattle.activities.specs.declared.phase.LinePhase.TheVariants.{Done, Released}
-use Rattle.activities.specs.declared.phase.Status.{Status}
-use Rattle.activities.specs.declared.phase.Status.TheVariants.{Open, Confirmed, Cancelled}
-use Rattle.activities.specs.Items.{item}
-use Rattle.activities.specs.Lines.{is_before}
-use Rattle.activities.specs.Orders.{OrderState}
-use Rattle.activities.specs.Stocks.{StockState}
+use Rattle.trade.specs.declared.line_phase.LinePhase.{LinePhase}
+use Rattle.trade.specs.declared.line_phase.LinePhase.TheVariants.{Done, Released}
+use Rattle.trade.specs.declared.status.Status.{Status}
+use Rattle.trade.specs.declared.status.Status.TheVariants.{Open, Confirmed, Cancelled}
+use Rattle.trade.specs.Items.{item}
+use Rattle.trade.specs.Lines.{is_before}
+use Rattle.trade.specs.Orders.{OrderState}
+use Rattle.trade.specs.Stocks.{StockState}
 use Rattle.agreement.specs.Journals.{sent_in}
 use Rattle.agreement.specs.Agreement.{states_in, HasRefused}
 use Rattle.agreement.specs.Steps.{Configuration, Reaches, start}

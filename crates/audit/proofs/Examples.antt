@@ -4,18 +4,19 @@ use Rattle.std.specs.Prelude.{codes}
 use Rattle.base.specs.Entity.{Name, order_of}
 use Rattle.base.specs.Order.{same_entity}
 use Rattle.base.specs.declared.entity.Kind.TheVariants.{Order, Stock, Account}
-use Rattle.activities.specs.declared.phase.LinePhase.{LinePhase}
-use Rattle.activities.specs.declared.phase.LinePhase.TheVariants.{Held, Refused, Done, Released}
-use Rattle.activities.specs.Lines.{Line}
+use Rattle.trade.specs.declared.line_phase.LinePhase.{LinePhase}
+use Rattle.trade.specs.declared.line_phase.LinePhase.TheVariants.{Held, Refused, Done, Released}
+use Rattle.trade.specs.Lines.{Line}
 use Rattle.keep.specs.Seen.{Seen}
 use Rattle.keep.specs.Tables.{empty, set_entity}
 use Rattle.endpoint.specs.declared.fault.EndFault.TheVariants.{StoreFailed, Memory, Unusable}
-use Rattle.endpoint.proofs.Examples.{o1, bolts, acme, placing, placed}
+use Rattle.endpoint.proofs.Examples.{o1, bolts, acme}
 use Rattle.accord.specs.Sight.{OrderTables, StockTables, AccountTables}
 use Rattle.audit.specs.Agree.{phase_in, stock_lines, account_lines, is_taken, is_given_back, go_one_way, phase_by, phases_at}
 use Rattle.audit.specs.Agree.{order_agrees, row_agrees, rows_agree, partners_agree}
 use Rattle.audit.specs.Looks.{StandsFor, Rests, Fails, LooksAtPartners, Looks}
 use Rattle.audit.specs.declared.fault.AuditFault.TheVariants.{Purchasing, Warehouse, Billing}
+use Rattle.accord.proofs.Placed.{placing, placed}
 
 -- an order that nobody placed
 abbrev o2 : Name

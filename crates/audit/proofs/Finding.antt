@@ -5,9 +5,9 @@ use Rattle.base.specs.Entity.{Name}
 use Rattle.base.specs.declared.entity.Kind.{Kind}
 use Rattle.base.specs.declared.entity.Kind.TheVariants.{Order}
 use Rattle.activities.specs.declared.input.JournalRow.{JournalRow}
-use Rattle.activities.specs.declared.commands.OrderCommand.{OrderCommand}
-use Rattle.activities.specs.Lines.{is_order}
-use Rattle.activities.specs.Orders.{OrderState}
+use Rattle.trade.specs.declared.commands.OrderCommand.{OrderCommand}
+use Rattle.trade.specs.Lines.{is_order}
+use Rattle.trade.specs.Orders.{OrderState}
 use Rattle.keep.specs.Law.{Reads}
 use Rattle.keep.specs.Seen.{Seen}
 use Rattle.endpoint.specs.declared.fault.EndFault.{EndFault}

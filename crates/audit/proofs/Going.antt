@@ -6,7 +6,7 @@ use Rattle.std.specs.Prelude.{Result, Ok, Err}
 use Rattle.std.specs.List.{list_all}
 use Rattle.keep.specs.Seen.{Seen}
 use Rattle.activities.specs.declared.input.JournalRow.{JournalRow}
-use Rattle.activities.specs.declared.commands.OrderCommand.{OrderCommand}
+use Rattle.trade.specs.declared.commands.OrderCommand.{OrderCommand}
 use Rattle.accord.specs.Sight.{OrderTables, StockTables, AccountTables}
 use Rattle.audit.specs.Agree.{row_agrees, rows_agree, partners_agree}
 use Rattle.audit.specs.Looks.{StandsFor, Rests, Looks}

@@ -8,16 +8,16 @@ use Rattle.base.specs.declared.entity.Kind.{Kind}
 use Rattle.base.specs.declared.entity.Kind.TheVariants.{Order, Stock, Account}
 use Rattle.activities.specs.declared.input.Input.{Input}
 use Rattle.activities.specs.declared.input.JournalRow.{JournalRow}
-use Rattle.activities.specs.declared.commands.OrderCommand.{OrderCommand}
-use Rattle.activities.specs.declared.commands.StockCommand.{StockCommand}
-use Rattle.activities.specs.declared.commands.AccountCommand.{AccountCommand}
-use Rattle.activities.specs.declared.phase.LinePhase.{LinePhase}
-use Rattle.activities.specs.declared.phase.LinePhase.TheVariants.{Held, Refused, Done, Released}
+use Rattle.trade.specs.declared.commands.OrderCommand.{OrderCommand}
+use Rattle.trade.specs.declared.commands.StockCommand.{StockCommand}
+use Rattle.trade.specs.declared.commands.AccountCommand.{AccountCommand}
+use Rattle.trade.specs.declared.line_phase.LinePhase.{LinePhase}
+use Rattle.trade.specs.declared.line_phase.LinePhase.TheVariants.{Held, Refused, Done, Released}
 use Rattle.activities.specs.Journal.{part}
-use Rattle.activities.specs.Lines.{Line, is_order}
-use Rattle.activities.specs.Orders.{OrderState, Partner, order_reactions}
-use Rattle.activities.specs.Stocks.{stock_reactions}
-use Rattle.activities.specs.Accounts.{account_reactions}
+use Rattle.trade.specs.Lines.{Line, is_order}
+use Rattle.trade.specs.Orders.{OrderState, Partner, order_reactions}
+use Rattle.trade.specs.Stocks.{stock_reactions}
+use Rattle.trade.specs.Accounts.{account_reactions}
 use Rattle.activities.specs.Reaction.{state}
 use Rattle.activities.specs.Rows.{row_after, row_for}
 use Rattle.agreement.specs.Agreement.{states_in, line_by, line_at, IsShippedOrBilled, IsReleasedOrRefused, IsAmong}

@@ -5,8 +5,8 @@ use Rattle.std.specs.Prelude.{Option, Ok, Err, slice_get, not, ◌&&◌}
 use Rattle.std.specs.List.{list_any}
 use Rattle.base.specs.Entity.{Name}
 use Rattle.keep.specs.Seen.{Seen}
-use Rattle.activities.specs.declared.phase.LinePhase.{LinePhase}
-use Rattle.activities.specs.Orders.{Partner}
+use Rattle.trade.specs.declared.line_phase.LinePhase.{LinePhase}
+use Rattle.trade.specs.Orders.{Partner}
 use Rattle.accord.specs.Sight.{StockTables, AccountTables}
 use Rattle.audit.specs.Agree.{phase_by, phases_at, go_one_way, is_taken, is_given_back}
 use Rattle.audit.specs.Looks.{StandsFor, Rests, LooksAtPartners}

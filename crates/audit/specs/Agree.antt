@@ -6,13 +6,13 @@ use Rattle.base.specs.Entity.{Name}
 use Rattle.base.specs.declared.entity.Kind.{Kind}
 use Rattle.base.specs.declared.entity.Kind.TheVariants.{Order, Stock, Account}
 use Rattle.activities.specs.declared.input.JournalRow.{JournalRow}
-use Rattle.activities.specs.declared.commands.OrderCommand.{OrderCommand}
-use Rattle.activities.specs.declared.phase.LinePhase.{LinePhase}
-use Rattle.activities.specs.declared.phase.LinePhase.TheVariants.{Refused, Done, Released}
-use Rattle.activities.specs.Accounts.{AccountState}
-use Rattle.activities.specs.Lines.{Line, line_of, is_order}
-use Rattle.activities.specs.Orders.{OrderState, Partner}
-use Rattle.activities.specs.Stocks.{StockState}
+use Rattle.trade.specs.declared.commands.OrderCommand.{OrderCommand}
+use Rattle.trade.specs.declared.line_phase.LinePhase.{LinePhase}
+use Rattle.trade.specs.declared.line_phase.LinePhase.TheVariants.{Refused, Done, Released}
+use Rattle.trade.specs.Accounts.{AccountState}
+use Rattle.trade.specs.Lines.{Line, line_of, is_order}
+use Rattle.trade.specs.Orders.{OrderState, Partner}
+use Rattle.trade.specs.Stocks.{StockState}
 use Rattle.accord.specs.Sight.{OrderTables, StockTables, AccountTables}
 
 -- how far the line of an order is, if it has one among these

@@ -7,13 +7,14 @@ ghost use Rattle.audit.specs.Looks.{LooksAtPartners, Looks};
 
 use crate::AuditFault;
 use crate::looking::{is_given_back, is_taken, order_row, phase_at_account, phase_at_stock};
-use activities::{AccountCommand, JournalRow, LinePhase, OrderCommand, StockCommand};
+use activities::JournalRow;
 use base::{Entity, Kind};
 use billing::{Account, Accounts};
 use endpoint::Endpoint;
 use keep::Keep;
 use purchasing::{Order, Orders};
 use std::alloc::Global;
+use trade::{AccountCommand, LinePhase, OrderCommand, StockCommand};
 use warehouse::{Stock, Stocks};
 
 /// How far the line of an order is at one of its partners, if it has one there. One read of the partner's store.

@@ -6,13 +6,14 @@ ghost use Rattle.keep.specs.Law.{Reads};
 ghost use Rattle.endpoint.specs.Faults.{end_of};
 ghost use Rattle.audit.specs.Agree.{phase_in, stock_lines, account_lines, is_taken, is_given_back};
 
-use activities::{AccountCommand, Handler, Holder, LinePhase, Lines, OrderCommand, StockCommand};
+use activities::Handler;
 use base::Entity;
 use billing::{Account, Accounts};
 use endpoint::{EndFault, Endpoint};
 use keep::Keep;
 use purchasing::{Order, Orders};
 use std::alloc::Global;
+use trade::{AccountCommand, Holder, LinePhase, Lines, OrderCommand, StockCommand};
 use warehouse::{Stock, Stocks};
 
 /// The row of an entity of this service. One read of the store.

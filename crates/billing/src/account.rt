@@ -1,15 +1,16 @@
 //! An account: its limit, and what orders use of it.
 
 ghost use Rattle.std.specs.Prelude.{◌≡◌, [], Ok, Err, IfOk, MatchOption, MatchResult};
-ghost use Rattle.activities.specs.Accounts.{on_account_command, account_reactions};
-ghost use Rattle.activities.specs.Sound.{IsAccountSound};
-ghost use Rattle.activities.specs.declared.commands.AccountCommand.TheVariants.{SetLimit};
+ghost use Rattle.trade.specs.Accounts.{on_account_command, account_reactions};
+ghost use Rattle.trade.specs.Sound.{IsAccountSound};
+ghost use Rattle.trade.specs.declared.commands.AccountCommand.TheVariants.{SetLimit};
 
-use activities::{Holder, LinePhase, Lines, Refusal};
+use activities::Refusal;
 use base::limits::MAX_NUMBER;
 use base::{Entity, Number};
 use std::alloc::{AllocError, Global};
 use std::marker::Model;
+use trade::{Holder, LinePhase, Lines};
 
 /// An account: contracts see its limit, how much of it is billed and held, and the list of its lines.
 ///
@@ -23,7 +24,7 @@ pub struct Account {
 }
 
 impl Model for Account {
-    ghost use Rattle.activities.specs.Accounts.{AccountState};
+    ghost use Rattle.trade.specs.Accounts.{AccountState};
 
     ghost Value = { AccountState };
 
@@ -124,7 +125,7 @@ impl Account {
 
 // What the limit leaves can be held, and what is finished is billed.
 impl Holder for Account {
-    ghost use Rattle.activities.specs.Accounts.{account_holding};
+    ghost use Rattle.trade.specs.Accounts.{account_holding};
 
     ghost holding = { account_holding };
 

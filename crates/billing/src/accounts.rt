@@ -3,15 +3,14 @@
 ghost use Rattle.std.specs.Prelude.{◌≡◌, Ok, Err, IfOk};
 ghost use Rattle.activities.specs.Applied.{IsApplied, IsSending};
 ghost use Rattle.activities.specs.Reaction.{react};
-ghost use Rattle.activities.specs.Accounts.{account_reactions};
+ghost use Rattle.trade.specs.Accounts.{account_reactions};
 
 use crate::Account;
-use activities::{
-    AccountCommand, Handler, HandlerFault, Input, Outs, Reacting, take_in, take_line_message,
-};
+use activities::{Handler, HandlerFault, Input, Outs, Reacting, take_in};
 use base::{Entity, Kind};
 use envelope::Message;
 use std::alloc::{AllocError, Global};
+use trade::{AccountCommand, take_line_message};
 
 /// What billing does with what its accounts take in.
 ///
@@ -23,7 +22,7 @@ impl Handler for Accounts {
     ghost use Rattle.std.specs.Prelude.{false};
     ghost use Rattle.std.proofs.lemmas.Bool.{false≢true};
     ghost use Rattle.base.specs.declared.entity.Kind.TheVariants.{Account as AccountKind};
-    ghost use Rattle.activities.specs.Accounts.{account_reactions};
+    ghost use Rattle.trade.specs.Accounts.{account_reactions};
 
     type State = Account;
 
@@ -73,7 +72,7 @@ impl Handler for Accounts {
 }
 
 impl Reacting for Accounts {
-    ghost use Rattle.activities.specs.Accounts.{account_reactions};
+    ghost use Rattle.trade.specs.Accounts.{account_reactions};
 
     type State = Account;
 

@@ -52,9 +52,9 @@ fn of_journals() {
     activities::what_is_sent_only_grows::<bool, bool>();
     activities::a_row_concerns_its_entity::<bool, bool>();
     activities::a_row_is_legal_where_it_may_follow::<bool, bool>();
-    activities::orders_stay_sound();
-    activities::stocks_stay_sound();
-    activities::accounts_stay_sound();
+    trade::orders_stay_sound();
+    trade::stocks_stay_sound();
+    trade::accounts_stay_sound();
 }
 
 /// Of the three services together.

@@ -4,7 +4,7 @@
 
 mod connected;
 
-use activities::{Handler, Items, OrderCommand};
+use activities::Handler;
 use anyhow::Context;
 use base::limits::MAX_QUEUED;
 use base::{Entity, Key, Pair};
@@ -21,6 +21,7 @@ use reception::Taken;
 use std::alloc::Global;
 use std::net::{Ipv4Addr, Net, SocketAddr, TcpStream};
 use std::thread;
+use trade::{Items, OrderCommand};
 
 /// How many turns each service has: none waits for more.
 const TURNS: u32 = 200;

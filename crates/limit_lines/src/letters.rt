@@ -1,7 +1,6 @@
 //! Letters to a stock, which are held up to `AHEAD` above the last that was handled.
 
 use crate::fault::LineFault;
-use activities::StockCommand;
 use base::{Entity, Key, Kind, Number, Pair};
 use endpoint::{Ingested, WindowedEndpoint};
 use envelope::{Letter, Message};
@@ -9,6 +8,7 @@ use inbox::Ahead;
 use keep_plain::PlainKeep;
 use line_script::natural;
 use std::alloc::Global;
+use trade::StockCommand;
 use warehouse::Stocks;
 
 /// A stock's endpoint, over tables in memory.

@@ -2,7 +2,6 @@
 
 use crate::answer::Answer;
 use crate::fault::LineFault;
-use activities::{Items, OrderCommand};
 use base::limits::MAX_BODY;
 use base::{Entity, Key};
 use endpoint::Endpoint;
@@ -13,6 +12,7 @@ use std::alloc::Global;
 use stomp_client::{ClientEvent, ClientSession};
 use stomp_frame::{Command, Frame};
 use stomp_session::ServerSession;
+use trade::{Items, OrderCommand};
 
 /// A client's session, the relay that sends letters on it, a RECEIPT that comes, and a SEND.
 #[derive(Drop)]

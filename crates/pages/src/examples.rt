@@ -17,7 +17,7 @@ ghost use Rattle.passage.specs.Laws.{ReadingPasses};
 ghost use Rattle.sites.specs.declared.site.Site.{Site};
 
 use accord::a_turn_keeps_the_laws;
-use activities::{AccountCommand, Handler, HandlerFault, Input, OrderCommand, Outs, StockCommand};
+use activities::{Handler, HandlerFault, Input, Outs};
 use agreement::stays_authentic;
 use base::{Entity, EntityFault, Key, Kind, Number, Pair};
 use billing::Accounts;
@@ -56,6 +56,7 @@ use stomp_client::{ClientFault, ClientSession};
 use stomp_frame::{Command, Decoder, Frame, FrameFault};
 use stomp_session::{Headers, Octets, ServerSession, Text};
 use stomp_wire::{Link, LinkFault, MemoryWire, Way, pump_out};
+use trade::{AccountCommand, Items, OrderCommand, StockCommand};
 use warehouse::{Stock, Stocks};
 
 pub fn an_entity_is_named_again(alloc: Global) -> Result<bool, EntityFault> {
@@ -188,6 +189,21 @@ pub fn first_state_of<H: Handler>(
     let mut state = H::opening(alloc)?;
     H::apply(alloc, &mut state, &Input::FromSeat(0, command), outs)?;
     Ok(state)
+}
+
+pub fn order_of_one(
+    alloc: Global,
+    stock: Key,
+    quantity: u64,
+    account: Key,
+    amount: u64,
+) -> Result<OrderCommand, AllocError> {
+    let lines = Items::of_one(alloc, stock, quantity)?;
+    Ok(OrderCommand::Place {
+        lines,
+        account,
+        amount,
+    })
 }
 
 pub fn an_order_is_refused(alloc: Global) -> Result<(), HandlerFault> {

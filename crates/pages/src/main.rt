@@ -4,7 +4,7 @@
 mod examples;
 mod hotel_day;
 
-use activities::{Handler, Items, OrderCommand, Outs};
+use activities::{Handler, Outs};
 use anyhow::Result;
 use base::{Entity, Key, Number, Pair};
 use billing::Accounts;
@@ -20,7 +20,7 @@ use examples::{
     an_idle_destination_is_closed, an_open_connection_stays_open, an_order_is_refused,
     answers_reach_back_in_mode_client, first_state_of, lawful_journals_stay_lawful,
     no_mark_is_taken_back, nothing_goes_out_before_the_broker_answers, nothing_is_held_at_first,
-    nothing_is_sent_where_no_connection_is_open, octets_wait_where_they_were_written,
+    nothing_is_sent_where_no_connection_is_open, octets_wait_where_they_were_written, order_of_one,
     printed_octets_are_read, services_without_orders_agree, so_much_is_on_hand,
     so_much_is_the_limit, tables_hold_nothing_at_first, what_a_client_reads_was_sent,
     what_comes_early_waits, what_is_read_of_a_good_frame_passes,
@@ -37,6 +37,7 @@ use schedules::{ConnectionName, ConnectionNumber, ServiceName};
 use std::alloc::Global;
 use std::error::Error;
 use std::fmt::Debug;
+use trade::{Items, OrderCommand};
 use warehouse::Stocks;
 
 /// One more than a limit can be.
@@ -153,11 +154,7 @@ fn take_in(alloc: Global) -> Result<u64> {
     let stock = Key::read(alloc, "bolt")?;
     let account = Key::read(alloc, "ann")?;
     let order = Entity::read(alloc, "order/o1")?;
-    let command = OrderCommand::Place {
-        lines: Items::of_one(alloc, stock, 3)?,
-        account,
-        amount: 500,
-    };
+    let command = order_of_one(alloc, stock, 3, account, 500)?;
     Ok(a_command_is_taken_in(alloc, &order, command)?)
 }
 

@@ -4,7 +4,7 @@ use Rattle.std.specs.Prelude.{codes, Some, None, Ok, Err}
 use Rattle.std.specs.Fmt.{digits}
 use Rattle.std.specs.Str.{is_utf8, chars}
 use Rattle.base.specs.Entity.{order_of}
-use Rattle.activities.specs.declared.commands.OrderCommand.TheVariants.{CancelOrder}
+use Rattle.trade.specs.declared.commands.OrderCommand.TheVariants.{CancelOrder}
 use Rattle.activities.specs.declared.handler.Refusal.TheVariants.{NotOpen}
 use Rattle.clap.specs.Faults.{walk_fault, defaults_fault}
 use Rattle.clap.specs.Words.{Kinds, fault_of}

@@ -1,11 +1,11 @@
 -- What running events tells: three services over tables in memory, and the mail between them.
 use Rattle.std.specs.Prelude.{◌≡◌, false, List, length, take, Option, None}
-use Rattle.activities.specs.Accounts.{AccountState}
-use Rattle.activities.specs.Orders.{OrderState}
-use Rattle.activities.specs.Stocks.{StockState}
-use Rattle.activities.specs.declared.commands.AccountCommand.{AccountCommand}
-use Rattle.activities.specs.declared.commands.OrderCommand.{OrderCommand}
-use Rattle.activities.specs.declared.commands.StockCommand.{StockCommand}
+use Rattle.trade.specs.Accounts.{AccountState}
+use Rattle.trade.specs.Orders.{OrderState}
+use Rattle.trade.specs.Stocks.{StockState}
+use Rattle.trade.specs.declared.commands.AccountCommand.{AccountCommand}
+use Rattle.trade.specs.declared.commands.OrderCommand.{OrderCommand}
+use Rattle.trade.specs.declared.commands.StockCommand.{StockCommand}
 use Rattle.purchasing.specs.declared.orders.Orders.{Orders}
 use Rattle.warehouse.specs.declared.stocks.Stocks.{Stocks}
 use Rattle.billing.specs.declared.accounts.Accounts.{Accounts}

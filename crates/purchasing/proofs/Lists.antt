@@ -16,14 +16,14 @@ use Rattle.base.proofs.Entities.{same_entity-Decides}
 use Rattle.envelope.specs.declared.message.Message.{Message}
 use Rattle.activities.specs.declared.outs.Out.{Out}
 use Rattle.activities.specs.declared.phase.Phase.{Phase}
-use Rattle.activities.specs.declared.commands.OrderCommand.TheVariants.{Place}
-use Rattle.activities.specs.declared.items.Item.{Item}
+use Rattle.trade.specs.declared.commands.OrderCommand.TheVariants.{Place}
+use Rattle.trade.specs.declared.items.Item.{Item}
 use Rattle.activities.specs.Applied.{IsSending}
-use Rattle.activities.specs.Items.{are_lines, are_numbers}
-use Rattle.activities.specs.Orders.{Partner, OrderState, all_tentative, with_phase, all_in, to_all, to_others, requests, partners_of}
-use Rattle.activities.specs.Orders.{on_order_command}
-use Rattle.activities.specs.Sound.{AreStocksThenAccount, ArePartners}
-use Rattle.activities.proofs.Sound.{entities-with_phase, entities-all_in}
+use Rattle.trade.specs.Items.{are_lines, are_numbers}
+use Rattle.trade.specs.Orders.{Partner, OrderState, all_tentative, with_phase, all_in, to_all, to_others, requests, partners_of}
+use Rattle.trade.specs.Orders.{on_order_command}
+use Rattle.trade.specs.Sound.{AreStocksThenAccount, ArePartners}
+use Rattle.trade.proofs.Sound.{entities-with_phase, entities-all_in}
 use Rattle.activities.proofs.Sameness.{either, same_entity-tells}
 use Rattle.purchasing.specs.Parts.Partners.{names, stands_in, is_stock, is_account, are_stocks_then_account, are_partners}
 

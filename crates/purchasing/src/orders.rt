@@ -3,16 +3,15 @@
 ghost use Rattle.std.specs.Prelude.{◌≡◌, false, true, None, Ok, Err, IfOk, MatchOption};
 ghost use Rattle.activities.specs.Applied.{IsApplied, IsAnswered, IsSending};
 ghost use Rattle.base.specs.Number.{is_number};
-ghost use Rattle.activities.specs.Orders.{order_reactions};
+ghost use Rattle.trade.specs.Orders.{order_reactions};
 ghost use Rattle.activities.specs.Reaction.{react};
 
 use crate::Order;
-use activities::{
-    Handler, HandlerFault, Input, Items, OrderCommand, Outs, Reacting, Refusal, take_in,
-};
+use activities::{Handler, HandlerFault, Input, Outs, Reacting, Refusal, take_in};
 use base::{Entity, Key, Kind, Number};
 use envelope::Message;
 use std::alloc::{AllocError, Global};
+use trade::{Items, OrderCommand};
 
 /// What purchasing does with what its orders take in.
 ///
@@ -23,7 +22,7 @@ pub struct Orders;
 impl Handler for Orders {
     ghost use Rattle.std.specs.Prelude.{is_none};
     ghost use Rattle.base.specs.declared.entity.Kind.TheVariants.{Order as OrderKind};
-    ghost use Rattle.activities.specs.Orders.{order_reactions};
+    ghost use Rattle.trade.specs.Orders.{order_reactions};
     ghost use Rattle.purchasing.specs.Parts.Opening.{none_is_none};
 
     type State = Option<Order>;
@@ -90,7 +89,7 @@ impl Handler for Orders {
 }
 
 impl Reacting for Orders {
-    ghost use Rattle.activities.specs.Orders.{order_reactions};
+    ghost use Rattle.trade.specs.Orders.{order_reactions};
 
     type State = Option<Order>;
 

@@ -1,16 +1,17 @@
 //! The partners of an order, one after another.
 
 ghost use Rattle.std.specs.Prelude.{◌≡◌, ◌≢◌, [], ◌++◌, true, IfOk, OnOk, OnErr};
-ghost use Rattle.activities.specs.Items.{are_numbers};
-ghost use Rattle.activities.specs.Orders.{awaits, with_phase, all_tentative, all_in, to_all, to_others, requests, partners_of};
+ghost use Rattle.trade.specs.Items.{are_numbers};
+ghost use Rattle.trade.specs.Orders.{awaits, with_phase, all_tentative, all_in, to_all, to_others, requests, partners_of};
 ghost use Rattle.purchasing.specs.Parts.Partners.{names, stands_in, are_stocks_then_account, are_partners};
 
 use crate::Partner;
-use activities::{Item, Outs, Phase};
+use activities::{Outs, Phase};
 use base::limits::MAX_LINES;
 use base::{Entity, Key, Kind, Number};
 use envelope::Message;
 use std::alloc::{AllocError, Global};
+use trade::Item;
 
 /// Whether one of these partners is this entity.
 fn stands_in(entity: &Entity, partners: &[Partner]) -> bool

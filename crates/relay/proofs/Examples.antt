@@ -10,8 +10,8 @@ use Rattle.stomp_client.specs.declared.session.Stage.TheVariants as stage
 use Rattle.envelope.specs.declared.fault.EnvelopeFault.TheVariants as envelope_fault
 use Rattle.envelope.specs.declared.message.Letter.{Letter}
 use Rattle.envelope.specs.declared.message.Message.TheVariants.{Cancel}
-use Rattle.activities.specs.declared.commands.OrderCommand.{OrderCommand}
 use Rattle.activities.specs.Numbered.{nth}
+use Rattle.activities.proofs.Asking.{Asked}
 use Rattle.keep.specs.declared.change.Place.{Place}
 use Rattle.keep.specs.Seen.{no_memory, failed}
 use Rattle.keep.specs.Tables.{Messages}
@@ -110,7 +110,7 @@ module _ (fresh : Relay) (nothing : (p : Pair) → marks_of fresh p ≡ 0) where
   )
 
   -- what was kept after the order was placed, with nothing settled
-  abbrev placed : Kept OrderCommand
+  abbrev placed : Kept Asked
   placed = record { journal = placing ∷ []; settled = λ _. 0; held = λ _ _. None }
 
   -- no row sends nothing

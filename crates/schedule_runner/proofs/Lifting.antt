@@ -1,12 +1,12 @@
 -- What one service does is what the world does.
 use Rattle.std.proofs.Common.{◌≡◌, ℕ, refl, ap, arith, Option, subst, sym}
 use Rattle.std.proofs.Math.Logic.{∥∥₁_map}
-use Rattle.activities.specs.declared.commands.OrderCommand.{OrderCommand}
-use Rattle.activities.specs.declared.commands.StockCommand.{StockCommand}
-use Rattle.activities.specs.declared.commands.AccountCommand.{AccountCommand}
-use Rattle.activities.specs.Orders.{OrderState}
-use Rattle.activities.specs.Stocks.{StockState}
-use Rattle.activities.specs.Accounts.{AccountState}
+use Rattle.trade.specs.declared.commands.OrderCommand.{OrderCommand}
+use Rattle.trade.specs.declared.commands.StockCommand.{StockCommand}
+use Rattle.trade.specs.declared.commands.AccountCommand.{AccountCommand}
+use Rattle.trade.specs.Orders.{OrderState}
+use Rattle.trade.specs.Stocks.{StockState}
+use Rattle.trade.specs.Accounts.{AccountState}
 use Rattle.envelope.specs.declared.message.Envelope.{Envelope}
 use Rattle.endpoint.specs.Matches.{AllMatch}
 use Rattle.keep.specs.Failing.{through}

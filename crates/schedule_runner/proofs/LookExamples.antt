@@ -3,12 +3,12 @@ use Rattle.std.proofs.Common.{◌≡◌, ℕ, [], ◌∷◌, length, Option, Non
 use Rattle.std.proofs.Common.{arith}
 use Rattle.std.specs.Prelude.{codes}
 use Rattle.std.specs.Global.{Vec}
-use Rattle.activities.specs.declared.commands.OrderCommand.{OrderCommand}
+use Rattle.trade.specs.declared.commands.OrderCommand.{OrderCommand}
 use Rattle.activities.specs.declared.handler.Refusal.TheVariants.{NotOpen}
-use Rattle.activities.specs.Orders.{OrderState}
+use Rattle.trade.specs.Orders.{OrderState}
 use Rattle.endpoint.specs.declared.fault.EndFault.{EndFault}
 use Rattle.endpoint.specs.declared.fault.EndFault.TheVariants.{Business, StoreFailed, Unusable}
-use Rattle.endpoint.proofs.Examples.{o1, bolts, placing, from_order}
+use Rattle.endpoint.proofs.Examples.{o1, bolts, from_order}
 use Rattle.keep.specs.Failing.{through}
 use Rattle.keep.specs.Law.{Reads}
 use Rattle.endpoint.specs.Faults.{end_of}
@@ -23,6 +23,7 @@ use Rattle.schedule_runner.specs.declared.looking.Listing.TheVariants.{Frames, J
 use Rattle.schedule_runner.specs.declared.looking.Mark.TheVariants.{Sent, Settled, Handled}
 use Rattle.schedule_runner.specs.Looks.{most, mark_of, IsRow, AreListed, read_told, shown_told, ReadsSite, StoreStays}
 use Rattle.schedule_runner.specs.Shows.{MayShow}
+use Rattle.accord.proofs.Placed.{placing}
 
 -- ---- marks
 

@@ -5,11 +5,11 @@ use Rattle.std.proofs.Math.Logic.{∥∥₁_elim}
 use Rattle.std.specs.Prelude.{codes, nat_lt, if◌then◌else◌}
 use Rattle.base.specs.Order.{same_entity}
 use Rattle.envelope.specs.declared.message.Message.{Message}
-use Rattle.activities.specs.declared.commands.OrderCommand.{OrderCommand}
-use Rattle.activities.specs.declared.commands.OrderCommand.TheVariants.{Place}
+use Rattle.trade.specs.declared.commands.OrderCommand.{OrderCommand}
+use Rattle.trade.specs.declared.commands.OrderCommand.TheVariants.{Place}
 use Rattle.activities.specs.declared.handler.Refusal.TheVariants.{AlreadyPlaced}
 use Rattle.activities.specs.declared.input.JournalRow.{JournalRow}
-use Rattle.activities.specs.Items.{item}
+use Rattle.trade.specs.Items.{item}
 use Rattle.activities.specs.Numbered.{nth}
 use Rattle.activities.specs.Service.{Service}
 use Rattle.activities.proofs.Legal.{legal-none}
@@ -22,8 +22,7 @@ use Rattle.endpoint.specs.declared.fault.EndFault.TheVariants.{NotMine, Business
 use Rattle.endpoint.specs.Calls.{Commits}
 use Rattle.endpoint.specs.Deeds.{Nothing, TakesIn}
 use Rattle.endpoint.specs.Matches.{TablesMatchJournal}
-use Rattle.endpoint.proofs.Examples.{o1, placing, a_placed_order_is_committed, it_is_placed_once}
-use Rattle.endpoint.proofs.CallExamples.{before, after, before_matches, taken_in}
+use Rattle.endpoint.proofs.Examples.{o1}
 use Rattle.accord.specs.Sight.{OrderTables, StockTables, AccountTables, AllTables, all_empty, orders_service, AreMatching, MayLeave}
 use Rattle.mail.specs.Offices.{new_office}
 use Rattle.schedules.specs.declared.event.Event.{Event}
@@ -39,6 +38,7 @@ use Rattle.schedule_runner.specs.Paths.{IsPath, Leads, Makes}
 use Rattle.schedule_runner.specs.Sight.{sight, StaysMatching}
 use Rattle.schedule_runner.specs.Steps.{Happened}
 use Rattle.schedule_runner.specs.Told.{asks_orders, commands_from, AreTold, RecordsTold, AllTold, Told}
+use Rattle.accord.proofs.Placed.{placing, a_placed_order_is_committed, it_is_placed_once, before, after, before_matches, taken_in}
 
 -- ---- the world
 

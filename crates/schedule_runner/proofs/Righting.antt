@@ -2,12 +2,12 @@
 use Rattle.std.proofs.Common.{◌≡◌, ◌⊎◌, Option, None, refl, inl, inr, subst, sym}
 use Rattle.std.proofs.Math.Logic.{∥∥₁_map}
 use Rattle.envelope.specs.declared.message.Envelope.{Envelope}
-use Rattle.activities.specs.declared.commands.OrderCommand.{OrderCommand}
-use Rattle.activities.specs.declared.commands.StockCommand.{StockCommand}
-use Rattle.activities.specs.declared.commands.AccountCommand.{AccountCommand}
-use Rattle.activities.specs.Accounts.{AccountState}
-use Rattle.activities.specs.Orders.{OrderState}
-use Rattle.activities.specs.Stocks.{StockState}
+use Rattle.trade.specs.declared.commands.OrderCommand.{OrderCommand}
+use Rattle.trade.specs.declared.commands.StockCommand.{StockCommand}
+use Rattle.trade.specs.declared.commands.AccountCommand.{AccountCommand}
+use Rattle.trade.specs.Accounts.{AccountState}
+use Rattle.trade.specs.Orders.{OrderState}
+use Rattle.trade.specs.Stocks.{StockState}
 use Rattle.billing.specs.declared.accounts.Accounts.{Accounts}
 use Rattle.purchasing.specs.declared.orders.Orders.{Orders}
 use Rattle.warehouse.specs.declared.stocks.Stocks.{Stocks}

@@ -1,7 +1,7 @@
 -- Examples: the events of a pump, paths of steps, what a run appends, and what a service is told.
 use Rattle.std.proofs.Common.{◌≡◌, ℕ, suc, List, [], ◌∷◌, length, Ok, Err, refl, ap, arith}
 use Rattle.stomp_wire.specs.declared.wire.Way.TheVariants.{Up, Down}
-use Rattle.activities.specs.declared.commands.OrderCommand.{OrderCommand}
+use Rattle.trade.specs.declared.commands.OrderCommand.{OrderCommand}
 use Rattle.schedules.specs.declared.event.ConnectionName.{ConnectionName}
 use Rattle.schedules.specs.declared.event.ConnectionNumber.TheVariants.{Zero, One}
 use Rattle.schedules.specs.declared.event.Event.{Event}

@@ -10,7 +10,6 @@ use Rattle.endpoint.specs.declared.fault.EndFault.TheVariants.{NotMine, Business
 use Rattle.endpoint.specs.declared.fault.EndFault.TheVariants.{NotSent}
 use Rattle.endpoint.specs.Faults.{end_of}
 use Rattle.endpoint.proofs.Examples.{o1, bolts, acme, from_order}
-use Rattle.endpoint.proofs.CallExamples.{before, after}
 use Rattle.keep.specs.Failing.{through}
 use Rattle.keep.specs.Law.{Reads}
 use Rattle.keep.specs.Tables.{Tables, empty}
@@ -29,6 +28,7 @@ use Rattle.schedule_runner.specs.Looks.{mark_of, IsRow, AreListed, read_told, sh
 use Rattle.schedule_runner.specs.Shows.{Tells, Behind, ShowsLine, RowOf, ListOf, MarkOf, Marks, ShowsPair, ShowsSettled, ShowsHandled}
 use Rattle.schedule_runner.specs.Steps.{Happened}
 use Rattle.schedule_runner.proofs.PathExamples.{seen, store, TheWorld, world}
+use Rattle.accord.proofs.Placed.{before, after}
 
 -- the number of a refusal
 abbrev number_of : Outcome → ℕ

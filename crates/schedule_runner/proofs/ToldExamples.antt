@@ -2,16 +2,16 @@
 use Rattle.std.proofs.Common.{◌≡◌, ◌∙◌, ℕ, List, [], ◌∷◌, length, Some, None, refl, ap, arith, inl, inr}
 use Rattle.std.specs.Prelude.{codes}
 use Rattle.envelope.specs.declared.message.Message.TheVariants.{Tentative}
-use Rattle.activities.specs.declared.commands.OrderCommand.{OrderCommand}
-use Rattle.activities.specs.declared.commands.OrderCommand.TheVariants.{Place}
-use Rattle.activities.specs.declared.commands.StockCommand.{StockCommand}
-use Rattle.activities.specs.declared.commands.StockCommand.TheVariants.{Receive}
-use Rattle.activities.specs.declared.commands.AccountCommand.{AccountCommand}
-use Rattle.activities.specs.declared.commands.AccountCommand.TheVariants.{SetLimit}
+use Rattle.trade.specs.declared.commands.OrderCommand.{OrderCommand}
+use Rattle.trade.specs.declared.commands.OrderCommand.TheVariants.{Place}
+use Rattle.trade.specs.declared.commands.StockCommand.{StockCommand}
+use Rattle.trade.specs.declared.commands.StockCommand.TheVariants.{Receive}
+use Rattle.trade.specs.declared.commands.AccountCommand.{AccountCommand}
+use Rattle.trade.specs.declared.commands.AccountCommand.TheVariants.{SetLimit}
 use Rattle.activities.specs.declared.input.Input.TheVariants.{FromEntity}
 use Rattle.activities.specs.declared.input.JournalRow.{JournalRow}
-use Rattle.activities.specs.Items.{item}
-use Rattle.endpoint.proofs.Examples.{o1, bolts, acme, placing}
+use Rattle.trade.specs.Items.{item}
+use Rattle.endpoint.proofs.Examples.{o1, bolts, acme}
 use Rattle.keep.specs.Tables.{empty}
 use Rattle.accord.specs.Sight.{AllTables, all_empty}
 use Rattle.schedules.specs.declared.event.Event.TheVariants.{Order, Stock, Account, StopBroker}
@@ -20,6 +20,7 @@ use Rattle.schedules.specs.declared.outcome.Outcome.TheVariants.{Committed, Refu
 use Rattle.schedule_runner.specs.Told.{command_at, commands_from, asks_orders, asks_stocks, asks_accounts, TellsCommand, AreTold}
 use Rattle.schedule_runner.specs.Told.{RecordsTold}
 use Rattle.schedule_runner.specs.Told.{AllTold}
+use Rattle.accord.proofs.Placed.{placing}
 
 -- seat 0 places an order, books stock and sets a limit
 abbrev placed : SeatCommand OrderCommand

@@ -4,7 +4,6 @@ use Rattle.std.proofs.Common.{inl}
 use Rattle.endpoint.specs.declared.fault.EndFault.{EndFault}
 use Rattle.endpoint.specs.declared.fault.EndFault.TheVariants.{StoreFailed, Memory, Unusable}
 use Rattle.endpoint.specs.Deeds.{Nothing, TakesIn}
-use Rattle.endpoint.proofs.Examples.{placing}
 use Rattle.keep.specs.Failing.{Failing, through}
 use Rattle.audit.specs.Agree.{partners_agree}
 use Rattle.audit.specs.Looks.{StandsFor}
@@ -26,6 +25,7 @@ use Rattle.schedule_runner.specs.Agreeing.{TellsAgreement}
 use Rattle.schedule_runner.specs.Deeds.{moment, Moves, InPurchasing, In, Same, Turn}
 use Rattle.schedule_runner.specs.Sight.{StaysClean, StaysMatching}
 use Rattle.schedule_runner.specs.Steps.{again, SendsAgain, IsNewBroker, AtMail, BeginsAnew, AtPurchasing, At, Happened}
+use Rattle.accord.proofs.Placed.{placing}
 
 -- ---- what is told
 

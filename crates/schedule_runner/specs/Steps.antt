@@ -14,9 +14,9 @@ use Rattle.schedules.specs.declared.outcome.Outcome.TheVariants.{Again, Absent, 
 use Rattle.sites.specs.Happenings.{Happens}
 use Rattle.sites.specs.Channels.{CutsBoth}
 use Rattle.sites.specs.SiteEvents.{SiteEvent, Commits}
-use Rattle.activities.specs.declared.commands.OrderCommand.{OrderCommand}
-use Rattle.activities.specs.declared.commands.StockCommand.{StockCommand}
-use Rattle.activities.specs.declared.commands.AccountCommand.{AccountCommand}
+use Rattle.trade.specs.declared.commands.OrderCommand.{OrderCommand}
+use Rattle.trade.specs.declared.commands.StockCommand.{StockCommand}
+use Rattle.trade.specs.declared.commands.AccountCommand.{AccountCommand}
 use Rattle.schedule_runner.specs.declared.acting.ServiceEvent.{ServiceEvent}
 use Rattle.schedule_runner.specs.declared.acting.ServiceEvent.TheVariants.{Open, Cut, Fill, Resend, Carry, Take, Drain, Fail, Reopen, Stop}
 use Rattle.schedule_runner.specs.declared.looking.Listing.TheVariants.{Frames, Journal}

@@ -6,13 +6,13 @@ ghost use Rattle.schedule_runner.specs.Deeds.{Same};
 ghost use Rattle.schedule_runner.specs.Passing.{Both, Passes};
 
 use crate::World;
-use activities::{AccountCommand, OrderCommand, StockCommand};
 use audit::AuditFault;
 use billing::Account;
 use endpoint::EndFault;
 use keep::Keep;
 use purchasing::Order;
 use schedules::Outcome;
+use trade::{AccountCommand, OrderCommand, StockCommand};
 use warehouse::Stock;
 
 /// The outcome of an agreement that was asked for, or of its fault.

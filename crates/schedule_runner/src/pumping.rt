@@ -5,12 +5,12 @@ ghost use Rattle.schedule_runner.specs.Rounds.{connection_events, service_events
 
 use crate::World;
 use crate::acting::ServiceEvent;
-use activities::{AccountCommand, OrderCommand, StockCommand};
 use billing::Account;
 use keep::Keep;
 use purchasing::Order;
 use schedules::{ConnectionName, ConnectionNumber, Rounds, ServiceName};
 use stomp_wire::Way;
+use trade::{AccountCommand, OrderCommand, StockCommand};
 use warehouse::Stock;
 
 impl<KO, KS, KA> World<KO, KS, KA>

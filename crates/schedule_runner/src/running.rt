@@ -10,12 +10,12 @@ ghost use Rattle.schedule_runner.specs.Sight.{StaysClean, StaysMatching};
 ghost use Rattle.schedule_runner.specs.Told.{Told};
 
 use crate::World;
-use activities::{AccountCommand, OrderCommand, StockCommand};
 use billing::Account;
 use keep::Keep;
 use purchasing::Order;
 use schedules::{Event, Outcome};
 use std::alloc::AllocError;
+use trade::{AccountCommand, OrderCommand, StockCommand};
 use warehouse::Stock;
 
 impl<KO, KS, KA> World<KO, KS, KA>

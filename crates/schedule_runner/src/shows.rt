@@ -8,7 +8,6 @@ ghost use Rattle.schedule_runner.specs.Shows.{Tells, RowOf, ListOf, MarkOf, MayS
 
 use crate::World;
 use crate::looking::{Listing, Mark, look_at_list, look_at_mark, look_at_row, shown};
-use activities::{AccountCommand, OrderCommand, StockCommand};
 use base::{Entity, Kind, Pair};
 use billing::{Account, Accounts};
 use keep::Keep;
@@ -16,6 +15,7 @@ use purchasing::{Order, Orders};
 use schedules::{Outcome, ServiceName};
 use showing::show_marks;
 use std::alloc::Global;
+use trade::{AccountCommand, OrderCommand, StockCommand};
 use warehouse::{Stock, Stocks};
 
 /// The line of a pair's marks, or 64 where memory was refused.

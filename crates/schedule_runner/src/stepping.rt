@@ -8,11 +8,11 @@ ghost use Rattle.sites.specs.SiteEvents.{Commits};
 
 use crate::World;
 use crate::acting::{ServiceEvent, act};
-use activities::{AccountCommand, OrderCommand, StockCommand};
 use billing::{Account, Accounts};
 use keep::Keep;
 use purchasing::{Order, Orders};
 use schedules::{Event, Ordinal, Outcome, SeatCommand, ServiceName};
+use trade::{AccountCommand, OrderCommand, StockCommand};
 use warehouse::{Stock, Stocks};
 
 impl<KO, KS, KA> World<KO, KS, KA>

@@ -7,7 +7,6 @@ ghost use Rattle.mail.specs.Offices.{new_office};
 ghost use Rattle.schedule_runner.specs.Good.{IsGoodWorld};
 ghost use Rattle.schedule_runner.specs.Sight.{sight};
 
-use activities::{AccountCommand, OrderCommand, StockCommand};
 use billing::{Account, Accounts};
 use endpoint::Endpoint;
 use keep::{Faulty, Keep};
@@ -15,6 +14,7 @@ use mail::Mail;
 use purchasing::{Order, Orders};
 use sites::Site;
 use std::alloc::Global;
+use trade::{AccountCommand, OrderCommand, StockCommand};
 use warehouse::{Stock, Stocks};
 
 /// Purchasing, warehouse and billing, each with its connections, and the mail between them.

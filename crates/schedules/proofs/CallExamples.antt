@@ -5,7 +5,7 @@ use Rattle.std.specs.Borrow.{Bor}
 use Rattle.std.specs.Global.{Vec}
 use Rattle.std.specs.Str.{is_utf8, chars}
 use Rattle.base.specs.Entity.{order_of}
-use Rattle.activities.specs.declared.commands.OrderCommand.TheVariants.{CancelOrder}
+use Rattle.trade.specs.declared.commands.OrderCommand.TheVariants.{CancelOrder}
 use Rattle.schedules.specs.declared.event.Event.{Event}
 use Rattle.schedules.specs.declared.event.Event.TheVariants.{Order, Journal}
 use Rattle.schedules.specs.declared.event.ServiceName.TheVariants.{Purchasing}

@@ -2,9 +2,9 @@
 use Rattle.std.proofs.Common.{◌≡◌, ◌<◌, ℕ, List, [], ◌∷◌, ◌++◌, refl, sym, ap, ◌∙◌, arith, Option, Some, None, length, take, drop}
 use Rattle.std.proofs.Common.{append_assoc}
 use Rattle.std.specs.Option.{option_map}
-use Rattle.activities.specs.declared.commands.OrderCommand.{OrderCommand}
-use Rattle.activities.specs.declared.commands.OrderCommand.TheVariants.{Place, CancelOrder}
-use Rattle.activities.specs.declared.items.Item.{Item}
+use Rattle.trade.specs.declared.commands.OrderCommand.{OrderCommand}
+use Rattle.trade.specs.declared.commands.OrderCommand.TheVariants.{Place, CancelOrder}
+use Rattle.trade.specs.declared.items.Item.{Item}
 use Rattle.schedules.specs.Commands.{item_of, asked_first, pairs_of}
 use Rattle.schedules.specs.Words.{◌>>=◌}
 

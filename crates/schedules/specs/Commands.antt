@@ -1,14 +1,14 @@
 -- The commands of seats, as words say them.
 use Rattle.std.specs.Prelude.{ℕ, nat_le, List, [], ◌∷◌, ◌++◌, length, Option, Some, None, if◌then◌else◌}
 use Rattle.base.specs.Entity.{order_of, stock_of, account_of}
-use Rattle.activities.specs.declared.commands.OrderCommand.{OrderCommand}
-use Rattle.activities.specs.declared.commands.OrderCommand.TheVariants.{Place, CancelOrder}
-use Rattle.activities.specs.declared.commands.StockCommand.{StockCommand}
-use Rattle.activities.specs.declared.commands.StockCommand.TheVariants.{Receive}
-use Rattle.activities.specs.declared.commands.AccountCommand.{AccountCommand}
-use Rattle.activities.specs.declared.commands.AccountCommand.TheVariants.{SetLimit}
-use Rattle.activities.specs.declared.items.Item.{Item}
-use Rattle.activities.specs.Items.{item}
+use Rattle.trade.specs.declared.commands.OrderCommand.{OrderCommand}
+use Rattle.trade.specs.declared.commands.OrderCommand.TheVariants.{Place, CancelOrder}
+use Rattle.trade.specs.declared.commands.StockCommand.{StockCommand}
+use Rattle.trade.specs.declared.commands.StockCommand.TheVariants.{Receive}
+use Rattle.trade.specs.declared.commands.AccountCommand.{AccountCommand}
+use Rattle.trade.specs.declared.commands.AccountCommand.TheVariants.{SetLimit}
+use Rattle.trade.specs.declared.items.Item.{Item}
+use Rattle.trade.specs.Items.{item}
 use Rattle.schedules.specs.declared.event.SeatCommand.{SeatCommand}
 use Rattle.schedules.specs.Arguments.{seat_of, key_of}
 use Rattle.schedules.specs.Numbers.{numeral_value}

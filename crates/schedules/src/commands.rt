@@ -7,9 +7,9 @@ use crate::arguments::{key_at, number_at, seat_at};
 use crate::event::SeatCommand;
 use crate::fault::LineFault;
 use crate::words::Word;
-use activities::{AccountCommand, Item, Items, OrderCommand, StockCommand};
 use base::{Entity, Kind};
 use std::alloc::Global;
+use trade::{AccountCommand, Item, Items, OrderCommand, StockCommand};
 
 /// The most words behind `SEAT KEY`: 16 pairs `STOCK N`, and `ACCOUNT AMOUNT`.
 const MOST_WORDS: usize = 34;

@@ -1,9 +1,9 @@
 //! The events of a schedule.
 
 use crate::bounded::{Ordinal, Rounds, SeatNumber};
-use activities::{AccountCommand, OrderCommand, StockCommand};
 use base::{Entity, Pair};
 use stomp_wire::Way;
+use trade::{AccountCommand, OrderCommand, StockCommand};
 
 /// A service of the world that a schedule runs.
 #[derive(Clone, Copy, Debug, PartialEq, Eq)]

@@ -2,11 +2,12 @@
 
 use crate::fault::LineFault;
 use crate::words::number;
-use activities::{AccountCommand, Handler, Holder, LinePhase, Lines, StockCommand};
+use activities::Handler;
 use base::{Entity, Kind};
 use billing::{Account, Accounts};
 use line_script::natural;
 use std::alloc::Global;
+use trade::{AccountCommand, Holder, LinePhase, Lines, StockCommand};
 use warehouse::{Stock, Stocks};
 
 /// A service whose commands are one number each.

@@ -7,18 +7,18 @@ use Rattle.base.specs.declared.pair.Pair.{Pair}
 use Rattle.stomp_frame.specs.Frames.{canonical, line_of, escape}
 use Rattle.envelope.specs.declared.message.Message.TheVariants as message
 use Rattle.envelope.specs.declared.message.Letter.{Letter}
-use Rattle.activities.specs.Items.{item}
-use Rattle.activities.specs.Orders.{OrderState}
-use Rattle.activities.specs.Stocks.{StockState}
-use Rattle.activities.specs.Accounts.{AccountState}
-use Rattle.activities.specs.declared.commands.OrderCommand.{OrderCommand}
-use Rattle.activities.specs.declared.commands.OrderCommand.TheVariants.{Place, CancelOrder}
-use Rattle.activities.specs.declared.commands.StockCommand.TheVariants.{Receive}
-use Rattle.activities.specs.declared.commands.AccountCommand.TheVariants.{SetLimit}
+use Rattle.trade.specs.Items.{item}
+use Rattle.trade.specs.Orders.{OrderState}
+use Rattle.trade.specs.Stocks.{StockState}
+use Rattle.trade.specs.Accounts.{AccountState}
+use Rattle.trade.specs.declared.commands.OrderCommand.{OrderCommand}
+use Rattle.trade.specs.declared.commands.OrderCommand.TheVariants.{Place, CancelOrder}
+use Rattle.trade.specs.declared.commands.StockCommand.TheVariants.{Receive}
+use Rattle.trade.specs.declared.commands.AccountCommand.TheVariants.{SetLimit}
 use Rattle.activities.specs.declared.input.Input.TheVariants.{FromSeat, FromEntity}
 use Rattle.activities.specs.declared.input.JournalRow.{JournalRow}
 use Rattle.activities.specs.declared.phase.Phase.TheVariants as phase
-use Rattle.activities.specs.declared.phase.Status.TheVariants as status
+use Rattle.trade.specs.declared.status.Status.TheVariants as status
 use Rattle.showing.specs.Printed.{shown_order, shown_stock, shown_account, shown_or_none, show_line, pair_line, shown_order_command}
 use Rattle.showing.specs.Printed.{shown_stock_command, shown_account_command, shown_message, journal_line, journal_lines}
 use Rattle.showing.specs.Printed.{hexadecimal_octet, shown_octet, frame_line, frame_lines}

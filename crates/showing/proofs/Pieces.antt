@@ -8,7 +8,7 @@ use Rattle.std.proofs.lemmas.List.Concat.{flat_map-append}
 use Rattle.std.proofs.lemmas.Option.{get_or_from_slice_get, slice_get-get_or}
 use Rattle.envelope.specs.declared.message.Letter.{Letter}
 use Rattle.activities.specs.declared.input.JournalRow.{JournalRow}
-use Rattle.activities.specs.Orders.{Partner}
+use Rattle.trade.specs.Orders.{Partner}
 use Rattle.schedules.specs.Words.{spelled}
 use Rattle.showing.specs.Printed.{shown_octet, shown_partner, journal_line, frame_line}
 

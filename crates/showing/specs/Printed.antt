@@ -11,20 +11,21 @@ use Rattle.envelope.specs.declared.message.Letter.{Letter}
 use Rattle.envelope.specs.declared.message.Envelope.TheVariants as envelope
 use Rattle.envelope.specs.Written.{send_of}
 use Rattle.stomp_frame.specs.Frames.{canonical}
-use Rattle.activities.specs.declared.commands.OrderCommand.{OrderCommand}
-use Rattle.activities.specs.declared.commands.OrderCommand.TheVariants.{Place, CancelOrder}
-use Rattle.activities.specs.declared.items.Item.{Item}
-use Rattle.activities.specs.declared.commands.StockCommand.{StockCommand}
-use Rattle.activities.specs.declared.commands.StockCommand.TheVariants.{Receive}
-use Rattle.activities.specs.declared.commands.AccountCommand.{AccountCommand}
-use Rattle.activities.specs.declared.commands.AccountCommand.TheVariants.{SetLimit}
+use Rattle.trade.specs.declared.commands.OrderCommand.{OrderCommand}
+use Rattle.trade.specs.declared.commands.OrderCommand.TheVariants.{Place, CancelOrder}
+use Rattle.trade.specs.declared.items.Item.{Item}
+use Rattle.trade.specs.declared.commands.StockCommand.{StockCommand}
+use Rattle.trade.specs.declared.commands.StockCommand.TheVariants.{Receive}
+use Rattle.trade.specs.declared.commands.AccountCommand.{AccountCommand}
+use Rattle.trade.specs.declared.commands.AccountCommand.TheVariants.{SetLimit}
 use Rattle.activities.specs.declared.input.Input.{Input}
 use Rattle.activities.specs.declared.input.Input.TheVariants.{FromSeat, FromEntity}
 use Rattle.activities.specs.declared.input.JournalRow.{JournalRow}
-use Rattle.activities.specs.Accounts.{AccountState}
-use Rattle.activities.specs.Orders.{Partner, OrderState}
-use Rattle.activities.specs.Stocks.{StockState}
-use Rattle.activities.specs.Words.{status_word, phase_word}
+use Rattle.trade.specs.Accounts.{AccountState}
+use Rattle.trade.specs.Orders.{Partner, OrderState}
+use Rattle.trade.specs.Stocks.{StockState}
+use Rattle.trade.specs.Words.{status_word}
+use Rattle.activities.specs.Words.{phase_word}
 use Rattle.schedules.specs.Outcomes.{told_number, shown_entity, shown_pair}
 use Rattle.schedules.specs.Words.{escaped}
 

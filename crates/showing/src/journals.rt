@@ -7,9 +7,10 @@ ghost use Rattle.showing.specs.Printed.{shown_message, shown_input, journal_line
 
 use crate::services::Shown;
 use crate::words::{push_entity, push_escaped, push_numbered, push_text};
-use activities::{AccountCommand, Input, Item, JournalRow, OrderCommand, StockCommand};
+use activities::{Input, JournalRow};
 use envelope::Message;
 use std::alloc::{AllocError, Global};
+use trade::{AccountCommand, Item, OrderCommand, StockCommand};
 
 /// Appends so much of each stock.
 fn push_items(line: &mut Vec<u8>, items: &[Item]) -> Result<(), AllocError>

@@ -6,11 +6,12 @@ ghost use Rattle.showing.specs.Printed.{shown_or_none, show_line};
 use crate::journals::{push_account_command, push_order_command, push_stock_command};
 use crate::states::{push_account, push_order, push_stock};
 use crate::words::{push_entity, push_text};
-use activities::{AccountCommand, Handler, OrderCommand, StockCommand};
+use activities::Handler;
 use base::Entity;
 use billing::{Account, Accounts};
 use purchasing::{Order, Orders};
 use std::alloc::{AllocError, Global};
+use trade::{AccountCommand, OrderCommand, StockCommand};
 use warehouse::{Stock, Stocks};
 
 /// A service that has words for its rows and its commands.

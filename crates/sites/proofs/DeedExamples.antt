@@ -8,10 +8,9 @@ use Rattle.envelope.specs.Reading.{read_frame}
 use Rattle.envelope.specs.declared.message.Envelope.TheVariants.{Letter as OfLetter}
 use Rattle.envelope.specs.declared.message.Letter.{Letter}
 use Rattle.envelope.specs.declared.message.Message.TheVariants.{Tentative}
-use Rattle.activities.specs.declared.commands.OrderCommand.{OrderCommand}
 use Rattle.activities.specs.declared.handler.Refusal.TheVariants.{AlreadyPlaced}
 use Rattle.activities.specs.declared.input.JournalRow.{JournalRow}
-use Rattle.activities.specs.Orders.{OrderState}
+use Rattle.activities.proofs.Asking.{Asked}
 use Rattle.keep.specs.Failing.{Failing}
 use Rattle.keep.specs.Seen.{Seen}
 use Rattle.keep.specs.Tables.{empty}
@@ -67,7 +66,7 @@ commands_may_do = (
 abbrev letter : ℕ → Letter
 letter number = record { pair = record { from = bolts; to = o1 }; number = number; message = Tentative }
 
-abbrev answer : JournalRow OrderCommand
+abbrev answer : JournalRow Asked
 answer = row_of_letter (letter 1)
 
 -- a frame that carries the first letter
@@ -143,7 +142,7 @@ module _ (c : Connection) (relay : Relay) (f : Content) where
   channel rows = record { connection = waiting (Some f); relay = cursor rows }
 
   abbrev Service : Type 0
-  Service = Site ℕ Store (Option OrderState) OrderCommand
+  Service = Site ℕ Store (Option Asked) Asked
 
   abbrev site : Failing Store → Option Channel → Service
   site e l = record { endpoint = e; zero = l; one = None }
@@ -188,9 +187,9 @@ module _ (c : Connection) (relay : Relay) (f : Content) where
     λ h. ∥∥₁_elim (h refl good after refl) (λ a b. absurd a) (λ came. none came.before came.deed came.was came.may came.did),
   )
     where
-      none : (t : OrderTables) (d : Deed OrderCommand) → t ≡ before → d ≡ Nothing → Did orders (kept t) d (kept after) → ⊥
+      none : (t : OrderTables) (d : Deed Asked) → t ≡ before → d ≡ Nothing → Did orders (kept t) d (kept after) → ⊥
       none t Nothing was may did = let rows : length t.journal ≡ 0 = ap (λ (x : OrderTables). length x.journal) was in
-          let row : 1 ≡ length t.journal = ap (λ (k : Kept OrderCommand). length k.journal) did in omega (arith, rows, row)
+          let row : 1 ≡ length t.journal = ap (λ (k : Kept Asked). length k.journal) did in omega (arith, rows, row)
       none t (TakesIn row) was may did = absurd (cc)
       none t (Holds l) was may did = absurd (cc)
       none t (Settles p n) was may did = absurd (cc)
@@ -207,6 +206,6 @@ module _ (c : Connection) (relay : Relay) (f : Content) where
   cursors_are_right = ((relays_know_each.0, tt), (tt, tt), λ h. relays_know_each.1 h.0)
 
   -- where no connection is open behind an event, all cursors stay right
-  cursors_stay : (e : SiteEvent OrderCommand) (outcome : Outcome) (s : Service) (from to : Office)
+  cursors_stay : (e : SiteEvent Asked) (outcome : Outcome) (s : Service) (from to : Office)
       → KeepsRight seen orders e outcome s from (site (store 0 before) None) to
   cursors_stay e outcome s from to = λ clean matches happens goes right. (tt, tt)

@@ -1,16 +1,12 @@
 -- Examples: what events of a service do and tell.
-use Rattle.std.proofs.Common.{◌≡◌, ℕ, [], ◌∷◌, Option, Some, None, Result, Ok, Err, Bool, true, false, refl, ap, arith}
-use Rattle.std.specs.Prelude.{codes}
+use Rattle.std.proofs.Common.{◌≡◌, ℕ, Option, Some, None, Result, Ok, Err, Bool, true, false, refl, ap, arith}
 use Rattle.base.specs.declared.entity.Kind.TheVariants.{Order, Stock}
 use Rattle.stomp_frame.specs.Frames.{Content}
 use Rattle.stomp_frame.specs.declared.fault.FrameFault.{FrameFault}
 use Rattle.stomp_frame.specs.declared.fault.FrameFault.TheVariants as frame
 use Rattle.stomp_client.specs.declared.fault.ClientFault.TheVariants as client
-use Rattle.activities.specs.declared.commands.OrderCommand.{OrderCommand}
-use Rattle.activities.specs.declared.commands.OrderCommand.TheVariants.{Place}
 use Rattle.activities.specs.declared.input.JournalRow.{JournalRow}
-use Rattle.activities.specs.Items.{item}
-use Rattle.activities.specs.Orders.{OrderState}
+use Rattle.activities.proofs.Asking.{Asked, both}
 use Rattle.keep.specs.Failing.{Failing}
 use Rattle.keep.specs.Seen.{Seen}
 use Rattle.keep.specs.Tables.{empty}
@@ -43,8 +39,8 @@ use Rattle.sites.specs.declared.site.Site.{Site}
 
 -- ---- plain parts
 
-abbrev pub asked : SeatCommand OrderCommand
-asked = record { seat = 0; entity = o1; command = Place (item (codes "bolts") 3 ∷ []) (codes "acme") 500 }
+abbrev pub asked : SeatCommand Asked
+asked = record { seat = 0; entity = o1; command = both }
 
 -- a seat's command is the row that the journal takes; that of a command for another entity isn't
 rows_are_of_commands : (command_row asked ≡ placing) × (leaves_of failure.Old ≡ OldTables) × (leaves_of failure.New ≡ NewTables)
@@ -52,7 +48,7 @@ rows_are_of_commands : (command_row asked ≡ placing) × (leaves_of failure.Old
 rows_are_of_commands = (refl, refl, refl, λ h. absurd (cc))
 
 other_rows : command_row (record asked { entity = bolts }) ≡ placing → ⊥
-other_rows h = let kind : Stock ≡ Order = ap (λ (row : JournalRow OrderCommand). row.entity.kind) h in absurd (cc)
+other_rows h = let kind : Stock ≡ Order = ap (λ (row : JournalRow Asked). row.entity.kind) h in absurd (cc)
 
 -- a frame that was taken doesn't wait, nor does one behind a fault of the endpoint; for want of memory it does
 frames_wait_or_not : (f : Content) → (waiting_of (Ok taken.Held) f ≡ None) × (waiting_of (Err (fault.Client client.Memory)) f ≡ Some f)
@@ -139,7 +135,7 @@ abbrev pub store : Bool → Failing Bool
 store usable = record { keep = usable; armed = None; is_down = false; failures = 0 }
 
 abbrev pub Service : Type 0
-Service = Site ℕ Bool (Option OrderState) OrderCommand
+Service = Site ℕ Bool (Option Asked) Asked
 
 abbrev pub site : Bool → Option Channel → Service
 site usable zero = record { endpoint = store usable; zero = zero; one = None }

@@ -18,11 +18,10 @@ use Rattle.envelope.specs.Reading.{read_envelope, read_frame}
 use Rattle.envelope.specs.declared.message.Envelope.TheVariants as envelope
 use Rattle.envelope.specs.declared.message.Letter.{Letter}
 use Rattle.envelope.specs.declared.message.Message.TheVariants.{Tentative}
-use Rattle.activities.specs.declared.commands.OrderCommand.{OrderCommand}
 use Rattle.activities.specs.declared.handler.Refusal.{Refusal}
 use Rattle.activities.specs.declared.input.JournalRow.{JournalRow}
 use Rattle.activities.specs.declared.outs.Out.{Out}
-use Rattle.activities.specs.Orders.{OrderState, order_reactions}
+use Rattle.activities.proofs.Asking.{Asked, asking_reactions}
 use Rattle.keep.specs.Failing.{through}
 use Rattle.keep.specs.Tables.{changed}
 use Rattle.keep.specs.declared.change.Change.TheVariants as change
@@ -112,7 +111,7 @@ module _ (relay : Relay) where
     λ h. unmarked h.result h.tells h.comes,
   )
     where
-      stays : (m : ℕ) (t : OrderTables) (d : Deed OrderCommand) → t ≡ after → TakeMay orders settle (Ok (taken.Settled m)) (kept t) d
+      stays : (m : ℕ) (t : OrderTables) (d : Deed Asked) → t ≡ after → TakeMay orders settle (Ok (taken.Settled m)) (kept t) d
           → Did orders (kept t) d (kept after) → ⊥
       stays m t d was (pair, number, read, done) did =
           let same : Some (envelope.Settle pair number) ≡ Some (envelope.Settle (from_order bolts) 1) = sym read ∙ it_is_read in
@@ -120,7 +119,7 @@ module _ (relay : Relay) where
           let deed : d ≡ Settles (from_order bolts) 1 = cc in
           let now = subst (λ (x : OrderTables). Did orders (kept x) (Settles (from_order bolts) 1) (kept after)) was
           (subst (λ e. Did orders (kept t) e (kept after)) deed did) in
-          let mark : 0 ≡ 1 = ap (λ (k : Kept OrderCommand). k.settled (from_order bolts)) now.2 in omega (arith, mark)
+          let mark : 0 ≡ 1 = ap (λ (k : Kept Asked). k.settled (from_order bolts)) now.2 in omega (arith, mark)
 
       unmarked : (r : Result Taken ReceptionFault) → told.Settled 1 ≡ taken_told r
           → ComesBy (through seen) (store true after) (store true after) orders (TakeMay orders settle r) → ⊥
@@ -159,19 +158,19 @@ module _ (relay : Relay) where
   )
 
   -- nothing is sent for it, so that no number is too large
-  none_sent : (outs : List Out) → [] ≡ outs → NumbersFit (sent_counts order_reactions (placing ∷ [])) o1 outs
+  none_sent : (outs : List Out) → [] ≡ outs → NumbersFit (sent_counts asking_reactions (placing ∷ [])) o1 outs
   none_sent [] none r some = omega (arith, some)
   none_sent (out ∷ outs) none r some = absurd (cc)
 
-  abbrev outs_of : Result (Option OrderState × List Out) Refusal → List Out
+  abbrev outs_of : Result (Option Asked × List Out) Refusal → List Out
   outs_of (Ok done) = done.1
   outs_of (Err refusal) = []
 
   -- the journal takes it in
-  abbrev row : JournalRow OrderCommand
+  abbrev row : JournalRow Asked
   row = row_of_letter letter
 
-  it_may_follow : Takes order_reactions Order (placing ∷ []) row (placing ∷ row ∷ [])
+  it_may_follow : Takes asking_reactions Order (placing ∷ []) row (placing ∷ row ∷ [])
   unfolding same_entity same_pair
   it_may_follow = record {
     follows = record { of_kind = refl; seated = tt; accepted = refl; next = refl };
@@ -229,7 +228,7 @@ module _ (relay : Relay) where
     λ h. unhandled h.result h.tells h.comes,
   )
     where
-      not_there : (r : JournalRow OrderCommand) (t : OrderTables) (d : Deed OrderCommand) → t ≡ after → d ≡ TakesIn r
+      not_there : (r : JournalRow Asked) (t : OrderTables) (d : Deed Asked) → t ≡ after → d ≡ TakesIn r
           → Did orders (kept t) d (kept after) → ⊥
       not_there r t d was deed did =
           let now = subst (λ (x : OrderTables). Did orders (kept x) (TakesIn r) (kept after)) was

@@ -3,8 +3,7 @@ use Rattle.std.proofs.Common.{◌≡◌, ◌∙◌, ◌⊎◌, ℕ, List, [], �
 use Rattle.std.proofs.Common.{sym, ap, subst, inl, inr, arith}
 use Rattle.std.proofs.Math.Logic.{∥∥₁_elim}
 use Rattle.std.specs.Prelude.{MatchBool}
-use Rattle.activities.specs.declared.commands.OrderCommand.{OrderCommand}
-use Rattle.activities.specs.Orders.{OrderState}
+use Rattle.activities.proofs.Asking.{Asked}
 use Rattle.broker_core.specs.Calls.{empty as no_session, new_session}
 use Rattle.endpoint.specs.Calls.{Commits}
 use Rattle.endpoint.specs.Faults.{end_of}
@@ -75,7 +74,7 @@ abbrev pub store : Bool → OrderTables → Failing Store
 store usable tables = record { keep = (usable, tables); armed = None; is_down = false; failures = 0 }
 
 abbrev pub Service : Type 0
-Service = Site ℕ Store (Option OrderState) OrderCommand
+Service = Site ℕ Store (Option Asked) Asked
 
 abbrev pub site : Failing Store → Option Channel → Service
 site e zero = record { endpoint = e; zero = zero; one = None }

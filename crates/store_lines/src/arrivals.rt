@@ -3,12 +3,12 @@
 use crate::fault::LineFault;
 use crate::texts::PairText;
 use crate::words::{letter, pair};
-use activities::OrderCommand;
 use endpoint::{Endpoint, Ingested};
 use keep::Keep;
 use line_script::{first_word, natural};
 use purchasing::{Order, Orders};
 use std::alloc::Global;
+use trade::OrderCommand;
 
 /// Takes in a letter: `FROM TO N MESSAGE`.
 pub fn ingest<K>(

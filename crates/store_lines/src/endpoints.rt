@@ -5,13 +5,13 @@ use crate::fault::LineFault;
 use crate::tables::place;
 use crate::texts::{LettersText, RowsText, StateText};
 use crate::words::{command, pair, seat};
-use activities::OrderCommand;
 use base::{Entity, Pair};
 use endpoint::{EndFault, Endpoint};
 use keep::{Keep, Place};
 use line_script::{first_word, natural, size};
 use purchasing::{Order, Orders};
 use std::alloc::Global;
+use trade::OrderCommand;
 
 /// A command of a seat: `SEAT ENTITY COMMAND`.
 fn commit<K>(

@@ -6,12 +6,12 @@ use crate::fault::LineFault;
 use crate::tables::place;
 use crate::texts::{LettersText, MessageText, PairText, RowsText, StateText};
 use crate::words::{number, pair};
-use activities::OrderCommand;
 use base::{Entity, Pair};
 use keep::{Keep, KeepFault, Place};
 use line_script::{first_word, natural, size};
 use purchasing::Order;
 use std::alloc::Global;
+use trade::OrderCommand;
 
 /// The row of an entity.
 fn entity<K>(store: &mut K, alloc: Global, out: &mut String, text: &str) -> Result<(), LineFault>

@@ -7,7 +7,6 @@ use crate::handler::answer_order;
 use crate::store::{Empty, answer_store, empty_tables, read_disarmed};
 use crate::tables::OrderChange;
 use crate::words::leaves;
-use activities::OrderCommand;
 use endpoint::Endpoint;
 use keep::{Faulty, Keep};
 use keep_plain::PlainKeep;
@@ -16,6 +15,7 @@ use purchasing::{Order, Orders};
 use std::alloc::Global;
 use std::io::Write;
 use std::{io, mem};
+use trade::OrderCommand;
 
 /// An order; a store that fails where it is told to, and the changes that were noted for its next transaction; and an endpoint over another
 /// such store.

@@ -5,13 +5,13 @@ use crate::fault::LineFault;
 use crate::reads::read_store;
 use crate::tables::{OrderChange, add_change};
 use crate::words::{leaves, pair};
-use activities::OrderCommand;
 use keep::{Faulty, Keep};
 use keep_plain::PlainKeep;
 use line_script::{first_word, natural};
 use purchasing::{Order, Orders};
 use std::alloc::Global;
 use std::mem;
+use trade::OrderCommand;
 
 /// A store that can be made with empty tables.
 pub trait Empty {

@@ -2,12 +2,13 @@
 
 use crate::fault::LineFault;
 use crate::words::{input, letter, number, order, pair};
-use activities::{JournalRow, OrderCommand};
+use activities::JournalRow;
 use base::Entity;
 use keep::{Change, Place};
 use line_script::first_word;
 use purchasing::Order;
 use std::alloc::Global;
+use trade::OrderCommand;
 
 /// A change of the tables of orders.
 pub type OrderChange = Change<Option<Order>, OrderCommand>;

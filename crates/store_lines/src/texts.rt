@@ -1,11 +1,12 @@
 //! Answers as text, in the words that a line has for them.
 
-use activities::{Input, JournalRow, OrderCommand, Out};
+use activities::{Input, JournalRow, Out};
 use base::Pair;
 use envelope::{Letter, Message};
 use purchasing::Order;
 use std::fmt;
 use std::fmt::Write;
+use trade::OrderCommand;
 
 /// A message.
 #[derive(Clone, Copy)]

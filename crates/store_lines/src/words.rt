@@ -3,7 +3,7 @@
 ghost use Rattle.std.specs.Prelude.{◌<◌, IfOk};
 
 use crate::fault::LineFault;
-use activities::{Input, Item, Items, OrderCommand, Phase, Status};
+use activities::{Input, Phase};
 use base::limits::SEATS;
 use base::{Entity, Key, Number, Pair};
 use envelope::{Letter, Message};
@@ -11,6 +11,7 @@ use keep::Leaves;
 use line_script::{first_word, natural};
 use purchasing::{Order, Partner};
 use std::alloc::Global;
+use trade::{Item, Items, OrderCommand, Status};
 
 /// A number from 1 to 2^40.
 pub fn number(text: &str) -> Result<Number, LineFault> {

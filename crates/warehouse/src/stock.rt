@@ -1,15 +1,16 @@
 //! A stock: how much of it there is, and for which orders.
 
 ghost use Rattle.std.specs.Prelude.{◌≡◌, [], Ok, Err, IfOk, MatchOption, MatchResult};
-ghost use Rattle.activities.specs.Sound.{IsStockSound};
-ghost use Rattle.activities.specs.Stocks.{on_stock_command, stock_reactions};
-ghost use Rattle.activities.specs.declared.commands.StockCommand.TheVariants.{Receive};
+ghost use Rattle.trade.specs.Sound.{IsStockSound};
+ghost use Rattle.trade.specs.Stocks.{on_stock_command, stock_reactions};
+ghost use Rattle.trade.specs.declared.commands.StockCommand.TheVariants.{Receive};
 
-use activities::{Holder, LinePhase, Lines, Refusal};
+use activities::Refusal;
 use base::limits::MAX_NUMBER;
 use base::{Entity, Number};
 use std::alloc::{AllocError, Global};
 use std::marker::Model;
+use trade::{Holder, LinePhase, Lines};
 
 /// A stock: contracts see how much is on hand, held, shipped and received, and the list of its lines.
 ///
@@ -24,7 +25,7 @@ pub struct Stock {
 }
 
 impl Model for Stock {
-    ghost use Rattle.activities.specs.Stocks.{StockState};
+    ghost use Rattle.trade.specs.Stocks.{StockState};
 
     ghost Value = { StockState };
 
@@ -141,7 +142,7 @@ impl Stock {
 
 // What is on hand and isn't held can be held, and what is finished is shipped.
 impl Holder for Stock {
-    ghost use Rattle.activities.specs.Stocks.{stock_holding};
+    ghost use Rattle.trade.specs.Stocks.{stock_holding};
 
     ghost holding = { stock_holding };
 

@@ -3,15 +3,14 @@
 ghost use Rattle.std.specs.Prelude.{◌≡◌, Ok, Err, IfOk};
 ghost use Rattle.activities.specs.Applied.{IsApplied, IsSending};
 ghost use Rattle.activities.specs.Reaction.{react};
-ghost use Rattle.activities.specs.Stocks.{stock_reactions};
+ghost use Rattle.trade.specs.Stocks.{stock_reactions};
 
 use crate::Stock;
-use activities::{
-    Handler, HandlerFault, Input, Outs, Reacting, StockCommand, take_in, take_line_message,
-};
+use activities::{Handler, HandlerFault, Input, Outs, Reacting, take_in};
 use base::{Entity, Kind};
 use envelope::Message;
 use std::alloc::{AllocError, Global};
+use trade::{StockCommand, take_line_message};
 
 /// What warehouse does with what its stocks take in.
 ///
@@ -23,7 +22,7 @@ impl Handler for Stocks {
     ghost use Rattle.std.specs.Prelude.{false};
     ghost use Rattle.std.proofs.lemmas.Bool.{false≢true};
     ghost use Rattle.base.specs.declared.entity.Kind.TheVariants.{Stock as StockKind};
-    ghost use Rattle.activities.specs.Stocks.{stock_reactions};
+    ghost use Rattle.trade.specs.Stocks.{stock_reactions};
 
     type State = Stock;
 
@@ -73,7 +72,7 @@ impl Handler for Stocks {
 }
 
 impl Reacting for Stocks {
-    ghost use Rattle.activities.specs.Stocks.{stock_reactions};
+    ghost use Rattle.trade.specs.Stocks.{stock_reactions};
 
     type State = Stock;
 

@@ -1,6 +1,6 @@
 -- An account as contracts see it, and what holds of its fields.
-use Rattle.activities.specs.Accounts.{AccountState}
-use Rattle.activities.specs.Sound.{IsAccountSound}
+use Rattle.trade.specs.Accounts.{AccountState}
+use Rattle.trade.specs.Sound.{IsAccountSound}
 use Rattle.billing.specs.declared.account.Account.TheInside.{Inside}
 
 -- its numbers and its lines

@@ -6,7 +6,7 @@ use Rattle.base.specs.Order.{same_entity}
 use Rattle.base.specs.declared.entity.Kind.{Kind}
 use Rattle.base.specs.declared.entity.Kind.TheVariants.{Stock, Account}
 use Rattle.base.specs.declared.limits.TheConstants.{MAX_LINES}
-use Rattle.activities.specs.Orders.{Partner}
+use Rattle.trade.specs.Orders.{Partner}
 
 -- whom they are
 abbrev pub names : List Partner → List Name

@@ -1,6 +1,6 @@
 -- A stock as contracts see it, and what holds of its fields.
-use Rattle.activities.specs.Sound.{IsStockSound}
-use Rattle.activities.specs.Stocks.{StockState}
+use Rattle.trade.specs.Sound.{IsStockSound}
+use Rattle.trade.specs.Stocks.{StockState}
 use Rattle.warehouse.specs.declared.stock.Stock.TheInside.{Inside}
 
 -- its numbers and its lines

@@ -1,7 +1,7 @@
 use Rattle.std.proofs.Common.{◌≡◌, get_or, set, take, true, false, ap, sym, ◌∙◌, subst, add-one}
 use Rattle.std.proofs.lemmas.List.{take_all}
 use Rattle.base.specs.Order.{same_entity}
-use Rattle.activities.specs.Orders.{Partner}
+use Rattle.trade.specs.Orders.{Partner}
 use Rattle.purchasing.specs.Parts.Partners.{names, stands_in}
 use Rattle.purchasing.proofs.Lists.{with_phase-at, with_phase-none, not_before}
 use Rattle.purchasing.proofs.partners.set_phase.Goals as goal

@@ -1,10 +1,10 @@
 use Rattle.std.proofs.Common.{◌≡◌, Some, refl, arith, sym, subst}
-use Rattle.activities.specs.Accounts.{AccountState}
-use Rattle.activities.specs.declared.phase.LinePhase.TheVariants.{Released}
-use Rattle.activities.specs.Holding.{held_by}
-use Rattle.activities.specs.Lines.{line_of}
-use Rattle.activities.proofs.Holdings.{left}
-use Rattle.activities.proofs.Sound.{accounts_keep}
+use Rattle.trade.specs.Accounts.{AccountState}
+use Rattle.trade.specs.declared.line_phase.LinePhase.TheVariants.{Released}
+use Rattle.trade.specs.Holding.{held_by}
+use Rattle.trade.specs.Lines.{line_of}
+use Rattle.trade.proofs.Holdings.{left}
+use Rattle.trade.proofs.Sound.{accounts_keep}
 use Rattle.billing.specs.Parts.AccountView.{account_in}
 use Rattle.billing.proofs.account.AccountHolder.free.Goals as goal
 

@@ -1,8 +1,8 @@
 use Rattle.std.proofs.Common.{◌≡◌, ◌+◌, true, None, sym, subst}
 use Rattle.std.specs.Prelude.{nat_le}
-use Rattle.activities.specs.Accounts.{AccountState}
-use Rattle.activities.specs.Lines.{line_of}
-use Rattle.activities.proofs.Sound.{accounts_keep}
+use Rattle.trade.specs.Accounts.{AccountState}
+use Rattle.trade.specs.Lines.{line_of}
+use Rattle.trade.proofs.Sound.{accounts_keep}
 use Rattle.billing.specs.Parts.AccountView.{account_in}
 use Rattle.billing.proofs.account.AccountHolder.hold.Goals as goal
 

@@ -1,7 +1,7 @@
 use Rattle.std.proofs.Common.{◌≡◌, sym, subst}
-use Rattle.activities.specs.Orders.{partners_of}
-use Rattle.activities.specs.Sound.{ArePartners}
-use Rattle.activities.proofs.Sound.{new_sound}
+use Rattle.trade.specs.Orders.{partners_of}
+use Rattle.trade.specs.Sound.{ArePartners}
+use Rattle.trade.proofs.Sound.{new_sound}
 use Rattle.purchasing.specs.Parts.Partners.{names}
 use Rattle.purchasing.proofs.order.Order.open.Goals as goal
 

@@ -1,10 +1,10 @@
 use Rattle.std.proofs.Common.{◌≡◌, Some, refl, arith, sym, subst}
-use Rattle.activities.specs.Stocks.{StockState}
-use Rattle.activities.specs.declared.phase.LinePhase.TheVariants.{Released}
-use Rattle.activities.specs.Holding.{held_by}
-use Rattle.activities.specs.Lines.{line_of}
-use Rattle.activities.proofs.Holdings.{left}
-use Rattle.activities.proofs.Sound.{stocks_keep}
+use Rattle.trade.specs.Stocks.{StockState}
+use Rattle.trade.specs.declared.line_phase.LinePhase.TheVariants.{Released}
+use Rattle.trade.specs.Holding.{held_by}
+use Rattle.trade.specs.Lines.{line_of}
+use Rattle.trade.proofs.Holdings.{left}
+use Rattle.trade.proofs.Sound.{stocks_keep}
 use Rattle.warehouse.specs.Parts.StockView.{stock_in}
 use Rattle.warehouse.proofs.stock.StockHolder.free.Goals as goal
 

@@ -1,8 +1,8 @@
 use Rattle.std.proofs.Common.{◌≡◌, ◌+◌, true, None, sym, subst}
 use Rattle.std.specs.Prelude.{nat_le}
-use Rattle.activities.specs.Stocks.{StockState}
-use Rattle.activities.specs.Lines.{line_of}
-use Rattle.activities.proofs.Sound.{stocks_keep}
+use Rattle.trade.specs.Stocks.{StockState}
+use Rattle.trade.specs.Lines.{line_of}
+use Rattle.trade.proofs.Sound.{stocks_keep}
 use Rattle.warehouse.specs.Parts.StockView.{stock_in}
 use Rattle.warehouse.proofs.stock.StockHolder.hold.Goals as goal
 

@@ -1,7 +1,7 @@
 use Rattle.std.proofs.Common.{◌≡◌, None, sym, subst}
-use Rattle.activities.specs.Stocks.{StockState}
-use Rattle.activities.specs.Lines.{line_of}
-use Rattle.activities.proofs.Sound.{stocks_keep}
+use Rattle.trade.specs.Stocks.{StockState}
+use Rattle.trade.specs.Lines.{line_of}
+use Rattle.trade.proofs.Sound.{stocks_keep}
 use Rattle.warehouse.specs.Parts.StockView.{stock_in}
 use Rattle.warehouse.proofs.stock.StockHolder.refuse.Goals as goal
 

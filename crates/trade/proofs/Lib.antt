@@ -1,0 +1,8 @@
+pub mod LineLists
+pub mod Holdings
+pub mod Placing
+pub mod Sound
+pub mod Examples
+pub mod StockExamples
+mod SoundExamples
+mod WordExamples

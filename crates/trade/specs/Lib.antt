@@ -1,0 +1,9 @@
+pub mod Words
+pub mod Items
+pub mod Orders
+pub mod Lines
+pub mod Holding
+pub mod Stocks
+pub mod Accounts
+pub mod Sound
+pub mod Places
