@@ -24,6 +24,7 @@ fn number_of(text: &str) -> Option<Number>
     ensures { result ≡ read_number text.now }
 {
     let number = Number::new(text.parse::<u64>().ok()?)?;
+    // `parse` also takes a sign and leading zeros: written again, they differ from what was read.
     let mut digits = Buffer::new();
     if digits.format(number.get()) == text {
         Some(number)
@@ -48,6 +49,7 @@ fn content_of(
             number,
             message: Message::of_body(alloc, body)?,
         })),
+        // A body would say nothing, but an envelope has one spelling, as a letter has.
         "settle" if body.is_empty() => Ok(Envelope::Settle(pair, number.get())),
         _ => Err(EnvelopeFault::BadEnvelope),
     }
@@ -76,6 +78,7 @@ pub fn from_message(alloc: Global, frame: &Frame<MAX_BODY>) -> Result<Envelope, 
     ensures read { IsAnswer (read_frame frame.now) result }
     ensures exact { IsReading frame.now result }
 {
+    // What a client wrote, a SEND with these very headers, isn't taken for what a broker handed on.
     if frame.command() != Command::Message {
         return Err(EnvelopeFault::BadEnvelope);
     }

@@ -7,8 +7,9 @@ ghost use Rattle.stomp_frame.specs.declared.command.Command.TheVariants.{Send};
 ghost use Rattle.envelope.specs.Written.{heading, send_of, IsNumbered, IsBadSettle};
 ghost use Rattle.envelope.specs.Sending.{is_name, IsShort};
 ghost use Rattle.envelope.specs.Reading.{Carries};
+ghost use Rattle.envelope.specs.declared.message.Envelope.TheVariants.{Letter as LetterOf, Settle as SettleOf};
 
-use crate::{Envelope, EnvelopeFault};
+use crate::{Envelope, EnvelopeFault, Letter};
 use base::limits::MAX_BODY;
 use base::{Kind, Number, Pair};
 use itoa::Buffer;
@@ -55,6 +56,38 @@ fn send(
     Ok(frame)
 }
 
+/// The SEND of a letter (STOMP 1.2, section "SEND"): to the queue of its receiver's service, with the message as its
+/// body. The headers are those that [`to_send`] tells.
+///
+/// # Errors
+/// `Memory` where a growth was refused.
+pub fn letter_to_send(alloc: Global, letter: &Letter) -> Result<Frame<MAX_BODY>, EnvelopeFault>
+    ensures frame { IfOk result (λ f. f ≡ send_of (LetterOf letter.now)) }
+    ensures carries { IfOk result (λ f. Carries f.headers f.body (LetterOf letter.now)) }
+    ensures fault { IsOkUnless result EnvelopeFault.Memory }
+{
+    let pair = &letter.pair;
+    let body = letter.message.body(alloc)?;
+    send(alloc, pair.to.kind(), "message", pair, letter.number, &body)
+}
+
+/// The SEND of a settle: back to the queue of the service that sends the letters of the pair, with an empty body. The
+/// headers are those that [`to_send`] tells.
+///
+/// # Errors
+/// `Memory` where a growth was refused.
+pub fn settle_to_send(
+    alloc: Global,
+    pair: &Pair,
+    number: Number,
+) -> Result<Frame<MAX_BODY>, EnvelopeFault>
+    ensures frame { IfOk result (λ f. f ≡ send_of (SettleOf pair.now number)) }
+    ensures carries { IfOk result (λ f. Carries f.headers f.body (SettleOf pair.now number)) }
+    ensures fault { IsOkUnless result EnvelopeFault.Memory }
+{
+    send(alloc, pair.from.kind(), "settle", pair, number, "")
+}
+
 /// The SEND that carries an envelope (STOMP 1.2, section "SEND"): the headers `destination`, `kind`, `from`, `to` and `number` in this
 /// order, and the body. `from` and `to` are those of the pair, in a settle too; `number` is decimal, without leading zeros.
 ///
@@ -69,16 +102,13 @@ pub fn to_send(alloc: Global, envelope: &Envelope) -> Result<Frame<MAX_BODY>, En
     ensures refused { IsErrOf result EnvelopeFault.BadEnvelope ↔ IsBadSettle envelope.now }
 {
     match envelope {
-        Envelope::Letter(letter) => {
-            let pair = &letter.pair;
-            let body = letter.message.body(alloc)?;
-            send(alloc, pair.to.kind(), "message", pair, letter.number, &body)
-        }
+        Envelope::Letter(letter) => letter_to_send(alloc, letter),
         Envelope::Settle(pair, number) => {
+            // A settle is made of how many letters were handled, which may be none: such a one isn't sent.
             let Some(number) = Number::new(*number) else {
                 return Err(EnvelopeFault::BadEnvelope);
             };
-            send(alloc, pair.from.kind(), "settle", pair, number, "")
+            settle_to_send(alloc, pair, number)
         }
     }
 }

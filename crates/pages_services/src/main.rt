@@ -1,4 +1,4 @@
-//! The examples of the libraries' pages, run: each page shows one of these functions as it stands here, which `bin/check-pages` compares.
+//! The examples of the pages of the libraries of services, run: what they tell each other, do with it, and keep.
 #![tactic(auto)]
 
 mod examples;
@@ -11,29 +11,19 @@ use billing::Accounts;
 use endpoint::Endpoint;
 use envelope::{Letter, Message};
 use examples::{
-    a_broker_answers_connect, a_client_asks_to_connect, a_command_is_taken_in,
-    a_connected_client_subscribes, a_frame_before_connect_is_refused, a_frame_is_read_from_pieces,
-    a_free_room_is_promised, a_letter_comes_again, a_mark_is_one_change, a_mark_is_read,
-    a_message_is_accepted, a_receipt_is_closed_once, a_row_is_shown, a_schedule_is_read,
-    a_schedule_is_run, a_server_is_asked_to_end, a_service_that_acts_makes_nothing_up,
-    a_settle_is_sent, a_transaction_keeps_its_actions, an_entity_is_named_again,
-    an_idle_destination_is_closed, an_open_connection_stays_open, an_order_is_refused,
-    answers_reach_back_in_mode_client, first_state_of, lawful_journals_stay_lawful,
-    no_mark_is_taken_back, nothing_goes_out_before_the_broker_answers, nothing_is_held_at_first,
-    nothing_is_sent_where_no_connection_is_open, octets_wait_where_they_were_written, order_of_one,
-    printed_octets_are_read, services_without_orders_agree, so_much_is_on_hand,
-    so_much_is_the_limit, tables_hold_nothing_at_first, what_a_client_reads_was_sent,
-    what_comes_early_waits, what_is_read_of_a_good_frame_passes,
-    what_wants_an_ack_stays_until_it_comes, what_was_put_is_taken,
+    a_command_is_taken_in, a_connected_client_subscribes, a_free_room_is_promised,
+    a_letter_comes_again, a_mark_is_one_change, a_mark_is_read, a_settle_is_sent,
+    an_order_is_refused, first_state_of, lawful_journals_stay_lawful, no_mark_is_taken_back,
+    nothing_goes_out_before_the_broker_answers, nothing_is_held_at_first, order_of_one,
+    services_without_orders_agree, so_much_is_on_hand, so_much_is_the_limit,
+    tables_hold_nothing_at_first, what_comes_early_waits,
 };
 use exchange::{Delivery, Event, Network, Outcome, exchange};
 use hotel::{RoomCommand, Rooms};
 use hotel_day::a_day_at_the_hotel;
 use keep::{Faulty, Keep, KeepFault, Leaves};
 use keep_plain::PlainKeep;
-use programs::open_world;
 use purchasing::Orders;
-use schedules::{ConnectionName, ConnectionNumber, ServiceName};
 use std::alloc::Global;
 use std::error::Error;
 use std::fmt::Debug;
@@ -47,16 +37,6 @@ const LIMIT_TOO_GREAT: u64 = 1_099_511_627_777;
 fn show<T: Debug>(rt: &impl Print, library: &str, told: &T) -> Result<()> {
     println!(rt; "{library}: {told:?}")?;
     Ok(())
-}
-
-/// Opens a connection of a warehouse twice, in a world where nothing has happened yet.
-fn a_warehouse_stays_open(alloc: Global) -> bool {
-    let mut world = open_world(alloc);
-    let connection = ConnectionName {
-        service: ServiceName::Warehouse,
-        number: ConnectionNumber::Zero,
-    };
-    an_open_connection_stays_open(&mut world, connection)
 }
 
 /// Prints what an example answers.
@@ -76,45 +56,15 @@ fn pair(alloc: Global) -> Result<Pair> {
     Ok(Pair { from, to })
 }
 
-/// What is told, and how it's carried.
-fn print_messages(rt: &impl Print, alloc: Global) -> Result<()> {
-    tell(rt, "base", an_entity_is_named_again(alloc))?;
-    tell(rt, "stomp_wire", what_was_put_is_taken(alloc))?;
-    tell(rt, "line_script", printed_octets_are_read(alloc))?;
-    tell(rt, "stomp_frame", a_frame_is_read_from_pieces(alloc))?;
-    tell(rt, "envelope", a_settle_is_sent(alloc, pair(alloc)?))
-}
-
-/// What both sides of a connection make of frames.
-fn print_sessions(rt: &impl Print, alloc: Global) -> Result<()> {
-    show(
-        rt,
-        "stomp_session",
-        &a_frame_before_connect_is_refused(alloc),
-    )?;
-    show(rt, "broker_book", &answers_reach_back_in_mode_client())?;
-    tell(rt, "broker_index", an_idle_destination_is_closed(alloc))?;
-    tell(rt, "broker_queues", a_message_is_accepted(alloc))?;
-    tell(rt, "broker_tx", a_transaction_keeps_its_actions(alloc))?;
-    tell(rt, "broker_core", a_broker_answers_connect(alloc))?;
-    show(rt, "broker_server", &a_server_is_asked_to_end())?;
-    what_wants_an_ack_stays_until_it_comes();
-    what_a_client_reads_was_sent();
-    tell(rt, "receipts", a_receipt_is_closed_once(alloc))?;
-    tell(rt, "stomp_client", a_client_asks_to_connect(alloc))?;
-    tell(rt, "mail", octets_wait_where_they_were_written(alloc))?;
-    what_is_read_of_a_good_frame_passes();
-    Ok(())
-}
-
 /// Whether an order refuses its first command.
 fn is_refused(alloc: Global) -> bool {
     let mut outs = Outs::new(alloc);
     first_state_of::<Orders>(alloc, OrderCommand::CancelOrder, &mut outs).is_err()
 }
 
-/// What services do with it, and what holds of all of them.
+/// What services tell each other, what they do with it, and what holds of all of them.
 fn print_reactions(rt: &impl Print, alloc: Global) -> Result<()> {
+    tell(rt, "envelope", a_settle_is_sent(alloc, pair(alloc)?))?;
     no_mark_is_taken_back();
     lawful_journals_stay_lawful();
     show(rt, "activities", &is_refused(alloc))?;
@@ -277,8 +227,8 @@ fn nobody_ordered(alloc: Global) -> bool {
     services_without_orders_agree(alloc, &mut purchasing, &mut warehouse, &mut billing)
 }
 
-/// One service, and schedules of what it's given.
-fn print_runs(rt: &impl Print, alloc: Global) -> Result<()> {
+/// One service, its connection, and three of them.
+fn print_services(rt: &impl Print, alloc: Global) -> Result<()> {
     show(rt, "endpoint", &take_in(alloc)?)?;
     tell(
         rt,
@@ -286,25 +236,13 @@ fn print_runs(rt: &impl Print, alloc: Global) -> Result<()> {
         nothing_goes_out_before_the_broker_answers(alloc),
     )?;
     tell(rt, "reception", a_connected_client_subscribes(alloc))?;
-    show(rt, "audit", &nobody_ordered(alloc))?;
-    show(rt, "schedules", &a_schedule_is_read(alloc))?;
-    tell(
-        rt,
-        "sites",
-        nothing_is_sent_where_no_connection_is_open(alloc),
-    )?;
-    a_service_that_acts_makes_nothing_up::<Orders, PlainKeep<Orders>>();
-    show(rt, "schedule_runner", &a_warehouse_stays_open(alloc))?;
-    tell(rt, "showing", a_row_is_shown(alloc, &pair(alloc)?.to))?;
-    tell(rt, "programs", a_schedule_is_run(alloc))
+    show(rt, "audit", &nobody_ordered(alloc))
 }
 
 fn main(rt: HostRuntime) -> Result<()> {
-    print_messages(&rt, rt.alloc())?;
-    print_sessions(&rt, rt.alloc())?;
     print_reactions(&rt, rt.alloc())?;
     print_tables(&rt, rt.alloc())?;
     print_exchanges(&rt, rt.alloc())?;
     a_day_at_the_hotel(&rt, rt.alloc())?;
-    print_runs(&rt, rt.alloc())
+    print_services(&rt, rt.alloc())
 }
