@@ -1,4 +1,3 @@
 pub mod Spelling
 pub mod Composing
 pub mod Accepted
-pub mod Next

@@ -3,5 +3,4 @@ pub mod Replies
 pub mod Answers
 pub mod Deeds
 pub mod Draining
-pub mod Connections
 pub mod Parts

@@ -2,7 +2,7 @@
 //!
 //! All replies that an answer may need are made, and room for them is found, before the endpoint is asked; what is written then follows
 //! from the endpoint's answer alone. So want of memory leaves the frame waiting and the service as it was, and nothing is written that the
-//! store didn't answer for. [`take`] takes the next frame of a connection, [`take_frame`] a frame that is at hand, [`drain`] the next
+//! store didn't answer for. [`take_frame`] takes a frame that came, [`drain`] the next
 //! letter that is held and may be handled now.
 //!
 //! ```rust
@@ -27,7 +27,6 @@
 //! The answer is true.
 #![tactic(auto)]
 
-mod connections;
 mod draining;
 mod fault;
 mod frames;
@@ -36,7 +35,6 @@ mod replies;
 mod taken;
 mod texts;
 
-pub use connections::take;
 pub use draining::{drain, drain_unconnected};
 pub use fault::{ReceptionFault, Untaken};
 pub use frames::take_frame;
