@@ -16,4 +16,5 @@ kept_by P at (Err refusal) h k = h
 pub invariant-always : {S C : Type 0} (t : Reactions S C) (P : S → Type 0) → IsInvariant t P → (inputs : List (Input C))
     → P (state t inputs)
 invariant-always t P h inputs =
-    holds_along t (λ _ at. P at.0) h.opening (λ _ x at was. kept_by P at (react t at.0 x) was (h.kept at.0 x was)) inputs
+    holds_along t (λ _ at. P at.0) h.opening (λ _ x at was. kept_by P at (react t at.0 x) was (h.kept at.0 x was))
+    inputs

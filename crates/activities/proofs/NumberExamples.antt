@@ -2,7 +2,8 @@
 use Rattle.std.proofs.Common.{◌≡◌, [], ◌∷◌, refl}
 use Rattle.std.specs.Prelude.{Some, None}
 use Rattle.envelope.specs.declared.message.Message.TheVariants.{Request, Confirm}
-use Rattle.activities.specs.declared.handler.Refusal.TheVariants.{AlreadyPlaced, NotOpen, OutOfRange, BelowUse, BadLines}
+use Rattle.activities.specs.declared.handler.Refusal.TheVariants.{AlreadyPlaced, NotOpen, OutOfRange, BelowUse}
+use Rattle.activities.specs.declared.handler.Refusal.TheVariants.{BadLines}
 use Rattle.activities.specs.Faults.{refusal_number}
 use Rattle.activities.specs.Numbered.{numbered, nth}
 
@@ -13,6 +14,7 @@ letters_are_numbered : (numbered 0 (Request 3 ∷ Confirm ∷ []) ≡ (1, Reques
 letters_are_numbered = (refl, refl, refl, refl)
 
 -- refusals are numbered
-refusals_are_numbered : (refusal_number AlreadyPlaced ≡ 70) × (refusal_number NotOpen ≡ 71) × (refusal_number OutOfRange ≡ 72)
+refusals_are_numbered : (refusal_number AlreadyPlaced ≡ 70) × (refusal_number NotOpen ≡ 71)
+    × (refusal_number OutOfRange ≡ 72)
     × (refusal_number BelowUse ≡ 73) × (refusal_number BadLines ≡ 74)
 refusals_are_numbered = (refl, refl, refl, refl, refl)

@@ -48,10 +48,15 @@ impl Account {
         }
     }
 
-    /// The account of these numbers and lines; `None` where the limit is too great or covers too little, or the numbers aren't those of the
-    /// lines.
+    /// The account of these numbers and lines; `None` where the limit is too great or covers too little, or the numbers
+    /// aren't those of the lines.
     pub fn from_parts(limit: u64, billed: u64, held: u64, lines: Lines) -> Option<Account>
-        ensures { MatchOption result (¬ IsAccountSound (record { limit = limit; billed = billed; held = held; lines = lines }))
+        ensures { MatchOption result (¬ IsAccountSound (record {
+          limit = limit;
+          billed = billed;
+          held = held;
+          lines = lines;
+        }))
             (λ a. (a ≡ record { limit = limit; billed = billed; held = held; lines = lines }) × IsAccountSound a) }
     {
         if billed > limit

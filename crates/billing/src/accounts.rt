@@ -14,8 +14,8 @@ use trade::{AccountCommand, take_line_message};
 
 /// What billing does with what its accounts take in.
 ///
-/// An account holds what an order asks for where its limit leaves as much, and keeps a line for the order: held, and then billed or
-/// released; or refused. Only a request that is answered wants memory.
+/// An account holds what an order asks for where its limit leaves as much, and keeps a line for the order: held, and
+/// then billed or released; or refused. Only a request that is answered wants memory.
 pub struct Accounts;
 
 impl Handler for Accounts {

@@ -1,5 +1,6 @@
 -- A SEND is accepted, or refused for want of memory.
-use Rattle.std.proofs.Common.{◌≡◌, ◌<◌, ◌^◌, ◌-◌, ◌+◌, ℕ, true, List, [], ◌∷◌, ◌++◌, Result, Ok, Err, refl, ap, ◌∙◌, arith, inl, not}
+use Rattle.std.proofs.Common.{◌≡◌, ◌<◌, ◌^◌, ◌-◌, ◌+◌, ℕ, true, List, [], ◌∷◌, ◌++◌, Result, Ok, Err, refl, ap, ◌∙◌}
+use Rattle.std.proofs.Common.{arith, inl, not}
 use Rattle.std.specs.Prelude.{nat_lt, count_by, filter, ◌==◌, All}
 use Rattle.std.specs.Result.{IsErrAnd}
 use Rattle.std.proofs.lemmas.Bool.{lt-ltb}
@@ -23,15 +24,18 @@ pub memory_refused : {A : Type 0} (full : ℕ) (h : Holding) (sent : Sent) (i : 
 memory_refused full h sent i is m (Ok x) e = absurd e
 memory_refused full h sent i is m (Err fault) e = record { sound = moved h i is m; moves = m; refused = inl e }
 
-module _ (full : ℕ) (h : Holding) (sent : Sent) (i : Holding) (is : IsSound h) (p : Puts h sent i) (only : ListsOnly h sent i)
+module _ (full : ℕ) (h : Holding) (sent : Sent) (i : Holding) (is : IsSound h) (p : Puts h sent i)
+    (only : ListsOnly h sent i)
     (few : (queue_of h.queues sent.destination).count < full) (room : h.last < 2 ^ 64 - 1) where
   puts_step : (accepted : List Accepted) → put_of full (book_of h accepted) sent
       ≡ Ok (book_of i (accepted ++ record { number = h.last + 1; sent = sent } ∷ []))
   puts_step accepted =
       let counts : nat_lt (count_by (is_for sent.destination) (living_of h.kept)) full ≡ true =
-      lt-ltb (count_by (is_for sent.destination) (living_of h.kept)) full (omega (arith, is.counted sent.destination)) in
+      lt-ltb (count_by (is_for sent.destination) (living_of h.kept)) full (omega (arith, is.counted sent.destination))
+      in
       let numbers : nat_lt h.last (2 ^ 64 - 1) ≡ true = lt-ltb h.last (2 ^ 64 - 1) room in
-      let living : living_of i.kept ≡ living_of h.kept ++ record { number = h.last + 1; sent = sent; fate = Ready } ∷ [] =
+      let living : living_of i.kept ≡ living_of h.kept ++ record { number = h.last + 1; sent = sent; fate = Ready } ∷ []
+      =
       ap living_of p.kept ∙ living_push h.kept (h.last + 1) sent Ready in
       rw (counts, numbers, living, p.subscribers, p.last, p.given) refl
 
@@ -47,4 +51,5 @@ all_earlier h is =
 -- a message that was put in is taken out again
 pub taken_out : (h : Holding) → IsSound h → (n : ℕ) (sent : Sent) → n ≡ h.last + 1
     → filter (λ (k : Kept). not (k.number == n)) (h.kept ++ new_kept n sent ∷ []) ≡ h.kept
-taken_out h is n sent next = rw next (push_filter (λ (k : Kept). k.number) h.kept (new_kept (h.last + 1) sent) (all_earlier h is))
+taken_out h is n sent next =
+    rw next (push_filter (λ (k : Kept). k.number) h.kept (new_kept (h.last + 1) sent) (all_earlier h is))

@@ -1,5 +1,6 @@
 -- The steps of a transaction: each can be undone, and all are the actions in order.
-use Rattle.std.proofs.Common.{◌≡◌, ℕ, Bool, List, [], ◌∷◌, ◌++◌, length, get_or, take, drop, drop-cons, suc, append_assoc}
+use Rattle.std.proofs.Common.{◌≡◌, ℕ, Bool, List, [], ◌∷◌, ◌++◌, length, get_or, take, drop, drop-cons, suc}
+use Rattle.std.proofs.Common.{append_assoc}
 use Rattle.std.proofs.Common.{Some, Result, Ok, Err, refl, sym, ap, arith, ◌+◌, ◌∙◌, inl, inr}
 use Rattle.std.specs.Prelude.{◌⊎◌, ◌<◌, nat_le, find, filter}
 use Rattle.std.proofs.Math.Seq.{take-append_seam}
@@ -105,9 +106,11 @@ module _ (full : ℕ) (h i : Holding) (noted : List Logged) (given accepted : Li
 module _ (h : Holding) (x number : ℕ) (again : Bool) (p : Place) (noted now : List Logged)
     (found : find (is_held_at h.kept h.subscribers number) (h.sessions x) ≡ Some p) where
   holds_it : IsSound h → IsHolder h x number p.number
-  holds_it is = the_holder h is x number p found (found_lists (is_held_at h.kept h.subscribers number) (h.sessions x) p found)
+  holds_it is =
+      the_holder h is x number p found (found_lists (is_held_at h.kept h.subscribers number) (h.sessions x) p found)
 
-  pub noting_begun : ((s : Subscriber) → subscriber_at p.number h.subscribers ≡ Some s → Noted h s (Some number) [] noted now)
+  pub noting_begun : ((s : Subscriber) → subscriber_at p.number h.subscribers ≡ Some s
+      → Noted h s (Some number) [] noted now)
       → (start : Holding) → IsBegun start noted h → IsBegun start now h
   noting_begun notes start b =
       let held = holds_it b.sound in
@@ -132,16 +135,19 @@ refused_stays full session (a ∷ actions) fault = refl
 -- what is left is one action, and then the rest
 pub left_first : (full session : ℕ) (actions : List Action) (index : ℕ) (a : Action) (b : Book) → index < length actions
     → a ≡ get_or actions index a
-    → then_all full session (drop index actions) (Ok b) ≡ then_all full session (drop (index + 1) actions) (act_of full session b a)
+    → then_all full session (drop index actions) (Ok b) ≡ then_all full session (drop (index + 1) actions)
+    (act_of full session b a)
 left_first full session actions index a b short is =
     let one : suc index ≡ index + 1 = omega arith in
-    ap (λ l. then_all full session l (Ok b)) (drop-cons actions index a short ∙ ap (λ e. e ∷ drop (suc index) actions) (sym is))
+    ap (λ l. then_all full session l (Ok b)) (drop-cons actions index a short
+    ∙ ap (λ e. e ∷ drop (suc index) actions) (sym is))
     ∙ ap (λ n. then_all full session (drop n actions) (act_of full session b a)) one
 
 -- ---- the end
 
 -- nothing of the book has changed
-pub tidy_book : (h i : Holding) (accepted now : List Accepted) → Tidies h i → now ≡ accepted → book_of i now ≡ book_of h accepted
+pub tidy_book : (h i : Holding) (accepted now : List Accepted) → Tidies h i → now ≡ accepted
+    → book_of i now ≡ book_of h accepted
 tidy_book h i accepted now t same = rw (t.living, t.last, t.given, t.subscriptions, same) refl
 
 pub tidies_none : (h : Holding) → IsSound h → Tidies h h
@@ -159,7 +165,8 @@ tidies_again h i j one two = record {
 -- all is undone
 pub undone_kept : (start h : Holding) → IsBegun start [] h → h.last ≡ start.last → h.kept ≡ start.kept
 undone_kept start h b last =
-    sym (up_to h b.sound) ∙ sym (ap (filter (λ k. nat_le k.number h.last)) (map_nothing h.kept)) ∙ ap (λ n. before n [] h.kept) last
+    sym (up_to h b.sound) ∙ sym (ap (filter (λ k. nat_le k.number h.last)) (map_nothing h.kept))
+    ∙ ap (λ n. before n [] h.kept) last
     ∙ b.kept
 
 pub undone_tidies : (start h : Holding) → IsBegun start [] h → h.last ≡ start.last → Tidies start h
@@ -172,7 +179,8 @@ undone_tidies start h b last = record {
 }
 
 -- all was done, and put away
-pub applied : (full session : ℕ) (actions : List Action) (h i j : Holding) (noted now : List Logged) (given accepted : List Accepted)
+pub applied : (full session : ℕ) (actions : List Action) (h i j : Holding) (noted now : List Logged)
+    (given accepted : List Accepted)
     → Acts {A = Unit {0}} (λ b. apply_of full session b actions) h noted given i now accepted (Ok tt)
     → (IsSound i → Tidies i j) → Applies {A = Unit {0}} full session actions h given j accepted (Ok tt)
 applied full session actions h i j noted now given accepted acts sweeps =
@@ -180,13 +188,16 @@ applied full session actions h i j noted now given accepted acts sweeps =
     (t.sound, acts.goes ∙ ap (λ b. Ok b) (sym (tidy_book i j accepted accepted t refl)))
 
 -- or it was refused, and undone
-pub unapplied : (full session : ℕ) (actions : List Action) (h i j : Holding) (noted now : List Logged) (given accepted cut : List Accepted)
+pub unapplied : (full session : ℕ) (actions : List Action) (h i j : Holding) (noted now : List Logged)
+    (given accepted cut : List Accepted)
     (fault : QueueFault) → IsSound h → noted ≡ []
     → Acts {A = Unit {0}} (λ b. apply_of full session b actions) h noted given i now accepted (Err fault)
-    → (IsBegun h now i → Tidies h j) → cut ≡ given → Applies {A = Unit {0}} full session actions h given j cut (Err fault)
+    → (IsBegun h now i → Tidies h j) → cut ≡ given
+    → Applies {A = Unit {0}} full session actions h given j cut (Err fault)
 unapplied full session actions h i j noted now given accepted cut fault is none acts undoes same =
     let t : Tidies h j = undoes (acts.begun h (rw none (begins h is))) in (
       t.sound,
-      goes_back (Unit {0}) (Unit {0}) (apply_of full session (book_of h given) actions) (book_of i accepted) (book_of h given)
+      goes_back (Unit {0}) (Unit {0}) (apply_of full session (book_of h given) actions) (book_of i accepted)
+          (book_of h given)
           (book_of j cut) fault (tidy_book h j given cut t same) acts.goes,
     )

@@ -7,7 +7,8 @@ use Rattle.std.specs.Str.{bytes_eq}
 use Rattle.std.proofs.lemmas.Bool.{cases_Bool, eqb-true, and_parts}
 use Rattle.broker_book.specs.declared.parts.Sent.{Sent}
 use Rattle.broker_book.specs.Books.{Fate, is_for}
-use Rattle.broker_index.specs.Index.{Kept, Queue, Sets, opened, empty_queue, is_idle, unless_idle, with_number, with_subscriber, counting}
+use Rattle.broker_index.specs.Index.{Kept, Queue, Sets, opened, empty_queue, is_idle, unless_idle, with_number}
+use Rattle.broker_index.specs.Index.{with_subscriber, counting}
 use Rattle.broker_index.specs.declared.places.Place.{Place}
 use Rattle.broker_queues.specs.Parts.Queues.{LooksFrom}
 use Rattle.broker_queues.specs.Parts.Facts.{kept_at, lists, queue_of, living_as, message_of}
@@ -35,7 +36,8 @@ becomes change old new name at others d = elim (cases_Bool (bytes_eq name d)) [
 ]
 
 -- it is the one of the name, or stays
-pub either : (change : Queue → Queue) (old new : List ℕ → Option Queue) (name : List ℕ) → Becomes change old new name → (d : List ℕ)
+pub either : (change : Queue → Queue) (old new : List ℕ → Option Queue) (name : List ℕ) → Becomes change old new name
+    → (d : List ℕ)
     → ((bytes_eq name d ≡ true) × (queue_of new d ≡ change (queue_of old d)))
     ⊎ ((bytes_eq name d ≡ false) × (queue_of new d ≡ queue_of old d))
 either change old new name b d = elim (cases_Bool (bytes_eq name d)) [
@@ -52,7 +54,8 @@ opens a b name sets d = elim (cases_Bool (bytes_eq name d)) [
 ]
 
 -- a message is listed at its end, and counted
-pub number_added : (a b c e : List ℕ → Option Queue) (name : List ℕ) (place : Place) (count : ℕ) → count ≡ (queue_of a name).count + 1
+pub number_added : (a b c e : List ℕ → Option Queue) (name : List ℕ) (place : Place) (count : ℕ)
+    → count ≡ (queue_of a name).count + 1
     → Sets a b name (Some (opened (a name))) → Sets b c name (option_map (with_number place) (b name))
     → Sets c e name (option_map (counting count) (c name)) → Becomes (adding place) a e name
 number_added a b c e name place count is p q r =
@@ -60,7 +63,8 @@ number_added a b c e name place count is p q r =
   where
     at : queue_of e name ≡ adding place (queue_of a name)
     at =
-        let two : c name ≡ Some (with_number place (opened (a name))) = q.at ∙ ap (λ o. option_map (with_number place) o) p.at in
+        let two : c name ≡ Some (with_number place (opened (a name))) =
+        q.at ∙ ap (λ o. option_map (with_number place) o) p.at in
         let three : e name ≡ Some (counting count (with_number place (opened (a name)))) =
         r.at ∙ ap (λ o. option_map (counting count) o) two in
         ap opened three ∙ ap (λ n. counting n (with_number place (opened (a name)))) is
@@ -76,7 +80,8 @@ subscriber_added a b c name place p q =
 -- ---- idle queues go
 
 -- a queue is closed
-pub closes : (old new : List ℕ → Option Queue) (name : List ℕ) → Sets old new name (option_and_then unless_idle (old name))
+pub closes : (old new : List ℕ → Option Queue) (name : List ℕ)
+    → Sets old new name (option_and_then unless_idle (old name))
     → Closes old new
 closes old new name sets d = elim (cases_Bool (bytes_eq name d)) [
   | inl on ↦ let is : name ≡ d = same_texts name d on in rw (← is) (by_queue (old name) refl)
@@ -84,7 +89,8 @@ closes old new name sets d = elim (cases_Bool (bytes_eq name d)) [
 ]
   where
     by_queue : (o : Option Queue) → old name ≡ o
-        → (queue_of new name ≡ queue_of old name) ⊎ ((is_idle (queue_of old name) ≡ true) × (queue_of new name ≡ empty_queue))
+        → (queue_of new name ≡ queue_of old name)
+        ⊎ ((is_idle (queue_of old name) ≡ true) × (queue_of new name ≡ empty_queue))
     by_queue None is = inl (ap opened (sets.at ∙ ap (λ o. option_and_then unless_idle o) is) ∙ sym (ap opened is))
     by_queue (Some q) is =
         let at : new name ≡ unless_idle q = sets.at ∙ ap (λ o. option_and_then unless_idle o) is in
@@ -114,7 +120,8 @@ module _ (h : Holding) (is : IsSound h) (i : Holding) (c : Closes h.queues i.que
   idle_parts : (d : List ℕ) → is_idle (queue_of h.queues d) ≡ true
       → ((queue_of h.queues d).numbers ≡ []) × ((queue_of h.queues d).subscribers ≡ [])
   idle_parts d idle =
-      let parts = and_parts (length (queue_of h.queues d).numbers == 0) (length (queue_of h.queues d).subscribers == 0) idle in
+      let parts =
+      and_parts (length (queue_of h.queues d).numbers == 0) (length (queue_of h.queues d).subscribers == 0) idle in
       (no_length (queue_of h.queues d).numbers parts.0, no_length (queue_of h.queues d).subscribers parts.1)
 
   -- no message goes to an idle one
@@ -149,7 +156,8 @@ module _ (h : Holding) (is : IsSound h) (i : Holding) (c : Closes h.queues i.que
     | inr idle ↦ rw idle.1 (omega arith, omega arith)
   ]
 
-  pub shut : i.kept ≡ h.kept → i.subscribers ≡ h.subscribers → i.sessions ≡ h.sessions → i.awake ≡ h.awake → i.last ≡ h.last
+  pub shut : i.kept ≡ h.kept → i.subscribers ≡ h.subscribers → i.sessions ≡ h.sessions → i.awake ≡ h.awake
+      → i.last ≡ h.last
       → i.given ≡ h.given → Moves h i
   shut kept subscribers sessions awake last given = record {
     kept = kept;
@@ -197,7 +205,8 @@ module _ (h : Holding) (is : IsSound h) (sent : Sent) (place : Place) (q : List 
       ⊎ ((bytes_eq sent.destination d ≡ false) × (queue_of q d ≡ queue_of h.queues d))
   at d = either (adding place) h.queues q sent.destination b d
 
-  listed : (d : List ℕ) (m : ℕ) → lists m (queue_of h.queues d).numbers ≡ true → lists m (queue_of i.queues d).numbers ≡ true
+  listed : (d : List ℕ) (m : ℕ) → lists m (queue_of h.queues d).numbers ≡ true
+      → lists m (queue_of i.queues d).numbers ≡ true
   listed d m there = ap (λ ps. lists m ps) (l.lowers.numbers d) ∙ elim (at d) [
     | inl on ↦ rw on.1 (lists_still m (queue_of h.queues d).numbers place there)
     | inr off ↦ rw off.1 there
@@ -231,14 +240,17 @@ module _ (h : Holding) (is : IsSound h) (sent : Sent) (place : Place) (q : List 
   ]
 
   same_places : (d : List ℕ) → ((queue_of q d).subscribers ≡ (queue_of h.queues d).subscribers)
-      × ((queue_of q d).ready_from ≡ (queue_of h.queues d).ready_from) × ((queue_of q d).taker_from ≡ (queue_of h.queues d).taker_from)
+      × ((queue_of q d).ready_from ≡ (queue_of h.queues d).ready_from)
+      × ((queue_of q d).taker_from ≡ (queue_of h.queues d).taker_from)
   same_places d = elim (at d) [
     | inl on ↦ rw on.1 (refl, refl, refl)
     | inr off ↦ rw off.1 (refl, refl, refl)
   ]
 
-  pub stored : i.kept ≡ h.kept ++ new_kept place.number sent ∷ [] → i.subscribers ≡ h.subscribers → i.sessions ≡ h.sessions
-      → i.last ≡ place.number → i.given ≡ h.given → Wakes h.awake i.awake → i.awake sent.destination ≡ true → Puts h sent i
+  pub stored : i.kept ≡ h.kept ++ new_kept place.number sent ∷ [] → i.subscribers ≡ h.subscribers
+      → i.sessions ≡ h.sessions
+      → i.last ≡ place.number → i.given ≡ h.given → Wakes h.awake i.awake → i.awake sent.destination ≡ true
+      → Puts h sent i
   stored kept subscribers sessions last given wakes awake = record {
     kept = kept ∙ ap (λ n. h.kept ++ new_kept n sent ∷ []) number;
     subscribers = subscribers;

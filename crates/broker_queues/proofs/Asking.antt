@@ -59,19 +59,23 @@ module _ (h : Holding) (is : IsSound h) (x : ℕ) (i : List ℕ) where
       let same : place.value.number ≡ one.value.age = eqb-true place.value.number one.value.age place.passes in
       let named : is_named_at h.subscribers x i place.value ≡ true =
       ap (λ a. named_by x i (subscriber_at a h.subscribers)) same ∙ ap (named_by x i) one.found ∙ one.passes in
-      any_from_at (λ p. p.number) (is_named_at h.subscribers x i) place.value.number (h.sessions x) place.value place.found named
+      any_from_at (λ p. p.number) (is_named_at h.subscribers x i) place.value.number (h.sessions x) place.value
+      place.found named
 
-  pub asks_name : is_some (find (is_named_at h.subscribers x i) (h.sessions x)) ≡ list_any (is_named x i) (subscriptions_of h.subscribers)
+  pub asks_name : is_some (find (is_named_at h.subscribers x i) (h.sessions x))
+      ≡ list_any (is_named x i) (subscriptions_of h.subscribers)
   asks_name =
       found_any (is_named_at h.subscribers x i) (h.sessions x)
-      ∙ same_tests (list_any (is_named_at h.subscribers x i) (h.sessions x)) (list_any (λ s. is_named x i s.subscription) h.subscribers)
+      ∙ same_tests (list_any (is_named_at h.subscribers x i) (h.sessions x))
+      (list_any (λ s. is_named x i s.subscription) h.subscribers)
       named_place place_named
       ∙ sym (any_map (is_named x i) (λ s. s.subscription) (λ s. is_named x i s.subscription) (λ s. refl) h.subscribers)
 
 -- ---- deliveries
 
 pub asks_holder : (h : Holding) (accepted : List Accepted) (x number : ℕ) → IsSound h
-    → is_some (find (is_held_at h.kept h.subscribers number) (h.sessions x)) ≡ is_some (holder (book_of h accepted) x number)
+    → is_some (find (is_held_at h.kept h.subscribers number) (h.sessions x))
+    ≡ is_some (holder (book_of h accepted) x number)
 asks_holder h accepted x number is = by_place (find (is_held_at h.kept h.subscribers number) (h.sessions x)) refl
   where
     by_place : (o : Option Place) → find (is_held_at h.kept h.subscribers number) (h.sessions x) ≡ o
@@ -80,8 +84,10 @@ asks_holder h accepted x number is = by_place (find (is_held_at h.kept h.subscri
         ∙ ap (λ o. option_map (λ (s : Subscriber). s.subscription) o) (no_holder h is x number none)))
     by_place (Some p) found =
         let held : IsHolder h x number p.number =
-        the_holder h is x number p found (found_lists (is_held_at h.kept h.subscribers number) (h.sessions x) p found) in
-        sym (ap is_some (holder_is h accepted x number ∙ ap (λ o. option_map (λ (s : Subscriber). s.subscription) o) held.first))
+        the_holder h is x number p found (found_lists (is_held_at h.kept h.subscribers number) (h.sessions x) p found)
+        in
+        sym (ap is_some (holder_is h accepted x number
+        ∙ ap (λ o. option_map (λ (s : Subscriber). s.subscription) o) held.first))
 
 -- ---- how many
 
@@ -137,7 +143,8 @@ module _ {X : Type 0} (number : X → ℕ) where
           | inr out ↦ absurd (omega (
             arith,
             eqb-true (number x) n here,
-            any_high (number x + 1) n (filter test xs) (rise_filter number test (number x + 1) xs parts.1) (rw out at any),
+            any_high (number x + 1) n (filter test xs) (rise_filter number test (number x + 1) xs parts.1)
+                (rw out at any),
           ))
         ]
         | inr off ↦ elim (cases_Bool (test x)) [
@@ -151,7 +158,8 @@ module _ {X : Type 0} (number : X → ℕ) where
       ]
 
 -- two rising lists of the same numbers are as long
-same_length : {X Y : Type 0} (number : X → ℕ) (other : Y → ℕ) (low : ℕ) (xs : List X) (ys : List Y) → rise number low xs ≡ true
+same_length : {X Y : Type 0} (number : X → ℕ) (other : Y → ℕ) (low : ℕ) (xs : List X) (ys : List Y)
+    → rise number low xs ≡ true
     → rise other low ys ≡ true
     → ((n : ℕ) → list_any (λ x. number x == n) xs ≡ list_any (λ y. other y == n) ys) → length xs ≡ length ys
 same_length number other low [] [] rises more same = refl
@@ -166,7 +174,8 @@ same_length {X} {Y} number other low (x ∷ xs) (y ∷ ys) rises more same =
     let one = and_parts (nat_le low (number x)) (rise number (number x + 1) xs) rises in
     let two = and_parts (nat_le low (other y)) (rise other (other y + 1) ys) more in
     let rise_two : rise other (number x + 1) ys ≡ true = rw heads two.1 in
-    let rest : length xs ≡ length ys = same_length number other (number x + 1) xs ys one.1 rise_two (λ n. tails n one.1 rise_two) in
+    let rest : length xs ≡ length ys =
+    same_length number other (number x + 1) xs ys one.1 rise_two (λ n. tails n one.1 rise_two) in
     ap (λ n. suc n) rest
   where
     itself_x : list_any (λ z. number z == number x) (x ∷ xs) ≡ true
@@ -188,9 +197,11 @@ same_length {X} {Y} number other low (x ∷ xs) (y ∷ ys) rises more same =
         | inl is ↦ eqb-true (number x) (other y) is
         | inr other_off ↦ absurd (omega (
           arith,
-          any_high other (other y + 1) (number x) ys (and_parts (nat_le low (other y)) (rise other (other y + 1) ys) more).1
+          any_high other (other y + 1) (number x) ys (and_parts (nat_le low (other y)) (rise other (other y + 1) ys)
+              more).1
               (rw off at x_in),
-          any_high number (number x + 1) (other y) xs (and_parts (nat_le low (number x)) (rise number (number x + 1) xs) rises).1
+          any_high number (number x + 1) (other y) xs (and_parts (nat_le low (number x)) (rise number (number x + 1) xs)
+              rises).1
               (rw other_off at y_in),
         ))
       ]
@@ -237,8 +248,10 @@ module _ (h : Holding) (is : IsSound h) (x : ℕ) where
 
   pub asks_count : length (h.sessions x) ≡ count_by (λ s. s.session == x) (subscriptions_of h.subscribers)
   asks_count =
-      same_length (λ p. p.number) (λ s. s.age) 0 (h.sessions x) (filter (λ s. s.subscription.session == x) h.subscribers) (is.owned_rise x)
+      same_length (λ p. p.number) (λ s. s.age) 0 (h.sessions x) (filter (λ s. s.subscription.session == x)
+      h.subscribers) (is.owned_rise x)
       (rise_filter (λ s. s.age) (λ s. s.subscription.session == x) 0 h.subscribers is.ages)
       (λ n. same_tests (lists n (h.sessions x))
-      (list_any (λ s. s.age == n) (filter (λ s. s.subscription.session == x) h.subscribers)) (listed_there n) (there_listed n))
+      (list_any (λ s. s.age == n) (filter (λ s. s.subscription.session == x) h.subscribers)) (listed_there n)
+      (there_listed n))
       ∙ length-filter (λ s. s.subscription.session == x) h.subscribers ∙ count_map h.subscribers

@@ -12,7 +12,8 @@ use Rattle.broker_book.specs.declared.parts.Accepted.{Accepted}
 use Rattle.broker_book.specs.declared.parts.Subscription.{Subscription}
 use Rattle.broker_book.specs.Books.{is_named}
 use Rattle.broker_book.specs.Steps.{subscribed}
-use Rattle.broker_index.specs.Index.{Subscriber, Queue, Sets, is_idle, opened, unless_idle, with_subscriber, without, without_subscriber}
+use Rattle.broker_index.specs.Index.{Subscriber, Queue, Sets, is_idle, opened, unless_idle, with_subscriber, without}
+use Rattle.broker_index.specs.Index.{without_subscriber}
 use Rattle.broker_index.specs.declared.places.Place.{Place}
 use Rattle.broker_queues.specs.Parts.Facts.{subscriber_at, subscriptions_of, lists, queue_of, rise}
 use Rattle.broker_queues.specs.Parts.Storing.{Attached, Becomes, Closes, SubscribesTo, Tidies}
@@ -28,7 +29,8 @@ use Rattle.broker_queues.proofs.Sweeping.{tidy, tidy_moves}
 
 -- a queue without what it has is a queue that became another
 becomes_without : (age : ℕ) (b c : List ℕ → Option Queue) (name : List ℕ)
-    → Sets b c name (option_map (without_subscriber age) (b name)) → queue_of c name ≡ without_subscriber age (queue_of b name)
+    → Sets b c name (option_map (without_subscriber age) (b name))
+    → queue_of c name ≡ without_subscriber age (queue_of b name)
 becomes_without age b c name sets = by_queue (b name) refl
   where
     by_queue : (x : Option Queue) → b name ≡ x → queue_of c name ≡ without_subscriber age (queue_of b name)
@@ -39,7 +41,8 @@ becomes_without age b c name sets = by_queue (b name) refl
 
 pub detaches_again : (a b c e : List ℕ → Option Queue) (name : List ℕ) (place : Place)
     → All (λ p. p.number < place.number) (queue_of a name).subscribers → Becomes (with_subscriber place) a b name
-    → Sets b c name (option_map (without_subscriber place.number) (b name)) → Sets c e name (option_and_then unless_idle (c name))
+    → Sets b c name (option_map (without_subscriber place.number) (b name))
+    → Sets c e name (option_and_then unless_idle (c name))
     → Closes a e
 detaches_again a b c e name place above becomes without closed d = elim (closes c e name closed d) [
   | inl same ↦ inl (same ∙ back d)
@@ -92,12 +95,14 @@ module _ (h i : Holding) (is : IsSound h) (sub : Subscription) (place : Place) (
     (young : All (λ (s : Subscriber). s.age < place.number) h.subscribers)
     (free : list_any (is_named sub.session sub.id) (subscriptions_of h.subscribers) ≡ false)
     (t : Attached (record h { subscribers = subs }) sub.destination sub.session place i) where
-  unnamed : (a : ℕ) (s : Subscriber) → subscriber_at a h.subscribers ≡ Some s → is_named sub.session sub.id s.subscription ≡ false
+  unnamed : (a : ℕ) (s : Subscriber) → subscriber_at a h.subscribers ≡ Some s
+      → is_named sub.session sub.id s.subscription ≡ false
   unnamed a s there = elim (cases_Bool (is_named sub.session sub.id s.subscription)) [
     | inr off ↦ off
     | inl on ↦
         let any : list_any (λ (s : Subscriber). is_named sub.session sub.id s.subscription) h.subscribers ≡ true =
-        any_from_at (λ (s : Subscriber). s.age) (λ (s : Subscriber). is_named sub.session sub.id s.subscription) a h.subscribers s
+        any_from_at (λ (s : Subscriber). s.age) (λ (s : Subscriber). is_named sub.session sub.id s.subscription) a
+        h.subscribers s
         there on in
         let all : list_any (is_named sub.session sub.id) (subscriptions_of h.subscribers) ≡ true =
         any_map (is_named sub.session sub.id) (λ (s : Subscriber). s.subscription)
@@ -120,17 +125,19 @@ module _ (h i : Holding) (is : IsSound h) (sub : Subscription) (place : Place) (
     | inr off ↦ rw off.1 (refl, refl, refl, refl)
   ]
 
-  listening : (d : List ℕ) (a : ℕ) → lists a (queue_of h.queues d).subscribers ≡ true → lists a (queue_of i.queues d).subscribers ≡ true
+  listening : (d : List ℕ) (a : ℕ) → lists a (queue_of h.queues d).subscribers ≡ true
+      → lists a (queue_of i.queues d).subscribers ≡ true
   listening d a listed = ap (λ ps. lists a ps) (t.frees.lowers.subscribers d) ∙ elim (at_name d) [
     | inl on ↦ rw on.1 (lists_still a (queue_of h.queues d).subscribers place listed)
     | inr off ↦ rw off.1 listed
   ]
 
   listens : lists place.number (queue_of i.queues sub.destination).subscribers ≡ true
-  listens = ap (λ ps. lists place.number ps) (t.frees.lowers.subscribers sub.destination) ∙ elim (at_name sub.destination) [
-    | inl on ↦ rw on.1 (lists_last (queue_of h.queues sub.destination).subscribers place)
-    | inr off ↦ let never : true ≡ false = sym (itself sub.destination) ∙ off.0 in cc
-  ]
+  listens =
+      ap (λ ps. lists place.number ps) (t.frees.lowers.subscribers sub.destination) ∙ elim (at_name sub.destination) [
+        | inl on ↦ rw on.1 (lists_last (queue_of h.queues sub.destination).subscribers place)
+        | inr off ↦ let never : true ≡ false = sym (itself sub.destination) ∙ off.0 in cc
+      ]
 
   listeners : (d : List ℕ) (a : ℕ) → lists a (queue_of i.queues d).subscribers ≡ true
       → ((a ≡ place.number) × (d ≡ sub.destination)) ⊎ (lists a (queue_of h.queues d).subscribers ≡ true)
@@ -173,7 +180,8 @@ module _ (h i : Holding) (is : IsSound h) (sub : Subscription) (place : Place) (
   owned_rise x = elim (cases_eq x sub.session) [
     | inl same ↦ rw (same, t.sessions.at) (rise_push (λ (p : Place). p.number) 0 (h.sessions sub.session) place
         (is.owned_rise sub.session) (omega arith)
-        (λ n p found. owned_lower h is place.number young sub.session n (found_listed n (h.sessions sub.session) p found)))
+        (λ n p found. owned_lower h is place.number young sub.session n (found_listed n (h.sessions sub.session) p
+        found)))
     | inr other ↦ rw (t.sessions.others x other) (is.owned_rise x)
   ]
 
@@ -214,7 +222,8 @@ module _ (h i : Holding) (is : IsSound h) (sub : Subscription) (place : Place) (
 
 -- ---- or not
 
-pub not_joined : {A E : Type 0} (h i : Holding) (sub : Subscription) (r : Result A E) → IsErr r → Tidies h i → SubscribesTo h sub i r
+pub not_joined : {A E : Type 0} (h i : Holding) (sub : Subscription) (r : Result A E) → IsErr r → Tidies h i
+    → SubscribesTo h sub i r
 not_joined h i sub (Ok x) err t = let never : false ≡ true = err in cc
 not_joined h i sub (Err e) err t = t
 
@@ -227,10 +236,12 @@ module _ (h i : Holding) (is : IsSound h) (sub : Subscription) (place : Place) (
     (pushed : subs ≡ h.subscribers ++ newcomer sub place ∷ [])
     (young : All (λ (s : Subscriber). s.age < place.number) h.subscribers)
     (closed : Closes h.queues i.queues) (rest : i ≡ record h { subscribers = subs; queues = i.queues }) where
-  pub goes_again : back ≡ filter (λ s. not (s.age == place.number)) i.subscribers → Tidies h (record i { subscribers = back })
+  pub goes_again : back ≡ filter (λ s. not (s.age == place.number)) i.subscribers
+      → Tidies h (record i { subscribers = back })
   goes_again is_so =
       let same : back ≡ h.subscribers =
-      is_so ∙ ap (λ l. filter (λ (s : Subscriber). not (s.age == place.number)) l) (ap (λ (x : Holding). x.subscribers) rest ∙ pushed)
+      is_so ∙ ap (λ l. filter (λ (s : Subscriber). not (s.age == place.number)) l)
+      (ap (λ (x : Holding). x.subscribers) rest ∙ pushed)
       ∙ push_filter (λ (s : Subscriber). s.age) h.subscribers (newcomer sub place) young in
       tidy_moves h (record i { subscribers = back }) is
       (shut h is (record i { subscribers = back }) closed (ap (λ (x : Holding). x.kept) rest) same

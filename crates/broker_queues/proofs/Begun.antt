@@ -54,7 +54,8 @@ begins h is = record {
 -- ---- notes
 
 -- a subscriber that stays the same holds what it held
-held_same : (o : Option Subscriber) (e : Logged) (m : IsHeldBy o e) (p : Option Subscriber) → IsSame m.holder p → IsHeldBy p e
+held_same : (o : Option Subscriber) (e : Logged) (m : IsHeldBy o e) (p : Option Subscriber) → IsSame m.holder p
+    → IsHeldBy p e
 held_same o e m p is = record {
   holder = is.now;
   there = is.there;
@@ -63,7 +64,8 @@ held_same o e m p is = record {
   noted = rw is.entries m.noted;
 }
 
-pub held_still : (old new : List Subscriber) → ((b : ℕ) (u : Subscriber) → subscriber_at b old ≡ Some u → IsSame u (subscriber_at b new))
+pub held_still : (old new : List Subscriber)
+    → ((b : ℕ) (u : Subscriber) → subscriber_at b old ≡ Some u → IsSame u (subscriber_at b new))
     → (log : List Logged) → AreHeld old log → AreHeld new log
 held_still old new same [] held = tt
 held_still old new same (e ∷ log) held = (
@@ -72,12 +74,14 @@ held_still old new same (e ∷ log) held = (
       same log held.1,
 )
 
-pub held_append : (subscribers : List Subscriber) (log later : List Logged) → AreHeld subscribers log → AreHeld subscribers later
+pub held_append : (subscribers : List Subscriber) (log later : List Logged) → AreHeld subscribers log
+    → AreHeld subscribers later
     → AreHeld subscribers (log ++ later)
 held_append subscribers [] later held more = more
 held_append subscribers (e ∷ log) later held more = (held.0, held_append subscribers log later held.1 more)
 
-pub held_front : (subscribers : List Subscriber) (log later : List Logged) → AreHeld subscribers (log ++ later) → AreHeld subscribers log
+pub held_front : (subscribers : List Subscriber) (log later : List Logged) → AreHeld subscribers (log ++ later)
+    → AreHeld subscribers log
 held_front subscribers [] later held = tt
 held_front subscribers (e ∷ log) later held = (held.0, held_front subscribers log later held.1)
 
@@ -93,11 +97,13 @@ never_out false = refl
 
 -- ---- notes alone
 
-pub noted_begun : (start h : Holding) (log : List Logged) (s : Subscriber) (answered : Option ℕ) (es : List Entry) (now : List Logged)
+pub noted_begun : (start h : Holding) (log : List Logged) (s : Subscriber) (answered : Option ℕ) (es : List Entry)
+    (now : List Logged)
     → IsBegun start log h → Noted h s answered es log now → IsBegun start now h
 noted_begun start h log s answered es now b n = record {
   sound = b.sound;
-  kept = ap (λ l. before start.last l h.kept) n.more ∙ before_noted start.last log n.later h.kept b.sound.numbers n.holds ∙ b.kept;
+  kept = ap (λ l. before start.last l h.kept) n.more
+      ∙ before_noted start.last log n.later h.kept b.sound.numbers n.holds ∙ b.kept;
   subscriptions = b.subscriptions;
   given = b.given;
   last = b.last;
@@ -115,27 +121,35 @@ goes_map f keeps d (Some k) = ap (λ (s : Sent). bytes_eq s.destination d) (keep
 
 module _ (to : Option Fate) (test : Fate → Bool) (es : List Entry) where
   turn_number : (k : Kept) → (turn_among to test es k).number ≡ k.number
-  turn_number k = elim (cases_Bool (passes test k.fate && notes k.number es)) [ inl on ↦ rw on refl | inr off ↦ rw off refl ]
+  turn_number k =
+      elim (cases_Bool (passes test k.fate && notes k.number es)) [ inl on ↦ rw on refl | inr off ↦ rw off refl ]
 
   turn_sent : (k : Kept) → (turn_among to test es k).sent ≡ k.sent
-  turn_sent k = elim (cases_Bool (passes test k.fate && notes k.number es)) [ inl on ↦ rw on refl | inr off ↦ rw off refl ]
+  turn_sent k =
+      elim (cases_Bool (passes test k.fate && notes k.number es)) [ inl on ↦ rw on refl | inr off ↦ rw off refl ]
 
-  turn_ready : passes test (Some Ready) ≡ false → (k : Kept) → k.fate ≡ Some Ready → (turn_among to test es k).fate ≡ Some Ready
+  turn_ready : passes test (Some Ready) ≡ false → (k : Kept) → k.fate ≡ Some Ready
+      → (turn_among to test es k).fate ≡ Some Ready
   turn_ready fails k ready =
       let off : passes test k.fate ≡ false = ap (λ f. passes test f) ready ∙ fails in
       rw off ready
 
-  turn_at : (n : ℕ) (kept : List Kept) → kept_at n (map (turn_among to test es) kept) ≡ option_map (turn_among to test es) (kept_at n kept)
+  turn_at : (n : ℕ) (kept : List Kept)
+      → kept_at n (map (turn_among to test es) kept) ≡ option_map (turn_among to test es) (kept_at n kept)
   turn_at n kept = find_map (has_number n) (turn_among to test es) (λ k. ap (λ m. m == n) (turn_number k)) kept
 
-module _ (start h i : Holding) (log : List Logged) (age : ℕ) (s : Subscriber) (again : Bool) (answered : Option ℕ) (now : List Logged)
+module _ (start h i : Holding) (log : List Logged) (age : ℕ) (s : Subscriber) (again : Bool) (answered : Option ℕ)
+    (now : List Logged)
     (b : IsBegun start log h) (n : Noted h s answered s.entries log now)
     (t : Turns h age s (back again) (counts_in s.subscription answered) s.entries i) where
   turned_fresh : (m : ℕ) (k : Kept) → kept_at m i.kept ≡ Some k → start.last < m → k.fate ≡ Some Ready
   turned_fresh m k there later =
-      let e : option_map (turn_among (back again) (counts_in s.subscription answered) s.entries) (kept_at m h.kept) ≡ Some k =
-      sym (turn_at (back again) (counts_in s.subscription answered) s.entries m h.kept) ∙ ap (kept_at m) (sym t.kept) ∙ there in
-      let w = is_mapped (turn_among (back again) (counts_in s.subscription answered) s.entries) (kept_at m h.kept) k e in
+      let e : option_map (turn_among (back again) (counts_in s.subscription answered) s.entries) (kept_at m h.kept)
+      ≡ Some k =
+      sym (turn_at (back again) (counts_in s.subscription answered) s.entries m h.kept) ∙ ap (kept_at m) (sym t.kept)
+      ∙ there in
+      let w = is_mapped (turn_among (back again) (counts_in s.subscription answered) s.entries) (kept_at m h.kept) k e
+      in
       ap (λ (l : Kept). l.fate) (sym w.to) ∙ turn_ready (back again) (counts_in s.subscription answered) s.entries
       (uncovered s.subscription answered true) w.from (b.fresh m w.from w.found later)
 
@@ -152,7 +166,8 @@ module _ (start h i : Holding) (log : List Logged) (age : ℕ) (s : Subscriber) 
   answer_begun = record {
     sound = t.sound;
     kept = ap (λ l. before start.last l i.kept) n.more ∙ ap (before start.last (log ++ n.later)) t.kept
-        ∙ before_answer start.last log n.later h.kept (back again) (counts_in s.subscription answered) s.entries b.sound.numbers
+        ∙ before_answer start.last log n.later h.kept (back again) (counts_in s.subscription answered) s.entries
+        b.sound.numbers
         (never_out again) n.holds n.all
         ∙ b.kept;
     subscriptions = t.subscriptions ∙ b.subscriptions;
@@ -166,18 +181,21 @@ module _ (start h i : Holding) (log : List Logged) (age : ℕ) (s : Subscriber) 
 
 -- ---- a put
 
-module _ (start h i : Holding) (log : List Logged) (sent : Sent) (b : IsBegun start log h) (is : IsSound i) (p : Puts h sent i)
+module _ (start h i : Holding) (log : List Logged) (sent : Sent) (b : IsBegun start log h) (is : IsSound i)
+    (p : Puts h sent i)
     (only : (d : List ℕ) (m : ℕ) → lists m (queue_of i.queues d).numbers ≡ true
     → (lists m (queue_of h.queues d).numbers ≡ true) ⊎ ((m ≡ h.last + 1) × (d ≡ sent.destination))) where
   new_at : kept_at (h.last + 1) h.kept ≡ None
   new_at = none_unless (kept_at (h.last + 1) h.kept) (λ k there. omega (arith, b.sound.last (h.last + 1) k there))
 
-  put_at : (m : ℕ) → kept_at m i.kept ≡ option_or (kept_at m h.kept) (cond ((h.last + 1) == m) (Some (new_kept (h.last + 1) sent)) None)
+  put_at : (m : ℕ) → kept_at m i.kept ≡ option_or (kept_at m h.kept) (cond ((h.last + 1) == m)
+      (Some (new_kept (h.last + 1) sent)) None)
   put_at m = ap (kept_at m) p.kept ∙ at_push (λ k. k.number) m h.kept (new_kept (h.last + 1) sent)
 
   put_fresh : (m : ℕ) (k : Kept) → kept_at m i.kept ≡ Some k → start.last < m → k.fate ≡ Some Ready
   put_fresh m k there later =
-      elim (or_some (kept_at m h.kept) (cond ((h.last + 1) == m) (Some (new_kept (h.last + 1) sent)) None) k (sym (put_at m) ∙ there)) [
+      elim (or_some (kept_at m h.kept) (cond ((h.last + 1) == m) (Some (new_kept (h.last + 1) sent)) None) k
+      (sym (put_at m) ∙ there)) [
         | inl old ↦ b.fresh m k old later
         | inr new ↦ elim (cases_Bool ((h.last + 1) == m)) [
           | inl on ↦ let e : Some (new_kept (h.last + 1) sent) ≡ Some k = rw on at new in
@@ -190,7 +208,8 @@ module _ (start h i : Holding) (log : List Logged) (sent : Sent) (b : IsBegun st
   goes_or d None p goes = let never : false ≡ true = goes in cc
   goes_or d (Some k) p goes = goes
 
-  put_listed : (d : List ℕ) (m : ℕ) → lists m (queue_of i.queues d).numbers ≡ true → start.last < m → goes_to d (kept_at m i.kept) ≡ true
+  put_listed : (d : List ℕ) (m : ℕ) → lists m (queue_of i.queues d).numbers ≡ true → start.last < m
+      → goes_to d (kept_at m i.kept) ≡ true
   put_listed d m listed later = elim (only d m listed) [
     | inl old ↦ ap (goes_to d) (put_at m) ∙ goes_or d (kept_at m h.kept)
         (cond ((h.last + 1) == m) (Some (new_kept (h.last + 1) sent)) None) (b.listed d m old later)
@@ -218,7 +237,8 @@ module _ (start h i : Holding) (log : List Logged) (sent : Sent) (b : IsBegun st
 
 pub same_begun : (start h i : Holding) (log : List Logged) → IsBegun start log h → IsSound i → i.kept ≡ h.kept
     → i.subscribers ≡ h.subscribers → i.last ≡ h.last → i.given ≡ h.given
-    → ((d : List ℕ) (m : ℕ) → lists m (queue_of i.queues d).numbers ≡ true → lists m (queue_of h.queues d).numbers ≡ true)
+    → ((d : List ℕ) (m : ℕ) → lists m (queue_of i.queues d).numbers ≡ true
+    → lists m (queue_of h.queues d).numbers ≡ true)
     → IsBegun start log i
 same_begun start h i log b is kept subscribers last given listed = record {
   sound = is;

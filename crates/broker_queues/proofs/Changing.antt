@@ -64,19 +64,31 @@ module _ (h i : Holding) (n : ℕ) (k : Kept) (f : Option Fate) (is : IsSound h)
   noted m l x j a there out = elim (kept_was m l there) [
     | inl both ↦
         let out2 : f ≡ Some (Out x j a) = rw both.1 at out in
-        rw (c.subscribers, both.0, any_map (holds_number x j n) (recounted k.fate f) (holds_number x j n) (λ s. refl) h.subscribers)
+        rw (
+          c.subscribers,
+          both.0,
+          any_map (holds_number x j n) (recounted k.fate f) (holds_number x j n) (λ s. refl)
+              h.subscribers,
+        )
         (c.noted x j a out2)
     | inr old ↦
-        rw (c.subscribers, any_map (holds_number x j m) (recounted k.fate f) (holds_number x j m) (λ s. refl) h.subscribers)
+        rw (
+          c.subscribers,
+          any_map (holds_number x j m) (recounted k.fate f) (holds_number x j m) (λ s. refl)
+              h.subscribers,
+        )
         (is.noted m l x j a old out)
   ]
 
-  recount : (a : ℕ) (s : Subscriber) → subscriber_at a h.subscribers ≡ Some s → (s.count + counts_for s f) - counts_for s k.fate
+  recount : (a : ℕ) (s : Subscriber) → subscriber_at a h.subscribers ≡ Some s
+      → (s.count + counts_for s f) - counts_for s k.fate
       ≡ count_by (λ m. out_to s.subscription.session s.subscription.id m.fate) (living_of (map (with_fate n f) h.kept))
   recount a s there =
       let test : Fate → Bool = out_to s.subscription.session s.subscription.id in
-      let one : weight (λ m. test m.fate) (message_of k) ≡ counts_for s k.fate = weight_fate test k.number k.sent k.fate in
-      let two : weight (λ m. test m.fate) (message_of (fated f k)) ≡ counts_for s f = weight_fate test k.number k.sent f in
+      let one : weight (λ m. test m.fate) (message_of k) ≡ counts_for s k.fate =
+      weight_fate test k.number k.sent k.fate in
+      let two : weight (λ m. test m.fate) (message_of (fated f k)) ≡ counts_for s f =
+      weight_fate test k.number k.sent f in
       let counts : count_by (λ m. test m.fate) (living_of (map (with_fate n f) h.kept)) + counts_for s k.fate
       ≡ count_by (λ m. test m.fate) (living_of h.kept) + counts_for s f =
       rw (← one, ← two) (count_change (λ m. test m.fate) n f h.kept k is.numbers found) in
@@ -90,8 +102,10 @@ module _ (h i : Holding) (n : ℕ) (k : Kept) (f : Option Fate) (is : IsSound h)
       → s.count ≡ count_by (λ m. out_to s.subscription.session s.subscription.id m.fate) (living_of i.kept)
   credited_was a s w = rw (← w.to, c.kept) (recount a w.from w.found)
 
-  listening_was : (a : ℕ) (s : Subscriber) → Was a s → lists a (queue_of i.queues s.subscription.destination).subscribers ≡ true
-  listening_was a s w = rw (← w.to, c.lowers.subscribers w.from.subscription.destination) (is.listening a w.from w.found)
+  listening_was : (a : ℕ) (s : Subscriber) → Was a s
+      → lists a (queue_of i.queues s.subscription.destination).subscribers ≡ true
+  listening_was a s w =
+      rw (← w.to, c.lowers.subscribers w.from.subscription.destination) (is.listening a w.from w.found)
 
   owned_was : (a : ℕ) (s : Subscriber) → Was a s → lists a (i.sessions s.subscription.session) ≡ true
   owned_was a s w = rw (← w.to, c.sessions) (is.owned a w.from w.found)
@@ -107,7 +121,8 @@ module _ (h i : Holding) (n : ℕ) (k : Kept) (f : Option Fate) (is : IsSound h)
       → may_have i.given (recounted k.fate f s) ≡ true → may_have h.given s ≡ true
   had_credit s off may =
       let none : counts_for s k.fate ≡ 0 = rw off refl in
-      may_before (is_auto s.subscription.mode) MAX_UNANSWERED (2 ^ 64 - 1) s.count ((s.count + counts_for s f) - counts_for s k.fate)
+      may_before (is_auto s.subscription.mode) MAX_UNANSWERED (2 ^ 64 - 1) s.count
+      ((s.count + counts_for s f) - counts_for s k.fate)
       h.given i.given (omega arith) c.given may
 
   takers_was : (a : ℕ) (s : Subscriber) → Was a s → may_have i.given s ≡ true
@@ -124,7 +139,8 @@ module _ (h i : Holding) (n : ℕ) (k : Kept) (f : Option Fate) (is : IsSound h)
       ]
 
   awake_was : (m : ℕ) (l : Kept) (a : ℕ) (s : Subscriber) → ((m ≡ n) × (l ≡ fated f k)) ⊎ (kept_at m h.kept ≡ Some l)
-      → l.fate ≡ Some Ready → Was a s → bytes_eq s.subscription.destination l.sent.destination ≡ true → may_have i.given s ≡ true
+      → l.fate ≡ Some Ready → Was a s → bytes_eq s.subscription.destination l.sent.destination ≡ true
+      → may_have i.given s ≡ true
       → i.awake l.sent.destination ≡ true
   awake_was m l a s was ready w same may =
       let may2 : may_have i.given (recounted k.fate f w.from) ≡ true = rw (← w.to) at may in
@@ -134,7 +150,8 @@ module _ (h i : Holding) (n : ℕ) (k : Kept) (f : Option Fate) (is : IsSound h)
         | inr old ↦ elim (cases_Bool (passes (out_to w.from.subscription.session w.from.subscription.id) k.fate)) [
           | inl on ↦ rw (← (bytes_eq-Decides w.from.subscription.destination l.sent.destination).0 same2)
               (c.free_awake a w.from w.found on)
-          | inr off ↦ c.wakes l.sent.destination (is.awake m l a w.from old ready w.found same2 (had_credit w.from off may2))
+          | inr off ↦ c.wakes l.sent.destination (is.awake m l a w.from old ready w.found same2
+              (had_credit w.from off may2))
         ]
       ]
 
@@ -147,13 +164,15 @@ module _ (h i : Holding) (n : ℕ) (k : Kept) (f : Option Fate) (is : IsSound h)
   apart_was : (a b : ℕ) (s t : Subscriber) → Was a s → Was b t
       → is_named s.subscription.session s.subscription.id t.subscription ≡ true → a ≡ b
   apart_was a b s t v w named =
-      let named2 : is_named v.from.subscription.session v.from.subscription.id w.from.subscription ≡ true = rw (← v.to, ← w.to) at named in
+      let named2 : is_named v.from.subscription.session v.from.subscription.id w.from.subscription ≡ true =
+      rw (← v.to, ← w.to) at named in
       is.apart a b v.from w.from v.found w.found named2
 
   destination_here : (a : ℕ) → destination_at a i.subscribers ≡ destination_at a h.subscribers
   destination_here a =
       rw (c.subscribers, find_map (has_age a) (recounted k.fate f) (λ x. refl) h.subscribers)
-      (option_map_map (λ s. s.subscription.destination) (recounted k.fate f) (λ s. s.subscription.destination) (λ s. refl)
+      (option_map_map (λ s. s.subscription.destination) (recounted k.fate f) (λ s. s.subscription.destination)
+      (λ s. refl)
       (subscriber_at a h.subscribers))
 
   session_here : (a : ℕ) → session_at a i.subscribers ≡ session_at a h.subscribers

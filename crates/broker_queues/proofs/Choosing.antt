@@ -1,15 +1,18 @@
 -- The destinations that are awake are looked at, one after another.
-use Rattle.std.proofs.Common.{◌≡◌, ◌≤◌, ◌<◌, ◌+◌, ℕ, suc, Bool, true, false, ◌||◌, List, [], ◌∷◌, ◌++◌, length, get_or, take, drop}
+use Rattle.std.proofs.Common.{◌≡◌, ◌≤◌, ◌<◌, ◌+◌, ℕ, suc, Bool, true, false, ◌||◌, List, [], ◌∷◌, ◌++◌, length, get_or}
+use Rattle.std.proofs.Common.{take, drop}
 use Rattle.std.proofs.Common.{map, Option, Some, None, refl, sym, ap, ◌∙◌, add-one, arith, inl, inr}
 use Rattle.std.specs.Prelude.{nat_le, remove, ◌⊎◌}
 use Rattle.std.specs.List.{list_any}
 use Rattle.std.specs.Str.{bytes_eq}
 use Rattle.std.proofs.lemmas.Bool.{cases_Bool, leb-true, le-leb, leb-false}
-use Rattle.std.proofs.lemmas.List.{take_at, length-take-le, drop_more, take_all, take-append-drop, length-append, length-drop}
+use Rattle.std.proofs.lemmas.List.{take_at, length-take-le, drop_more, take_all, take-append-drop, length-append}
+use Rattle.std.proofs.lemmas.List.{length-drop}
 use Rattle.std.proofs.lemmas.List.Folds.{list_any-append, list_any_more}
 use Rattle.broker_index.specs.Index.{Kept, Subscriber, Queue, queue_at}
 use Rattle.broker_queues.specs.declared.deals.Pick.{Pick}
-use Rattle.broker_queues.specs.Parts.Choosing.{Rests, IsDueAt, MayGo, Looked, Covers, IsPick, IsNext, is_at_most, earlier}
+use Rattle.broker_queues.specs.Parts.Choosing.{Rests, IsDueAt, MayGo, Looked, Covers, IsPick, IsNext, is_at_most}
+use Rattle.broker_queues.specs.Parts.Choosing.{earlier}
 use Rattle.broker_queues.specs.Parts.Queues.{awake_in}
 use Rattle.broker_queues.specs.Parts.Facts.{lists, queue_of, AreAwake}
 use Rattle.broker_queues.specs.Parts.Whole.{Holding, IsSound}
@@ -33,7 +36,8 @@ rests_on h i j r s = record {
 -- ---- picks
 
 module _ (kept : List Kept) (subscribers : List Subscriber) (given : ℕ) where
-  pub earlier_can : (best : Option Pick) (p : Pick) → IsPick kept subscribers given best → IsPick kept subscribers given (Some p)
+  pub earlier_can : (best : Option Pick) (p : Pick) → IsPick kept subscribers given best
+      → IsPick kept subscribers given (Some p)
       → IsPick kept subscribers given (Some (earlier best p))
   earlier_can None p one two = two
   earlier_can (Some b) p one two = elim (cases_Bool (nat_le b.message.number p.message.number)) [
@@ -41,7 +45,8 @@ module _ (kept : List Kept) (subscribers : List Subscriber) (given : ℕ) where
     | inr off ↦ rw off two
   ]
 
-  at_most_best : (best : Option Pick) (p : Pick) (n : ℕ) → is_at_most best n ≡ true → is_at_most (Some (earlier best p)) n ≡ true
+  at_most_best : (best : Option Pick) (p : Pick) (n : ℕ) → is_at_most best n ≡ true
+      → is_at_most (Some (earlier best p)) n ≡ true
   at_most_best None p n on = let never : false ≡ true = on in cc
   at_most_best (Some b) p n on = elim (cases_Bool (nat_le b.message.number p.message.number)) [
     | inl first ↦ rw first on
@@ -49,7 +54,8 @@ module _ (kept : List Kept) (subscribers : List Subscriber) (given : ℕ) where
         (omega (arith, leb-false b.message.number p.message.number off, leb-true b.message.number n on)))
   ]
 
-  at_most_it : (best : Option Pick) (p : Pick) (n : ℕ) → is_at_most (Some p) n ≡ true → is_at_most (Some (earlier best p)) n ≡ true
+  at_most_it : (best : Option Pick) (p : Pick) (n : ℕ) → is_at_most (Some p) n ≡ true
+      → is_at_most (Some (earlier best p)) n ≡ true
   at_most_it None p n on = on
   at_most_it (Some b) p n on = elim (cases_Bool (nat_le b.message.number p.message.number)) [
     | inl first ↦ rw first (le-leb b.message.number n
@@ -66,7 +72,8 @@ module _ (kept : List Kept) (subscribers : List Subscriber) (given : ℕ) where
   covers_none names best d among = let never : false ≡ true = among in cc
 
   -- the next is as well
-  pub covers_next : (index : ℕ) (names : List (List ℕ)) (best : Option Pick) → index < length names → CoversFirst index names best
+  pub covers_next : (index : ℕ) (names : List (List ℕ)) (best : Option Pick) → index < length names
+      → CoversFirst index names best
       → Covers kept subscribers given (get_or names index []) best → CoversFirst (index + 1) names best
   covers_next index names best short before it d among =
       let split : (list_any (λ n. bytes_eq n d) (take index names) || bytes_eq (get_or names index []) d) ≡ true =
@@ -84,11 +91,13 @@ module _ (kept : List Kept) (subscribers : List Subscriber) (given : ℕ) where
       → CoversFirst index names best → Covers kept subscribers given (get_or names index []) (Some p)
       → CoversFirst (index + 1) names (Some (earlier best p))
   covers_found index names best p short before it =
-      covers_next index names (Some (earlier best p)) short (λ d among n due. at_most_best best p n (before d among n due))
+      covers_next index names (Some (earlier best p)) short (λ d among n due. at_most_best best p n
+      (before d among n due))
       (λ n due. at_most_it best p n (it n due))
 
   -- none was, and its name goes
-  pub covers_left : (index : ℕ) (names : List (List ℕ)) (best : Option Pick) → index < length names → CoversFirst index names best
+  pub covers_left : (index : ℕ) (names : List (List ℕ)) (best : Option Pick) → index < length names
+      → CoversFirst index names best
       → CoversFirst index (remove names index) best
   covers_left index names best short before d among =
       let front : take index (take index names ++ drop (suc index) names) ≡ take index names =
@@ -97,7 +106,8 @@ module _ (kept : List Kept) (subscribers : List Subscriber) (given : ℕ) where
       before d among2
 
 -- what is due stays due where no message and no subscriber changed
-pub covers_still : (h i : Holding) (d : List ℕ) (best : Option Pick) → Rests h i → Covers i.kept i.subscribers i.given d best
+pub covers_still : (h i : Holding) (d : List ℕ) (best : Option Pick) → Rests h i
+    → Covers i.kept i.subscribers i.given d best
     → Covers h.kept h.subscribers h.given d best
 covers_still h i d best r covers = rw (← r.kept, ← r.subscribers, ← r.given) covers
 
@@ -106,7 +116,8 @@ pub can_still : (h i : Holding) (best : Option Pick) → Rests h i → IsPick i.
 can_still h i best r can = rw (← r.kept, ← r.subscribers, ← r.given) can
 
 -- nothing is ready at a destination before where its queue looks for one
-pub behind_covers : (h : Holding) → IsSound h → (d : List ℕ) (best : Option Pick) → is_at_most best (queue_of h.queues d).ready_from ≡ true
+pub behind_covers : (h : Holding) → IsSound h → (d : List ℕ) (best : Option Pick)
+    → is_at_most best (queue_of h.queues d).ready_from ≡ true
     → Covers h.kept h.subscribers h.given d best
 behind_covers h is d best on n due = by_best best on
   where
@@ -115,12 +126,14 @@ behind_covers h is d best on n due = by_best best on
 
     by_best : (b : Option Pick) → is_at_most b (queue_of h.queues d).ready_from ≡ true → is_at_most b n ≡ true
     by_best None on = let never : false ≡ true = on in cc
-    by_best (Some p) on = le-leb p.message.number n (omega (arith, leb-true p.message.number (queue_of h.queues d).ready_from on, ahead))
+    by_best (Some p) on =
+        le-leb p.message.number n (omega (arith, leb-true p.message.number (queue_of h.queues d).ready_from on, ahead))
 
 -- ---- a destination sleeps
 
 -- a name that is among names is the one that goes, or among the others
-left_or : (names : List (List ℕ)) (index : ℕ) (d : List ℕ) → index < length names → list_any (λ n. bytes_eq n d) names ≡ true
+left_or : (names : List (List ℕ)) (index : ℕ) (d : List ℕ) → index < length names
+    → list_any (λ n. bytes_eq n d) names ≡ true
     → (get_or names index [] ≡ d) ⊎ (list_any (λ n. bytes_eq n d) (remove names index) ≡ true)
 left_or names index d short among =
     let whole : names ≡ take index names ++ get_or names index [] ∷ drop (index + 1) names =
@@ -138,53 +151,56 @@ left_or names index d short among =
     ]
 
 module _ (h : Holding) (is : IsSound h) (all : Bool) (names : List (List ℕ)) (index : ℕ) (short : index < length names)
-    (awake : h.awake ≡ awake_in all names) (covers : Covers h.kept h.subscribers h.given (get_or names index []) None) where
-  still_awake : AreAwake h.given h.kept h.subscribers (awake_in all (remove names index))
-  still_awake n k a s there ready sits same may =
-      let was : awake_in all names k.sent.destination ≡ true =
-      ap (λ (f : List ℕ → Bool). f k.sent.destination) (sym awake) ∙ is.awake n k a s there ready sits same may in
-      by_all all was
-    where
-      due : (get_or names index [] ≡ k.sent.destination) → IsDueAt h.kept h.subscribers h.given (get_or names index []) n
-      due it = record {
-        message = k;
-        there = there;
-        ready = ready;
-        for_it = sym it;
-        age = a;
-        subscriber = s;
-        sits = sits;
-        same = same;
-        may = may;
-      }
+    (awake : h.awake ≡ awake_in all names) (covers : Covers h.kept h.subscribers h.given (get_or names index []) None)
+  where
+    still_awake : AreAwake h.given h.kept h.subscribers (awake_in all (remove names index))
+    still_awake n k a s there ready sits same may =
+        let was : awake_in all names k.sent.destination ≡ true =
+        ap (λ (f : List ℕ → Bool). f k.sent.destination) (sym awake) ∙ is.awake n k a s there ready sits same may in
+        by_all all was
+      where
+        due : (get_or names index [] ≡ k.sent.destination)
+            → IsDueAt h.kept h.subscribers h.given (get_or names index []) n
+        due it = record {
+          message = k;
+          there = there;
+          ready = ready;
+          for_it = sym it;
+          age = a;
+          subscriber = s;
+          sits = sits;
+          same = same;
+          may = may;
+        }
 
-      by_all : (b : Bool) → awake_in b names k.sent.destination ≡ true → awake_in b (remove names index) k.sent.destination ≡ true
-      by_all true on = refl
-      by_all false on = elim (left_or names index k.sent.destination short on) [
-        | inl it ↦ let never : false ≡ true = covers n (due it) in cc
-        | inr rest ↦ rest
-      ]
+        by_all : (b : Bool) → awake_in b names k.sent.destination ≡ true
+            → awake_in b (remove names index) k.sent.destination ≡ true
+        by_all true on = refl
+        by_all false on = elim (left_or names index k.sent.destination short on) [
+          | inl it ↦ let never : false ≡ true = covers n (due it) in cc
+          | inr rest ↦ rest
+        ]
 
-  pub slept : Rests h (record h { awake = awake_in all (remove names index) })
-  slept = record {
-    sound = moved h (record h { awake = awake_in all (remove names index) }) is (record {
+    pub slept : Rests h (record h { awake = awake_in all (remove names index) })
+    slept = record {
+      sound = moved h (record h { awake = awake_in all (remove names index) }) is (record {
+        kept = refl;
+        subscribers = refl;
+        sessions = refl;
+        last = refl;
+        given = refl;
+        numbers = λ d. refl;
+        listeners = λ d. refl;
+        count = λ d. refl;
+        ahead = is.ahead;
+        takers = is.takers;
+        awake = still_awake;
+      });
       kept = refl;
       subscribers = refl;
-      sessions = refl;
       last = refl;
       given = refl;
-      numbers = λ d. refl;
-      listeners = λ d. refl;
-      count = λ d. refl;
-      ahead = is.ahead;
-      takers = is.takers;
-      awake = still_awake;
-    });
-    kept = refl;
-    subscribers = refl;
-    last = refl;
-    given = refl;
-  }
+    }
 
 -- ---- all are named
 
@@ -213,7 +229,8 @@ roused h is qs names queues all = record {
     ahead = is.ahead;
     takers = is.takers;
     awake = λ n k a s there ready sits same may. rw all (named_there qs k.sent.destination n
-        (ap (λ (f : List ℕ → Option Queue). lists n (queue_of f k.sent.destination).numbers) (sym queues) ∙ is.placed n k there));
+        (ap (λ (f : List ℕ → Option Queue). lists n (queue_of f k.sent.destination).numbers) (sym queues)
+        ∙ is.placed n k there));
   });
   kept = refl;
   subscribers = refl;
@@ -242,13 +259,15 @@ chooses_none h names is = record {
 module _ (h i : Holding) (index : ℕ) (names : List (List ℕ)) (best : Option Pick) (c : Choosing h i index names best)
     (short : index < length names) where
   -- the next can have nothing before the best
-  pub chooses_behind : is_at_most best (queue_of i.queues (get_or names index [])).ready_from ≡ true → Choosing h i (index + 1) names best
+  pub chooses_behind : is_at_most best (queue_of i.queues (get_or names index [])).ready_from ≡ true
+      → Choosing h i (index + 1) names best
   chooses_behind on = record {
     rests = c.rests;
     within = omega (arith, short);
     can = c.can;
     covers = covers_next h.kept h.subscribers h.given index names best short c.covers
-        (covers_still h i (get_or names index []) best c.rests (behind_covers i c.rests.sound (get_or names index []) best on));
+        (covers_still h i (get_or names index []) best c.rests (behind_covers i c.rests.sound (get_or names index [])
+        best on));
   }
 
   -- a deal can be made there
@@ -290,9 +309,11 @@ chosen h i index names best c awake end = by_best best c.can covers
     covers : (d : List ℕ) (n : ℕ) → IsDueAt h.kept h.subscribers h.given d n → is_at_most best n ≡ true
     covers d n due =
         let all : take index names ≡ names = take_all index names end in
-        let due2 : IsDueAt i.kept i.subscribers i.given d n = rw (c.rests.kept, c.rests.subscribers, c.rests.given) due in
+        let due2 : IsDueAt i.kept i.subscribers i.given d n =
+        rw (c.rests.kept, c.rests.subscribers, c.rests.given) due in
         let on : i.awake due2.message.sent.destination ≡ true =
-        c.rests.sound.awake n due2.message due2.age due2.subscriber due2.there due2.ready due2.sits due2.same due2.may in
+        c.rests.sound.awake n due2.message due2.age due2.subscriber due2.there due2.ready due2.sits due2.same due2.may
+        in
         let named : list_any (λ x. bytes_eq x due2.message.sent.destination) names ≡ true = rw awake at on in
         c.covers d (rw (all, ← due2.for_it) named) n due
 
@@ -325,6 +346,7 @@ chosen h i index names best c awake end = by_best best c.can covers
                   same = same;
                   may = may;
                 } in
-                leb-true p.message.number m (all l.sent.destination m (rw (← c.rests.kept, ← c.rests.subscribers, ← c.rests.given) due));
+                leb-true p.message.number m (all l.sent.destination m (rw
+                (← c.rests.kept, ← c.rests.subscribers, ← c.rests.given) due));
           },
         )

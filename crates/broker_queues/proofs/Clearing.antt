@@ -1,4 +1,5 @@
--- A subscriber's deliveries that aren't out any more are forgotten, one after another, and their gone messages are taken out.
+-- A subscriber's deliveries that aren't out any more are forgotten, one after another, and their gone messages are
+-- taken out.
 use Rattle.std.proofs.Common.{◌≡◌, ◌≤◌, ◌<◌, ℕ, Bool, true, false, not, length, List, [], ◌∷◌, map, Option, Some, None}
 use Rattle.std.proofs.Common.{refl, sym, ap, ◌∙◌, arith, inl, inr}
 use Rattle.std.specs.Prelude.{◌==◌, ◌&&◌, find}
@@ -32,7 +33,8 @@ no_more n (e ∷ es) = elim (cases_Bool (e.number == n)) [
   | inr off ↦ rw off (omega (arith, no_more n es))
 ]
 
-fewer : (test : Entry → Bool) (es : List Entry) (e : Entry) → find test es ≡ Some e → length (entries_without e.number es) < length es
+fewer : (test : Entry → Bool) (es : List Entry) (e : Entry) → find test es ≡ Some e
+    → length (entries_without e.number es) < length es
 fewer test [] e found = let never : None ≡ Some e = found in cc
 fewer test (x ∷ es) e found = elim (cases_Bool (test x)) [
   | inl on ↦
@@ -56,7 +58,8 @@ pub forgets_at : (age n : ℕ) (subs : List Subscriber)
     → subscriber_at age (map (without_entries age n) subs) ≡ option_map (without_entries age n) (subscriber_at age subs)
 forgets_at age n subs = find_map (has_age age) (without_entries age n) (keeps_age age n age) subs
 
-forgets_own : (age n : ℕ) (s : Subscriber) → s.age ≡ age → without_entries age n s ≡ record s { entries = entries_without n s.entries }
+forgets_own : (age n : ℕ) (s : Subscriber) → s.age ≡ age
+    → without_entries age n s ≡ record s { entries = entries_without n s.entries }
 forgets_own age n s own =
     let number : (s.age == age) ≡ true = eq-eqb s.age age own in
     rw number refl
@@ -73,13 +76,15 @@ fewer_noted age kept e old new stale is = by_subscriber (subscriber_at age old) 
     by_subscriber (Some s) at found =
         let own : s.age ≡ age = at_number (λ (s : Subscriber). s.age) age old s at in
         let now : subscriber_at age new ≡ Some (record s { entries = entries_without e.number s.entries }) =
-        ap (λ l. subscriber_at age l) is ∙ forgets_at age e.number old ∙ ap (λ o. option_map (without_entries age e.number) o) at
+        ap (λ l. subscriber_at age l) is ∙ forgets_at age e.number old
+        ∙ ap (λ o. option_map (without_entries age e.number) o) at
         ∙ ap (λ t. Some t) (forgets_own age e.number s own) in
         rw (now, at) (fewer (is_stale kept s.subscription) s.entries e (sym found))
 
 -- ---- what is left
 
-pub clearing_none : (h : Holding) (age : ℕ) (s : Subscriber) → subscriber_at age h.subscribers ≡ Some s → Clearing age s h
+pub clearing_none : (h : Holding) (age : ℕ) (s : Subscriber) → subscriber_at age h.subscribers ≡ Some s
+    → Clearing age s h
 clearing_none h age s sits = record {
   now = s;
   sits = sits;
@@ -92,11 +97,13 @@ swept_none h age = record { kept = λ n k there. there; others = λ b other. ref
 
 -- a delivery more is forgotten
 pub swept_more : (h i j : Holding) (age n : ℕ) (subs : List Subscriber) → SweptOne h age i
-    → subs ≡ map (without_entries age n) i.subscribers → Forgets (record i { subscribers = subs }) n j → SweptOne h age j
+    → subs ≡ map (without_entries age n) i.subscribers → Forgets (record i { subscribers = subs }) n j
+    → SweptOne h age j
 swept_more h i j age n subs before is_so f = record {
   kept = λ m k there. before.kept m k (f.kept m k there);
   others = λ b other. ap (λ l. subscriber_at b l) (f.subscribers ∙ is_so)
-      ∙ at_edit_other (λ (s : Subscriber). s.age) age b (λ s. record s { entries = entries_without n s.entries }) (λ s. refl) other
+      ∙ at_edit_other (λ (s : Subscriber). s.age) age b (λ s. record s { entries = entries_without n s.entries })
+      (λ s. refl) other
       i.subscribers
       ∙ before.others b other;
 }
@@ -111,7 +118,8 @@ stale_off kept s e stale = elim (cases_Bool (passes (out_to s.session s.id) (fat
 ]
 
 module _ (i j : Holding) (age : ℕ) (s : Subscriber) (e : Entry) (subs : List Subscriber) (t : Clearing age s i)
-    (is_so : subs ≡ map (without_entries age e.number) i.subscribers) (f : Forgets (record i { subscribers = subs }) e.number j) where
+    (is_so : subs ≡ map (without_entries age e.number) i.subscribers) (f : Forgets (record i { subscribers = subs })
+    e.number j) where
   own : t.now.age ≡ age
   own = at_number (λ (s : Subscriber). s.age) age i.subscribers t.now t.sits
 
@@ -119,7 +127,8 @@ module _ (i j : Holding) (age : ℕ) (s : Subscriber) (e : Entry) (subs : List S
   clearing_more = record {
     now = record t.now { entries = entries_without e.number t.now.entries };
     sits = ap (λ l. subscriber_at age l) (f.subscribers ∙ is_so) ∙ forgets_at age e.number i.subscribers
-        ∙ ap (λ o. option_map (without_entries age e.number) o) t.sits ∙ ap (λ u. Some u) (forgets_own age e.number t.now own);
+        ∙ ap (λ o. option_map (without_entries age e.number) o) t.sits
+        ∙ ap (λ u. Some u) (forgets_own age e.number t.now own);
     subscription = t.subscription;
     kept = λ n k there noted. elim (t.kept n k (f.kept n k there) noted) [
       | inl still ↦ inl still
@@ -174,7 +183,8 @@ module _ (i : Holding) (age : ℕ) (s : Subscriber) (t : Clearing age s i)
 
 -- the delivery is forgotten
 pub forgets_stale : (i : Holding) → IsSound i → (age : ℕ) (e : Entry) (subs : List Subscriber)
-    → Some e ≡ first_stale i.kept (subscriber_at age i.subscribers) → subs ≡ map (without_entries age e.number) i.subscribers
+    → Some e ≡ first_stale i.kept (subscriber_at age i.subscribers)
+    → subs ≡ map (without_entries age e.number) i.subscribers
     → Tidies i (record i { subscribers = subs })
 forgets_stale i is age e subs stale is_so = by_subscriber (subscriber_at age i.subscribers) refl stale
   where
@@ -182,19 +192,22 @@ forgets_stale i is age e subs stale is_so = by_subscriber (subscriber_at age i.s
         → Tidies i (record i { subscribers = subs })
     by_subscriber None at found = let never : Some e ≡ None = found in cc
     by_subscriber (Some s) at found =
-        let on : is_stale i.kept s.subscription e ≡ true = find_passes (is_stale i.kept s.subscription) s.entries e (sym found) in
+        let on : is_stale i.kept s.subscription e ≡ true =
+        find_passes (is_stale i.kept s.subscription) s.entries e (sym found) in
         forgot i is age e.number s at (stale_off i.kept s.subscription e on) subs is_so
 
 -- ---- an answer leaves none gone
 
 -- a message that isn't among deliveries stays as it is
-not_among : (to : Option Fate) (test : Fate → Bool) (es : List Entry) (k : Kept) → notes k.number es ≡ false → turn_among to test es k ≡ k
+not_among : (to : Option Fate) (test : Fate → Bool) (es : List Entry) (k : Kept) → notes k.number es ≡ false
+    → turn_among to test es k ≡ k
 not_among to test es k off = elim (cases_Bool (passes test k.fate)) [
   | inl on ↦ rw (on, off) refl
   | inr other ↦ rw other refl
 ]
 
-pub among_number : (to : Option Fate) (test : Fate → Bool) (es : List Entry) (k : Kept) → (turn_among to test es k).number ≡ k.number
+pub among_number : (to : Option Fate) (test : Fate → Bool) (es : List Entry) (k : Kept)
+    → (turn_among to test es k).number ≡ k.number
 among_number to test es k = elim (cases_Bool (passes test k.fate && notes k.number es)) [
   | inl on ↦ rw on refl
   | inr off ↦ rw off refl
@@ -211,24 +224,29 @@ none_gone h i j is x number again p found turns clears swept none n k there =
           let unnoted : notes was.from.number held.subscriber.entries ≡ false =
           ap (λ m. notes m held.subscriber.entries) number_is ∙ other in
           let same : k ≡ was.from =
-          sym was.to ∙ not_among (back again) (counts_in held.subscriber.subscription (Some number)) held.subscriber.entries was.from
+          sym was.to ∙ not_among (back again) (counts_in held.subscriber.subscription (Some number))
+          held.subscriber.entries was.from
           unnoted in
           ap (λ (l : Kept). is_gone l.fate) same ∙ none n was.from was.found
     ]
   where
     held : IsHolder h x number p.number
-    held = the_holder h is x number p found (found_lists (is_held_at h.kept h.subscribers number) (h.sessions x) p found)
+    held = the_holder h is x number p found (found_lists (is_held_at h.kept h.subscribers number) (h.sessions x) p
+        found)
 
-    t : Turns h p.number held.subscriber (back again) (counts_in held.subscriber.subscription (Some number)) held.subscriber.entries i
+    t : Turns h p.number held.subscriber (back again) (counts_in held.subscriber.subscription (Some number))
+        held.subscriber.entries i
     t = turns held.subscriber is held.sits
 
     c : Cleared p.number t.now j
     c = clears t.now t.sound t.sits
 
-    was : IsMapped (turn_among (back again) (counts_in held.subscriber.subscription (Some number)) held.subscriber.entries)
+    was : IsMapped (turn_among (back again) (counts_in held.subscriber.subscription (Some number))
+        held.subscriber.entries)
         (kept_at n h.kept) k
     was =
-        is_mapped (turn_among (back again) (counts_in held.subscriber.subscription (Some number)) held.subscriber.entries)
+        is_mapped (turn_among (back again) (counts_in held.subscriber.subscription (Some number))
+        held.subscriber.entries)
         (kept_at n h.kept) k
         (sym (find_map (has_number n) (turn_among (back again) (counts_in held.subscriber.subscription (Some number))
         held.subscriber.entries)

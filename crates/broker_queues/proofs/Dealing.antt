@@ -8,10 +8,12 @@ use Rattle.std.specs.Str.{bytes_eq}
 use Rattle.std.proofs.lemmas.Bool.{cases_Bool, and_parts, and_from}
 use Rattle.base.specs.declared.limits.TheConstants.{MAX_UNANSWERED}
 use Rattle.broker_book.specs.declared.parts.Accepted.{Accepted}
-use Rattle.broker_book.specs.Books.{Book, QueuedMessage, Fate, Ready, Out, is_auto, has_credit, may_take, is_due, IsQuiet}
+use Rattle.broker_book.specs.Books.{Book, QueuedMessage, Fate, Ready, Out, is_auto, has_credit, may_take, is_due}
+use Rattle.broker_book.specs.Books.{IsQuiet}
 use Rattle.broker_book.specs.Steps.{Deal, left_of, last_given, next_ack}
 use Rattle.broker_index.specs.Index.{Kept, Subscriber, with_fate}
-use Rattle.broker_queues.specs.Parts.Facts.{rise, kept_at, subscriber_at, living_of, message_of, living_as, subscriptions_of, may_have}
+use Rattle.broker_queues.specs.Parts.Facts.{rise, kept_at, subscriber_at, living_of, message_of, living_as}
+use Rattle.broker_queues.specs.Parts.Facts.{subscriptions_of, may_have}
 use Rattle.broker_queues.specs.Parts.Fates.{fated, dealt_fate}
 use Rattle.broker_queues.specs.Parts.Whole.{Holding, IsSound, Picks, book_of}
 use Rattle.broker_queues.proofs.Finding.{any_map, find_mapped}
@@ -34,7 +36,8 @@ record IsReadyOne (b : Book) (k : Kept) : Type 0 where
   ready : k.fate ≡ Some Ready
   taken : list_any (may_take b (record { number = k.number; sent = k.sent; fate = Ready })) b.subscriptions ≡ true
 
-ready_one : (b : Book) (k : Kept) (f : Option Fate) → k.fate ≡ f → tests (is_due b) (living_as k.number k.sent f) ≡ true → IsReadyOne b k
+ready_one : (b : Book) (k : Kept) (f : Option Fate) → k.fate ≡ f → tests (is_due b) (living_as k.number k.sent f) ≡ true
+    → IsReadyOne b k
 ready_one b k None is on = let never : false ≡ true = on in cc
 ready_one b k (Some (Out x i a)) is on = let never : false ≡ true = on in cc
 ready_one b k (Some Ready) is on = record { ready = is; taken = on }
@@ -44,20 +47,24 @@ module _ (h : Holding) (accepted : List Accepted) (is : IsSound h) where
   credit : (a : ℕ) (s : Subscriber) → subscriber_at a h.subscribers ≡ Some s
       → has_credit (book_of h accepted) s.subscription ≡ may_have h.given s
   credit a s sits =
-      ap (λ n. is_auto s.subscription.mode || (nat_lt n MAX_UNANSWERED && nat_lt h.given (2 ^ 64 - 1))) (sym (is.credited a s sits))
+      ap (λ n. is_auto s.subscription.mode || (nat_lt n MAX_UNANSWERED && nat_lt h.given (2 ^ 64 - 1)))
+      (sym (is.credited a s sits))
 
   due_one : (kept : List Kept) → rise (λ k. k.number) 0 kept ≡ true
       → list_any (is_due (book_of h accepted)) (living_of kept) ≡ true → IsDue h kept
   due_one kept rises any =
       let b : Book = book_of h accepted in
       let k : IsAmong (λ k. k.number) (λ k. tests (is_due b) (message_of k)) kept =
-      any_at (λ k. k.number) (λ k. tests (is_due b) (message_of k)) 0 kept rises (sym (any_of_living (is_due b) kept) ∙ any) in
+      any_at (λ k. k.number) (λ k. tests (is_due b) (message_of k)) 0 kept rises
+      (sym (any_of_living (is_due b) kept) ∙ any) in
       let one : IsReadyOne b k.value = ready_one b k.value k.value.fate refl k.passes in
       let m : QueuedMessage = record { number = k.value.number; sent = k.value.sent; fate = Ready } in
       let s : IsAmong (λ s. s.age) (λ s. may_take b m s.subscription) h.subscribers =
       any_at (λ s. s.age) (λ s. may_take b m s.subscription) 0 h.subscribers is.ages
-      (sym (any_map (may_take b m) (λ s. s.subscription) (λ s. may_take b m s.subscription) (λ s. refl) h.subscribers) ∙ one.taken) in
-      let parts = and_parts (bytes_eq s.value.subscription.destination m.sent.destination) (has_credit b s.value.subscription) s.passes in
+      (sym (any_map (may_take b m) (λ s. s.subscription) (λ s. may_take b m s.subscription) (λ s. refl) h.subscribers)
+      ∙ one.taken) in
+      let parts = and_parts (bytes_eq s.value.subscription.destination m.sent.destination)
+      (has_credit b s.value.subscription) s.passes in
       record {
         message = k.value;
         there = k.found;
@@ -80,16 +87,20 @@ module _ (h : Holding) (accepted : List Accepted) (is : IsSound h) where
     picked = record { number = k.number; sent = k.sent; fate = Ready }
 
     none_before : list_any (is_due (book_of h accepted)) (living_of (front_of (λ k. k.number) n h.kept)) ≡ false
-    none_before = elim (cases_Bool (list_any (is_due (book_of h accepted)) (living_of (front_of (λ k. k.number) n h.kept)))) [
-      | inl on ↦
-          let front : List Kept = front_of (λ k. k.number) n h.kept in
-          let due : IsDue h front = due_one front (rise_front (λ k. k.number) n 0 h.kept is.numbers) on in
-          let lower = front_below (λ k. k.number) n due.message.number 0 h.kept k due.message is.numbers p.there due.there in
-          let later : n ≤ due.message.number =
-          p.first due.message.number due.message due.subscriber.age due.subscriber lower.0 due.ready due.sits due.same due.may in
-          absurd (omega (arith, lower.1, later))
-      | inr off ↦ off
-    ]
+    none_before =
+        elim (cases_Bool (list_any (is_due (book_of h accepted)) (living_of (front_of (λ k. k.number) n h.kept)))) [
+          | inl on ↦
+              let front : List Kept = front_of (λ k. k.number) n h.kept in
+              let due : IsDue h front = due_one front (rise_front (λ k. k.number) n 0 h.kept is.numbers) on in
+              let lower =
+              front_below (λ k. k.number) n due.message.number 0 h.kept k due.message is.numbers p.there due.there in
+              let later : n ≤ due.message.number =
+              p.first due.message.number due.message due.subscriber.age due.subscriber lower.0 due.ready due.sits
+              due.same
+              due.may in
+              absurd (omega (arith, lower.1, later))
+          | inr off ↦ off
+        ]
 
     oldest : find (may_take (book_of h accepted) (record { number = k.number; sent = k.sent; fate = Ready }))
         (subscriptions_of h.subscribers)
@@ -102,9 +113,11 @@ module _ (h : Holding) (accepted : List Accepted) (is : IsSound h) where
         (and_from (bytes_eq s.subscription.destination k.sent.destination) (has_credit b s.subscription) p.same
         (credit a s p.sits ∙ p.may))
         (λ c t there passes.
-        let parts = and_parts (bytes_eq t.subscription.destination k.sent.destination) (has_credit b t.subscription) passes in
+        let parts =
+        and_parts (bytes_eq t.subscription.destination k.sent.destination) (has_credit b t.subscription) passes in
         p.oldest c t there parts.0 (sym (credit c t there) ∙ parts.1)) in
-        find_mapped (may_take b m) (λ s. s.subscription) h.subscribers ∙ ap (λ o. option_map (λ s. s.subscription) o) first
+        find_mapped (may_take b m) (λ s. s.subscription) h.subscribers
+        ∙ ap (λ o. option_map (λ s. s.subscription) o) first
 
     living_split : living_of h.kept
         ≡ living_of (front_of (λ k. k.number) n h.kept)
@@ -122,8 +135,10 @@ module _ (h : Holding) (accepted : List Accepted) (is : IsSound h) where
     living_dealt ack =
         let front : List Kept = front_of (λ k. k.number) n h.kept in
         let back : List Kept = back_of (λ k. k.number) n h.kept in
-        ap living_of (edit_split (λ k. k.number) n (fated (dealt_fate s.subscription ack)) 0 h.kept k is.numbers p.there)
-        ∙ living_append front (fated (dealt_fate s.subscription ack) k ∷ back) ∙ ap (λ l. living_of front ++ l) (left ack)
+        ap living_of (edit_split (λ k. k.number) n (fated (dealt_fate s.subscription ack)) 0 h.kept k is.numbers
+        p.there)
+        ∙ living_append front (fated (dealt_fate s.subscription ack) k ∷ back)
+        ∙ ap (λ l. living_of front ++ l) (left ack)
       where
         left : (ack : Option ℕ) → living_of (fated (dealt_fate s.subscription ack) k ∷ back_of (λ k. k.number) n h.kept)
             ≡ left_of (record { number = k.number; sent = k.sent; fate = Ready }) s.subscription ack

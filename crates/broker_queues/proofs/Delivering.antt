@@ -1,5 +1,7 @@
--- A message goes out to a subscriber, or is gone as it goes out: the parts change as one message's change of fate wants.
-use Rattle.std.proofs.Common.{◌≡◌, ◌≤◌, ℕ, ◌+◌, ◌-◌, Bool, true, false, List, [], ◌∷◌, ◌++◌, map, Option, Some, None, refl, sym, ap, ◌∙◌}
+-- A message goes out to a subscriber, or is gone as it goes out: the parts change as one message's change of fate
+-- wants.
+use Rattle.std.proofs.Common.{◌≡◌, ◌≤◌, ℕ, ◌+◌, ◌-◌, Bool, true, false, List, [], ◌∷◌, ◌++◌, map, Option, Some, None}
+use Rattle.std.proofs.Common.{refl, sym, ap, ◌∙◌}
 use Rattle.std.proofs.Common.{arith, inl, inr}
 use Rattle.std.specs.Prelude.{◌==◌, ◌||◌, if◌then◌else◌}
 use Rattle.std.specs.Str.{bytes_eq}
@@ -16,7 +18,8 @@ use Rattle.broker_index.specs.Index.{Kept, Subscriber, has_age, with_fate, with_
 use Rattle.broker_index.specs.declared.places.Entry.{Entry}
 use Rattle.broker_queues.specs.Parts.Fates.{passes, counts_for, dealt_fate, recounted, weight}
 use Rattle.broker_queues.specs.Parts.Queues.{CountsFewer}
-use Rattle.broker_queues.specs.Parts.Facts.{kept_at, subscriber_at, living_of, subscriptions_of, message_of, holds_number, notes}
+use Rattle.broker_queues.specs.Parts.Facts.{kept_at, subscriber_at, living_of, subscriptions_of, message_of}
+use Rattle.broker_queues.specs.Parts.Facts.{holds_number, notes}
 use Rattle.broker_queues.specs.Parts.Storing.{Sweeps, Tidies}
 use Rattle.broker_queues.specs.Parts.Whole.{Holding, IsSound, Changes, Renotes, Picks, book_of}
 use Rattle.broker_queues.proofs.Changing.{changed}
@@ -41,20 +44,23 @@ never_ready f ready x i on = let no : false ≡ true = rw ready at on in (let ne
 no_count : (s : Subscriber) (f : Option Fate) → f ≡ Some Ready → counts_for s f ≡ 0
 no_count s f ready = rw ready refl
 
-module _ (h : Holding) (is : IsSound h) (n : ℕ) (k : Kept) (found : kept_at n h.kept ≡ Some k) (ready : k.fate ≡ Some Ready) where
+module _ (h : Holding) (is : IsSound h) (n : ℕ) (k : Kept) (found : kept_at n h.kept ≡ Some k)
+    (ready : k.fate ≡ Some Ready) where
   -- no subscriber counts a message that is ready, nor one that is gone
   counts_stay : map (recounted k.fate None) h.subscribers ≡ h.subscribers
   counts_stay = map_stays (recounted k.fate None) each h.subscribers
     where
       each : (s : Subscriber) → recounted k.fate None s ≡ s
       each s =
-          let same : (s.count + counts_for s None) - counts_for s k.fate ≡ s.count = omega (arith, no_count s k.fate ready) in
+          let same : (s.count + counts_for s None) - counts_for s k.fate ≡ s.count =
+          omega (arith, no_count s k.fate ready) in
           ap (λ c. record s { count = c }) same
 
   -- it goes out in mode `auto`, and is gone
   pub handed_auto : (i : Holding) (q : Option Fate) → q ≡ None → CountsFewer h.queues i.queues k.sent.destination
       → i.kept ≡ map (with_fate n q) h.kept
-      → i.subscribers ≡ h.subscribers → i.sessions ≡ h.sessions → i.awake ≡ h.awake → i.last ≡ h.last → i.given ≡ h.given
+      → i.subscribers ≡ h.subscribers → i.sessions ≡ h.sessions → i.awake ≡ h.awake → i.last ≡ h.last
+      → i.given ≡ h.given
       → Changes h n k None i
   handed_auto i q gone fewer kept subscribers sessions awake last given = record {
     kept = kept ∙ ap (λ f. map (with_fate n f) h.kept) gone;
@@ -106,7 +112,8 @@ noting_subscription a e s = elim (cases_Bool (s.age == a)) [ inl on ↦ rw on re
 noting_count : (a : ℕ) (e : Entry) (s : Subscriber) → (with_entry a e s).count ≡ s.count
 noting_count a e s = elim (cases_Bool (s.age == a)) [ inl on ↦ rw on refl | inr off ↦ rw off refl ]
 
-noting_notes : (a : ℕ) (e : Entry) (n : ℕ) (s : Subscriber) → notes n s.entries ≡ true → notes n (with_entry a e s).entries ≡ true
+noting_notes : (a : ℕ) (e : Entry) (n : ℕ) (s : Subscriber) → notes n s.entries ≡ true
+    → notes n (with_entry a e s).entries ≡ true
 noting_notes a e n s on = elim (cases_Bool (s.age == a)) [
   | inl here ↦ rw here (still_noted n s.entries e on)
   | inr off ↦ rw off on
@@ -123,7 +130,8 @@ module _ (h : Holding) (is : IsSound h) (a : ℕ) (e : Entry) where
     noted = λ n k x i a s there out sits on. holding n x i s on;
   }
     where
-      holding : (n x : ℕ) (i : List ℕ) (s : Subscriber) → holds_number x i n s ≡ true → holds_number x i n (with_entry a e s) ≡ true
+      holding : (n x : ℕ) (i : List ℕ) (s : Subscriber) → holds_number x i n s ≡ true
+          → holds_number x i n (with_entry a e s) ≡ true
       holding n x i s on =
           let parts = and_parts (is_named x i s.subscription) (notes n s.entries) on in
           and_from (is_named x i (with_entry a e s).subscription) (notes n (with_entry a e s).entries)
@@ -160,7 +168,8 @@ module _ (h : Holding) (is : IsSound h) (n a : ℕ) (k : Kept) (s : Subscriber) 
       → with_count a (s.count + 1) t ≡ recounted k.fate (Some (Out s.subscription.session s.subscription.id ack)) t
   counts_it t same age =
       let on : (t.age == a) ≡ true = eq-eqb t.age a age in
-      let out : passes (out_to t.subscription.session t.subscription.id) (Some (Out s.subscription.session s.subscription.id ack)) ≡ true =
+      let out : passes (out_to t.subscription.session t.subscription.id) (Some
+      (Out s.subscription.session s.subscription.id ack)) ≡ true =
       rw same (out_passes s.subscription.session s.subscription.id ack (Some
       (Out s.subscription.session s.subscription.id ack)) refl) in
       let one : counts_for t (Some (Out s.subscription.session s.subscription.id ack)) ≡ 1 = rw out refl in
@@ -179,9 +188,11 @@ module _ (h : Holding) (is : IsSound h) (n a : ℕ) (k : Kept) (s : Subscriber) 
       let stays : with_count a (s.count + 1) t ≡ t = rw number refl in
       elim (cases_Bool (passes (out_to t.subscription.session t.subscription.id) (Some
       (Out s.subscription.session s.subscription.id ack)))) [
-        | inl on ↦ absurd (other (sym (only_one (record h { subscribers = map (with_entry a e) h.subscribers }) (noted_sound h is a e)
+        | inl on ↦ absurd (other (sym (only_one (record h { subscribers = map (with_entry a e) h.subscribers })
+            (noted_sound h is a e)
             (Some (Out s.subscription.session s.subscription.id ack)) a t.age (noting e s) t sits_still there
-            (out_passes s.subscription.session s.subscription.id ack (Some (Out s.subscription.session s.subscription.id ack)) refl) on)))
+            (out_passes s.subscription.session s.subscription.id ack (Some
+            (Out s.subscription.session s.subscription.id ack)) refl) on)))
         | inr off ↦
             let zero_for : counts_for t (Some (Out s.subscription.session s.subscription.id ack)) ≡ 0 = rw off refl in
             let count : t.count
@@ -191,11 +202,13 @@ module _ (h : Holding) (is : IsSound h) (n a : ℕ) (k : Kept) (s : Subscriber) 
       ]
 
   counts_one : map (with_count a (s.count + 1)) (map (with_entry a e) h.subscribers)
-      ≡ map (recounted k.fate (Some (Out s.subscription.session s.subscription.id ack))) (map (with_entry a e) h.subscribers)
+      ≡ map (recounted k.fate (Some (Out s.subscription.session s.subscription.id ack)))
+      (map (with_entry a e) h.subscribers)
   counts_one =
       let now : IsSound (record h { subscribers = map (with_entry a e) h.subscribers }) = noted_sound h is a e in
       map_same (λ s. s.age) (with_count a (s.count + 1))
-      (recounted k.fate (Some (Out s.subscription.session s.subscription.id ack))) 0 (map (with_entry a e) h.subscribers) now.ages each
+      (recounted k.fate (Some (Out s.subscription.session s.subscription.id ack))) 0
+      (map (with_entry a e) h.subscribers) now.ages each
     where
       each : (t : Subscriber) → subscriber_at t.age (map (with_entry a e) h.subscribers) ≡ Some t
           → with_count a (s.count + 1) t ≡ recounted k.fate (Some (Out s.subscription.session s.subscription.id ack)) t
@@ -236,7 +249,8 @@ module _ (h : Holding) (is : IsSound h) (n a : ℕ) (k : Kept) (s : Subscriber) 
     last = last;
     given = given;
     ready_from = λ never. (let no : Some (Out s.subscription.session s.subscription.id ack) ≡ Some Ready = never in cc);
-    ready_awake = λ never. (let no : Some (Out s.subscription.session s.subscription.id ack) ≡ Some Ready = never in cc);
+    ready_awake =
+        λ never. (let no : Some (Out s.subscription.session s.subscription.id ack) ≡ Some Ready = never in cc);
     free_from = λ b t there on. absurd (never_ready k.fate ready t.subscription.session t.subscription.id on);
     free_awake = λ b t there on. absurd (never_ready k.fate ready t.subscription.session t.subscription.id on);
     noted = holds_it;
@@ -245,26 +259,32 @@ module _ (h : Holding) (is : IsSound h) (n a : ℕ) (k : Kept) (s : Subscriber) 
 -- ---- the book takes the deal
 
 -- books of the same values are the same
-same_books : (l m : List QueuedMessage) (p q r t : ℕ) (u v : List Subscription) (accepted : List Accepted) → l ≡ m → p ≡ q → r ≡ t → u ≡ v
+same_books : (l m : List QueuedMessage) (p q r t : ℕ) (u v : List Subscription) (accepted : List Accepted) → l ≡ m
+    → p ≡ q → r ≡ t → u ≡ v
     → (let one : Book = record { living = l; last = p; given = r; subscriptions = u; accepted = accepted } in one)
     ≡ record { living = m; last = q; given = t; subscriptions = v; accepted = accepted }
 same_books l m p q r t u v accepted e1 e2 e3 e4 = rw (e1, e2, e3, e4) refl
 
-recounted_subscriptions : (f g : Option Fate) (ss : List Subscriber) → subscriptions_of (map (recounted f g) ss) ≡ subscriptions_of ss
+recounted_subscriptions : (f g : Option Fate) (ss : List Subscriber)
+    → subscriptions_of (map (recounted f g) ss) ≡ subscriptions_of ss
 recounted_subscriptions f g ss = map_map (λ s. s.subscription) (recounted f g) ss
 
-module _ (h : Holding) (is : IsSound h) (n a : ℕ) (k : Kept) (s : Subscriber) (p : Picks h n k a s) (sent : Sent) (to : Subscription)
+module _ (h : Holding) (is : IsSound h) (n a : ℕ) (k : Kept) (s : Subscriber) (p : Picks h n k a s) (sent : Sent)
+    (to : Subscription)
     (is_sent : sent ≡ k.sent) (is_to : to ≡ s.subscription) (accepted : List Accepted) where
   -- in mode `auto`
-  pub auto_dealt : (i j : Holding) → is_auto s.subscription.mode ≡ true → Changes h n k None i → i.given ≡ h.given → Sweeps i j
-      → IsSound j × Deal (book_of h accepted) (record { number = n; sent = sent; to = to; ack = None }) (book_of j accepted)
+  pub auto_dealt : (i j : Holding) → is_auto s.subscription.mode ≡ true → Changes h n k None i → i.given ≡ h.given
+      → Sweeps i j
+      → IsSound j × Deal (book_of h accepted) (record { number = n; sent = sent; to = to; ack = None })
+      (book_of j accepted)
   auto_dealt i j auto c given sweeps =
       let t : Tidies i j = sweeps (changed h i n k None is p.there c) in
       let same : book_of j accepted ≡ record (book_of h accepted) {
         living = living_of (map (with_fate n (dealt_fate s.subscription None)) h.kept);
         given = last_given h.given None;
       } = same_books (living_of j.kept) (living_of (map (with_fate n None) h.kept)) j.last h.last j.given h.given
-      (subscriptions_of j.subscribers) (subscriptions_of h.subscribers) accepted (t.living ∙ ap living_of c.kept) (t.last ∙ c.last)
+      (subscriptions_of j.subscribers) (subscriptions_of h.subscribers) accepted (t.living ∙ ap living_of c.kept)
+      (t.last ∙ c.last)
       (t.given ∙ given)
       (t.subscriptions ∙ ap subscriptions_of c.subscribers ∙ recounted_subscriptions k.fate None h.subscribers) in
       (t.sound, rw (is_sent, is_to, same) (dealt h accepted is n k a s p None (rw auto refl)))
@@ -273,7 +293,8 @@ module _ (h : Holding) (is : IsSound h) (n a : ℕ) (k : Kept) (s : Subscriber) 
   pub out_dealt : (i : Holding) (e : Entry) (ack : ℕ) → is_auto s.subscription.mode ≡ false → ack ≡ h.given + 1
       → Changes (record h { subscribers = map (with_entry a e) h.subscribers }) n k
       (Some (Out s.subscription.session s.subscription.id ack)) i → i.given ≡ ack
-      → IsSound i × Deal (book_of h accepted) (record { number = n; sent = sent; to = to; ack = Some ack }) (book_of i accepted)
+      → IsSound i × Deal (book_of h accepted) (record { number = n; sent = sent; to = to; ack = Some ack })
+      (book_of i accepted)
   out_dealt i e ack auto next c given =
       let noted : Holding = record h { subscribers = map (with_entry a e) h.subscribers } in
       let f : Option Fate = Some (Out s.subscription.session s.subscription.id ack) in

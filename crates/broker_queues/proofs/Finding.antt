@@ -1,5 +1,6 @@
 -- Looking for values in lists that were changed.
-use Rattle.std.proofs.Common.{◌≡◌, Bool, true, false, cond, List, [], ◌∷◌, map, Option, Some, None, refl, sym, ap, inl, inr}
+use Rattle.std.proofs.Common.{◌≡◌, Bool, true, false, cond, List, [], ◌∷◌, map, Option, Some, None, refl, sym, ap, inl}
+use Rattle.std.proofs.Common.{inr}
 use Rattle.std.specs.Prelude.{find, is_some, ◌⊎◌}
 use Rattle.std.specs.List.{list_any}
 use Rattle.std.proofs.lemmas.Bool.{cases_Bool}
@@ -26,7 +27,8 @@ find_map test g keeps (x ∷ xs) = rw (keeps x) (both (test x) (find_map test g 
     both true rest = refl
     both false rest = rest
 
-pub any_map : {A B : Type 0} (test : B → Bool) (g : A → B) (same : A → Bool) → ((x : A) → test (g x) ≡ same x) → (xs : List A)
+pub any_map : {A B : Type 0} (test : B → Bool) (g : A → B) (same : A → Bool) → ((x : A) → test (g x) ≡ same x)
+    → (xs : List A)
     → list_any test (map g xs) ≡ list_any same xs
 any_map test g same keeps [] = refl
 any_map test g same keeps (x ∷ xs) = rw (keeps x, any_map test g same keeps xs) refl

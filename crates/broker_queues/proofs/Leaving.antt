@@ -1,5 +1,6 @@
 -- A subscriber goes: its subscription is released.
-use Rattle.std.proofs.Common.{◌≡◌, ◌≤◌, ℕ, true, false, not, List, map, Option, Some, None, refl, sym, ap, ◌∙◌, arith, inl, inr}
+use Rattle.std.proofs.Common.{◌≡◌, ◌≤◌, ℕ, true, false, not, List, map, Option, Some, None, refl, sym, ap, ◌∙◌, arith}
+use Rattle.std.proofs.Common.{inl, inr}
 use Rattle.std.specs.Prelude.{◌==◌, filter}
 use Rattle.std.specs.Option.{option_map, option_and_then}
 use Rattle.std.proofs.lemmas.Bool.{cases_eq}
@@ -38,10 +39,12 @@ module _ (h i : Holding) (is : IsSound h) (age : ℕ) (s : Subscriber) (q : List
     sessions = i.sessions;
   }
 
-  kept_in : (R : Queue → Queue → Type 0) → ((x : Queue) → R x x) → ((x : Queue) → R x (without_subscriber age x)) → (d : List ℕ)
+  kept_in : (R : Queue → Queue → Type 0) → ((x : Queue) → R x x) → ((x : Queue) → R x (without_subscriber age x))
+      → (d : List ℕ)
       → R (queue_of h.queues d) (queue_of q d)
   kept_in R same change =
-      sets_map (λ d x y. R x y) (without_subscriber age) h.queues q s.subscription.destination (λ d x. same x) (λ x at. change x) p
+      sets_map (λ d x y. R x y) (without_subscriber age) h.queues q s.subscription.destination (λ d x. same x)
+      (λ x at. change x) p
 
   -- nothing lists it at its destination
   unlisted : lists age (queue_of q s.subscription.destination).subscribers ≡ false
@@ -55,7 +58,8 @@ module _ (h i : Holding) (is : IsSound h) (age : ℕ) (s : Subscriber) (q : List
           ap (λ x. lists age (opened x).subscribers) (p.at ∙ ap (λ x. option_map (without_subscriber age) x) at)
           ∙ lists_gone age x.subscribers
 
-  was_listed : (d : List ℕ) (a : ℕ) → lists a (queue_of q d).subscribers ≡ true → lists a (queue_of h.queues d).subscribers ≡ true
+  was_listed : (d : List ℕ) (a : ℕ) → lists a (queue_of q d).subscribers ≡ true
+      → lists a (queue_of h.queues d).subscribers ≡ true
   was_listed d a =
       kept_in (λ x y. lists a y.subscribers ≡ true → lists a x.subscribers ≡ true) (λ x there. there) (λ x. was x) d
     where
@@ -76,7 +80,8 @@ module _ (h i : Holding) (is : IsSound h) (age : ℕ) (s : Subscriber) (q : List
       ap (λ x. option_map (λ (u : Subscriber). u.subscription.destination) x) sits in
       let both : Some s.subscription.destination ≡ Some d = sym mine ∙ own in
       let e : s.subscription.destination ≡ d = cc in
-      let off : lists age (queue_of q d).subscribers ≡ false = ap (λ d. lists age (queue_of q d).subscribers) (sym e) ∙ unlisted in
+      let off : lists age (queue_of q d).subscribers ≡ false =
+      ap (λ d. lists age (queue_of q d).subscribers) (sym e) ∙ unlisted in
       let never : true ≡ false = sym here ∙ off in
       cc
 
@@ -102,7 +107,8 @@ module _ (h i : Holding) (is : IsSound h) (age : ℕ) (s : Subscriber) (q : List
       another x a other here same =
           let own : session_at a h.subscribers ≡ Some x = is.owners x a here in
           let mine : session_at a h.subscribers ≡ Some s.subscription.session =
-          ap (λ x. option_map (λ (u : Subscriber). u.subscription.session) x) (ap (λ b. subscriber_at b h.subscribers) same ∙ sits) in
+          ap (λ x. option_map (λ (u : Subscriber). u.subscription.session) x)
+          (ap (λ b. subscriber_at b h.subscribers) same ∙ sits) in
           let both : Some s.subscription.session ≡ Some x = sym mine ∙ own in
           let e : s.subscription.session ≡ x = cc in
           other (sym e)
@@ -127,7 +133,8 @@ module _ (h i : Holding) (is : IsSound h) (age : ℕ) (s : Subscriber) (q : List
     count = kept_in (λ x y. y.count ≡ x.count) (λ x. refl) (λ x. refl);
     ready = kept_in (λ x y. y.ready_from ≤ x.ready_from) (λ x. omega arith) (λ x. omega arith);
     takers = kept_in (λ x y. y.taker_from ≤ x.taker_from) (λ x. omega arith) (λ x. omega arith);
-    listening = λ d a other. kept_in (λ x y. lists a x.subscribers ≡ true → lists a y.subscribers ≡ true) (λ x there. there)
+    listening =
+        λ d a other. kept_in (λ x y. lists a x.subscribers ≡ true → lists a y.subscribers ≡ true) (λ x there. there)
         (λ x there. lists_other age a x.subscribers other ∙ there) d;
     listeners = λ d a listed. (away d a listed, was_listed d a listed);
     owned = still_owned;
@@ -163,10 +170,12 @@ module _ (h i j : Holding) (is : IsSound h) (age : ℕ) (s : Subscriber) (sits :
   pub releases : Releases h age s j
   releases = record {
     sound = moved goes.between j (went i age t.now goes.between t.sound goes.leaves) goes.moves;
-    book = λ accepted. same_book goes.between j goes.moves accepted ∙ released_book h i is age s sits t accepted goes.between goes.leaves;
+    book = λ accepted. same_book goes.between j goes.moves accepted
+        ∙ released_book h i is age s sits t accepted goes.between goes.leaves;
     session = ap (λ (u : Subscription). j.sessions u.session) (sym t.subscription) ∙ goes.session
         ∙ ap (λ (u : Subscription). without age (i.sessions u.session)) t.subscription
         ∙ ap (λ (f : ℕ → List Place). without age (f s.subscription.session)) t.sessions;
     none_gone = λ none. none_same (map (turn_among (back true) (counts_in s.subscription None) s.entries) h.kept) j.kept
-        (goes.moves.kept ∙ goes.leaves.kept ∙ t.kept) (none_turned (counts_in s.subscription None) s.entries h.kept none);
+        (goes.moves.kept ∙ goes.leaves.kept
+        ∙ t.kept) (none_turned (counts_in s.subscription None) s.entries h.kept none);
   }

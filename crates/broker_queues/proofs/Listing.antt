@@ -12,7 +12,8 @@ use Rattle.broker_index.specs.declared.places.Place.{Place}
 use Rattle.broker_queues.specs.Parts.Facts.{lists, notes, rise}
 use Rattle.broker_queues.proofs.Rising.{any_from_at, at, at_number, behind}
 
-pub lists_push : (m : ℕ) (ps : List Place) (p : Place) → lists m (ps ++ p ∷ []) ≡ (lists m ps || ((p.number == m) || false))
+pub lists_push : (m : ℕ) (ps : List Place) (p : Place)
+    → lists m (ps ++ p ∷ []) ≡ (lists m ps || ((p.number == m) || false))
 lists_push m ps p = list_any-append (is_place_of m) ps (p ∷ [])
 
 -- what was listed is
@@ -28,7 +29,8 @@ lists_last ps p = lists_push p.number ps p ∙ rw (eq-eqb p.number p.number refl
     always false = refl
 
 -- no other is
-pub lists_was : (m : ℕ) (ps : List Place) (p : Place) → lists m (ps ++ p ∷ []) ≡ true → (lists m ps ≡ true) ⊎ (m ≡ p.number)
+pub lists_was : (m : ℕ) (ps : List Place) (p : Place) → lists m (ps ++ p ∷ []) ≡ true → (lists m ps ≡ true)
+    ⊎ (m ≡ p.number)
 lists_was m ps p listed = elim (cases_Bool (lists m ps)) [
   | inl old ↦ inl old
   | inr new ↦ elim (cases_eq m p.number) [
@@ -45,7 +47,8 @@ pub all_below : (n : ℕ) (ps : List Place) → ((m : ℕ) → lists m ps ≡ tr
 all_below n [] below = All-nil (λ (p : Place). p.number < n)
 all_below n (p ∷ ps) below =
     let first : lists p.number (p ∷ ps) ≡ true = rw (eq-eqb p.number p.number refl) refl in
-    All-cons (λ (p : Place). p.number < n) p ps (below p.number first) (all_below n ps (λ m listed. below m (later m listed)))
+    All-cons (λ (p : Place). p.number < n) p ps (below p.number first) (all_below n ps
+    (λ m listed. below m (later m listed)))
   where
     later : (m : ℕ) → lists m ps ≡ true → lists m (p ∷ ps) ≡ true
     later m listed = elim (cases_Bool (p.number == m)) [
@@ -65,7 +68,8 @@ all_found number P low (x ∷ xs) rises each =
     (λ y found. each y (behind number low (number y) x y xs rises found)))
 
 -- what holds of all holds of one that is found
-pub found_all : {X : Type 0} (number : X → ℕ) (P : X → Type 0) (n : ℕ) (xs : List X) (y : X) → at number n xs ≡ Some y → All P xs → P y
+pub found_all : {X : Type 0} (number : X → ℕ) (P : X → Type 0) (n : ℕ) (xs : List X) (y : X) → at number n xs ≡ Some y
+    → All P xs → P y
 found_all number P n [] y found all = let never : None ≡ Some y = found in cc
 found_all number P n (x ∷ xs) y found all = elim (cases_Bool (number x == n)) [
   | inl on ↦
@@ -76,7 +80,8 @@ found_all number P n (x ∷ xs) y found all = elim (cases_Bool (number x == n)) 
 ]
 
 -- one that is found is listed
-pub found_listed : (n : ℕ) (ps : List Place) (p : Place) → at (λ (p : Place). p.number) n ps ≡ Some p → lists n ps ≡ true
+pub found_listed : (n : ℕ) (ps : List Place) (p : Place) → at (λ (p : Place). p.number) n ps ≡ Some p
+    → lists n ps ≡ true
 found_listed n ps p found =
     any_from_at (λ (p : Place). p.number) (is_place_of n) n ps p found
     (eq-eqb p.number n (at_number (λ (p : Place). p.number) n ps p found))
@@ -107,6 +112,7 @@ notes_other n m es other =
     (λ e on. ap not (ne_eqb e.number n (λ same. other (sym (eqb-true e.number m on) ∙ same)))) es
 
 -- what a change keeps of each value it keeps of all
-pub map_after : {A B : Type 0} (f : A → B) (g : A → A) → ((x : A) → f (g x) ≡ f x) → (xs : List A) → map f (map g xs) ≡ map f xs
+pub map_after : {A B : Type 0} (f : A → B) (g : A → A) → ((x : A) → f (g x) ≡ f x) → (xs : List A)
+    → map f (map g xs) ≡ map f xs
 map_after f g keeps [] = refl
 map_after f g keeps (x ∷ xs) = rw (keeps x, map_after f g keeps xs) refl

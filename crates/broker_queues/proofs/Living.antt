@@ -21,7 +21,8 @@ count_living test [] = refl
 count_living test (k ∷ kept) = by_fate k.fate (count_living test kept)
   where
     by_fate : (fate : Option Fate) → count_by test (living_of kept) ≡ sum_by (λ k. weight test (message_of k)) kept
-        → count_by test (living_of (fated fate k ∷ kept)) ≡ sum_by (λ k. weight test (message_of k)) (fated fate k ∷ kept)
+        → count_by test (living_of (fated fate k ∷ kept)) ≡ sum_by (λ k. weight test (message_of k))
+        (fated fate k ∷ kept)
     by_fate None rest = omega (arith, rest, sum_by-cons (λ k. weight test (message_of k)) (fated None k) kept)
     by_fate (Some fate) rest =
         let m : QueuedMessage = record { number = k.number; sent = k.sent; fate = fate } in
@@ -55,8 +56,10 @@ pub living_gone : (test : Fate → Bool) (kept : List Kept)
 living_gone test [] = refl
 living_gone test (k ∷ kept) = by_fate k.fate (living_gone test kept)
   where
-    by_fate : (fate : Option Fate) → living_of (map (turn_if None test) kept) ≡ filter (λ m. not (test m.fate)) (living_of kept)
-        → living_of (map (turn_if None test) (fated fate k ∷ kept)) ≡ filter (λ m. not (test m.fate)) (living_of (fated fate k ∷ kept))
+    by_fate : (fate : Option Fate) → living_of (map (turn_if None test) kept)
+        ≡ filter (λ m. not (test m.fate)) (living_of kept)
+        → living_of (map (turn_if None test) (fated fate k ∷ kept))
+        ≡ filter (λ m. not (test m.fate)) (living_of (fated fate k ∷ kept))
     by_fate None rest = rest
     by_fate (Some fate) rest = elim (cases_Bool (test fate)) [
       | inl on ↦ rw on rest
@@ -69,8 +72,10 @@ pub living_back : (test : Fate → Bool) (kept : List Kept)
 living_back test [] = refl
 living_back test (k ∷ kept) = by_fate k.fate (living_back test kept)
   where
-    by_fate : (fate : Option Fate) → living_of (map (turn_if (Some Ready) test) kept) ≡ map (ready_if test) (living_of kept)
-        → living_of (map (turn_if (Some Ready) test) (fated fate k ∷ kept)) ≡ map (ready_if test) (living_of (fated fate k ∷ kept))
+    by_fate : (fate : Option Fate) → living_of (map (turn_if (Some Ready) test) kept)
+        ≡ map (ready_if test) (living_of kept)
+        → living_of (map (turn_if (Some Ready) test) (fated fate k ∷ kept))
+        ≡ map (ready_if test) (living_of (fated fate k ∷ kept))
     by_fate None rest = rest
     by_fate (Some fate) rest = elim (cases_Bool (test fate)) [
       | inl on ↦ rw on (ap (λ l. record { number = k.number; sent = k.sent; fate = Ready } ∷ l) rest)
@@ -82,21 +87,30 @@ living_back test (k ∷ kept) = by_fate k.fate (living_back test kept)
 pub count_push : (test : QueuedMessage → Bool) (kept : List Kept) (k : Kept)
     → count_by test (living_of (kept ++ k ∷ [])) ≡ count_by test (living_of kept) + weight test (message_of k)
 count_push test kept k =
-    rw (count_living test (kept ++ k ∷ []), count_living test kept) (sum_by_push (λ l. weight test (message_of l)) kept k)
+    rw (
+      count_living test (kept ++ k ∷ []),
+      count_living test kept,
+    ) (sum_by_push (λ l. weight test (message_of l)) kept k)
 
 -- a message without a fate counts nothing
 pub weight_gone : (test : QueuedMessage → Bool) (k : Kept) → k.fate ≡ None → weight test (message_of k) ≡ 0
 weight_gone test k gone = rw gone refl
 
-pub count_purge : (test : QueuedMessage → Bool) (n : ℕ) (kept : List Kept) (k : Kept) → rise (λ k. k.number) 0 kept ≡ true
+pub count_purge : (test : QueuedMessage → Bool) (n : ℕ) (kept : List Kept) (k : Kept)
+    → rise (λ k. k.number) 0 kept ≡ true
     → kept_at n kept ≡ Some k → k.fate ≡ None
     → count_by test (living_of (filter (λ k. not (k.number == n)) kept)) ≡ count_by test (living_of kept)
 count_purge test n kept k rises found gone =
     rw (count_living test (filter (λ k. not (k.number == n)) kept), count_living test kept)
-    (omega (arith, sum_filter (λ k. k.number) (λ k. weight test (message_of k)) n 0 kept k rises found, weight_gone test k gone))
+    (omega (
+      arith,
+      sum_filter (λ k. k.number) (λ k. weight test (message_of k)) n 0 kept k rises found,
+      weight_gone test k gone,
+    ))
 
 pub count_zero : (test : QueuedMessage → Bool) (kept : List Kept) → rise (λ k. k.number) 0 kept ≡ true
-    → ((n : ℕ) (k : Kept) → kept_at n kept ≡ Some k → weight test (message_of k) ≡ 0) → count_by test (living_of kept) ≡ 0
+    → ((n : ℕ) (k : Kept) → kept_at n kept ≡ Some k → weight test (message_of k) ≡ 0)
+    → count_by test (living_of kept) ≡ 0
 count_zero test kept rises zeros =
     count_living test kept ∙ sum_zero (λ k. k.number) (λ k. weight test (message_of k)) 0 kept rises zeros
 

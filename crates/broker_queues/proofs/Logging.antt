@@ -58,7 +58,8 @@ unmentioned (e ∷ log) k none = elim (cases_Bool (e.number == k.number)) [
 
 -- what was noted of a message that is out is its fate
 true_fate : (kept : List Kept) (e : Logged) (k : Kept) → kept_at k.number kept ≡ Some k
-    → fate_of_kept (kept_at e.number kept) ≡ fate_of e.standing → (e.number == k.number) ≡ true → k.fate ≡ fate_of e.standing
+    → fate_of_kept (kept_at e.number kept) ≡ fate_of e.standing → (e.number == k.number) ≡ true
+    → k.fate ≡ fate_of e.standing
 true_fate kept e k there is on =
     let same : e.number ≡ k.number = eqb-true e.number k.number on in
     sym (ap fate_of_kept (ap (λ n. kept_at n kept) same ∙ there)) ∙ is
@@ -68,18 +69,22 @@ back_same : (kept : List Kept) (e : Logged) (k : Kept) → kept_at k.number kept
     → fate_of_kept (kept_at e.number kept) ≡ fate_of e.standing → passes is_out_fate (fate_of e.standing) ≡ true
     → with_back e.number (fate_of e.standing) k ≡ k
 back_same kept e k there is out = elim (cases_Bool (e.number == k.number)) [
-  | inl on ↦ back_out e.number (fate_of e.standing) k (ap (λ f. passes is_out_fate f) (true_fate kept e k there is on) ∙ out)
+  | inl on ↦ back_out e.number (fate_of e.standing) k (ap (λ f. passes is_out_fate f) (true_fate kept e k there is on)
+      ∙ out)
   | inr off ↦ back_other e.number (fate_of e.standing) k off
 ]
 
 -- a message that didn't turn stays
-undone_same : (kept : List Kept) (log : List Logged) (k : Kept) → AreTrue kept log → kept_at k.number kept ≡ Some k → undone log k ≡ k
+undone_same : (kept : List Kept) (log : List Logged) (k : Kept) → AreTrue kept log → kept_at k.number kept ≡ Some k
+    → undone log k ≡ k
 undone_same kept [] k are there = refl
 undone_same kept (e ∷ log) k are there =
-    ap (λ l. with_back e.number (fate_of e.standing) l) (undone_same kept log k are.2 there) ∙ back_same kept e k there are.0 are.1
+    ap (λ l. with_back e.number (fate_of e.standing) l) (undone_same kept log k are.2 there)
+    ∙ back_same kept e k there are.0 are.1
 
 -- one that turned turns back
-undone_turned : (kept : List Kept) (to : Option Fate) → passes is_out_fate to ≡ false → (log : List Logged) (k : Kept) → AreTrue kept log
+undone_turned : (kept : List Kept) (to : Option Fate) → passes is_out_fate to ≡ false → (log : List Logged) (k : Kept)
+    → AreTrue kept log
     → kept_at k.number kept ≡ Some k → mentions k.number log ≡ true → undone log (fated to k) ≡ k
 undone_turned kept to off [] k are there noted = let never : false ≡ true = noted in cc
 undone_turned kept to off (e ∷ log) k are there noted = elim (cases_Bool (mentions k.number log)) [
@@ -90,7 +95,8 @@ undone_turned kept to off (e ∷ log) k are there noted = elim (cases_Bool (ment
       let rest : undone log (fated to k) ≡ fated to k = unmentioned log (fated to k) first in
       let on : (e.number == k.number) ≡ true = rw (first, or_none (e.number == k.number)) at noted in
       let fate : fate_of e.standing ≡ k.fate = sym (true_fate kept e k there are.0 on) in
-      ap (λ l. with_back e.number (fate_of e.standing) l) rest ∙ back_it e.number (fate_of e.standing) (fated to k) on off
+      ap (λ l. with_back e.number (fate_of e.standing) l) rest
+      ∙ back_it e.number (fate_of e.standing) (fated to k) on off
       ∙ ap (λ f. fated f k) fate
 ]
   where
@@ -133,8 +139,10 @@ map_undone log later [] = refl
 map_undone log later (k ∷ kept) = rw (undone_append log later k, map_undone log later kept) refl
 
 -- behind what was noted before
-pub before_answer : (last : ℕ) (log later : List Logged) (kept : List Kept) (to : Option Fate) (test : Fate → Bool) (es : List Entry)
-    → rise (λ k. k.number) 0 kept ≡ true → passes is_out_fate to ≡ false → AreTrue kept later → AreAll test kept es later
+pub before_answer : (last : ℕ) (log later : List Logged) (kept : List Kept) (to : Option Fate) (test : Fate → Bool)
+    (es : List Entry)
+    → rise (λ k. k.number) 0 kept ≡ true → passes is_out_fate to ≡ false → AreTrue kept later
+    → AreAll test kept es later
     → before last (log ++ later) (map (turn_among to test es) kept) ≡ before last log kept
 before_answer last log later kept to test es rises off are all =
     ap (λ l. filter (λ k. nat_le k.number last) l)
@@ -145,13 +153,15 @@ before_answer last log later kept to test es rises off are all =
 pub notes_undone : (kept : List Kept) (later : List Logged) → rise (λ k. k.number) 0 kept ≡ true → AreTrue kept later
     → map (undone later) kept ≡ kept
 notes_undone kept later rises are =
-    map_same (λ k. k.number) (undone later) (λ k. k) 0 kept rises (λ k there. undone_same kept later k are there) ∙ map_id kept
+    map_same (λ k. k.number) (undone later) (λ k. k) 0 kept rises (λ k there. undone_same kept later k are there)
+    ∙ map_id kept
   where
     map_id : (xs : List Kept) → map (λ k. k) xs ≡ xs
     map_id [] = refl
     map_id (x ∷ xs) = ap (λ l. x ∷ l) (map_id xs)
 
-pub before_noted : (last : ℕ) (log later : List Logged) (kept : List Kept) → rise (λ k. k.number) 0 kept ≡ true → AreTrue kept later
+pub before_noted : (last : ℕ) (log later : List Logged) (kept : List Kept) → rise (λ k. k.number) 0 kept ≡ true
+    → AreTrue kept later
     → before last (log ++ later) kept ≡ before last log kept
 before_noted last log later kept rises are =
     ap (λ l. filter (λ k. nat_le k.number last) l) (map_undone log later kept ∙ ap (λ l. map (undone log) l)

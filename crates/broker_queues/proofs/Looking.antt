@@ -1,5 +1,6 @@
 -- A destination is looked at: what it finds first is what is due there first.
-use Rattle.std.proofs.Common.{◌≡◌, ◌≤◌, ◌<◌, ℕ, Bool, true, false, List, Option, Some, None, refl, sym, ap, ◌∙◌, arith, inl, inr}
+use Rattle.std.proofs.Common.{◌≡◌, ◌≤◌, ◌<◌, ℕ, Bool, true, false, List, Option, Some, None, refl, sym, ap, ◌∙◌, arith}
+use Rattle.std.proofs.Common.{inl, inr}
 use Rattle.std.specs.Prelude.{◌==◌, ◌∷◌, [], All, IfSome}
 use Rattle.std.specs.Str.{bytes_eq}
 use Rattle.std.proofs.lemmas.Bool.{cases_Bool, cases_order, and_parts, and_from, le-leb}
@@ -23,7 +24,8 @@ NoLater None number = ⊥
 NoLater (Some p) number = p.number ≤ number
 
 -- what passes a test and is listed is no later than the first that does
-no_later : (test : ℕ → Bool) (places : List Place) (from last : ℕ) (found : Option Place) (m : ℕ) → FirstOf test places from last found
+no_later : (test : ℕ → Bool) (places : List Place) (from last : ℕ) (found : Option Place) (m : ℕ)
+    → FirstOf test places from last found
     → lists m places ≡ true → from ≤ m → m ≤ last → test m ≡ true → NoLater found m
 no_later test places from last None m first listed later within on =
     let never : true ≡ false = sym on ∙ first m listed later within in cc
@@ -56,7 +58,12 @@ what_opens kept name n on = by_kept (kept_at n kept) refl on
     by_kept None there on2 = let never : false ≡ true = on2 in cc
     by_kept (Some k) there on2 =
         let parts = and_parts (passes is_ready_fate k.fate) (bytes_eq k.sent.destination name) on2 in
-        record { message = k; there = there; ready = is_ready_of k.fate parts.0; for_it = same_texts k.sent.destination name parts.1 }
+        record {
+          message = k;
+          there = there;
+          ready = is_ready_of k.fate parts.0;
+          for_it = same_texts k.sent.destination name parts.1;
+        }
 
 it_opens : (kept : List Kept) (name : List ℕ) (n : ℕ) (k : Kept) → kept_at n kept ≡ Some k → k.fate ≡ Some Ready
     → k.sent.destination ≡ name → opens kept name n ≡ true
@@ -68,13 +75,15 @@ it_opens kept name n k there ready for_it =
 module _ (h : Holding) (is : IsSound h) (name : List ℕ) (q : List ℕ → Option Queue) (found : Option Place)
     (r : SeeksReady h.kept h.last name h.queues q found) where
   -- what is ready there is no earlier than what was found
-  pub ready_later : (n : ℕ) (k : Kept) → kept_at n h.kept ≡ Some k → k.fate ≡ Some Ready → k.sent.destination ≡ name → NoLater found n
+  pub ready_later : (n : ℕ) (k : Kept) → kept_at n h.kept ≡ Some k → k.fate ≡ Some Ready → k.sent.destination ≡ name
+      → NoLater found n
   ready_later n k there ready for_it =
       let listed : lists n (queue_of h.queues name).numbers ≡ true =
       ap (λ d. lists n (queue_of h.queues d).numbers) (sym for_it) ∙ is.placed n k there in
       let ahead : (queue_of h.queues k.sent.destination).ready_from ≤ n = is.ahead n k there ready in
       let ahead2 : (queue_of h.queues name).ready_from ≤ n = rw for_it at ahead in
-      no_later (opens h.kept name) (queue_of h.queues name).numbers (queue_of h.queues name).ready_from h.last found n r.first listed
+      no_later (opens h.kept name) (queue_of h.queues name).numbers (queue_of h.queues name).ready_from h.last found n
+      r.first listed
       ahead2 (is.last n k there) (it_opens h.kept name n k there ready for_it)
 
   ready_ahead : AreAhead h.kept q
@@ -119,7 +128,8 @@ record IsFree (subscribers : List Subscriber) (given : ℕ) (name : List ℕ) (a
   listens : subscriber.subscription.destination ≡ name
   may : may_have given subscriber ≡ true
 
-who_takes : (subscribers : List Subscriber) (given : ℕ) (name : List ℕ) (a : ℕ) → takes_more subscribers given name a ≡ true
+who_takes : (subscribers : List Subscriber) (given : ℕ) (name : List ℕ) (a : ℕ)
+    → takes_more subscribers given name a ≡ true
     → IsFree subscribers given name a
 who_takes subscribers given name a on = by_subscriber (subscriber_at a subscribers) refl on
   where
@@ -128,16 +138,23 @@ who_takes subscribers given name a on = by_subscriber (subscriber_at a subscribe
     by_subscriber None there on2 = let never : false ≡ true = on2 in cc
     by_subscriber (Some s) there on2 =
         let parts = and_parts (bytes_eq s.subscription.destination name) (may_have given s) on2 in
-        record { subscriber = s; sits = there; listens = same_texts s.subscription.destination name parts.0; may = parts.1 }
+        record {
+          subscriber = s;
+          sits = there;
+          listens = same_texts s.subscription.destination name parts.0;
+          may = parts.1;
+        }
 
-it_takes : (subscribers : List Subscriber) (given : ℕ) (name : List ℕ) (a : ℕ) (s : Subscriber) → subscriber_at a subscribers ≡ Some s
+it_takes : (subscribers : List Subscriber) (given : ℕ) (name : List ℕ) (a : ℕ) (s : Subscriber)
+    → subscriber_at a subscribers ≡ Some s
     → s.subscription.destination ≡ name → may_have given s ≡ true → takes_more subscribers given name a ≡ true
 it_takes subscribers given name a s there listens may =
     let dest : bytes_eq s.subscription.destination name ≡ true = rw listens (itself name) in
     rw there (and_from (bytes_eq s.subscription.destination name) (may_have given s) dest may)
 
 -- what holds of all subscribers holds of one
-all_at : (P : Subscriber → Type 0) (a : ℕ) (ss : List Subscriber) (s : Subscriber) → All P ss → subscriber_at a ss ≡ Some s → P s
+all_at : (P : Subscriber → Type 0) (a : ℕ) (ss : List Subscriber) (s : Subscriber) → All P ss
+    → subscriber_at a ss ≡ Some s → P s
 all_at P a [] s all found = let never : None ≡ Some s = found in cc
 all_at P a (x ∷ ss) s all found = elim (cases_Bool (x.age == a)) [
   | inl on ↦ let same : Some x ≡ Some s = rw on at found in let e : x ≡ s = cc in rw (← e) (All-head P x ss all)
@@ -146,7 +163,8 @@ all_at P a (x ∷ ss) s all found = elim (cases_Bool (x.age == a)) [
 
 module _ (h : Holding) (is : IsSound h) (name : List ℕ) (q : List ℕ → Option Queue) (found : Option Place)
     (r : SeeksTaker h.subscribers h.given name h.queues q found) where
-  pub taker_later : (a : ℕ) (s : Subscriber) → subscriber_at a h.subscribers ≡ Some s → s.subscription.destination ≡ name
+  pub taker_later : (a : ℕ) (s : Subscriber) → subscriber_at a h.subscribers ≡ Some s
+      → s.subscription.destination ≡ name
       → may_have h.given s ≡ true → NoLater found a
   taker_later a s there listens may =
       let listed : lists a (queue_of h.queues name).subscribers ≡ true =
@@ -155,8 +173,10 @@ module _ (h : Holding) (is : IsSound h) (name : List ℕ) (q : List ℕ → Opti
       let ahead2 : (queue_of h.queues name).taker_from ≤ a = rw listens at ahead in
       let age : s.age ≡ a = at_number (λ s. s.age) a h.subscribers s there in
       let young : s.age < r.last = all_at (λ s. s.age < r.last) a h.subscribers s r.young there in
-      no_later (takes_more h.subscribers h.given name) (queue_of h.queues name).subscribers (queue_of h.queues name).taker_from r.last
-      found a r.first listed ahead2 (omega (arith, age, young)) (it_takes h.subscribers h.given name a s there listens may)
+      no_later (takes_more h.subscribers h.given name) (queue_of h.queues name).subscribers
+      (queue_of h.queues name).taker_from r.last
+      found a r.first listed ahead2 (omega (arith, age, young)) (it_takes h.subscribers h.given name a s there listens
+      may)
 
   taker_ahead : AreTakers h.given h.subscribers q
   taker_ahead a s there may = elim (cases_Bool (bytes_eq s.subscription.destination name)) [
@@ -192,7 +212,8 @@ module _ (h : Holding) (is : IsSound h) (name : List ℕ) (q : List ℕ → Opti
 -- ---- both
 
 -- the same parts, with other queues
-rests_with : (h : Holding) (q : List ℕ → Option Queue) → IsSound (record h { queues = q }) → Rests h (record h { queues = q })
+rests_with : (h : Holding) (q : List ℕ → Option Queue) → IsSound (record h { queues = q })
+    → Rests h (record h { queues = q })
 rests_with h q sound = record { sound = sound; kept = refl; subscribers = refl; last = refl; given = refl }
 
 module _ (h : Holding) (is : IsSound h) (name : List ℕ) (q : List ℕ → Option Queue) where
@@ -212,8 +233,10 @@ module _ (h : Holding) (is : IsSound h) (name : List ℕ) (q : List ℕ → Opti
         record {
           rests = rests_with h r (sought_taker (record h { queues = q }) mid name r None two);
           can = tt;
-          covers = λ n due. absurd (taker_later (record h { queues = q }) mid name r None two due.age due.subscriber due.sits
-              (same_texts due.subscriber.subscription.destination due.message.sent.destination due.same ∙ due.for_it) due.may);
+          covers = λ n due. absurd (taker_later (record h { queues = q }) mid name r None two due.age due.subscriber
+              due.sits
+              (same_texts due.subscriber.subscription.destination due.message.sent.destination due.same ∙ due.for_it)
+              due.may);
         }
 
     -- one is, and one takes it
@@ -222,7 +245,8 @@ module _ (h : Holding) (is : IsSound h) (name : List ℕ) (q : List ℕ → Opti
     looked_some a two =
         let mid : IsSound (record h { queues = q }) = sought_ready h is name q (Some m) one in
         let open_one : IsOpen h.kept name m.number = what_opens h.kept name m.number one.first.0 in
-        let free_one : IsFree h.subscribers h.given name a.number = who_takes h.subscribers h.given name a.number two.first.0 in
+        let free_one : IsFree h.subscribers h.given name a.number =
+        who_takes h.subscribers h.given name a.number two.first.0 in
         record {
           rests = rests_with h r (sought_taker (record h { queues = q }) mid name r (Some a) two);
           can = record {
@@ -236,5 +260,6 @@ module _ (h : Holding) (is : IsSound h) (name : List ℕ) (q : List ℕ → Opti
             oldest = λ b t there same may. taker_later (record h { queues = q }) mid name r (Some a) two b t there
                 (same_texts t.subscription.destination open_one.message.sent.destination same ∙ open_one.for_it) may;
           };
-          covers = λ n due. le-leb m.number n (ready_later h is name q (Some m) one n due.message due.there due.ready due.for_it);
+          covers = λ n due. le-leb m.number n (ready_later h is name q (Some m) one n due.message due.there due.ready
+              due.for_it);
         }

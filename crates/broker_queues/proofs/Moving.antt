@@ -45,7 +45,8 @@ module _ (h : Holding) (change : Subscriber
 
   was : (a : ℕ) (s : Subscriber) → subscriber_at a (map change h.subscribers) ≡ Some s → Noting a s
   was a s there =
-      is_mapped change (subscriber_at a h.subscribers) s (sym (find_map (has_age a) change (same_age a) h.subscribers) ∙ there)
+      is_mapped change (subscriber_at a h.subscribers) s (sym (find_map (has_age a) change (same_age a) h.subscribers)
+      ∙ there)
 
   noted_still : AreNoted h.kept (map change h.subscribers)
   noted_still n k x j a there out =
@@ -63,7 +64,8 @@ module _ (h : Holding) (change : Subscriber
       → s.count ≡ count_by (λ m. out_to s.subscription.session s.subscription.id m.fate) (living_of h.kept)
   credited_still a s w = rw (← w.to, r.subscription w.from, r.count w.from) (is.credited a w.from w.found)
 
-  listening_still : (a : ℕ) (s : Subscriber) → Noting a s → lists a (queue_of h.queues s.subscription.destination).subscribers ≡ true
+  listening_still : (a : ℕ) (s : Subscriber) → Noting a s
+      → lists a (queue_of h.queues s.subscription.destination).subscribers ≡ true
   listening_still a s w = rw (← w.to, r.subscription w.from) (is.listening a w.from w.found)
 
   owned_still : (a : ℕ) (s : Subscriber) → Noting a s → lists a (h.sessions s.subscription.session) ≡ true
@@ -76,19 +78,23 @@ module _ (h : Holding) (change : Subscriber
       let may3 : may_have h.given w.from ≡ true = sym (same_credit w.from) ∙ may2 in
       rw (← w.to, r.subscription w.from) (is.takers a w.from w.found may3)
 
-  awake_still : (n : ℕ) (k : Kept) (a : ℕ) (s : Subscriber) → kept_at n h.kept ≡ Some k → k.fate ≡ Some Ready → Noting a s
-      → bytes_eq s.subscription.destination k.sent.destination ≡ true → may_have h.given s ≡ true → h.awake k.sent.destination ≡ true
+  awake_still : (n : ℕ) (k : Kept) (a : ℕ) (s : Subscriber) → kept_at n h.kept ≡ Some k → k.fate ≡ Some Ready
+      → Noting a s
+      → bytes_eq s.subscription.destination k.sent.destination ≡ true → may_have h.given s ≡ true
+      → h.awake k.sent.destination ≡ true
   awake_still n k a s there ready w same may =
       let may2 : may_have h.given (change w.from) ≡ true = rw (← w.to) at may in
       let may3 : may_have h.given w.from ≡ true = sym (same_credit w.from) ∙ may2 in
       let same2 : bytes_eq (change w.from).subscription.destination k.sent.destination ≡ true = rw (← w.to) at same in
-      let same3 : bytes_eq w.from.subscription.destination k.sent.destination ≡ true = rw (r.subscription w.from) at same2 in
+      let same3 : bytes_eq w.from.subscription.destination k.sent.destination ≡ true =
+      rw (r.subscription w.from) at same2 in
       is.awake n k a w.from there ready w.found same3 may3
 
   apart_still : (a b : ℕ) (s t : Subscriber) → Noting a s → Noting b t
       → is_named s.subscription.session s.subscription.id t.subscription ≡ true → a ≡ b
   apart_still a b s t v w named =
-      let one : is_named (change v.from).subscription.session (change v.from).subscription.id (change w.from).subscription ≡ true =
+      let one : is_named (change v.from).subscription.session (change v.from).subscription.id
+      (change w.from).subscription ≡ true =
       rw (← v.to, ← w.to) at named in
       let two : is_named v.from.subscription.session v.from.subscription.id w.from.subscription ≡ true =
       rw (r.subscription v.from, r.subscription w.from) at one in
@@ -103,7 +109,8 @@ module _ (h : Holding) (change : Subscriber
   session_here : (a : ℕ) → session_at a (map change h.subscribers) ≡ session_at a h.subscribers
   session_here a =
       rw (find_map (has_age a) change (same_age a) h.subscribers)
-      (option_map_map (λ s. s.subscription.session) change (λ s. s.subscription.session) (λ s. ap (λ t. t.session) (r.subscription s))
+      (option_map_map (λ s. s.subscription.session) change (λ s. s.subscription.session)
+      (λ s. ap (λ t. t.session) (r.subscription s))
       (subscriber_at a h.subscribers))
 
   pub renoted : IsSound (record h { subscribers = map change h.subscribers })

@@ -1,5 +1,6 @@
 -- The messages of a subscriber's deliveries are noted, one after another.
-use Rattle.std.proofs.Common.{◌≡◌, ◌<◌, ℕ, Bool, true, false, ◌||◌, List, [], ◌∷◌, ◌++◌, zero, suc, length, get_or, take, append_assoc}
+use Rattle.std.proofs.Common.{◌≡◌, ◌<◌, ℕ, Bool, true, false, ◌||◌, List, [], ◌∷◌, ◌++◌, zero, suc, length, get_or}
+use Rattle.std.proofs.Common.{take, append_assoc}
 use Rattle.std.proofs.Common.{Option, Some, refl, sym, ap, ◌∙◌, arith, inl, inr}
 use Rattle.std.specs.Prelude.{◌==◌, ◌⊎◌, ◌+◌}
 use Rattle.std.proofs.lemmas.Bool.{cases_Bool, eqb-true, eq-eqb}
@@ -20,7 +21,8 @@ use Rattle.broker_queues.proofs.Subscribing.{IsOut, is_out}
 use Rattle.broker_queues.proofs.Turning.{counts_out, take_next}
 
 -- nothing is noted yet
-pub noted_none : (h : Holding) (s : Subscriber) (answered : Option ℕ) (log : List Logged) → Noted h s answered [] log log
+pub noted_none : (h : Holding) (s : Subscriber) (answered : Option ℕ) (log : List Logged)
+    → Noted h s answered [] log log
 noted_none h s answered log = record {
   later = [];
   more = sym (append-nil log);
@@ -40,7 +42,8 @@ noted_less h s answered es log now n = record {
   all = λ m k there on never. (let no : false ≡ true = never in cc);
 }
 
-true_append : (kept : List Kept) (log later : List Logged) → AreTrue kept log → AreTrue kept later → AreTrue kept (log ++ later)
+true_append : (kept : List Kept) (log later : List Logged) → AreTrue kept log → AreTrue kept later
+    → AreTrue kept (log ++ later)
 true_append kept [] later are more = more
 true_append kept (e ∷ log) later are more = (are.0, are.1, true_append kept log later are.2 more)
 
@@ -57,14 +60,16 @@ notes_at (e ∷ es) (suc i) d short = elim (cases_Bool (e.number == (get_or es i
 out_is_out : (x : ℕ) (i : List ℕ) (f : Option Fate) → passes (out_to x i) f ≡ true → passes is_out_fate f ≡ true
 out_is_out x i f on = let o : IsOut x i f = is_out x i f on in rw o.out refl
 
-module _ (h : Holding) (age : ℕ) (s : Subscriber) (answered : Option ℕ) (es : List Entry) (e : Entry) (log mid new : List Logged)
+module _ (h : Holding) (age : ℕ) (s : Subscriber) (answered : Option ℕ) (es : List Entry) (e : Entry)
+    (log mid new : List Logged)
     (sits : subscriber_at age h.subscribers ≡ Some s) (n : Noted h s answered es log mid) where
   test : Fate → Bool
   test = counts_in s.subscription answered
 
   in_some : (m : ℕ) → (e.number == m) ≡ false → notes m (es ++ e ∷ []) ≡ true → notes m es ≡ true
   in_some m off noted =
-      let both : (notes m es || ((e.number == m) || false)) ≡ true = sym (list_any-append (λ e. e.number == m) es (e ∷ [])) ∙ noted in
+      let both : (notes m es || ((e.number == m) || false)) ≡ true =
+      sym (list_any-append (λ e. e.number == m) es (e ∷ [])) ∙ noted in
       let plain : (notes m es || (false || false)) ≡ true = rw off at both in
       or_none (notes m es) plain
     where
@@ -73,7 +78,8 @@ module _ (h : Holding) (age : ℕ) (s : Subscriber) (answered : Option ℕ) (es 
       or_none false on = on
 
   -- the next one's message is noted
-  more_noted : passes (counts_in s.subscription answered) (fate_of_kept (kept_at e.number h.kept)) ≡ true → notes e.number s.entries ≡ true
+  more_noted : passes (counts_in s.subscription answered) (fate_of_kept (kept_at e.number h.kept)) ≡ true
+      → notes e.number s.entries ≡ true
       → NotesIt h.kept e age mid new → Noted h s answered (es ++ e ∷ []) log new
   more_noted on among it =
       let out : IsOut s.subscription.session s.subscription.id (fate_of_kept (kept_at e.number h.kept)) =
@@ -100,7 +106,8 @@ module _ (h : Holding) (age : ℕ) (s : Subscriber) (answered : Option ℕ) (es 
         all = λ m k there passed noted. mentioned m k there passed noted (cases_Bool (e.number == m));
       }
     where
-      mentioned : (m : ℕ) (k : Kept) → kept_at m h.kept ≡ Some k → passes (counts_in s.subscription answered) k.fate ≡ true
+      mentioned : (m : ℕ) (k : Kept) → kept_at m h.kept ≡ Some k
+          → passes (counts_in s.subscription answered) k.fate ≡ true
           → notes m (es ++ e ∷ []) ≡ true → ((e.number == m) ≡ true) ⊎ ((e.number == m) ≡ false)
           → mentions m (n.later ++ it.it ∷ []) ≡ true
       mentioned m k there passed noted which = list_any-append (λ l. l.number == m) n.later (it.it ∷ []) ∙ elim which [
@@ -123,16 +130,19 @@ module _ (h : Holding) (age : ℕ) (s : Subscriber) (answered : Option ℕ) (es 
     all = λ m k there passed noted. n.all m k there passed (elim (cases_Bool (e.number == m)) [
       | inl is ↦
           let number : e.number ≡ m = eqb-true e.number m is in
-          let never : false ≡ true = sym off ∙ ap (λ l. passes (counts_in s.subscription answered) (fate_of_kept (kept_at l h.kept))) number
+          let never : false ≡ true =
+          sym off ∙ ap (λ l. passes (counts_in s.subscription answered) (fate_of_kept (kept_at l h.kept))) number
           ∙ ap (λ o. passes (counts_in s.subscription answered) (fate_of_kept o)) there ∙ passed in cc
       | inr other ↦ in_some m other noted
     ]);
   }
 
   pub noted_next : notes e.number s.entries ≡ true
-      → NotesIf h.kept e age mid new (passes (counts_in s.subscription answered) (fate_of_kept (kept_at e.number h.kept)))
+      → NotesIf h.kept e age mid new (passes (counts_in s.subscription answered)
+      (fate_of_kept (kept_at e.number h.kept)))
       → Noted h s answered (es ++ e ∷ []) log new
-  noted_next among notes_it = by_test (passes (counts_in s.subscription answered) (fate_of_kept (kept_at e.number h.kept))) refl notes_it
+  noted_next among notes_it =
+      by_test (passes (counts_in s.subscription answered) (fate_of_kept (kept_at e.number h.kept))) refl notes_it
     where
       by_test : (b : Bool) → passes (counts_in s.subscription answered) (fate_of_kept (kept_at e.number h.kept)) ≡ b
           → NotesIf h.kept e age mid new b → Noted h s answered (es ++ e ∷ []) log new
@@ -140,8 +150,10 @@ module _ (h : Holding) (age : ℕ) (s : Subscriber) (answered : Option ℕ) (es 
       by_test false is same = none_noted is same
 
 -- the same, by what each step of the code says
-pub noted_entry : (h : Holding) (age : ℕ) (s u : Subscriber) (answered : Option ℕ) (es : List Entry) (sub : Subscription) (index : ℕ)
-    (d : Entry) (log mid new : List Logged) → subscriber_at age h.subscribers ≡ Some s → Some u ≡ subscriber_at age h.subscribers
+pub noted_entry : (h : Holding) (age : ℕ) (s u : Subscriber) (answered : Option ℕ) (es : List Entry)
+    (sub : Subscription) (index : ℕ)
+    (d : Entry) (log mid new : List Logged) → subscriber_at age h.subscribers ≡ Some s
+    → Some u ≡ subscriber_at age h.subscribers
     → es ≡ u.entries → sub ≡ u.subscription → index < length es → Noted h s answered (take index s.entries) log mid
     → NotesIf h.kept (get_or es index d) age mid new
     (passes (counts_in sub answered) (fate_of_kept (kept_at (get_or es index d).number h.kept)))
@@ -156,6 +168,7 @@ noted_entry h age s u answered es sub index d log mid new sits there list own sh
     let notes2 : NotesIf h.kept (get_or s.entries index d) age mid new
     (passes (counts_in s.subscription answered) (fate_of_kept (kept_at (get_or s.entries index d).number h.kept))) =
     rw (same, same_sub) at notes_it in
-    rw (take_next s.entries index (get_or s.entries index d) short2 (get_or_default s.entries index (get_or s.entries index d) d short2))
+    rw (take_next s.entries index (get_or s.entries index d) short2 (get_or_default s.entries index
+    (get_or s.entries index d) d short2))
     (noted_next h age s answered (take index s.entries) (get_or s.entries index d) log mid new sits n
     (notes_at s.entries index d short2) notes2)

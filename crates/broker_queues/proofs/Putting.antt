@@ -19,7 +19,8 @@ module _ (h : Holding) (sent : Sent) (i : Holding) (is : IsSound h) (p : Puts h 
   kept_was m l there =
       let new : Kept = new_kept (h.last + 1) sent in
       let e : kept_at m (h.kept ++ new ∷ []) ≡ Some l = rw p.kept at there in
-      elim (or_some (kept_at m h.kept) (cond (new.number == m) (Some new) None) l (sym (at_push (λ k. k.number) m h.kept new) ∙ e)) [
+      elim (or_some (kept_at m h.kept) (cond (new.number == m) (Some new) None) l
+      (sym (at_push (λ k. k.number) m h.kept new) ∙ e)) [
         | inl old ↦ inr old
         | inr fresh ↦ elim (cases_Bool (new.number == m)) [
           | inl on ↦
@@ -37,7 +38,8 @@ module _ (h : Holding) (sent : Sent) (i : Holding) (is : IsSound h) (p : Puts h 
   ]
 
   put_counted : AreCounted i.kept i.queues
-  put_counted d = rw p.kept (omega (arith, p.count d, count_push (is_for d) h.kept (new_kept (h.last + 1) sent), is.counted d))
+  put_counted d =
+      rw p.kept (omega (arith, p.count d, count_push (is_for d) h.kept (new_kept (h.last + 1) sent), is.counted d))
 
   put_noted : AreNoted i.kept i.subscribers
   put_noted m l x j a there out = elim (kept_was m l there) [
@@ -99,7 +101,8 @@ module _ (h : Holding) (sent : Sent) (i : Holding) (is : IsSound h) (p : Puts h 
     owned_rise = λ x. rw p.sessions (is.owned_rise x);
   }
 
-module _ (h : Holding) (n : ℕ) (k : Kept) (i : Holding) (is : IsSound h) (found : kept_at n h.kept ≡ Some k) (gone : k.fate ≡ None)
+module _ (h : Holding) (n : ℕ) (k : Kept) (i : Holding) (is : IsSound h) (found : kept_at n h.kept ≡ Some k)
+    (gone : k.fate ≡ None)
     (p : Purges h n i) where
   -- a kept message was there, and is another
   left_was : (m : ℕ) (l : Kept) → kept_at m i.kept ≡ Some l → (m ≡ n → ⊥) × (kept_at m h.kept ≡ Some l)
@@ -115,7 +118,11 @@ module _ (h : Holding) (n : ℕ) (k : Kept) (i : Holding) (is : IsSound h) (foun
   purge_credited : AreCredited i.kept i.subscribers
   purge_credited a s there =
       let was : subscriber_at a h.subscribers ≡ Some s = rw p.subscribers at there in
-      rw (p.kept, count_purge (λ m. out_to s.subscription.session s.subscription.id m.fate) n h.kept k is.numbers found gone)
+      rw (
+        p.kept,
+        count_purge (λ m. out_to s.subscription.session s.subscription.id m.fate) n h.kept k is.numbers found
+            gone,
+      )
       (is.credited a s was)
 
   pub purge_keeps : IsSound i

@@ -1,5 +1,6 @@
 -- Subscriptions end by name, or all of a session: the book releases them.
-use Rattle.std.proofs.Common.{◌≡◌, ◌≤◌, ◌+◌, ◌-◌, ℕ, Bool, true, false, not, List, [], ◌∷◌, map, length, Option, Some, None, refl, sym, ap}
+use Rattle.std.proofs.Common.{◌≡◌, ◌≤◌, ◌+◌, ◌-◌, ℕ, Bool, true, false, not, List, [], ◌∷◌, map, length, Option, Some}
+use Rattle.std.proofs.Common.{None, refl, sym, ap}
 use Rattle.std.proofs.Common.{◌∙◌, arith, inl, inr}
 use Rattle.std.specs.Prelude.{◌==◌, All, filter, find, slice_get}
 use Rattle.std.specs.List.{list_any}
@@ -14,7 +15,8 @@ use Rattle.broker_book.specs.Steps.{ended, ready_if, released}
 use Rattle.broker_index.specs.Index.{Kept, Subscriber, is_place_of, without}
 use Rattle.broker_index.specs.declared.places.Place.{Place}
 use Rattle.broker_queues.specs.Parts.Fates.{passes, turn_if}
-use Rattle.broker_queues.specs.Parts.Facts.{kept_at, subscriber_at, subscriptions_of, living_of, lists, holds_number, notes}
+use Rattle.broker_queues.specs.Parts.Facts.{kept_at, subscriber_at, subscriptions_of, living_of, lists, holds_number}
+use Rattle.broker_queues.specs.Parts.Facts.{notes}
 use Rattle.broker_queues.specs.Parts.Storing.{EndsOne, EndsSome, NoneGone, Releases, is_named_at, named_by}
 use Rattle.broker_queues.specs.Parts.Whole.{Holding, IsSound, book_of}
 use Rattle.broker_queues.proofs.Finding.{IsMapped, any_implies, find_none, find_passes, is_mapped}
@@ -32,7 +34,8 @@ filter_fixed p (x ∷ xs) all =
 -- ---- nothing is out, and none goes
 
 module _ (h : Holding) (is : IsSound h) (test : Fate → Bool) (mine : Subscription → Bool) (ready : test Ready ≡ false)
-    (theirs : (x : ℕ) (j : List ℕ) (a : ℕ) (s : Subscription) → test (Out x j a) ≡ true → is_named x j s ≡ true → mine s ≡ true)
+    (theirs : (x : ℕ) (j : List ℕ) (a : ℕ) (s : Subscription) → test (Out x j a) ≡ true → is_named x j s ≡ true
+    → mine s ≡ true)
     (nobody : (a : ℕ) (s : Subscriber) → subscriber_at a h.subscribers ≡ Some s → mine s.subscription ≡ false) where
   quiet : (n : ℕ) (k : Kept) → kept_at n h.kept ≡ Some k → passes test k.fate ≡ false
   quiet n k there = by_fate k.fate refl
@@ -70,16 +73,19 @@ module _ (h : Holding) (is : IsSound h) (test : Fate → Bool) (mine : Subscript
 -- ---- by name
 
 -- none has the name
-module _ (h : Holding) (is : IsSound h) (x : ℕ) (j : List ℕ) (none : find (is_named_at h.subscribers x j) (h.sessions x) ≡ None) where
+module _ (h : Holding) (is : IsSound h) (x : ℕ) (j : List ℕ) (none : find (is_named_at h.subscribers x j) (h.sessions x)
+    ≡ None) where
   unnamed : (a : ℕ) (s : Subscriber) → subscriber_at a h.subscribers ≡ Some s → is_named x j s.subscription ≡ false
   unnamed a s there = elim (cases_Bool (is_named x j s.subscription)) [
     | inr off ↦ off
     | inl on ↦
         let session : s.subscription.session ≡ x = (name_parts x j s.subscription on).0 in
-        let owned : lists a (h.sessions x) ≡ true = ap (λ y. lists a (h.sessions y)) (sym session) ∙ is.owned a s there in
+        let owned : lists a (h.sessions x) ≡ true =
+        ap (λ y. lists a (h.sessions y)) (sym session) ∙ is.owned a s there in
         let any : list_any (is_named_at h.subscribers x j) (h.sessions x) ≡ true =
         any_implies (is_place_of a) (is_named_at h.subscribers x j)
-        (λ p at. ap (λ b. named_by x j (subscriber_at b h.subscribers)) (eqb-true p.number a at) ∙ ap (named_by x j) there ∙ on)
+        (λ p at. ap (λ b. named_by x j (subscriber_at b h.subscribers)) (eqb-true p.number a at)
+        ∙ ap (named_by x j) there ∙ on)
         (h.sessions x) owned in
         let never : true ≡ false = sym any ∙ find_none (is_named_at h.subscribers x j) (h.sessions x) none in
         cc
@@ -106,10 +112,12 @@ record IsNamed (h : Holding) (x : ℕ) (j : List ℕ) (age : ℕ) : Type 0 where
   session : subscriber.subscription.session ≡ x
   id : subscriber.subscription.id ≡ j
 
-is_the_named : (h : Holding) (x : ℕ) (j : List ℕ) (p : Place) → is_named_at h.subscribers x j p ≡ true → IsNamed h x j p.number
+is_the_named : (h : Holding) (x : ℕ) (j : List ℕ) (p : Place) → is_named_at h.subscribers x j p ≡ true
+    → IsNamed h x j p.number
 is_the_named h x j p named = by_subscriber (subscriber_at p.number h.subscribers) refl named
   where
-    by_subscriber : (o : Option Subscriber) → subscriber_at p.number h.subscribers ≡ o → named_by x j o ≡ true → IsNamed h x j p.number
+    by_subscriber : (o : Option Subscriber) → subscriber_at p.number h.subscribers ≡ o → named_by x j o ≡ true
+        → IsNamed h x j p.number
     by_subscriber None at on = let never : false ≡ true = on in cc
     by_subscriber (Some s) at on =
         let name = name_parts x j s.subscription on in
@@ -144,7 +152,8 @@ module _ (h : Holding) (is : IsSound h) (x : ℕ) (none : length (h.sessions x) 
     | inr off ↦ off
     | inl on ↦
         let session : s.subscription.session ≡ x = eqb-true s.subscription.session x on in
-        let owned : lists a (h.sessions x) ≡ true = ap (λ y. lists a (h.sessions y)) (sym session) ∙ is.owned a s there in
+        let owned : lists a (h.sessions x) ≡ true =
+        ap (λ y. lists a (h.sessions y)) (sym session) ∙ is.owned a s there in
         let never : true ≡ false = sym owned ∙ no_places (h.sessions x) none a in
         cc
   ]
@@ -166,7 +175,8 @@ module _ (x : ℕ) (j : List ℕ) where
   ready_twice m = by_fate m.fate
     where
       by_fate : (f : Fate)
-          → ready_if (out_of x) (ready_if (out_to x j) (record m { fate = f })) ≡ ready_if (out_of x) (record m { fate = f })
+          → ready_if (out_of x) (ready_if (out_to x j) (record m { fate = f }))
+          ≡ ready_if (out_of x) (record m { fate = f })
       by_fate Ready = refl
       by_fate (Out y i a) = elim (cases_Bool (y == x)) [
         | inr off ↦ rw (off, off) refl
@@ -176,12 +186,14 @@ module _ (x : ℕ) (j : List ℕ) where
         ]
       ]
 
-  ready_all : (ms : List QueuedMessage) → map (ready_if (out_of x)) (map (ready_if (out_to x j)) ms) ≡ map (ready_if (out_of x)) ms
+  ready_all : (ms : List QueuedMessage)
+      → map (ready_if (out_of x)) (map (ready_if (out_to x j)) ms) ≡ map (ready_if (out_of x)) ms
   ready_all [] = refl
   ready_all (m ∷ ms) = rw (ready_twice m, ready_all ms) refl
 
   goes_twice : (ss : List Subscription)
-      → filter (λ s. not (s.session == x)) (filter (λ s. not (is_named x j s)) ss) ≡ filter (λ s. not (s.session == x)) ss
+      → filter (λ s. not (s.session == x)) (filter (λ s. not (is_named x j s)) ss)
+      ≡ filter (λ s. not (s.session == x)) ss
   goes_twice [] = refl
   goes_twice (s ∷ ss) = elim (cases_Bool (s.session == x)) [
     | inl on ↦ elim (cases_Bool (bytes_eq s.id j)) [
@@ -218,7 +230,8 @@ first_listed p (r ∷ ps) first =
     rw number refl
 
 -- the first goes
-pub ends_first : (h i : Holding) → IsSound h → (x : ℕ) (p : Place) → slice_get (h.sessions x) 0 ≡ Some p → EndsOne h p.number i
+pub ends_first : (h i : Holding) → IsSound h → (x : ℕ) (p : Place) → slice_get (h.sessions x) 0 ≡ Some p
+    → EndsOne h p.number i
     → EndsSome h x (length (h.sessions x) - 1) i
 ends_first h i is x p first ends =
     let was : IsMapped (λ (s : Subscriber). s.subscription.session) (subscriber_at p.number h.subscribers) x =
@@ -245,7 +258,8 @@ no_first [] none = omega arith
 no_first (p ∷ ps) none = let never : Some p ≡ None = none in cc
 
 -- one after others
-pub ends_more : (h i j : Holding) (x most fewer : ℕ) → EndsSome h x most i → EndsSome i x (length (i.sessions x) - 1) j → fewer + 1 ≡ most
+pub ends_more : (h i j : Holding) (x most fewer : ℕ) → EndsSome h x most i → EndsSome i x (length (i.sessions x) - 1) j
+    → fewer + 1 ≡ most
     → EndsSome h x fewer j
 ends_more h i j x most fewer p q one = record {
   sound = q.sound;
@@ -256,6 +270,7 @@ ends_more h i j x most fewer p q one = record {
 
 -- all went
 pub ends_all : (h i : Holding) (x most : ℕ) → EndsSome h x most i → most ≤ 0
-    → IsSound i × ((accepted : List Accepted) → book_of i accepted ≡ ended (book_of h accepted) x) × (NoneGone h.kept → NoneGone i.kept)
+    → IsSound i × ((accepted : List Accepted) → book_of i accepted ≡ ended (book_of h accepted) x)
+    × (NoneGone h.kept → NoneGone i.kept)
 ends_all h i x most p none =
     (p.sound, λ accepted. ended_none i p.sound x (omega (arith, p.left)) accepted ∙ p.book accepted, p.none_gone)

@@ -1,5 +1,6 @@
 -- A subscriber whose deliveries were taken back goes: the book releases the subscription.
-use Rattle.std.proofs.Common.{◌≡◌, ℕ, Bool, true, false, not, cond, List, [], ◌∷◌, map, Option, Some, None, refl, sym, ap, ◌∙◌, inl, inr}
+use Rattle.std.proofs.Common.{◌≡◌, ℕ, Bool, true, false, not, cond, List, [], ◌∷◌, map, Option, Some, None, refl, sym}
+use Rattle.std.proofs.Common.{ap, ◌∙◌, inl, inr}
 use Rattle.std.specs.Prelude.{◌==◌, filter}
 use Rattle.std.proofs.lemmas.Bool.{cases_Bool, cases_eq, eq-eqb, ne_eqb}
 use Rattle.broker_book.specs.declared.parts.Accepted.{Accepted}
@@ -16,7 +17,8 @@ use Rattle.broker_queues.proofs.Finding.{IsMapped, is_mapped, find_map}
 use Rattle.broker_queues.proofs.Rising.{filter_same}
 use Rattle.broker_queues.proofs.Subscribing.{named_from}
 
-filter_mapped : {A B : Type 0} (p : B → Bool) (g : A → B) (xs : List A) → filter p (map g xs) ≡ map g (filter (λ x. p (g x)) xs)
+filter_mapped : {A B : Type 0} (p : B → Bool) (g : A → B) (xs : List A)
+    → filter p (map g xs) ≡ map g (filter (λ x. p (g x)) xs)
 filter_mapped p g [] = refl
 filter_mapped p g (x ∷ xs) = both (p (g x)) (filter_mapped p g xs)
   where
@@ -27,7 +29,8 @@ filter_mapped p g (x ∷ xs) = both (p (g x)) (filter_mapped p g xs)
     both false rest = rest
 
 -- one that turned fails the test
-turned_fails : (to : Option Fate) (test : Fate → Bool) → passes test to ≡ false → (k : Kept) → passes test (turn_if to test k).fate ≡ false
+turned_fails : (to : Option Fate) (test : Fate → Bool) → passes test to ≡ false → (k : Kept)
+    → passes test (turn_if to test k).fate ≡ false
 turned_fails to test fails k = elim (cases_Bool (passes test k.fate)) [
   | inl on ↦
       let turned : turn_if to test k ≡ fated to k = rw on refl in
@@ -50,19 +53,22 @@ module _ (h : Holding) (is : IsSound h) (a : ℕ) (s : Subscriber) (sits : subsc
       sym (filter_mapped (λ u. not (is_named s.subscription.session s.subscription.id u)) (λ
       (u : Subscriber). u.subscription) h.subscribers
       ∙ ap (λ l. map (λ (u : Subscriber). u.subscription) l)
-      (filter_same (λ (u : Subscriber). u.age) (λ u. not (is_named s.subscription.session s.subscription.id u.subscription))
+      (filter_same (λ (u : Subscriber). u.age) (λ u. not (is_named s.subscription.session s.subscription.id
+      u.subscription))
       (λ u. not (u.age == a)) 0 h.subscribers is.ages each))
     where
       each : (u : Subscriber) → subscriber_at u.age h.subscribers ≡ Some u
           → not (is_named s.subscription.session s.subscription.id u.subscription) ≡ not (u.age == a)
       each u there = elim (cases_eq u.age a) [
         | inl same ↦
-            let here : subscriber_at a h.subscribers ≡ Some u = ap (λ b. subscriber_at b h.subscribers) (sym same) ∙ there in
+            let here : subscriber_at a h.subscribers ≡ Some u =
+            ap (λ b. subscriber_at b h.subscribers) (sym same) ∙ there in
             let both : Some s ≡ Some u = sym sits ∙ here in
             let e : s ≡ u = cc in
             let named : is_named s.subscription.session s.subscription.id u.subscription ≡ true =
             named_from s.subscription.session s.subscription.id u.subscription
-            (ap (λ (v : Subscriber). v.subscription.session) (sym e)) (ap (λ (v : Subscriber). v.subscription.id) (sym e)) in
+            (ap (λ (v : Subscriber). v.subscription.session) (sym e)) (ap (λ (v : Subscriber). v.subscription.id)
+            (sym e)) in
             let number : (u.age == a) ≡ true = eq-eqb u.age a same in
             ap not named ∙ ap not (sym number)
         | inr other ↦
@@ -81,7 +87,8 @@ module _ (h i : Holding) (is : IsSound h) (a : ℕ) (s : Subscriber) (sits : sub
   none_out n k there =
       let test : Fate → Bool = out_to s.subscription.session s.subscription.id in
       let all : i.kept ≡ map (turn_if (Some Ready) test) h.kept =
-      t.kept ∙ whole (Some Ready) test refl s.entries h.kept is.numbers (λ k there on. noted_by h is a s sits k.number k there on) in
+      t.kept ∙ whole (Some Ready) test refl s.entries h.kept is.numbers (λ k there on. noted_by h is a s sits k.number k
+      there on) in
       let e : kept_at n (map (turn_if (Some Ready) test) h.kept) ≡ Some k = ap (λ l. kept_at n l) (sym all) ∙ there in
       let same : (l : Kept) → has_number n (turn_if (Some Ready) test l) ≡ has_number n l =
       λ l. ap (λ m. m == n) (turned_number (Some Ready) test l) in
@@ -96,12 +103,14 @@ module _ (h i : Holding) (is : IsSound h) (a : ℕ) (s : Subscriber) (sits : sub
   pub released_book : (accepted : List Accepted) (j : Holding) → Leaves i a t.now j
       → book_of j accepted ≡ released (book_of h accepted) s.subscription.session s.subscription.id
   released_book accepted j p =
-      let living : living_of j.kept ≡ map (ready_if (out_to s.subscription.session s.subscription.id)) (living_of h.kept) =
+      let living : living_of j.kept ≡ map (ready_if (out_to s.subscription.session s.subscription.id))
+      (living_of h.kept) =
       ap living_of (p.kept ∙ t.kept) ∙ released_living h is a s sits in
       let subscriptions : subscriptions_of j.subscribers
       ≡ filter (λ u. not (is_named s.subscription.session s.subscription.id u)) (subscriptions_of h.subscribers) =
       ap subscriptions_of p.subscribers ∙ others i t.sound a t.now t.sits
-      ∙ ap (λ (u : Subscription). filter (λ v. not (is_named u.session u.id v)) (subscriptions_of i.subscribers)) t.subscription
+      ∙ ap (λ (u : Subscription). filter (λ v. not (is_named u.session u.id v)) (subscriptions_of i.subscribers))
+      t.subscription
       ∙ ap (λ l. filter (λ u. not (is_named s.subscription.session s.subscription.id u)) l) t.subscriptions in
       let last : j.last ≡ h.last = p.last ∙ t.last in
       let given : j.given ≡ h.given = p.given ∙ t.given in

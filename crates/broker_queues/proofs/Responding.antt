@@ -1,5 +1,6 @@
 -- An answer of a session: the book takes the step.
-use Rattle.std.proofs.Common.{◌≡◌, ℕ, Bool, true, false, List, [], ◌∷◌, map, Some, None, Ok, Err, refl, ap, ◌∙◌, inl, inr}
+use Rattle.std.proofs.Common.{◌≡◌, ℕ, Bool, true, false, List, [], ◌∷◌, map, Some, None, Ok, Err, refl, ap, ◌∙◌, inl}
+use Rattle.std.proofs.Common.{inr}
 use Rattle.std.specs.Prelude.{◌==◌, not, find, filter}
 use Rattle.std.specs.Option.{option_map}
 use Rattle.std.proofs.lemmas.Bool.{cases_Bool, eq-eqb}
@@ -32,34 +33,41 @@ found_lists test (q ∷ ps) p found = elim (cases_Bool (test q)) [
 
 -- the book's holder is the subscriber's
 pub holder_is : (h : Holding) (accepted : List Accepted) (x number : ℕ)
-    → holder (book_of h accepted) x number ≡ option_map (λ (s : Subscriber). s.subscription) (find (holds_out_in h x number) h.subscribers)
-holder_is h accepted x number = find_mapped (holds_out (book_of h accepted) x number) (λ s. s.subscription) h.subscribers
+    → holder (book_of h accepted) x number ≡ option_map (λ (s : Subscriber). s.subscription)
+    (find (holds_out_in h x number) h.subscribers)
+holder_is h accepted x number =
+    find_mapped (holds_out (book_of h accepted) x number) (λ s. s.subscription) h.subscribers
 
 -- none holds it
 pub refused : (h : Holding) (accepted : List Accepted) (x number : ℕ) (again : Bool) → IsSound h
-    → find (is_held_at h.kept h.subscribers number) (h.sessions x) ≡ None → step_of again (book_of h accepted) x number ≡ Err NoSuchAck
+    → find (is_held_at h.kept h.subscribers number) (h.sessions x) ≡ None
+    → step_of again (book_of h accepted) x number ≡ Err NoSuchAck
 refused h accepted x number again is none = by_step again
   where
     nobody : holder (book_of h accepted) x number ≡ None
-    nobody = holder_is h accepted x number ∙ ap (λ o. option_map (λ (s : Subscriber). s.subscription) o) (no_holder h is x number none)
+    nobody = holder_is h accepted x number
+        ∙ ap (λ o. option_map (λ (s : Subscriber). s.subscription) o) (no_holder h is x number none)
 
     by_step : (b : Bool) → step_of b (book_of h accepted) x number ≡ Err NoSuchAck
     by_step true = ap (nacked (book_of h accepted) number) nobody
     by_step false = ap (acked (book_of h accepted) number) nobody
 
 -- one holds it, and its deliveries were gone through
-module _ (h i : Holding) (accepted : List Accepted) (x number : ℕ) (is : IsSound h) (a : ℕ) (held : IsHolder h x number a) where
+module _ (h i : Holding) (accepted : List Accepted) (x number : ℕ) (is : IsSound h) (a : ℕ)
+    (held : IsHolder h x number a) where
   it : holder (book_of h accepted) x number ≡ Some held.subscriber.subscription
   it = holder_is h accepted x number ∙ ap (λ o. option_map (λ (s : Subscriber). s.subscription) o) held.first
 
   gone : Turns h a held.subscriber None (covered held.subscriber.subscription number) held.subscriber.entries i
       → step_of false (book_of h accepted) x number ≡ Ok (book_of i accepted)
   gone t =
-      let living : living_of i.kept ≡ filter (λ m. not (covered held.subscriber.subscription number m.fate)) (living_of h.kept) =
+      let living : living_of i.kept ≡ filter (λ m. not (covered held.subscriber.subscription number m.fate))
+      (living_of h.kept) =
       ap living_of t.kept ∙ acked_living h is a held.subscriber held.sits number in
       ap (acked (book_of h accepted) number) it ∙ rw (living, t.last, t.given, t.subscriptions) refl
 
-  again_ready : Turns h a held.subscriber (back true) (covered held.subscriber.subscription number) held.subscriber.entries i
+  again_ready : Turns h a held.subscriber (back true) (covered held.subscriber.subscription number)
+      held.subscriber.entries i
       → step_of true (book_of h accepted) x number ≡ Ok (book_of i accepted)
   again_ready t =
       let living : living_of i.kept ≡ map (ready_if (covered held.subscriber.subscription number)) (living_of h.kept) =
@@ -78,6 +86,7 @@ pub responded : (h i : Holding) (accepted : List Accepted) (x number : ℕ) (aga
 responded h i accepted x number again p is found turns =
     let held : IsHolder h x number p.number =
     the_holder h is x number p found (found_lists (is_held_at h.kept h.subscribers number) (h.sessions x) p found) in
-    let t : Turns h p.number held.subscriber (back again) (covered held.subscriber.subscription number) held.subscriber.entries i =
+    let t : Turns h p.number held.subscriber (back again) (covered held.subscriber.subscription number)
+    held.subscriber.entries i =
     turns held.subscriber is held.sits in
     (t.sound, stepped h i accepted x number is p.number held again t)

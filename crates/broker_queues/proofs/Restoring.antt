@@ -1,5 +1,6 @@
 -- A noted message is out again, or one that is ready is gone: the parts change as one message's change of fate wants.
-use Rattle.std.proofs.Common.{◌≡◌, ◌≤◌, ◌<◌, ℕ, ◌+◌, ◌-◌, Bool, true, false, cond, ◌&&◌, List, [], ◌∷◌, ◌++◌, map, length}
+use Rattle.std.proofs.Common.{◌≡◌, ◌≤◌, ◌<◌, ℕ, ◌+◌, ◌-◌, Bool, true, false, cond, ◌&&◌, List, [], ◌∷◌, ◌++◌, map}
+use Rattle.std.proofs.Common.{length}
 use Rattle.std.proofs.Common.{Option, Some, None, refl, sym, ap, ◌∙◌, arith, inl, inr}
 use Rattle.std.specs.Prelude.{◌==◌, count_by, is_some}
 use Rattle.std.specs.List.{sum_by, list_any}
@@ -16,7 +17,8 @@ use Rattle.broker_queues.specs.Parts.Begun.{CountsMore, IsBegun, IsHeldBy}
 use Rattle.broker_queues.specs.Parts.Fates.{passes, counts_for, recounted, weight, fated}
 use Rattle.broker_queues.specs.Parts.Held.{IsSame}
 use Rattle.broker_queues.specs.Parts.Queues.{CountsFewer}
-use Rattle.broker_queues.specs.Parts.Facts.{kept_at, subscriber_at, subscriptions_of, lists, notes, living_of, message_of, holds_number}
+use Rattle.broker_queues.specs.Parts.Facts.{kept_at, subscriber_at, subscriptions_of, lists, notes, living_of}
+use Rattle.broker_queues.specs.Parts.Facts.{message_of, holds_number}
 use Rattle.broker_queues.specs.Parts.Facts.{queue_of}
 use Rattle.broker_queues.specs.Parts.Storing.{is_gone}
 use Rattle.broker_queues.specs.Parts.Undoing.{before, is_out_fate, with_back}
@@ -37,7 +39,8 @@ pub counts_more : (old new : List ℕ → Option Queue) (name : List ℕ) (most 
     → ((queue_of old name).count < most → count ≡ (queue_of old name).count + 1)
     → Sets old new name (option_map (counting count) (old name)) → CountsMore None most old new name
 counts_more old new name most count more sets = record {
-  lowers = lowered (counting count) old new name (λ q. refl) (λ q. refl) (λ q is. omega arith) (λ q is. omega arith) sets;
+  lowers = lowered (counting count) old new name (λ q. refl) (λ q. refl) (λ q is. omega arith) (λ q is. omega arith)
+      sets;
   counts = λ can d. each (can refl) d;
 }
   where
@@ -48,7 +51,8 @@ counts_more old new name most count more sets = record {
           let is : name ≡ d = (bytes_eq-Decides name d).0 on in
           rw (on, ← is) (by_queue (old name) refl)
       | inr off ↦
-          let other : d ≡ name → ⊥ = λ is. (let never : true ≡ false = sym ((bytes_eq-Decides name d).1 (sym is)) ∙ off in cc) in
+          let other : d ≡ name → ⊥ =
+          λ is. (let never : true ≡ false = sym ((bytes_eq-Decides name d).1 (sym is)) ∙ off in cc) in
           rw (off, sets.others d other) (omega arith)
     ]
       where
@@ -69,12 +73,19 @@ weight_most : (test : QueuedMessage → Bool) (o : Option QueuedMessage) → wei
 weight_most test None = omega arith
 weight_most test (Some m) = elim (cases_Bool (test m)) [ inl on ↦ rw on (omega arith) | inr off ↦ rw off (omega arith) ]
 
-sum_most : (test : QueuedMessage → Bool) (kept : List Kept) → sum_by (λ k. weight test (message_of k)) kept ≤ length kept
+sum_most : (test : QueuedMessage → Bool) (kept : List Kept)
+    → sum_by (λ k. weight test (message_of k)) kept ≤ length kept
 sum_most test [] = omega arith
 sum_most test (k ∷ kept) =
-    omega (arith, sum_by-cons (λ k. weight test (message_of k)) k kept, weight_most test (message_of k), sum_most test kept)
+    omega (
+      arith,
+      sum_by-cons (λ k. weight test (message_of k)) k kept,
+      weight_most test (message_of k),
+      sum_most test kept,
+    )
 
-sum_below : (test : QueuedMessage → Bool) (n : ℕ) (kept : List Kept) (k : Kept) → kept_at n kept ≡ Some k → weight test (message_of k) ≡ 0
+sum_below : (test : QueuedMessage → Bool) (n : ℕ) (kept : List Kept) (k : Kept) → kept_at n kept ≡ Some k
+    → weight test (message_of k) ≡ 0
     → sum_by (λ k. weight test (message_of k)) kept < length kept
 sum_below test n [] k found zero = let never : None ≡ Some k = found in cc
 sum_below test n (x ∷ kept) k found zero = elim (cases_Bool (x.number == n)) [
@@ -84,7 +95,8 @@ sum_below test n (x ∷ kept) k found zero = elim (cases_Bool (x.number == n)) [
       let none : weight test (message_of x) ≡ 0 = rw e zero in
       omega (arith, sum_by-cons (λ k. weight test (message_of k)) x kept, none, sum_most test kept)
   | inr off ↦
-      let rest : sum_by (λ k. weight test (message_of k)) kept < length kept = sum_below test n kept k (rw off at found) zero in
+      let rest : sum_by (λ k. weight test (message_of k)) kept < length kept =
+      sum_below test n kept k (rw off at found) zero in
       omega (arith, sum_by-cons (λ k. weight test (message_of k)) x kept, weight_most test (message_of x), rest)
 ]
 
@@ -105,7 +117,8 @@ weight_quiet : (n : ℕ) (k : Kept) → passes is_out_fate k.fate ≡ false → 
     → weight (λ m. out_to x i m.fate) (message_of k) ≡ 0
 weight_quiet n k off x i = by_fate k.fate off
   where
-    by_fate : (f : Option Fate) → passes is_out_fate f ≡ false → weight (λ m. out_to x i m.fate) (message_of (fated f k)) ≡ 0
+    by_fate : (f : Option Fate) → passes is_out_fate f ≡ false
+        → weight (λ m. out_to x i m.fate) (message_of (fated f k)) ≡ 0
     by_fate None off = refl
     by_fate (Some Ready) off = refl
     by_fate (Some (Out y j a)) off = let never : true ≡ false = off in cc
@@ -116,13 +129,15 @@ weight_again : (k : Kept) (to : Fate) (d : List ℕ)
     ≡ weight (is_for d) (message_of (fated (Some to) k))
 weight_again k to d = by_fate k.fate
   where
-    by_fate : (f : Option Fate) → weight (is_for d) (message_of (fated f k)) + cond (is_gone f && bytes_eq k.sent.destination d) 1 0
+    by_fate : (f : Option Fate) → weight (is_for d) (message_of (fated f k))
+        + cond (is_gone f && bytes_eq k.sent.destination d) 1 0
         ≡ weight (is_for d) (message_of (fated (Some to) k))
     by_fate None = omega arith
     by_fate (Some f) = omega arith
 
 -- where something is listed, there is a queue
-pub listed_somewhere : (queues : List ℕ → Option Queue) (name : List ℕ) (n : ℕ) → lists n (queue_of queues name).numbers ≡ true
+pub listed_somewhere : (queues : List ℕ → Option Queue) (name : List ℕ) (n : ℕ)
+    → lists n (queue_of queues name).numbers ≡ true
     → is_some (queues name) ≡ true
 listed_somewhere queues name n listed = by_queue (queues name) listed
   where
@@ -153,9 +168,11 @@ module _ (h i : Holding) (e : Logged) (k : Kept) (is : IsSound h) (found : kept_
   out_again : passes (out_to m.holder.subscription.session m.holder.subscription.id) (fate_of e.standing) ≡ true
   out_again = out_passes m.holder.subscription.session m.holder.subscription.id m.ack (fate_of e.standing) m.fate
 
-  recount_more : map (with_count e.age (m.holder.count + 1)) h.subscribers ≡ map (recounted k.fate (fate_of e.standing)) h.subscribers
+  recount_more : map (with_count e.age (m.holder.count + 1)) h.subscribers
+      ≡ map (recounted k.fate (fate_of e.standing)) h.subscribers
   recount_more =
-      map_same (λ s. s.age) (with_count e.age (m.holder.count + 1)) (recounted k.fate (fate_of e.standing)) 0 h.subscribers is.ages each
+      map_same (λ s. s.age) (with_count e.age (m.holder.count + 1)) (recounted k.fate (fate_of e.standing)) 0
+      h.subscribers is.ages each
     where
       before_none : (t : Subscriber) → counts_for t k.fate ≡ 0
       before_none t = rw (quiet k.fate off t.subscription.session t.subscription.id) refl
@@ -164,7 +181,8 @@ module _ (h i : Holding) (e : Logged) (k : Kept) (is : IsSound h) (found : kept_
           → with_count e.age (m.holder.count + 1) t ≡ recounted k.fate (fate_of e.standing) t
       each t there = elim (cases_eq t.age e.age) [
         | inl same ↦
-            let here : subscriber_at e.age h.subscribers ≡ Some t = ap (λ b. subscriber_at b h.subscribers) (sym same) ∙ there in
+            let here : subscriber_at e.age h.subscribers ≡ Some t =
+            ap (λ b. subscriber_at b h.subscribers) (sym same) ∙ there in
             let both : Some t ≡ Some m.holder = sym here ∙ m.there in
             let it : t ≡ m.holder = cc in
             let on : passes (out_to t.subscription.session t.subscription.id) (fate_of e.standing) ≡ true =
@@ -173,13 +191,15 @@ module _ (h i : Holding) (e : Logged) (k : Kept) (is : IsSound h) (found : kept_
             let number : (t.age == e.age) ≡ true = eq-eqb t.age e.age same in
             let count : m.holder.count + 1 ≡ (t.count + counts_for t (fate_of e.standing)) - counts_for t k.fate =
             let c : m.holder.count ≡ t.count = ap (λ u. u.count) (sym it) in omega (arith, before_none t, one, c) in
-            let changes : with_count e.age (m.holder.count + 1) t ≡ record t { count = m.holder.count + 1 } = rw number refl in
+            let changes : with_count e.age (m.holder.count + 1) t ≡ record t { count = m.holder.count + 1 } =
+            rw number refl in
             changes ∙ ap (λ n. record t { count = n }) count
         | inr other ↦
             let number : (t.age == e.age) ≡ false = ne_eqb t.age e.age other in
             let stays : with_count e.age (m.holder.count + 1) t ≡ t = rw number refl in
             elim (cases_Bool (passes (out_to t.subscription.session t.subscription.id) (fate_of e.standing))) [
-              | inl on ↦ absurd (other (only_one h is (fate_of e.standing) t.age e.age t m.holder there m.there on out_again))
+              | inl on ↦ absurd (other (only_one h is (fate_of e.standing) t.age e.age t m.holder there m.there on
+                  out_again))
               | inr none ↦
                   let zero_for : counts_for t (fate_of e.standing) ≡ 0 = rw none refl in
                   let count : t.count ≡ (t.count + counts_for t (fate_of e.standing)) - counts_for t k.fate =
@@ -193,7 +213,8 @@ module _ (h i : Holding) (e : Logged) (k : Kept) (is : IsSound h) (found : kept_
       → (is_some (h.queues k.sent.destination) ≡ true) × ((queue_of h.queues k.sent.destination).count < length h.kept)
   can_count gone = (
     listed_somewhere h.queues k.sent.destination e.number (is.placed e.number k found),
-    rw (is.counted k.sent.destination) (count_below (is_for k.sent.destination) e.number h.kept k found (weighs k.fate gone)),
+    rw (is.counted k.sent.destination) (count_below (is_for k.sent.destination) e.number h.kept k found
+        (weighs k.fate gone)),
   )
     where
       weighs : (f : Option Fate) → is_gone f ≡ true → weight (is_for k.sent.destination) (message_of (fated f k)) ≡ 0
@@ -206,7 +227,8 @@ module _ (h i : Holding) (e : Logged) (k : Kept) (is : IsSound h) (found : kept_
       (count_below (λ l. out_to m.holder.subscription.session m.holder.subscription.id l.fate) e.number h.kept k found
       (weight_quiet e.number k off m.holder.subscription.session m.holder.subscription.id))
 
-  recounts : (q : List ℕ → Option Queue) → CountsMore k.fate (length h.kept) h.queues q k.sent.destination → (d : List ℕ)
+  recounts : (q : List ℕ → Option Queue) → CountsMore k.fate (length h.kept) h.queues q k.sent.destination
+      → (d : List ℕ)
       → (queue_of q d).count + weight (is_for d) (message_of k)
       ≡ (queue_of h.queues d).count + weight (is_for d) (message_of (fated (fate_of e.standing) k))
   recounts q counts d =
@@ -219,8 +241,10 @@ module _ (h i : Holding) (e : Logged) (k : Kept) (is : IsSound h) (found : kept_
   never_quiet : (s : Subscriber) → passes (out_to s.subscription.session s.subscription.id) k.fate ≡ true → ⊥
   never_quiet s on = let never : true ≡ false = sym on ∙ quiet k.fate off s.subscription.session s.subscription.id in cc
 
-  pub out_changes : (count : ℕ) → CountsMore k.fate (length h.kept) h.queues i.queues k.sent.destination → count ≡ m.holder.count + 1
-      → i.kept ≡ map (with_fate e.number (fate_of e.standing)) h.kept → i.subscribers ≡ map (with_count e.age count) h.subscribers
+  pub out_changes : (count : ℕ) → CountsMore k.fate (length h.kept) h.queues i.queues k.sent.destination
+      → count ≡ m.holder.count + 1
+      → i.kept ≡ map (with_fate e.number (fate_of e.standing)) h.kept
+      → i.subscribers ≡ map (with_count e.age count) h.subscribers
       → i.sessions ≡ h.sessions → i.awake ≡ h.awake → i.last ≡ h.last → i.given ≡ h.given
       → Changes h e.number k (fate_of e.standing) i
   out_changes count counts more kept subscribers sessions awake last given = record {
@@ -232,9 +256,11 @@ module _ (h i : Holding) (e : Logged) (k : Kept) (is : IsSound h) (found : kept_
     wakes = λ d on. ap (λ (w : List ℕ → Bool). w d) awake ∙ on;
     last = last;
     given = omega (arith, given);
-    ready_from = λ ready. let never : Some (Out m.holder.subscription.session m.holder.subscription.id m.ack) ≡ Some Ready =
+    ready_from =
+        λ ready. let never : Some (Out m.holder.subscription.session m.holder.subscription.id m.ack) ≡ Some Ready =
         sym m.fate ∙ ready in cc;
-    ready_awake = λ ready. let never : Some (Out m.holder.subscription.session m.holder.subscription.id m.ack) ≡ Some Ready =
+    ready_awake =
+        λ ready. let never : Some (Out m.holder.subscription.session m.holder.subscription.id m.ack) ≡ Some Ready =
         sym m.fate ∙ ready in cc;
     free_from = λ a s there on. absurd (never_quiet s on);
     free_awake = λ a s there on. absurd (never_quiet s on);
@@ -253,7 +279,8 @@ module _ (h i : Holding) (e : Logged) (k : Kept) (is : IsSound h) (found : kept_
 
 -- ---- the notes that are left
 
-module _ (start h : Holding) (log : List Logged) (e : Logged) (b : IsBegun start (log ++ e ∷ []) h) (last : h.last ≡ start.last) where
+module _ (start h : Holding) (log : List Logged) (e : Logged) (b : IsBegun start (log ++ e ∷ []) h)
+    (last : h.last ≡ start.last) where
   pub its_holder : IsHeldBy (subscriber_at e.age h.subscribers) e
   its_holder = held_last h.subscribers log e b.held
 
@@ -262,7 +289,8 @@ module _ (start h : Holding) (log : List Logged) (e : Logged) (b : IsBegun start
   back_first stays = ap (before start.last log) (sym stays) ∙ sym (before_step start.last log e h.kept) ∙ b.kept
 
   -- nothing is put back
-  left_begun : map (with_back e.number (fate_of e.standing)) h.kept ≡ h.kept → IsBegun start log h × (h.last ≡ start.last)
+  left_begun : map (with_back e.number (fate_of e.standing)) h.kept ≡ h.kept → IsBegun start log h
+      × (h.last ≡ start.last)
   left_begun stays = (
     record {
       sound = b.sound;
@@ -280,7 +308,8 @@ module _ (start h : Holding) (log : List Logged) (e : Logged) (b : IsBegun start
   -- there is no such message
   pub back_none : kept_at e.number h.kept ≡ None → IsBegun start log h × (h.last ≡ start.last)
   back_none none =
-      left_begun (map_same (λ k. k.number) (with_back e.number (fate_of e.standing)) (λ k. k) 0 h.kept b.sound.numbers each
+      left_begun (map_same (λ k. k.number) (with_back e.number (fate_of e.standing)) (λ k. k) 0 h.kept b.sound.numbers
+      each
       ∙ map_id h.kept)
     where
       each : (k : Kept) → kept_at k.number h.kept ≡ Some k → with_back e.number (fate_of e.standing) k ≡ k
@@ -293,7 +322,8 @@ module _ (start h : Holding) (log : List Logged) (e : Logged) (b : IsBegun start
   pub back_stays : (k : Kept) → kept_at e.number h.kept ≡ Some k → passes is_out_fate k.fate ≡ true
       → IsBegun start log h × (h.last ≡ start.last)
   back_stays k found on =
-      left_begun (map_same (λ k. k.number) (with_back e.number (fate_of e.standing)) (λ k. k) 0 h.kept b.sound.numbers each
+      left_begun (map_same (λ k. k.number) (with_back e.number (fate_of e.standing)) (λ k. k) 0 h.kept b.sound.numbers
+      each
       ∙ map_id h.kept)
     where
       each : (l : Kept) → kept_at l.number h.kept ≡ Some l → with_back e.number (fate_of e.standing) l ≡ l
@@ -311,7 +341,8 @@ module _ (start h : Holding) (log : List Logged) (e : Logged) (b : IsBegun start
   back_again i k found off c given = (
     record {
       sound = sound;
-      kept = ap (before start.last log) (c.kept ∙ sym (map_same (λ k. k.number) (with_back e.number (fate_of e.standing))
+      kept = ap (before start.last log) (c.kept
+          ∙ sym (map_same (λ k. k.number) (with_back e.number (fate_of e.standing))
           (with_fate e.number (fate_of e.standing)) 0 h.kept b.sound.numbers each))
           ∙ sym (before_step start.last log e h.kept) ∙ b.kept;
       subscriptions = ap subscriptions_of c.subscribers
@@ -381,24 +412,29 @@ gone_changes h i n k name is found ready there fewer kept subscribers sessions a
     weighs : (d : List ℕ) → weight (is_for d) (message_of k) ≡ cond (bytes_eq k.sent.destination d) 1 0
     weighs d = ap (λ f. weight (is_for d) (message_of (fated f k))) ready
 
-    fewer_at : (d : List ℕ) → (queue_of i.queues d).count ≡ (queue_of h.queues d).count - cond (bytes_eq k.sent.destination d) 1 0
+    fewer_at : (d : List ℕ) → (queue_of i.queues d).count ≡ (queue_of h.queues d).count - cond
+        (bytes_eq k.sent.destination d) 1 0
     fewer_at d = fewer.counts d ∙ ap (λ l. (queue_of h.queues d).count - cond (bytes_eq l d) 1 0) there
 
     counts : (d : List ℕ) → (queue_of i.queues d).count + weight (is_for d) (message_of k)
         ≡ (queue_of h.queues d).count + weight (is_for d) (message_of (fated None k))
-    counts d = omega (arith, fewer_at d, is.counted d, count_change (is_for d) n None h.kept k is.numbers found, weighs d)
+    counts d =
+        omega (arith, fewer_at d, is.counted d, count_change (is_for d) n None h.kept k is.numbers found, weighs d)
 
 -- ---- by what each step of the code says
 
-pub restored : (start h i : Holding) (log : List Logged) (e : Logged) (k : Kept) (s : Subscriber) (was : Option Fate) (name : List ℕ)
+pub restored : (start h i : Holding) (log : List Logged) (e : Logged) (k : Kept) (s : Subscriber) (was : Option Fate)
+    (name : List ℕ)
     (most count : ℕ) → IsBegun start (log ++ e ∷ []) h → h.last ≡ start.last → Some k ≡ kept_at e.number h.kept
     → passes is_out_fate k.fate ≡ false → Some s ≡ subscriber_at e.age h.subscribers
     → was ≡ k.fate → name ≡ k.sent.destination → most ≡ length h.kept
     → CountsMore was most h.queues i.queues name → (s.count < most → count ≡ s.count + 1)
-    → i.kept ≡ map (with_fate e.number (fate_of e.standing)) h.kept → i.subscribers ≡ map (with_count e.age count) h.subscribers
+    → i.kept ≡ map (with_fate e.number (fate_of e.standing)) h.kept
+    → i.subscribers ≡ map (with_count e.age count) h.subscribers
     → i.sessions ≡ h.sessions → i.awake ≡ h.awake → i.last ≡ h.last → i.given ≡ h.given
     → IsBegun start log i × (i.last ≡ start.last)
-restored start h i log e k s was name most count b last found off sits e1 e2 e3 counts more kept subscribers sessions awake lasts given =
+restored start h i log e k s was name most count b last found off sits e1 e2 e3 counts more kept subscribers sessions
+    awake lasts given =
     let found2 : kept_at e.number h.kept ≡ Some k = sym found in
     let m : IsHeldBy (subscriber_at e.age h.subscribers) e = its_holder start h log e b last in
     let both : Some s ≡ Some m.holder = sits ∙ m.there in
@@ -411,7 +447,8 @@ restored start h i log e k s was name most count b last found off sits e1 e2 e3 
     (out_changes h i e k b.sound found2 off m count counts2 one kept subscribers sessions awake lasts given) given
 
 -- nothing of a noted message's subscriber can be missing
-pub no_holder : (start h : Holding) (log : List Logged) (e : Logged) → IsBegun start (log ++ e ∷ []) h → h.last ≡ start.last
+pub no_holder : (start h : Holding) (log : List Logged) (e : Logged) → IsBegun start (log ++ e ∷ []) h
+    → h.last ≡ start.last
     → None ≡ subscriber_at e.age h.subscribers → ⊥
 no_holder start h log e b last none =
     let m : IsHeldBy (subscriber_at e.age h.subscribers) e = its_holder start h log e b last in

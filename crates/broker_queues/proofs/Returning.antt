@@ -25,20 +25,24 @@ Lowers-trans a b c p q = record {
 }
 
 -- the message of a subscriber is out to no other
-pub only_one : (h : Holding) → IsSound h → (f : Option Fate) (a b : ℕ) (s t : Subscriber) → subscriber_at a h.subscribers ≡ Some s
+pub only_one : (h : Holding) → IsSound h → (f : Option Fate) (a b : ℕ) (s t : Subscriber)
+    → subscriber_at a h.subscribers ≡ Some s
     → subscriber_at b h.subscribers ≡ Some t → passes (out_to s.subscription.session s.subscription.id) f ≡ true
     → passes (out_to t.subscription.session t.subscription.id) f ≡ true → a ≡ b
 only_one h is f a b s t sits there on also =
     let one : IsOut s.subscription.session s.subscription.id f = is_out s.subscription.session s.subscription.id f on in
-    let two : IsOut t.subscription.session t.subscription.id f = is_out t.subscription.session t.subscription.id f also in
-    let same : Some (Out s.subscription.session s.subscription.id one.ack) ≡ Some (Out t.subscription.session t.subscription.id two.ack) =
+    let two : IsOut t.subscription.session t.subscription.id f =
+    is_out t.subscription.session t.subscription.id f also in
+    let same : Some (Out s.subscription.session s.subscription.id one.ack)
+    ≡ Some (Out t.subscription.session t.subscription.id two.ack) =
     sym one.out ∙ two.out in
     let session : t.subscription.session ≡ s.subscription.session = cc in
     let id : t.subscription.id ≡ s.subscription.id = cc in
     is.apart a b s t sits there (named_from s.subscription.session s.subscription.id t.subscription session id)
 
 -- its count alone changes
-recount_one : (h : Holding) → IsSound h → (f to : Option Fate) (a : ℕ) (s : Subscriber) → subscriber_at a h.subscribers ≡ Some s
+recount_one : (h : Holding) → IsSound h → (f to : Option Fate) (a : ℕ) (s : Subscriber)
+    → subscriber_at a h.subscribers ≡ Some s
     → passes (out_to s.subscription.session s.subscription.id) f ≡ true
     → ((x : ℕ) (i : List ℕ) → passes (out_to x i) to ≡ false)
     → map (with_count a (s.count - 1)) h.subscribers ≡ map (recounted f to) h.subscribers
@@ -51,13 +55,16 @@ recount_one h is f to a s sits on off =
     one : (t : Subscriber) → passes (out_to t.subscription.session t.subscription.id) f ≡ true → counts_for t f ≡ 1
     one t out = rw out refl
 
-    zero_for : (t : Subscriber) → passes (out_to t.subscription.session t.subscription.id) f ≡ false → counts_for t f ≡ 0
+    zero_for : (t : Subscriber) → passes (out_to t.subscription.session t.subscription.id) f ≡ false
+        → counts_for t f ≡ 0
     zero_for t out = rw out refl
 
-    each : (t : Subscriber) → subscriber_at t.age h.subscribers ≡ Some t → with_count a (s.count - 1) t ≡ recounted f to t
+    each : (t : Subscriber) → subscriber_at t.age h.subscribers ≡ Some t
+        → with_count a (s.count - 1) t ≡ recounted f to t
     each t there = elim (cases_eq t.age a) [
       | inl same ↦
-          let here : subscriber_at a h.subscribers ≡ Some t = ap (λ b. subscriber_at b h.subscribers) (sym same) ∙ there in
+          let here : subscriber_at a h.subscribers ≡ Some t =
+          ap (λ b. subscriber_at b h.subscribers) (sym same) ∙ there in
           let both : Some t ≡ Some s = sym here ∙ sits in
           let e : t ≡ s = cc in
           let on2 : passes (out_to t.subscription.session t.subscription.id) f ≡ true =
@@ -73,7 +80,8 @@ recount_one h is f to a s sits on off =
           elim (cases_Bool (passes (out_to t.subscription.session t.subscription.id) f)) [
             | inl out ↦ absurd (other (only_one h is f t.age a t s there sits out on))
             | inr quiet ↦
-                let count : t.count ≡ (t.count + counts_for t to) - counts_for t f = omega (arith, none t, zero_for t quiet) in
+                let count : t.count ≡ (t.count + counts_for t to) - counts_for t f =
+                omega (arith, none t, zero_for t quiet) in
                 stays ∙ ap (λ n. record t { count = n }) count
           ]
     ]
@@ -84,19 +92,22 @@ never_out true x i = refl
 never_out false x i = refl
 
 weight_back : (again : Bool) (k : Kept) (d x : ℕ) (i : List ℕ) (a : ℕ) (name : List ℕ) → k.fate ≡ Some (Out x i a)
-    → weight (is_for name) (message_of (fated (back again) k)) + cond again 0 (cond (bytes_eq k.sent.destination name) 1 0)
+    → weight (is_for name) (message_of (fated (back again) k)) + cond again 0
+    (cond (bytes_eq k.sent.destination name) 1 0)
     ≡ weight (is_for name) (message_of k)
 weight_back true k d x i a name out = rw out (omega arith)
 weight_back false k d x i a name out = rw out (omega arith)
 
-module _ (h : Holding) (n age : ℕ) (again : Bool) (k : Kept) (s : Subscriber) (q r : List ℕ → Option Queue) (v w : List ℕ → Bool)
+module _ (h : Holding) (n age : ℕ) (again : Bool) (k : Kept) (s : Subscriber) (q r : List ℕ → Option Queue)
+    (v w : List ℕ → Bool)
     (is : IsSound h) (found : kept_at n h.kept ≡ Some k) (sits : subscriber_at age h.subscribers ≡ Some s)
     (on : passes (out_to s.subscription.session s.subscription.id) k.fate ≡ true)
     (m : Marks again k.sent.destination n h.queues q h.awake v) (f : Frees s.subscription.destination age q r v w) where
   recounts : (d : List ℕ) → (queue_of r d).count + weight (is_for d) (message_of k)
       ≡ (queue_of h.queues d).count + weight (is_for d) (message_of (fated (back again) k))
   recounts d =
-      let out : IsOut s.subscription.session s.subscription.id k.fate = is_out s.subscription.session s.subscription.id k.fate on in
+      let out : IsOut s.subscription.session s.subscription.id k.fate =
+      is_out s.subscription.session s.subscription.id k.fate on in
       omega (
         arith,
         f.counts d,
@@ -110,7 +121,8 @@ module _ (h : Holding) (n age : ℕ) (again : Bool) (k : Kept) (s : Subscriber) 
   was_again true ready = refl
   was_again false ready = let never : None ≡ Some Ready = ready in cc
 
-  isnt_out : (b : Bool) (x : ℕ) (i : List ℕ) (a : ℕ) → back b ≡ Some (Out x i a) → list_any (holds_number x i n) h.subscribers ≡ true
+  isnt_out : (b : Bool) (x : ℕ) (i : List ℕ) (a : ℕ) → back b ≡ Some (Out x i a)
+      → list_any (holds_number x i n) h.subscribers ≡ true
   isnt_out true x i a out = let never : Some Ready ≡ Some (Out x i a) = out in cc
   isnt_out false x i a out = let never : None ≡ Some (Out x i a) = out in cc
 
@@ -146,14 +158,17 @@ module _ (h : Holding) (n age : ℕ) (again : Bool) (k : Kept) (s : Subscriber) 
   }
 
 -- the same, by what each step says
-pub taken_back_in : (h i : Holding) (n age count : ℕ) (again : Bool) (fate : Option Fate) (k : Kept) (s : Subscriber) (name there : List ℕ)
-    (q : List ℕ → Option Queue) (v : List ℕ → Bool) → IsSound h → kept_at n h.kept ≡ Some k → subscriber_at age h.subscribers ≡ Some s
+pub taken_back_in : (h i : Holding) (n age count : ℕ) (again : Bool) (fate : Option Fate) (k : Kept) (s : Subscriber)
+    (name there : List ℕ)
+    (q : List ℕ → Option Queue) (v : List ℕ → Bool) → IsSound h → kept_at n h.kept ≡ Some k
+    → subscriber_at age h.subscribers ≡ Some s
     → passes (out_to s.subscription.session s.subscription.id) k.fate ≡ true
     → name ≡ k.sent.destination → there ≡ s.subscription.destination → count ≡ s.count - 1 → fate ≡ back again
     → Marks again name n h.queues q h.awake v → Frees there age q i.queues v i.awake
     → i.kept ≡ map (with_fate n fate) h.kept → i.subscribers ≡ map (with_count age count) h.subscribers
     → i.sessions ≡ h.sessions → i.last ≡ h.last → i.given ≡ h.given → Changes h n k (back again) i
-taken_back_in h i n age count again fate k s name there q v is found sits on e1 e2 e3 e4 m f kept subscribers sessions last given =
+taken_back_in h i n age count again fate k s name there q v is found sits on e1 e2 e3 e4 m f kept subscribers sessions
+    last given =
     let m2 : Marks again k.sent.destination n h.queues q h.awake v = rw e1 at m in
     let f2 : Frees s.subscription.destination age q i.queues v i.awake = rw e2 at f in
     let t = taken_back h n age again k s q i.queues v i.awake is found sits on m2 f2 in
@@ -175,15 +190,18 @@ taken_back_in h i n age count again fate k s name there q v is found sits on e1 
 
 -- ---- names of what is awake
 
-pub noted_name : (all : Bool) (names : List (List ℕ)) (copy name : List ℕ) → copy ≡ name → awake_in all (names ++ copy ∷ []) name ≡ true
+pub noted_name : (all : Bool) (names : List (List ℕ)) (copy name : List ℕ) → copy ≡ name
+    → awake_in all (names ++ copy ∷ []) name ≡ true
 noted_name true names copy name same = refl
 noted_name false names copy name same =
-    list_any-append (λ n. bytes_eq n name) names (copy ∷ []) ∙ rw (same, itself name) (last (list_any (λ n. bytes_eq n name) names))
+    list_any-append (λ n. bytes_eq n name) names (copy ∷ [])
+    ∙ rw (same, itself name) (last (list_any (λ n. bytes_eq n name) names))
   where
     last : (b : Bool) → (b || (true || false)) ≡ true
     last true = refl
     last false = refl
 
-pub noted_wakes : (all : Bool) (names : List (List ℕ)) (copy : List ℕ) → Wakes (awake_in all names) (awake_in all (names ++ copy ∷ []))
+pub noted_wakes : (all : Bool) (names : List (List ℕ)) (copy : List ℕ)
+    → Wakes (awake_in all names) (awake_in all (names ++ copy ∷ []))
 noted_wakes true names copy d on = refl
 noted_wakes false names copy d on = list_any-append (λ n. bytes_eq n d) names (copy ∷ []) ∙ rw on refl

@@ -37,7 +37,8 @@ module _ {X : Type 0} (number : X → ℕ) where
   at_number n [] y found = let no : None ≡ Some y = found in cc
   at_number n (x ∷ xs) y found =
       elim (cases_Bool (number x == n)) [
-        | inl on ↦ let same : Some x ≡ Some y = rw on at found in let e : x ≡ y = cc in ap number (sym e) ∙ eqb-true (number x) n on
+        | inl on ↦ let same : Some x ≡ Some y =
+            rw on at found in let e : x ≡ y = cc in ap number (sym e) ∙ eqb-true (number x) n on
         | inr off ↦ at_number n xs y (rw off at found)
       ]
 
@@ -81,11 +82,13 @@ module _ {X : Type 0} (number : X → ℕ) where
   at_edit n change keeps [] y found = let no : None ≡ Some y = found in cc
   at_edit n change keeps (x ∷ xs) y found =
       elim (cases_Bool (number x == n)) [
-        | inl on ↦ let same : Some x ≡ Some y = rw on at found in rw (on, keeps x, on) (ap (λ o. option_map change o) same)
+        | inl on ↦ let same : Some x ≡ Some y =
+            rw on at found in rw (on, keeps x, on) (ap (λ o. option_map change o) same)
         | inr off ↦ rw (off, off) (at_edit n change keeps xs y (rw off at found))
       ]
 
-  pub at_edit_other : (n m : ℕ) (change : X → X) → Keeps change → (m ≡ n → ⊥) → (xs : List X) → at m (map (edit n change) xs) ≡ at m xs
+  pub at_edit_other : (n m : ℕ) (change : X → X) → Keeps change → (m ≡ n → ⊥) → (xs : List X)
+      → at m (map (edit n change) xs) ≡ at m xs
   at_edit_other n m change keeps other [] = refl
   at_edit_other n m change keeps other (x ∷ xs) =
       let rest = at_edit_other n m change keeps other xs in
@@ -101,9 +104,11 @@ module _ {X : Type 0} (number : X → ℕ) where
       → rise number low (map (edit n change) xs) ≡ rise number low xs
   rise_edit n change keeps low [] = refl
   rise_edit n change keeps low (x ∷ xs) =
-      rw (number_edit n change keeps x) (ap (λ r. nat_le low (number x) && r) (rise_edit n change keeps (number x + 1) xs))
+      rw (number_edit n change keeps x) (ap (λ r. nat_le low (number x) && r)
+      (rise_edit n change keeps (number x + 1) xs))
 
-  pub sum_edit : (w : X → ℕ) (n : ℕ) (change : X → X) (low : ℕ) (xs : List X) (y : X) → rise number low xs ≡ true → at n xs ≡ Some y
+  pub sum_edit : (w : X → ℕ) (n : ℕ) (change : X → X) (low : ℕ) (xs : List X) (y : X) → rise number low xs ≡ true
+      → at n xs ≡ Some y
       → sum_by w (map (edit n change) xs) + w y ≡ sum_by w xs + w (change y)
   sum_edit w n change low [] y rises found = let no : None ≡ Some y = found in cc
   sum_edit w n change low (x ∷ xs) y rises found =
@@ -151,7 +156,8 @@ module _ {X : Type 0} (number : X → ℕ) where
         | inr off ↦ rw off (ap (λ r. cond (number x == m) (Some x) r) rest)
       ]
 
-  pub rise_filter : (p : X → Bool) (low : ℕ) (xs : List X) → rise number low xs ≡ true → rise number low (filter p xs) ≡ true
+  pub rise_filter : (p : X → Bool) (low : ℕ) (xs : List X) → rise number low xs ≡ true
+      → rise number low (filter p xs) ≡ true
   rise_filter p low [] rises = refl
   rise_filter p low (x ∷ xs) rises =
       let parts = and_parts (nat_le low (number x)) (rise number (number x + 1) xs) rises in
@@ -185,14 +191,17 @@ module _ {X : Type 0} (number : X → ℕ) where
 
   -- ---- one comes behind all others
 
-  pub at_push : (n : ℕ) (xs : List X) (x : X) → at n (xs ++ x ∷ []) ≡ option_or (at n xs) (cond (number x == n) (Some x) None)
+  pub at_push : (n : ℕ) (xs : List X) (x : X)
+      → at n (xs ++ x ∷ []) ≡ option_or (at n xs) (cond (number x == n) (Some x) None)
   at_push n xs x = find-append (λ y. number y == n) xs (x ∷ [])
 
   -- what is behind the first value is in the list
-  pub behind : (low n : ℕ) (y z : X) (xs : List X) → rise number low (y ∷ xs) ≡ true → at n xs ≡ Some z → at n (y ∷ xs) ≡ Some z
+  pub behind : (low n : ℕ) (y z : X) (xs : List X) → rise number low (y ∷ xs) ≡ true → at n xs ≡ Some z
+      → at n (y ∷ xs) ≡ Some z
   behind low n y z xs rises found =
       let parts = and_parts (nat_le low (number y)) (rise number (number y + 1) xs) rises in
-      let other : (number y == n) ≡ false = ne_eqb (number y) n (λ same. omega (arith, at_high (number y + 1) n xs z parts.1 found)) in
+      let other : (number y == n) ≡ false =
+      ne_eqb (number y) n (λ same. omega (arith, at_high (number y + 1) n xs z parts.1 found)) in
       rw other found
 
   pub rise_push : (low : ℕ) (xs : List X) (x : X) → rise number low xs ≡ true → low ≤ number x
@@ -223,7 +232,8 @@ module _ {X : Type 0} (number : X → ℕ) where
   -- a change of other things than numbers
   pub rise_map : (g : X → X) → Keeps g → (low : ℕ) (xs : List X) → rise number low (map g xs) ≡ rise number low xs
   rise_map g keeps low [] = refl
-  rise_map g keeps low (x ∷ xs) = rw (keeps x) (ap (λ r. nat_le low (number x) && r) (rise_map g keeps (number x + 1) xs))
+  rise_map g keeps low (x ∷ xs) =
+      rw (keeps x) (ap (λ r. nat_le low (number x) && r) (rise_map g keeps (number x + 1) xs))
 
   -- ---- some value that passes a test
 
@@ -233,7 +243,8 @@ module _ {X : Type 0} (number : X → ℕ) where
     pub found : at (number value) xs ≡ Some value
     pub passes : test value ≡ true
 
-  pub any_at : (test : X → Bool) (low : ℕ) (xs : List X) → rise number low xs ≡ true → list_any test xs ≡ true → IsAmong test xs
+  pub any_at : (test : X → Bool) (low : ℕ) (xs : List X) → rise number low xs ≡ true → list_any test xs ≡ true
+      → IsAmong test xs
   any_at test low [] rises any = let no : false ≡ true = any in cc
   any_at test low (x ∷ xs) rises any =
       let itself : (number x == number x) ≡ true = eq-eqb (number x) (number x) refl in
@@ -242,10 +253,15 @@ module _ {X : Type 0} (number : X → ℕ) where
         | inl on ↦ record { value = x; found = rw itself refl; passes = on }
         | inr off ↦
             let rest = any_at test (number x + 1) xs parts.1 (rw off at any) in
-            record { value = rest.value; found = behind low (number rest.value) x rest.value xs rises rest.found; passes = rest.passes }
+            record {
+              value = rest.value;
+              found = behind low (number rest.value) x rest.value xs rises rest.found;
+              passes = rest.passes;
+            }
       ]
 
-  pub any_from_at : (test : X → Bool) (n : ℕ) (xs : List X) (y : X) → at n xs ≡ Some y → test y ≡ true → list_any test xs ≡ true
+  pub any_from_at : (test : X → Bool) (n : ℕ) (xs : List X) (y : X) → at n xs ≡ Some y → test y ≡ true
+      → list_any test xs ≡ true
   any_from_at test n [] y found on = let no : None ≡ Some y = found in cc
   any_from_at test n (x ∷ xs) y found on =
       elim (cases_Bool (number x == n)) [
@@ -270,7 +286,8 @@ module _ {X : Type 0} (number : X → ℕ) where
   -- ---- the first value that passes a test
 
   -- the first that passes has the lowest number
-  pub first_least : (test : X → Bool) (low : ℕ) (xs : List X) (p q : X) (b : ℕ) → rise number low xs ≡ true → find test xs ≡ Some p
+  pub first_least : (test : X → Bool) (low : ℕ) (xs : List X) (p q : X) (b : ℕ) → rise number low xs ≡ true
+      → find test xs ≡ Some p
       → at b xs ≡ Some q → test q ≡ true → number p ≤ b
   first_least test low [] p q b rises first found on = let none : None ≡ Some p = first in cc
   first_least test low (x ∷ xs) p q b rises first found on =
@@ -293,7 +310,8 @@ module _ {X : Type 0} (number : X → ℕ) where
       ]
 
   -- what passes and has the lowest number is the first that passes
-  pub least_first : (test : X → Bool) (low : ℕ) (xs : List X) (s : X) (a : ℕ) → rise number low xs ≡ true → at a xs ≡ Some s
+  pub least_first : (test : X → Bool) (low : ℕ) (xs : List X) (s : X) (a : ℕ) → rise number low xs ≡ true
+      → at a xs ≡ Some s
       → test s ≡ true
       → ((b : ℕ) (t : X) → at b xs ≡ Some t → test t ≡ true → a ≤ b) → find test xs ≡ Some s
   least_first test low [] s a rises found on least = let none : None ≡ Some s = found in cc
@@ -334,7 +352,8 @@ module _ {X : Type 0} (number : X → ℕ) where
         | inr off ↦ rw off (ap (λ l. x ∷ l) (split_at n xs y (rw off at found)))
       ]
 
-  pub edit_split : (n : ℕ) (change : X → X) (low : ℕ) (xs : List X) (y : X) → rise number low xs ≡ true → at n xs ≡ Some y
+  pub edit_split : (n : ℕ) (change : X → X) (low : ℕ) (xs : List X) (y : X) → rise number low xs ≡ true
+      → at n xs ≡ Some y
       → map (edit n change) xs ≡ front_of n xs ++ change y ∷ back_of n xs
   edit_split n change low [] y rises found = let none : None ≡ Some y = found in cc
   edit_split n change low (x ∷ xs) y rises found =
@@ -360,7 +379,8 @@ module _ {X : Type 0} (number : X → ℕ) where
       ]
 
   -- what is before a number is in the list, and lower
-  pub front_below : (n m low : ℕ) (xs : List X) (y z : X) → rise number low xs ≡ true → at n xs ≡ Some y → at m (front_of n xs) ≡ Some z
+  pub front_below : (n m low : ℕ) (xs : List X) (y z : X) → rise number low xs ≡ true → at n xs ≡ Some y
+      → at m (front_of n xs) ≡ Some z
       → (at m xs ≡ Some z) × (m < n)
   front_below n m low [] y z rises found before = let none : None ≡ Some z = before in cc
   front_below n m low (x ∷ xs) y z rises found before =

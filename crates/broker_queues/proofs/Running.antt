@@ -11,11 +11,13 @@ use Rattle.broker_queues.specs.Parts.Facts.{living_of}
 use Rattle.broker_queues.specs.Parts.Whole.{Holding, IsSound, book_of}
 use Rattle.broker_queues.proofs.Dealing.{quiet}
 
-deals_more : (old mid new : Book) (ds : List Handed) (d : Handed) → Deals old ds mid → Deal mid d new → Deals old (ds ++ d ∷ []) new
+deals_more : (old mid new : Book) (ds : List Handed) (d : Handed) → Deals old ds mid → Deal mid d new
+    → Deals old (ds ++ d ∷ []) new
 deals_more old mid new [] d e h = (new, subst (λ b. Deal b d new) e h, refl)
 deals_more old mid new (x ∷ ds) d e h = (e.0, e.1, deals_more e.0 mid new ds d e.2 h)
 
-taken_more : {S : Type 0} (takes : S → Handed → S → Type 0) (old mid new : S) (ds : List Handed) (d : Handed) → Taken takes old ds mid
+taken_more : {S : Type 0} (takes : S → Handed → S → Type 0) (old mid new : S) (ds : List Handed) (d : Handed)
+    → Taken takes old ds mid
     → takes mid d new → Taken takes old (ds ++ d ∷ []) new
 taken_more takes old mid new [] d e h = (new, subst (λ b. takes b d new) e h, refl)
 taken_more takes old mid new (x ∷ ds) d e h = (e.0, e.1, taken_more takes e.0 mid new ds d e.2 h)
@@ -41,13 +43,16 @@ rests_book h i r accepted = rw (r.kept, r.subscribers, r.last, r.given) refl
 left_ready : (m : QueuedMessage) (to : Subscription) (ack : Option ℕ) (back : List QueuedMessage)
     → count_by is_ready (left_of m to ack ++ back) ≡ count_by is_ready back
 left_ready m to None back = refl
-left_ready m to (Some n) back = omega (arith, sum_by-cons (λ x. cond (is_ready x) 1 0) (record m { fate = Out to.session to.id n }) back)
+left_ready m to (Some n) back =
+    omega (arith, sum_by-cons (λ x. cond (is_ready x) 1 0) (record m { fate = Out to.session to.id n }) back)
 
 -- a deal leaves fewer that are ready
-pub fewer_ready : (old new : Book) (d : Handed) → Deal old d new → count_by is_ready new.living < count_by is_ready old.living
+pub fewer_ready : (old new : Book) (d : Handed) → Deal old d new
+    → count_by is_ready new.living < count_by is_ready old.living
 fewer_ready old new d deal =
     let f : QueuedMessage → ℕ = λ x. cond (is_ready x) 1 0 in
-    let now : new.living ≡ deal.front ++ (left_of deal.message d.to d.ack ++ deal.back) = ap (λ (b : Book). b.living) deal.changed in
+    let now : new.living ≡ deal.front ++ (left_of deal.message d.to d.ack ++ deal.back) =
+    ap (λ (b : Book). b.living) deal.changed in
     let one : f deal.message ≡ 1 = rw deal.ready refl in
     rw (now, deal.found) (omega (
       arith,
@@ -60,17 +65,18 @@ fewer_ready old new d deal =
 
 -- where nothing is due anywhere, the book is quiet
 pub ends_quiet : (h : Holding) → IsSound h → IsNext h None → (accepted : List Accepted) → IsQuiet (book_of h accepted)
-ends_quiet h is none accepted = quiet h accepted is (λ due. none due.message.sent.destination due.message.number (record {
-  message = due.message;
-  there = due.there;
-  ready = due.ready;
-  for_it = refl;
-  age = due.subscriber.age;
-  subscriber = due.subscriber;
-  sits = due.sits;
-  same = due.same;
-  may = due.may;
-}))
+ends_quiet h is none accepted =
+    quiet h accepted is (λ due. none due.message.sent.destination due.message.number (record {
+      message = due.message;
+      there = due.there;
+      ready = due.ready;
+      for_it = refl;
+      age = due.subscriber.age;
+      subscriber = due.subscriber;
+      sits = due.sits;
+      same = due.same;
+      may = due.may;
+    }))
 
 module _ {S : Type 0} (takes : S → Handed → S → Type 0) (h i j : Holding) (from between : S) (r : Rests i j)
     (d : (accepted : List Accepted) → Dealt takes (book_of h accepted) from (book_of i accepted) between) where
@@ -79,13 +85,16 @@ module _ {S : Type 0} (takes : S → Handed → S → Type 0) (h i j : Holding) 
   dealt_still accepted = rw (rests_book i j r accepted) (d accepted)
 
   -- one deal more
-  pub dealt_next : (k : Holding) (to : S) (accepted : List Accepted) (one : Handed) → Deal (book_of j accepted) one (book_of k accepted)
+  pub dealt_next : (k : Holding) (to : S) (accepted : List Accepted) (one : Handed)
+      → Deal (book_of j accepted) one (book_of k accepted)
       → takes between one to → Dealt takes (book_of h accepted) from (book_of k accepted) to
   dealt_next k to accepted one deal took =
-      dealt_more takes (book_of h accepted) (book_of j accepted) (book_of k accepted) from between to one (dealt_still accepted) deal took
+      dealt_more takes (book_of h accepted) (book_of j accepted) (book_of k accepted) from between to one
+      (dealt_still accepted) deal took
 
   -- none, since memory was refused
-  pub dealt_no_more : (k : Holding) (to : S) (accepted : List Accepted) → book_of k accepted ≡ book_of j accepted → to ≡ between
+  pub dealt_no_more : (k : Holding) (to : S) (accepted : List Accepted) → book_of k accepted ≡ book_of j accepted
+      → to ≡ between
       → Dealt takes (book_of h accepted) from (book_of k accepted) to
   dealt_no_more k to accepted same still = rw (same, still) (dealt_still accepted)
 

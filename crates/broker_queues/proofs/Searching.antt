@@ -1,5 +1,6 @@
 -- A walk over places, one after another.
-use Rattle.std.proofs.Common.{◌≡◌, ◌≤◌, ◌<◌, ◌+◌, ℕ, Bool, true, false, List, [], ◌∷◌, Option, Some, None, refl, sym, ap, arith}
+use Rattle.std.proofs.Common.{◌≡◌, ◌≤◌, ◌<◌, ◌+◌, ℕ, Bool, true, false, List, [], ◌∷◌, Option, Some, None, refl, sym}
+use Rattle.std.proofs.Common.{ap, arith}
 use Rattle.std.proofs.Common.{inl, inr}
 use Rattle.std.specs.Prelude.{◌⊎◌, ◌==◌, All, IfSome, find, nat_le}
 use Rattle.std.specs.List.{list_any}
@@ -49,7 +50,8 @@ next_from from places p found = leb-true from p.number (find_passes (is_from fro
 
 module _ (test : ℕ → Bool) (places : List Place) (start from : ℕ) (w : Walked test places start from) where
   -- the next one passes
-  pub walked_to : (last : ℕ) (p : Place) → All (λ q. (q.number < from) ⊎ (p.number ≤ q.number)) places → test p.number ≡ true
+  pub walked_to : (last : ℕ) (p : Place) → All (λ q. (q.number < from) ⊎ (p.number ≤ q.number)) places
+      → test p.number ≡ true
       → FirstOf test places start last (Some p)
   walked_to last p all on = (
     on,
@@ -68,9 +70,11 @@ module _ (test : ℕ → Bool) (places : List Place) (start from : ℕ) (w : Wal
   ]
 
   -- it doesn't, and is the last
-  pub walked_past : (last : ℕ) (p : Place) → All (λ q. (q.number < from) ⊎ (p.number ≤ q.number)) places → test p.number ≡ false
+  pub walked_past : (last : ℕ) (p : Place) → All (λ q. (q.number < from) ⊎ (p.number ≤ q.number)) places
+      → test p.number ≡ false
       → last ≤ p.number → FirstOf test places start last None
-  walked_past last p all off past m listed later within = walked_on p all off m listed later (omega (arith, past, within))
+  walked_past last p all off past m listed later within =
+      walked_on p all off m listed later (omega (arith, past, within))
 
   -- there is no next one
   pub walked_off : (last : ℕ) → None ≡ find (is_from from) places → FirstOf test places start last None
@@ -97,10 +101,13 @@ pub seeks_ready : (kept : List Kept) (last number : ℕ) (name : List ℕ) (old 
     → Sets old new name (option_map (ready_from number) (old name))
     → FirstOf (opens kept name) q.numbers q.ready_from last found → SeeksReady kept last name old new found
 seeks_ready kept last number name old new q found there is sets first = record {
-  numbers = sets_map (λ d q r. r.numbers ≡ q.numbers) (ready_from number) old new name (λ d q. refl) (λ q is. refl) sets;
-  subscribers = sets_map (λ d q r. r.subscribers ≡ q.subscribers) (ready_from number) old new name (λ d q. refl) (λ q is. refl) sets;
+  numbers =
+      sets_map (λ d q r. r.numbers ≡ q.numbers) (ready_from number) old new name (λ d q. refl) (λ q is. refl) sets;
+  subscribers = sets_map (λ d q r. r.subscribers ≡ q.subscribers) (ready_from number) old new name (λ d q. refl)
+      (λ q is. refl) sets;
   count = sets_map (λ d q r. r.count ≡ q.count) (ready_from number) old new name (λ d q. refl) (λ q is. refl) sets;
-  takers = sets_map (λ d q r. r.taker_from ≡ q.taker_from) (ready_from number) old new name (λ d q. refl) (λ q is. refl) sets;
+  takers = sets_map (λ d q r. r.taker_from ≡ q.taker_from) (ready_from number) old new name (λ d q. refl) (λ q is. refl)
+      sets;
   others = λ d other. ap (λ q. q.ready_from) (ap opened (sets.others d other));
   first = rw there first;
   from = by_found found is;
@@ -109,7 +116,8 @@ seeks_ready kept last number name old new q found there is sets first = record {
     now : (queue_of new name).ready_from ≡ number
     now = ap (λ q. q.ready_from) (at_name (ready_from number) old new name q there sets)
 
-    by_found : (o : Option Place) → number ≡ number_or o last → IfSome o (λ p. (queue_of new name).ready_from ≤ p.number)
+    by_found : (o : Option Place) → number ≡ number_or o last
+        → IfSome o (λ p. (queue_of new name).ready_from ≤ p.number)
     by_found None e = tt
     by_found (Some p) e = omega (arith, now, e)
 
@@ -129,17 +137,21 @@ seeks_no_taker subscribers given last name queues young none = record {
   from = tt;
 }
 
-pub seeks_taker : (subscribers : List Subscriber) (given last age : ℕ) (name : List ℕ) (old new : List ℕ → Option Queue) (q : Queue)
+pub seeks_taker : (subscribers : List Subscriber) (given last age : ℕ) (name : List ℕ) (old new : List ℕ → Option Queue)
+    (q : Queue)
     (found : Option Place) → All (λ s. s.age < last) subscribers → old name ≡ Some q → age ≡ number_or found last
     → Sets old new name (option_map (taken_from age) (old name))
-    → FirstOf (takes_more subscribers given name) q.subscribers q.taker_from last found → SeeksTaker subscribers given name old new found
+    → FirstOf (takes_more subscribers given name) q.subscribers q.taker_from last found
+    → SeeksTaker subscribers given name old new found
 seeks_taker subscribers given last age name old new q found young there is sets first = record {
   last = last;
   young = young;
   numbers = sets_map (λ d q r. r.numbers ≡ q.numbers) (taken_from age) old new name (λ d q. refl) (λ q is. refl) sets;
-  listeners = sets_map (λ d q r. r.subscribers ≡ q.subscribers) (taken_from age) old new name (λ d q. refl) (λ q is. refl) sets;
+  listeners =
+      sets_map (λ d q r. r.subscribers ≡ q.subscribers) (taken_from age) old new name (λ d q. refl) (λ q is. refl) sets;
   count = sets_map (λ d q r. r.count ≡ q.count) (taken_from age) old new name (λ d q. refl) (λ q is. refl) sets;
-  ready = sets_map (λ d q r. r.ready_from ≡ q.ready_from) (taken_from age) old new name (λ d q. refl) (λ q is. refl) sets;
+  ready = sets_map (λ d q r. r.ready_from ≡ q.ready_from) (taken_from age) old new name (λ d q. refl) (λ q is. refl)
+      sets;
   others = λ d other. ap (λ q. q.taker_from) (ap opened (sets.others d other));
   first = rw there first;
   from = by_found found is;

@@ -1,5 +1,6 @@
 -- The queue of one destination changes.
-use Rattle.std.proofs.Common.{◌≡◌, ◌≤◌, ℕ, ◌-◌, true, false, cond, List, Option, Some, None, refl, sym, ap, ◌∙◌, arith, inl, inr}
+use Rattle.std.proofs.Common.{◌≡◌, ◌≤◌, ℕ, ◌-◌, true, false, cond, List, Option, Some, None, refl, sym, ap, ◌∙◌, arith}
+use Rattle.std.proofs.Common.{inl, inr}
 use Rattle.std.specs.Option.{option_map}
 use Rattle.std.specs.Str.{bytes_eq}
 use Rattle.std.proofs.lemmas.Bool.{cases_Bool}
@@ -10,7 +11,8 @@ use Rattle.broker_queues.specs.Parts.Whole.{Lowers}
 use Rattle.broker_queues.specs.Parts.Queues.{LooksFrom, TakesFrom, CountsFewer}
 
 -- what holds between a queue and itself, and between the one of a name and what it becomes, holds between all
-pub sets_map : (R : List ℕ → Queue → Queue → Type 0) (f : Queue → Queue) (old new : List ℕ → Option Queue) (name : List ℕ)
+pub sets_map : (R : List ℕ → Queue → Queue → Type 0) (f : Queue → Queue) (old new : List ℕ → Option Queue)
+    (name : List ℕ)
     → ((d : List ℕ) (q : Queue) → R d q q) → ((q : Queue) → old name ≡ Some q → R name q (f q))
     → Sets old new name (option_map f (old name)) → (d : List ℕ) → R d (queue_of old d) (queue_of new d)
 sets_map R f old new name same changed sets d = elim (cases_Bool (bytes_eq d name)) [
@@ -34,7 +36,8 @@ pub lowered : (f : Queue → Queue) (old new : List ℕ → Option Queue) (name 
     → Sets old new name (option_map f (old name)) → Lowers old new
 lowered f old new name numbers subscribers ready takers sets = record {
   numbers = sets_map (λ d q r. r.numbers ≡ q.numbers) f old new name (λ d q. refl) (λ q is. numbers q) sets;
-  subscribers = sets_map (λ d q r. r.subscribers ≡ q.subscribers) f old new name (λ d q. refl) (λ q is. subscribers q) sets;
+  subscribers =
+      sets_map (λ d q r. r.subscribers ≡ q.subscribers) f old new name (λ d q. refl) (λ q is. subscribers q) sets;
   ready = sets_map (λ d q r. r.ready_from ≤ q.ready_from) f old new name (λ d q. omega arith) ready sets;
   takers = sets_map (λ d q r. r.taker_from ≤ q.taker_from) f old new name (λ d q. omega arith) takers sets;
 }
@@ -52,10 +55,12 @@ Lowers-same queues = record {
   takers = λ d. omega arith;
 }
 
-pub looks_from : (old new : List ℕ → Option Queue) (name : List ℕ) (number : ℕ) → number ≤ (queue_of old name).ready_from
+pub looks_from : (old new : List ℕ → Option Queue) (name : List ℕ) (number : ℕ)
+    → number ≤ (queue_of old name).ready_from
     → Sets old new name (option_map (ready_from number) (old name)) → LooksFrom old new name number
 looks_from old new name number later sets = record {
-  lowers = lowered (ready_from number) old new name (λ q. refl) (λ q. refl) (λ q is. low q is) (λ q is. omega arith) sets;
+  lowers = lowered (ready_from number) old new name (λ q. refl) (λ q. refl) (λ q is. low q is) (λ q is. omega arith)
+      sets;
   counts = sets_map (λ d q r. r.count ≡ q.count) (ready_from number) old new name (λ d q. refl) (λ q is. refl) sets;
   from = by_queue (old name) refl;
 }
@@ -69,7 +74,8 @@ looks_from old new name number later sets = record {
         rw e (omega arith)
     by_queue (Some q) is = rw (at_name (ready_from number) old new name q is sets) (omega arith)
 
-pub looks_already : (queues : List ℕ → Option Queue) (name : List ℕ) (number : ℕ) → (queue_of queues name).ready_from ≤ number
+pub looks_already : (queues : List ℕ → Option Queue) (name : List ℕ) (number : ℕ)
+    → (queue_of queues name).ready_from ≤ number
     → LooksFrom queues queues name number
 looks_already queues name number earlier = record { lowers = Lowers-same queues; counts = λ d. refl; from = earlier }
 
@@ -97,7 +103,8 @@ takes_already queues name age earlier = record { lowers = Lowers-same queues; co
 pub counts_fewer : (old new : List ℕ → Option Queue) (name : List ℕ) (count : ℕ) → count ≡ (queue_of old name).count - 1
     → Sets old new name (option_map (counting count) (old name)) → CountsFewer old new name
 counts_fewer old new name count fewer sets = record {
-  lowers = lowered (counting count) old new name (λ q. refl) (λ q. refl) (λ q is. omega arith) (λ q is. omega arith) sets;
+  lowers = lowered (counting count) old new name (λ q. refl) (λ q. refl) (λ q is. omega arith) (λ q is. omega arith)
+      sets;
   counts = each;
 }
   where
@@ -107,12 +114,14 @@ counts_fewer old new name count fewer sets = record {
           let is : name ≡ d = (bytes_eq-Decides name d).0 on in
           rw (on, ← is) (by_queue (old name) refl)
       | inr off ↦
-          let other : d ≡ name → ⊥ = λ is. (let never : true ≡ false = sym ((bytes_eq-Decides name d).1 (sym is)) ∙ off in cc) in
+          let other : d ≡ name → ⊥ =
+          λ is. (let never : true ≡ false = sym ((bytes_eq-Decides name d).1 (sym is)) ∙ off in cc) in
           rw (off, sets.others d other) (omega arith)
     ]
       where
         by_queue : (o : Option Queue) → old name ≡ o → (queue_of new name).count ≡ (queue_of old name).count - 1
         by_queue None is =
-            let e : queue_of new name ≡ empty_queue = ap opened (sets.at ∙ ap (λ o. option_map (counting count) o) is) in
+            let e : queue_of new name ≡ empty_queue =
+            ap opened (sets.at ∙ ap (λ o. option_map (counting count) o) is) in
             rw (e, is) refl
         by_queue (Some q) is = rw (at_name (counting count) old new name q is sets) fewer

@@ -17,7 +17,8 @@ use Rattle.broker_queues.specs.Parts.Fates.{passes}
 use Rattle.broker_queues.specs.Parts.Whole.{Holding, IsSound, Subscribes, Leaves}
 use Rattle.broker_queues.proofs.Finding.{or_some, is_there, is_mapped}
 use Rattle.broker_queues.proofs.Living.{count_zero, weight_fate}
-use Rattle.broker_queues.proofs.Rising.{at_push, rise_push, at_filter, at_filter_other, rise_filter, IsAmong, any_at, any_from_at}
+use Rattle.broker_queues.proofs.Rising.{at_push, rise_push, at_filter, at_filter_other, rise_filter, IsAmong, any_at}
+use Rattle.broker_queues.proofs.Rising.{any_from_at}
 
 -- ---- names
 
@@ -34,7 +35,8 @@ name_parts x j s named =
     (eqb-true s.session x parts.0, same_texts s.id j parts.1)
 
 pub named_from : (x : ℕ) (j : List ℕ) (s : Subscription) → s.session ≡ x → s.id ≡ j → is_named x j s ≡ true
-named_from x j s session id = and_from (s.session == x) (bytes_eq s.id j) (eq-eqb s.session x session) (rw id (itself j))
+named_from x j s session id =
+    and_from (s.session == x) (bytes_eq s.id j) (eq-eqb s.session x session) (rw id (itself j))
 
 -- a fate that is out to a subscription
 pub record IsOut (x : ℕ) (j : List ℕ) (f : Option Fate) : Type 0 where
@@ -130,7 +132,8 @@ module _ (h : Holding) (s : Subscriber) (i : Holding) (is : IsSound h) (p : Subs
     | inr old ↦ p.wakes k.sent.destination (is.awake n k a t (rw p.kept at there) ready old same (rw p.given at may))
   ]
 
-  come_apart : (a b : ℕ) (t u : Subscriber) → subscriber_at a i.subscribers ≡ Some t → subscriber_at b i.subscribers ≡ Some u
+  come_apart : (a b : ℕ) (t u : Subscriber) → subscriber_at a i.subscribers ≡ Some t
+      → subscriber_at b i.subscribers ≡ Some u
       → is_named t.subscription.session t.subscription.id u.subscription ≡ true → a ≡ b
   come_apart a b t u there sits named = elim (subscriber_was a t there) [
     | inl both ↦ elim (subscriber_was b u sits) [
@@ -167,7 +170,8 @@ module _ (h : Holding) (s : Subscriber) (i : Holding) (is : IsSound h) (p : Subs
       at_end None none e = e ∙ rw (eq-eqb s.age s.age refl) refl
       at_end (Some t) none e = let no : true ≡ false = none in cc
 
-  come_listeners : (d : List ℕ) (a : ℕ) → lists a (queue_of i.queues d).subscribers ≡ true → destination_at a i.subscribers ≡ Some d
+  come_listeners : (d : List ℕ) (a : ℕ) → lists a (queue_of i.queues d).subscribers ≡ true
+      → destination_at a i.subscribers ≡ Some d
   come_listeners d a listed = elim (p.listeners d a listed) [
     | inl new ↦ rw (new.0, p.subscribers, new_age) (ap (λ y. Some y) (sym new.1))
     | inr old ↦
@@ -209,7 +213,8 @@ module _ (h : Holding) (s : Subscriber) (i : Holding) (is : IsSound h) (p : Subs
 -- ---- one goes
 
 module _ (h : Holding) (age : ℕ) (s : Subscriber) (i : Holding) (is : IsSound h) (p : Leaves h age s i) where
-  left_was : (a : ℕ) (t : Subscriber) → subscriber_at a i.subscribers ≡ Some t → (a ≡ age → ⊥) × (subscriber_at a h.subscribers ≡ Some t)
+  left_was : (a : ℕ) (t : Subscriber) → subscriber_at a i.subscribers ≡ Some t → (a ≡ age → ⊥)
+      × (subscriber_at a h.subscribers ≡ Some t)
   left_was a t there =
       let e : subscriber_at a (filter (λ s. not (s.age == age)) h.subscribers) ≡ Some t = rw p.subscribers at there in
       elim (cases_eq a age) [
@@ -219,7 +224,8 @@ module _ (h : Holding) (age : ℕ) (s : Subscriber) (i : Holding) (is : IsSound 
         | inr other ↦ (other, sym (at_filter_other (λ s. s.age) age a other h.subscribers) ∙ e)
       ]
 
-  left_there : (a : ℕ) (t : Subscriber) → (a ≡ age → ⊥) → subscriber_at a h.subscribers ≡ Some t → subscriber_at a i.subscribers ≡ Some t
+  left_there : (a : ℕ) (t : Subscriber) → (a ≡ age → ⊥) → subscriber_at a h.subscribers ≡ Some t
+      → subscriber_at a i.subscribers ≡ Some t
   left_there a t other there = rw (p.subscribers, at_filter_other (λ s. s.age) age a other h.subscribers) there
 
   go_noted : AreNoted i.kept i.subscribers
@@ -247,7 +253,8 @@ module _ (h : Holding) (age : ℕ) (s : Subscriber) (i : Holding) (is : IsSound 
     counted = λ d. rw (p.count d, p.kept) (is.counted d);
     noted = go_noted;
     credited = λ a t there. rw p.kept (is.credited a t (left_was a t there).1);
-    listening = λ a t there. p.listening t.subscription.destination a (left_was a t there).0 (is.listening a t (left_was a t there).1);
+    listening = λ a t there. p.listening t.subscription.destination a (left_was a t there).0
+        (is.listening a t (left_was a t there).1);
     owned = λ a t there. p.owned t.subscription.session a (left_was a t there).0 (is.owned a t (left_was a t there).1);
     ahead = λ n k there ready. omega (arith, p.ready k.sent.destination, is.ahead n k (rw p.kept at there) ready);
     takers = λ a t there may. omega (

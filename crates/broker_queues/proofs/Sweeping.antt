@@ -1,16 +1,19 @@
 -- What is no longer needed goes: the book stays.
-use Rattle.std.proofs.Common.{◌≡◌, ◌≤◌, ℕ, Bool, true, false, not, List, map, Option, Some, None, Ok, refl, sym, ap, ◌∙◌, arith, inl, inr}
+use Rattle.std.proofs.Common.{◌≡◌, ◌≤◌, ℕ, Bool, true, false, not, List, map, Option, Some, None, Ok, refl, sym, ap}
+use Rattle.std.proofs.Common.{◌∙◌, arith, inl, inr}
 use Rattle.std.specs.Prelude.{◌==◌, filter, find}
 use Rattle.std.specs.Option.{option_map, option_and_then}
 use Rattle.std.proofs.lemmas.Bool.{cases_Bool, cases_eq, and_from, and_parts, eq-eqb, ne_eqb}
 use Rattle.broker_book.specs.declared.parts.Accepted.{Accepted}
 use Rattle.broker_book.specs.Books.{Fate, Out, out_to, is_named}
-use Rattle.broker_index.specs.Index.{Kept, Subscriber, Queue, Sets, entries_without, opened, unless_idle, without_entries, without_number}
+use Rattle.broker_index.specs.Index.{Kept, Subscriber, Queue, Sets, entries_without, opened, unless_idle}
+use Rattle.broker_index.specs.Index.{without_entries, without_number}
 use Rattle.broker_index.specs.declared.places.Entry.{Entry}
 use Rattle.broker_index.specs.declared.places.Place.{Place}
 use Rattle.broker_queues.specs.Parts.Fates.{passes, fate_of_kept, is_held_at}
 use Rattle.broker_queues.specs.Parts.Held.{TurnsAll, step_of}
-use Rattle.broker_queues.specs.Parts.Facts.{kept_at, subscriber_at, living_of, subscriptions_of, lists, notes, queue_of, holds_number}
+use Rattle.broker_queues.specs.Parts.Facts.{kept_at, subscriber_at, living_of, subscriptions_of, lists, notes, queue_of}
+use Rattle.broker_queues.specs.Parts.Facts.{holds_number}
 use Rattle.broker_queues.specs.Parts.Storing.{Forgets, Sweeps, Takes, Tidies, is_gone}
 use Rattle.broker_queues.specs.Parts.Whole.{Holding, IsSound, Moves, Purges, Renotes, book_of}
 use Rattle.broker_queues.proofs.Adding.{closes, shut}
@@ -68,12 +71,15 @@ module _ (h i : Holding) (is : IsSound h) (n : ℕ) (k : Kept) (q : List ℕ →
     sessions = refl;
     last = refl;
     given = refl;
-    numbers = λ d m other. sets_map (λ d x y. lists m x.numbers ≡ true → lists m y.numbers ≡ true) (without_number n) h.queues q name
+    numbers = λ d m other. sets_map (λ d x y. lists m x.numbers ≡ true → lists m y.numbers ≡ true) (without_number n)
+        h.queues q name
         (λ d x there. there) (λ x at there. lists_other n m x.numbers other ∙ there) p d;
-    listed = λ d m. sets_map (λ d x y. lists m y.numbers ≡ true → lists m x.numbers ≡ true) (without_number n) h.queues q name
+    listed = λ d m. sets_map (λ d x y. lists m y.numbers ≡ true → lists m x.numbers ≡ true) (without_number n) h.queues
+        q name
         (λ d x there. there) (λ x at there. was m x there) p d;
     count = sets_map (λ d x y. y.count ≡ x.count) (without_number n) h.queues q name (λ d x. refl) (λ x at. refl) p;
-    listeners = sets_map (λ d x y. y.subscribers ≡ x.subscribers) (without_number n) h.queues q name (λ d x. refl) (λ x at. refl) p;
+    listeners = sets_map (λ d x y. y.subscribers ≡ x.subscribers) (without_number n) h.queues q name (λ d x. refl)
+        (λ x at. refl) p;
     ready = sets_map (λ d x y. y.ready_from ≤ x.ready_from) (without_number n) h.queues q name (λ d x. omega arith)
         (λ x at. omega arith) p;
     takers = sets_map (λ d x y. y.taker_from ≤ x.taker_from) (without_number n) h.queues q name (λ d x. omega arith)
@@ -89,11 +95,13 @@ module _ (h i : Holding) (is : IsSound h) (n : ℕ) (k : Kept) (q : List ℕ →
         | inr other ↦ sym (lists_other n m x.numbers other) ∙ there
       ]
 
-  pub purged : i.kept ≡ filter (λ k. not (k.number == n)) h.kept → i.subscribers ≡ h.subscribers → i.sessions ≡ h.sessions
+  pub purged : i.kept ≡ filter (λ k. not (k.number == n)) h.kept → i.subscribers ≡ h.subscribers
+      → i.sessions ≡ h.sessions
       → i.awake ≡ h.awake → i.last ≡ h.last → i.given ≡ h.given → Tidies h i
   purged kept subscribers sessions awake last given =
       let before : IsSound taken = purge_keeps h n k taken is found gone takes_out in
-      let m : Moves taken i = shut taken before i (closes q i.queues name r) kept subscribers sessions awake last given in
+      let m : Moves taken i =
+      shut taken before i (closes q i.queues name r) kept subscribers sessions awake last given in
       record {
         sound = moved taken i before m;
         living = ap living_of kept ∙ living_purge n 0 h.kept k is.numbers found gone;
@@ -109,24 +117,29 @@ module _ (h i : Holding) (is : IsSound h) (n : ℕ) (k : Kept) (q : List ℕ →
       by_queue : (x : Option Queue) → h.queues name ≡ x → lists n (queue_of q name).numbers ≡ false
       by_queue None at = ap (λ x. lists n (opened x).numbers) (p.at ∙ ap (λ x. option_map (without_number n) x) at)
       by_queue (Some x) at =
-          ap (λ x. lists n (opened x).numbers) (p.at ∙ ap (λ x. option_map (without_number n) x) at) ∙ lists_gone n x.numbers
+          ap (λ x. lists n (opened x).numbers) (p.at ∙ ap (λ x. option_map (without_number n) x) at)
+          ∙ lists_gone n x.numbers
 
-  pub taken_away : name ≡ k.sent.destination → i.kept ≡ filter (λ k. not (k.number == n)) h.kept → i.subscribers ≡ h.subscribers
+  pub taken_away : name ≡ k.sent.destination → i.kept ≡ filter (λ k. not (k.number == n)) h.kept
+      → i.subscribers ≡ h.subscribers
       → i.sessions ≡ h.sessions → i.awake ≡ h.awake → i.last ≡ h.last → i.given ≡ h.given → Takes h n k i
   taken_away own kept subscribers sessions awake last given =
       let before : IsSound taken = purge_keeps h n k taken is found gone takes_out in
-      let m : Moves taken i = shut taken before i (closes q i.queues name r) kept subscribers sessions awake last given in
+      let m : Moves taken i =
+      shut taken before i (closes q i.queues name r) kept subscribers sessions awake last given in
       record {
         kept = kept;
         subscribers = subscribers;
         last = last;
         given = given;
         listed = λ d m2 there. takes_out.listed d m2 (sym (ap (λ ps. lists m2 ps) (m.numbers d)) ∙ there);
-        away = ap (λ ps. lists n ps) (m.numbers k.sent.destination) ∙ ap (λ d. lists n (queue_of q d).numbers) (sym own) ∙ unlisted;
+        away = ap (λ ps. lists n ps) (m.numbers k.sent.destination) ∙ ap (λ d. lists n (queue_of q d).numbers) (sym own)
+            ∙ unlisted;
       }
 
 -- the others stay
-pub leaves_others : (h i : Holding) (n : ℕ) → i.kept ≡ filter (λ k. not (k.number == n)) h.kept → i.subscribers ≡ h.subscribers
+pub leaves_others : (h i : Holding) (n : ℕ) → i.kept ≡ filter (λ k. not (k.number == n)) h.kept
+    → i.subscribers ≡ h.subscribers
     → Forgets h n i
 leaves_others h i n kept subscribers = record {
   subscribers = subscribers;
@@ -137,7 +150,8 @@ leaves_others h i n kept subscribers = record {
   gone = λ m k there same. absurd (away m k there same);
 }
   where
-    here : (m : ℕ) (k : Kept) → kept_at m i.kept ≡ Some k → kept_at m (filter (λ k. not (k.number == n)) h.kept) ≡ Some k
+    here : (m : ℕ) (k : Kept) → kept_at m i.kept ≡ Some k
+        → kept_at m (filter (λ k. not (k.number == n)) h.kept) ≡ Some k
     here m k there = ap (λ l. kept_at m l) (sym kept) ∙ there
 
     away : (m : ℕ) (k : Kept) → kept_at m i.kept ≡ Some k → m ≡ n → ⊥
@@ -165,7 +179,8 @@ module _ (h : Holding) (is : IsSound h) (age n : ℕ) (s : Subscriber) (sits : s
           let forgets : without_entries age n u ≡ record u { entries = entries_without n u.entries } = rw number refl in
           let parts = and_parts (is_named x j u.subscription) (notes m u.entries) holds in
           let noted : notes m (entries_without n u.entries) ≡ true = notes_other n m u.entries other ∙ parts.1 in
-          ap (holds_number x j m) forgets ∙ and_from (is_named x j u.subscription) (notes m (entries_without n u.entries)) parts.0 noted
+          ap (holds_number x j m) forgets
+          ∙ and_from (is_named x j u.subscription) (notes m (entries_without n u.entries)) parts.0 noted
     ]
     | inr other ↦
         let number : (u.age == age) ≡ false = ne_eqb u.age age other in
@@ -177,17 +192,20 @@ module _ (h : Holding) (is : IsSound h) (age n : ℕ) (s : Subscriber) (sits : s
       never own same =
           let both : Some u ≡ Some s = sym here ∙ ap (λ b. subscriber_at b h.subscribers) own ∙ sits in
           let e : u ≡ s = cc in
-          let name = name_parts x j u.subscription (and_parts (is_named x j u.subscription) (notes m u.entries) holds).0 in
+          let name =
+          name_parts x j u.subscription (and_parts (is_named x j u.subscription) (notes m u.entries) holds).0 in
           let session : s.subscription.session ≡ x = ap (λ (v : Subscriber). v.subscription.session) (sym e) ∙ name.0 in
           let id : s.subscription.id ≡ j = ap (λ (v : Subscriber). v.subscription.id) (sym e) ∙ name.1 in
           let fate : fate_of_kept (kept_at n h.kept) ≡ Some (Out x j a) =
           ap (λ b. fate_of_kept (kept_at b h.kept)) (sym same) ∙ ap fate_of_kept there ∙ out in
-          let on : passes (out_to x j) (fate_of_kept (kept_at n h.kept)) ≡ true = out_passes x j a (fate_of_kept (kept_at n h.kept)) fate in
+          let on : passes (out_to x j) (fate_of_kept (kept_at n h.kept)) ≡ true =
+          out_passes x j a (fate_of_kept (kept_at n h.kept)) fate in
           let off2 : passes (out_to x j) (fate_of_kept (kept_at n h.kept)) ≡ false = rw (session, id) at off in
           let no : true ≡ false = sym on ∙ off2 in
           cc
 
-  forgets_kept : (f : Subscriber → ℕ) → ((u : Subscriber) (es : List Entry) → f (record u { entries = es }) ≡ f u) → (u : Subscriber)
+  forgets_kept : (f : Subscriber → ℕ) → ((u : Subscriber) (es : List Entry) → f (record u { entries = es }) ≡ f u)
+      → (u : Subscriber)
       → f (without_entries age n u) ≡ f u
   forgets_kept f same u = elim (cases_Bool (u.age == age)) [
     | inl on ↦ rw on (same u (entries_without n u.entries))
@@ -211,7 +229,8 @@ module _ (h : Holding) (is : IsSound h) (age n : ℕ) (s : Subscriber) (sits : s
   forgot subscribers is_so = rw is_so (record {
     sound = renoted h (without_entries age n) is forgets;
     living = refl;
-    subscriptions = map_after (λ (u : Subscriber). u.subscription) (without_entries age n) forgets_subscription h.subscribers;
+    subscriptions =
+        map_after (λ (u : Subscriber). u.subscription) (without_entries age n) forgets_subscription h.subscribers;
     last = refl;
     given = refl;
   })
@@ -223,7 +242,8 @@ tidy_book h i t accepted = rw (t.living, t.subscriptions, t.last, t.given) refl
 
 -- an answer, and then a subscriber's deliveries are swept
 pub answered : (h i j : Holding) (accepted : List Accepted) (x number : ℕ) (again : Bool) (p : Place) → IsSound h
-    → find (is_held_at h.kept h.subscribers number) (h.sessions x) ≡ Some p → TurnsAll h p.number (Some number) again i → Sweeps i j
+    → find (is_held_at h.kept h.subscribers number) (h.sessions x) ≡ Some p → TurnsAll h p.number (Some number) again i
+    → Sweeps i j
     → IsSound j × (step_of again (book_of h accepted) x number ≡ Ok (book_of j accepted))
 answered h i j accepted x number again p is found turns sweeps =
     let step = responded h i accepted x number again p is found turns in

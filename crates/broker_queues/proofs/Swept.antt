@@ -1,5 +1,6 @@
 -- Where nothing that is gone was kept, nothing that is gone is.
-use Rattle.std.proofs.Common.{◌≡◌, ◌<◌, ◌+◌, ℕ, Bool, true, false, cond, length, get_or, drop, drop-cons, suc, List, [], ◌∷◌, ◌++◌, map}
+use Rattle.std.proofs.Common.{◌≡◌, ◌<◌, ◌+◌, ℕ, Bool, true, false, cond, length, get_or, drop, drop-cons, suc, List, []}
+use Rattle.std.proofs.Common.{◌∷◌, ◌++◌, map}
 use Rattle.std.proofs.Common.{Option, Some, None, refl, sym, ap, ◌∙◌, arith, inl, inr}
 use Rattle.std.specs.Prelude.{◌==◌, ◌&&◌, filter, find, nat_le}
 use Rattle.std.specs.List.{list_any}
@@ -29,7 +30,8 @@ none_same old new same none = rw same none
 
 -- they keep their numbers, and none goes
 none_mapped : (g : Kept → Kept) → ((k : Kept) → (g k).number ≡ k.number)
-    → ((k : Kept) → is_gone k.fate ≡ false → is_gone (g k).fate ≡ false) → (old : List Kept) → NoneGone old → NoneGone (map g old)
+    → ((k : Kept) → is_gone k.fate ≡ false → is_gone (g k).fate ≡ false) → (old : List Kept) → NoneGone old
+    → NoneGone (map g old)
 none_mapped g keeps stays old none n k there =
     let was : IsMapped g (kept_at n old) k =
     is_mapped g (kept_at n old) k (sym (find_map (has_number n) g (λ l. ap (λ m. m == n) (keeps l)) old) ∙ there) in
@@ -52,12 +54,14 @@ none_turned test es old none =
     none_mapped (turn_among (Some Ready) test es) (among_number (Some Ready) test es) stays old none
   where
     stays : (k : Kept) → is_gone k.fate ≡ false → is_gone (turn_among (Some Ready) test es k).fate ≡ false
-    stays k left = elim (cases_Bool (passes test k.fate && notes k.number es)) [ inl on ↦ rw on refl | inr off ↦ rw off left ]
+    stays k left =
+        elim (cases_Bool (passes test k.fate && notes k.number es)) [ inl on ↦ rw on refl | inr off ↦ rw off left ]
 
 -- one comes
 pub none_pushed : (k : Kept) → is_gone k.fate ≡ false → (old : List Kept) → NoneGone old → NoneGone (old ++ k ∷ [])
 none_pushed k left old none n l there =
-    elim (or_some (kept_at n old) (cond (k.number == n) (Some k) None) l (sym (at_push (λ (k : Kept). k.number) n old k) ∙ there)) [
+    elim (or_some (kept_at n old) (cond (k.number == n) (Some k) None) l (sym (at_push (λ (k : Kept). k.number) n old k)
+    ∙ there)) [
       | inl was ↦ none n l was
       | inr it ↦ new (k.number == n) it
     ]
@@ -70,13 +74,15 @@ none_pushed k left old none n l there =
     new false it = let never : None ≡ Some l = it in cc
 
 -- one is gone as it goes out, and is taken out
-pub none_handed : (h i j : Holding) → IsSound h → (n a : ℕ) (k : Kept) (s : Subscriber) → Picks h n k a s → Changes h n k None i
+pub none_handed : (h i j : Holding) → IsSound h → (n a : ℕ) (k : Kept) (s : Subscriber) → Picks h n k a s
+    → Changes h n k None i
     → (IsSound i → Forgets i n j) → NoneGone h.kept → NoneGone j.kept
 none_handed h i j is n a k s p c forgets none m l there =
     elim (cases_eq m n) [
       | inl same ↦ f.gone m l there same
       | inr other ↦
-          let was : kept_at m (map (with_fate n None) h.kept) ≡ Some l = ap (λ ks. kept_at m ks) (sym c.kept) ∙ f.kept m l there in
+          let was : kept_at m (map (with_fate n None) h.kept) ≡ Some l =
+          ap (λ ks. kept_at m ks) (sym c.kept) ∙ f.kept m l there in
           none m l (sym (at_edit_other (λ (k : Kept). k.number) n m (fated None) (λ k. refl) other h.kept) ∙ was)
     ]
   where
@@ -97,7 +103,8 @@ find_filtered test p all (x ∷ xs) = elim (cases_Bool (test x)) [
 ]
 
 -- what is gone since a transaction began was noted
-pub begun_noted : (start h : Holding) (log : List Logged) → IsBegun start log h → NoneGone start.kept → GoneAreNoted h.kept log
+pub begun_noted : (start h : Holding) (log : List Logged) → IsBegun start log h → NoneGone start.kept
+    → GoneAreNoted h.kept log
 begun_noted start h log b none n k there gone =
     elim (cases_Bool (nat_le n start.last)) [
       | inr late ↦
@@ -106,7 +113,8 @@ begun_noted start h log b none n k there gone =
       | inl early ↦ elim (cases_Bool (mentions n log)) [
         | inl on ↦ on
         | inr off ↦
-            let same : undone log k ≡ k = unmentioned log k (ap (λ m. mentions m log) (at_number (λ (k : Kept). k.number) n h.kept k there)
+            let same : undone log k ≡ k =
+            unmentioned log k (ap (λ m. mentions m log) (at_number (λ (k : Kept). k.number) n h.kept k there)
             ∙ off) in
             let never : true ≡ false = sym gone ∙ none n k (was early ∙ ap (λ (l : Kept). Some l) same) in cc
       ]
@@ -126,15 +134,18 @@ waits subscribers n e = (e.number == n) && notes n (entries_of (subscriber_at e.
 
 -- what is gone and kept waits to be swept
 abbrev pub AreLeft : Holding → List Logged → Type 0
-AreLeft h log = (n : ℕ) (k : Kept) → kept_at n h.kept ≡ Some k → is_gone k.fate ≡ true → list_any (waits h.subscribers n) log ≡ true
+AreLeft h log =
+    (n : ℕ) (k : Kept) → kept_at n h.kept ≡ Some k → is_gone k.fate ≡ true → list_any (waits h.subscribers n) log ≡ true
 
-held_waits : (subscribers : List Subscriber) (n : ℕ) (log : List Logged) → AreHeld subscribers log → mentions n log ≡ true
+held_waits : (subscribers : List Subscriber) (n : ℕ) (log : List Logged) → AreHeld subscribers log
+    → mentions n log ≡ true
     → list_any (waits subscribers n) log ≡ true
 held_waits subscribers n [] held on = on
 held_waits subscribers n (e ∷ log) held on = elim (cases_Bool (e.number == n)) [
   | inl here ↦
       let noted : notes n (entries_of (subscriber_at e.age subscribers)) ≡ true =
-      ap (λ o. notes n (entries_of o)) held.0.there ∙ ap (λ m. notes m held.0.holder.entries) (sym (eqb-true e.number n here))
+      ap (λ o. notes n (entries_of o)) held.0.there
+      ∙ ap (λ m. notes m held.0.holder.entries) (sym (eqb-true e.number n here))
       ∙ held.0.noted in
       rw (here, noted) refl
   | inr off ↦ rw off (held_waits subscribers n log held.1 (rw off at on))
@@ -143,7 +154,8 @@ held_waits subscribers n (e ∷ log) held on = elim (cases_Bool (e.number == n))
 pub left_first : (h : Holding) (log : List Logged) → AreHeld h.subscribers log → GoneAreNoted h.kept log → AreLeft h log
 left_first h log held noted n k there gone = held_waits h.subscribers n log held (noted n k there gone)
 
-module _ (i j : Holding) (e : Logged) (is : IsSound i) (swept : SweptOne i e.age j) (clears : Clears i e.age j) (n : ℕ) (k : Kept)
+module _ (i j : Holding) (e : Logged) (is : IsSound i) (swept : SweptOne i e.age j) (clears : Clears i e.age j) (n : ℕ)
+    (k : Kept)
     (there : kept_at n j.kept ≡ Some k) (gone : is_gone k.fate ≡ true) where
   -- the subscriber that was swept doesn't note it any more
   no_more : (o : Option Subscriber) → subscriber_at e.age i.subscribers ≡ o → notes n (entries_of o) ≡ true → ⊥
@@ -162,14 +174,16 @@ module _ (i j : Holding) (e : Logged) (is : IsSound i) (swept : SweptOne i e.age
     | inr other ↦ ap (λ o. (x.number == n) && notes n (entries_of o)) (swept.others x.age other) ∙ on
   ]
 
-  waits_later : (log : List Logged) → list_any (waits i.subscribers n) (e ∷ log) ≡ true → list_any (waits j.subscribers n) log ≡ true
+  waits_later : (log : List Logged) → list_any (waits i.subscribers n) (e ∷ log) ≡ true
+      → list_any (waits j.subscribers n) log ≡ true
   waits_later log any = elim (cases_Bool (waits i.subscribers n e)) [
     | inl on ↦ absurd (never_own e on refl)
     | inr off ↦ any_implies (waits i.subscribers n) (waits j.subscribers n) waits_on log (rw off at any)
   ]
 
 -- one more was swept
-pub left_next : (i j : Holding) (log : List Logged) (index : ℕ) (e : Logged) → index < length log → e ≡ get_or log index e → IsSound i
+pub left_next : (i j : Holding) (log : List Logged) (index : ℕ) (e : Logged) → index < length log
+    → e ≡ get_or log index e → IsSound i
     → SweptOne i e.age j → Clears i e.age j → AreLeft i (drop index log) → AreLeft j (drop (index + 1) log)
 left_next i j log index e short is sound swept clears left n k there gone =
     let one : suc index ≡ index + 1 = omega arith in
@@ -182,5 +196,6 @@ left_next i j log index e short is sound swept clears left n k there gone =
 pub none_left : (h : Holding) (log : List Logged) → log ≡ [] → AreLeft h log → NoneGone h.kept
 none_left h log all left n k there = elim (cases_Bool (is_gone k.fate)) [
   | inr off ↦ off
-  | inl gone ↦ let never : false ≡ true = ap (λ l. list_any (waits h.subscribers n) l) (sym all) ∙ left n k there gone in cc
+  | inl gone ↦ let never : false ≡ true =
+      ap (λ l. list_any (waits h.subscribers n) l) (sym all) ∙ left n k there gone in cc
 ]

@@ -16,7 +16,8 @@ use Rattle.broker_queues.proofs.Changing.{changed}
 use Rattle.broker_queues.proofs.Finding.{find_map, map_map}
 
 -- before the first delivery
-pub turns_none : (h : Holding) (age : ℕ) (s : Subscriber) (to : Option Fate) (test : Fate → Bool) → passes test to ≡ false → IsSound h
+pub turns_none : (h : Holding) (age : ℕ) (s : Subscriber) (to : Option Fate) (test : Fate → Bool)
+    → passes test to ≡ false → IsSound h
     → subscriber_at age h.subscribers ≡ Some s → Turns h age s to test [] h
 turns_none h age s to test fails is sits = record {
   sound = is;
@@ -56,16 +57,19 @@ module _ (h i : Holding) (is : IsSound h) (age : ℕ) (s : Subscriber) (to : Opt
   }
 
   -- one that does
-  turned_one : (k : Kept) (j : Holding) → kept_at e.number i.kept ≡ Some k → passes test k.fate ≡ true → Changes i e.number k to j
+  turned_one : (k : Kept) (j : Holding) → kept_at e.number i.kept ≡ Some k → passes test k.fate ≡ true
+      → Changes i e.number k to j
       → j.given ≡ i.given → Turns h age s to test (es ++ e ∷ []) j
   turned_one k j there on c given = record {
     sound = changed i j e.number k to t.sound there c;
     kept = c.kept ∙ ap (λ l. map (with_fate e.number to) l) t.kept
         ∙ hit to test fails es e h.kept k is.numbers (sym (ap (λ l. kept_at e.number l) t.kept) ∙ there) on;
-    subscriptions = ap subscriptions_of c.subscribers ∙ map_map (λ s. s.subscription) (recounted k.fate to) i.subscribers
+    subscriptions =
+        ap subscriptions_of c.subscribers ∙ map_map (λ s. s.subscription) (recounted k.fate to) i.subscribers
         ∙ t.subscriptions;
     now = recounted k.fate to t.now;
-    sits = ap (λ l. subscriber_at age l) c.subscribers ∙ find_map (has_age age) (recounted k.fate to) (λ x. refl) i.subscribers
+    sits = ap (λ l. subscriber_at age l) c.subscribers
+        ∙ find_map (has_age age) (recounted k.fate to) (λ x. refl) i.subscribers
         ∙ ap (λ o. option_map (recounted k.fate to) o) t.sits;
     subscription = t.subscription;
     entries = t.entries;
@@ -76,10 +80,12 @@ module _ (h i : Holding) (is : IsSound h) (age : ℕ) (s : Subscriber) (to : Opt
     others = λ b u sat. still b u (t.others b u sat);
   }
     where
-      still : (b : ℕ) (u : Subscriber) → IsSame u (subscriber_at b i.subscribers) → IsSame u (subscriber_at b j.subscribers)
+      still : (b : ℕ) (u : Subscriber) → IsSame u (subscriber_at b i.subscribers)
+          → IsSame u (subscriber_at b j.subscribers)
       still b u m = record {
         now = recounted k.fate to m.now;
-        there = ap (λ l. subscriber_at b l) c.subscribers ∙ find_map (has_age b) (recounted k.fate to) (λ x. refl) i.subscribers
+        there = ap (λ l. subscriber_at b l) c.subscribers
+            ∙ find_map (has_age b) (recounted k.fate to) (λ x. refl) i.subscribers
             ∙ ap (λ o. option_map (recounted k.fate to) o) m.there;
         subscription = m.subscription;
         entries = m.entries;
@@ -100,14 +106,17 @@ turns_hit h i j is age s again test fails out es e t on takes given = by_kept (k
     by_kept (Some k) there on2 =
         let to_it : passes (out_to t.now.subscription.session t.now.subscription.id) k.fate ≡ true =
         ap (λ (u : Subscription). passes (out_to u.session u.id) k.fate) t.subscription ∙ out k.fate on2 in
-        turned_one h i is age s (back again) test fails es e t k j there on2 (takes k t.now t.sound there t.sits to_it) given
+        turned_one h i is age s (back again) test fails es e t k j there on2 (takes k t.now t.sound there t.sits to_it)
+        given
 
 -- one delivery more of a list
-pub take_next : (es : List Entry) (i : ℕ) (e : Entry) → i < length es → get_or es i e ≡ e → take (i + 1) es ≡ take i es ++ e ∷ []
+pub take_next : (es : List Entry) (i : ℕ) (e : Entry) → i < length es → get_or es i e ≡ e
+    → take (i + 1) es ≡ take i es ++ e ∷ []
 take_next es i e short is = take_more es i e short ∙ ap (λ x. take i es ++ x ∷ []) is
 
 -- what becomes of a message that is taken back counts for no answer
-pub uncovered : (s : Subscription) (answered : Option ℕ) (again : Bool) → passes (counts_in s answered) (back again) ≡ false
+pub uncovered : (s : Subscription) (answered : Option ℕ) (again : Bool)
+    → passes (counts_in s answered) (back again) ≡ false
 uncovered s None true = refl
 uncovered s None false = refl
 uncovered s (Some answered) true = refl
@@ -121,7 +130,8 @@ counts_out s (Some answered) f on = covered_out s answered f on
 
 module _ (h i : Holding) (is : IsSound h) (age : ℕ) (s : Subscriber) (again : Bool) (answered : Option ℕ) (index : ℕ)
     (u : Subscriber) (es : List Entry)
-    (sub : Subscription) (e d : Entry) (there : Some u ≡ subscriber_at age i.subscribers) (list : es ≡ u.entries) (own : sub
+    (sub : Subscription) (e d : Entry) (there : Some u ≡ subscriber_at age i.subscribers) (list : es ≡ u.entries)
+    (own : sub
     ≡ u.subscription)
     (read : e ≡ get_or es index d) (short : index < length s.entries)
     (t : Turns h age s (back again) (counts_in s.subscription answered) (take index s.entries) i) where
@@ -145,7 +155,8 @@ module _ (h i : Holding) (is : IsSound h) (age : ℕ) (s : Subscriber) (again : 
   next_hit j on takes given =
       let on2 : passes (counts_in s.subscription answered) (fate_of_kept (kept_at e.number i.kept)) ≡ true =
       ap (λ v. passes (counts_in v answered) (fate_of_kept (kept_at e.number i.kept))) (sym same_subscription) ∙ on in
-      rw the_next (turns_hit h i j is age s again (counts_in s.subscription answered) (uncovered s.subscription answered again)
+      rw the_next (turns_hit h i j is age s again (counts_in s.subscription answered)
+      (uncovered s.subscription answered again)
       (λ f passed. counts_out s.subscription answered f passed) (take index s.entries) e t on2 takes given)
 
   -- it doesn't
@@ -154,5 +165,6 @@ module _ (h i : Holding) (is : IsSound h) (age : ℕ) (s : Subscriber) (again : 
   next_miss off =
       let off2 : passes (counts_in s.subscription answered) (fate_of_kept (kept_at e.number i.kept)) ≡ false =
       ap (λ v. passes (counts_in v answered) (fate_of_kept (kept_at e.number i.kept))) (sym same_subscription) ∙ off in
-      rw the_next (turns_miss h i is age s (back again) (counts_in s.subscription answered) (uncovered s.subscription answered again)
+      rw the_next (turns_miss h i is age s (back again) (counts_in s.subscription answered)
+      (uncovered s.subscription answered again)
       (take index s.entries) e t off2)

@@ -71,7 +71,8 @@ before_taken last n log (k ∷ kept) later = elim (cases_Bool (k.number == n)) [
   | inr off ↦ rw (off, off) (consed (nat_le (undone log k).number last) (before_taken last n log kept later))
 ]
   where
-    consed : (b : Bool) → before last log (filter (λ k. not (k.number == n)) (map (with_fate n None) kept)) ≡ before last log kept
+    consed : (b : Bool) → before last log (filter (λ k. not (k.number == n)) (map (with_fate n None) kept))
+        ≡ before last log kept
         → cond b (undone log k ∷ before last log (filter (λ k. not (k.number == n)) (map (with_fate n None) kept)))
         (before last log (filter (λ k. not (k.number == n)) (map (with_fate n None) kept)))
         ≡ cond b (undone log k ∷ before last log kept) (before last log kept)
@@ -81,7 +82,8 @@ before_taken last n log (k ∷ kept) later = elim (cases_Bool (k.number == n)) [
 -- ---- the whole step
 
 -- there was no such message
-pub unput_none : (start h : Holding) (log : List Logged) → IsBegun start log h → start.last < h.last → kept_at h.last h.kept ≡ None
+pub unput_none : (start h : Holding) (log : List Logged) → IsBegun start log h → start.last < h.last
+    → kept_at h.last h.kept ≡ None
     → IsBegun start log (record h { last = h.last - 1 })
 unput_none start h log b later none = record {
   sound = lowered_last h b.sound none (λ d listed. (let never : false ≡ true =
@@ -96,7 +98,8 @@ unput_none start h log b later none = record {
 }
 
 module _ (start h i j : Holding) (log : List Logged) (k : Kept) (b : IsBegun start log h) (later : start.last < h.last)
-    (found : kept_at h.last h.kept ≡ Some k) (c : Changes h h.last k None i) (given : i.given ≡ h.given) (is : IsSound j)
+    (found : kept_at h.last h.kept ≡ Some k) (c : Changes h h.last k None i) (given : i.given ≡ h.given)
+    (is : IsSound j)
     (t : Takes i h.last (fated None k) j) where
   -- what is kept then was, and has another number
   other_at : (m : ℕ) → (m ≡ h.last → ⊥) → kept_at m j.kept ≡ kept_at m h.kept
@@ -111,14 +114,16 @@ module _ (start h i j : Holding) (log : List Logged) (k : Kept) (b : IsBegun sta
   same_last = t.last ∙ c.last
 
   -- what is listed then was
-  was_listed : (d : List ℕ) (m : ℕ) → lists m (queue_of j.queues d).numbers ≡ true → lists m (queue_of h.queues d).numbers ≡ true
+  was_listed : (d : List ℕ) (m : ℕ) → lists m (queue_of j.queues d).numbers ≡ true
+      → lists m (queue_of h.queues d).numbers ≡ true
   was_listed d m listed =
       ap (λ ps. lists m ps) (sym (c.lowers.numbers d)) ∙ t.listed d m listed
 
   -- it is listed nowhere
   nowhere : (d : List ℕ) → lists h.last (queue_of j.queues d).numbers ≡ true → ⊥
   nowhere d listed =
-      let goes : bytes_eq k.sent.destination d ≡ true = sym (ap (goes_to d) found) ∙ b.listed d h.last (was_listed d h.last listed) later in
+      let goes : bytes_eq k.sent.destination d ≡ true =
+      sym (ap (goes_to d) found) ∙ b.listed d h.last (was_listed d h.last listed) later in
       let same : k.sent.destination ≡ d = same_texts k.sent.destination d goes in
       let never : false ≡ true = sym t.away ∙ ap (λ e. lists h.last (queue_of j.queues e).numbers) same ∙ listed in cc
 
@@ -134,10 +139,12 @@ module _ (start h i j : Holding) (log : List Logged) (k : Kept) (b : IsBegun sta
         ∙ map_map (λ s. s.subscription) (recounted k.fate None) h.subscribers ∙ b.subscriptions;
     given = t.given ∙ given ∙ b.given;
     last = omega arith;
-    held = rw t.subscribers (held_still h.subscribers i.subscribers (same_recounted h i k.fate None c.subscribers) log b.held);
+    held = rw t.subscribers (held_still h.subscribers i.subscribers (same_recounted h i k.fate None c.subscribers) log
+        b.held);
     fresh = λ m l there high. b.fresh m l (sym (other_at m (λ same. (let never : None ≡ Some l =
         sym none_there ∙ ap (λ n. kept_at n j.kept) (sym same) ∙ there in cc))) ∙ there) high;
-    listed = λ d m listed high. ap (goes_to d) (other_at m (other_than_last d m listed)) ∙ b.listed d m (was_listed d m listed) high;
+    listed = λ d m listed high. ap (goes_to d) (other_at m (other_than_last d m listed))
+        ∙ b.listed d m (was_listed d m listed) high;
   }
     where
       lower_sound : IsSound (record j { last = h.last - 1 })
@@ -148,15 +155,18 @@ module _ (start h i j : Holding) (log : List Logged) (k : Kept) (b : IsBegun sta
 
 -- ---- by what each step of the code says
 
-pub none_taken : (start h i : Holding) (log : List Logged) → IsBegun start log h → start.last < h.last → LetsGo h h.last i false
+pub none_taken : (start h i : Holding) (log : List Logged) → IsBegun start log h → start.last < h.last
+    → LetsGo h h.last i false
     → IsBegun start log (record i { last = h.last - 1 })
 none_taken start h i log b later gone = rw gone.1 (unput_none start h log b later gone.0)
 
-pub one_taken : (start h i j : Holding) (log : List Logged) → IsBegun start log h → start.last < h.last → LetsGo h h.last i true
+pub one_taken : (start h i j : Holding) (log : List Logged) → IsBegun start log h → start.last < h.last
+    → LetsGo h h.last i true
     → Sweeps i j → TakesOut i h.last j → IsBegun start log (record j { last = h.last - 1 })
 one_taken start h i j log b later gone sweeps takes =
     let changes = gone.2 b.sound (b.fresh h.last gone.0 gone.1 later) in
     let is : IsSound i = changed h i h.last gone.0 None b.sound gone.1 changes.0 in
     let found : kept_at h.last i.kept ≡ Some (fated None gone.0) =
     ap (kept_at h.last) changes.0.kept ∙ at_edit (λ k. k.number) h.last (fated None) (λ x. refl) h.kept gone.0 gone.1 in
-    unput_begun start h i j log gone.0 b later gone.1 changes.0 changes.1 (sweeps is).sound (takes (fated None gone.0) is found refl)
+    unput_begun start h i j log gone.0 b later gone.1 changes.0 changes.1 (sweeps is).sound
+    (takes (fated None gone.0) is found refl)

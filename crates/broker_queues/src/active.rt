@@ -38,7 +38,8 @@ impl Active {
 
     /// Notes a name.
     fn note(&mut self, name: &Text) -> Result<(), AllocError>
-        ensures wakes { Wakes (awake_in self.old.all self.old.names.items) (awake_in self.new.all self.new.names.items) }
+        ensures wakes { Wakes (awake_in self.old.all self.old.names.items)
+            (awake_in self.new.all self.new.names.items) }
         ensures awake { OnOk result (awake_in self.new.all self.new.names.items name.now ≡ true) }
     {
         let copy = name.copy(self.alloc)?;
@@ -57,7 +58,8 @@ impl Active {
 
     /// From now on something may be due at a destination.
     pub fn wake(&mut self, name: &Text)
-        ensures wakes { Wakes (awake_in self.old.all self.old.names.items) (awake_in self.new.all self.new.names.items) }
+        ensures wakes { Wakes (awake_in self.old.all self.old.names.items)
+            (awake_in self.new.all self.new.names.items) }
         ensures awake { awake_in self.new.all self.new.names.items name.now ≡ true }
     {
         // A message that is accepted must not fail for want of a hint: all are looked at until there is memory again.

@@ -240,7 +240,8 @@ fn first_taker(
     last: u64,
     name: &Text,
 ) -> Option<Place>
-    ensures { FirstOf (takes_more subscribers.now given name.now) queue.now.subscribers queue.now.taker_from last result }
+    ensures { FirstOf (takes_more subscribers.now given name.now) queue.now.subscribers queue.now.taker_from last
+        result }
 {
     let mut from = queue.taker_from();
     while let Some(place) = queue.first_subscriber_from(from) {

@@ -115,7 +115,8 @@ impl Parts {
 
     /// The place of a session's subscriber of this name.
     pub fn named(&self, session: u64, id: &Text) -> Option<Place>
-        ensures { result ≡ find (is_named_at self.now.subscribers session id.now) (places_at self.now.sessions session) }
+        ensures { result ≡ find (is_named_at self.now.subscribers session id.now)
+            (places_at self.now.sessions session) }
     {
         self.first_named(self.sessions.get(session), session, id)
     }

@@ -88,11 +88,12 @@ pub fn settle_to_send(
     send(alloc, pair.from.kind(), "settle", pair, number, "")
 }
 
-/// The SEND that carries an envelope (STOMP 1.2, section "SEND"): the headers `destination`, `kind`, `from`, `to` and `number` in this
-/// order, and the body. `from` and `to` are those of the pair, in a settle too; `number` is decimal, without leading zeros.
+/// The SEND that carries an envelope (STOMP 1.2, section "SEND"): the headers `destination`, `kind`, `from`, `to` and
+/// `number` in this order, and the body. `from` and `to` are those of the pair, in a settle too; `number` is decimal,
+/// without leading zeros.
 ///
-/// A letter goes to the queue of its receiver's service, with the message as its body. A settle goes back to the queue of the
-/// service that sends the letters, with an empty body.
+/// A letter goes to the queue of its receiver's service, with the message as its body. A settle goes back to the queue
+/// of the service that sends the letters, with an empty body.
 ///
 /// # Errors
 /// `BadEnvelope` for a settle whose number isn't 1 to 2^40; else `Memory` where a growth was refused.

@@ -31,16 +31,22 @@ the_desk_asks : (on_room_command Free Reserve ≡ Ok (Taken, [])) × (on_room_co
 the_desk_asks = (refl, refl, refl, refl, refl, refl)
 
 -- two guests find beds and three don't; a promised room is refused, also to the order that has it
-an_order_asks : (on_room_message Free o1 (Request 2) ≡ (Promised o1, record { receiver = o1; message = Tentative } ∷ []))
+an_order_asks : (on_room_message Free o1 (Request 2) ≡ (
+  Promised o1,
+  record { receiver = o1; message = Tentative } ∷ [],
+))
     × (on_room_message Free o1 (Request 3) ≡ (Free, record { receiver = o1; message = Refused } ∷ []))
     × (on_room_message (Promised o1) o2 (Request 1) ≡ (Promised o1, record { receiver = o2; message = Refused } ∷ []))
     × (on_room_message (Promised o1) o1 (Request 1) ≡ (Promised o1, record { receiver = o1; message = Refused } ∷ []))
     × (on_room_message Taken o1 (Request 1) ≡ (Taken, record { receiver = o1; message = Refused } ∷ []))
 an_order_asks = (refl, refl, refl, refl, refl)
 
--- the order that it is promised to takes it or gives it back; another order's confirm or cancel changes nothing, nor does an answer
-promises_are_kept : (on_room_message (Promised o1) o1 Confirm ≡ (Taken, [])) × (on_room_message (Promised o1) o1 Cancel ≡ (Free, []))
-    × (on_room_message (Promised o1) o2 Confirm ≡ (Promised o1, [])) × (on_room_message (Promised o1) o2 Cancel ≡ (Promised o1, []))
+-- the order that it is promised to takes it or gives it back; another order's confirm or cancel changes nothing, nor
+-- does an answer
+promises_are_kept : (on_room_message (Promised o1) o1 Confirm ≡ (Taken, []))
+    × (on_room_message (Promised o1) o1 Cancel ≡ (Free, []))
+    × (on_room_message (Promised o1) o2 Confirm ≡ (Promised o1, []))
+    × (on_room_message (Promised o1) o2 Cancel ≡ (Promised o1, []))
     × (on_room_message Taken o1 Cancel ≡ (Taken, [])) × (on_room_message Free o1 Confirm ≡ (Free, []))
     × (on_room_message (Promised o1) o1 Tentative ≡ (Promised o1, []))
 unfolding same_entity
@@ -49,6 +55,7 @@ promises_are_kept = (refl, refl, refl, refl, refl, refl, refl)
 -- from the beginning on: the room is promised and taken by the order, which no guest interrupts
 a_room_is_taken : (state room_reactions (FromEntity o1 1 (Request 2) ∷ FromEntity o1 2 Confirm ∷ []) ≡ Taken)
     × (sent room_reactions (FromEntity o1 1 (Request 2) ∷ FromEntity o1 2 Confirm ∷ []) o1 ≡ Tentative ∷ [])
-    × (react room_reactions (state room_reactions (FromEntity o1 1 (Request 2) ∷ [])) (FromSeat 0 Reserve) ≡ Err NotOpen)
+    × (react room_reactions (state room_reactions (FromEntity o1 1 (Request 2) ∷ [])) (FromSeat 0 Reserve)
+    ≡ Err NotOpen)
 unfolding same_entity
 a_room_is_taken = (refl, refl, refl)

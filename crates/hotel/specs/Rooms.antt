@@ -31,8 +31,8 @@ on_room_command Free Reserve = Ok (Taken, [])
 on_room_command Taken Release = Ok (Free, [])
 on_room_command room command = Err NotOpen
 
--- a free room is promised to an order that asks for no more guests than it has beds for, and else the request is refused; the order that
--- it is promised to takes it or gives it back; anything else changes nothing
+-- a free room is promised to an order that asks for no more guests than it has beds for, and else the request is
+-- refused; the order that it is promised to takes it or gives it back; anything else changes nothing
 abbrev pub on_room_message : Room → Name → Message → Room × List Out
 on_room_message room order (Request n) =
     if is_free room && nat_le n BEDS then (Promised order, reply order Tentative) else (room, reply order Refused)

@@ -1,7 +1,7 @@
 //! Rooms of a hotel: a handler of one's own, as small as one can be. `docs/HANDLER.md` tells how to write another.
 //!
-//! The code is the table of a room's reactions: a guest takes a free room at the desk and leaves it; an order is promised a free room, and
-//! then takes it or gives it back. After a refusal or want of memory nothing has changed.
+//! The code is the table of a room's reactions: a guest takes a free room at the desk and leaves it; an order is
+//! promised a free room, and then takes it or gives it back. After a refusal or want of memory nothing has changed.
 //!
 //! ```rust
 //! pub fn a_free_room_is_promised(alloc: Global, order: Entity) -> Result<bool, HandlerFault> {

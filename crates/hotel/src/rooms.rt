@@ -11,8 +11,8 @@ use std::alloc::{AllocError, Global};
 
 /// What a hotel does with what its rooms take in.
 ///
-/// A free room is taken by a guest at the desk, or promised to an order that asks for no more guests than it has beds for. The order then
-/// takes it by its confirm, or gives it back by its cancel. Only a request wants memory.
+/// A free room is taken by a guest at the desk, or promised to an order that asks for no more guests than it has beds
+/// for. The order then takes it by its confirm, or gives it back by its cancel. Only a request wants memory.
 pub struct Rooms;
 
 impl Handler for Rooms {

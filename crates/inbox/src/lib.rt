@@ -1,8 +1,8 @@
 //! What a letter that arrives is to its receiver, by numbers alone.
 //!
-//! Letters of a pair are numbered 1, 2, .. by their sender. Of a pair of which `handled` letters were taken in, the next has the number
-//! `handled` + 1; one that isn't above `handled` comes again; one that is above the next came early, and is near enough to be held where
-//! it isn't more than `AHEAD` above `handled`.
+//! Letters of a pair are numbered 1, 2, .. by their sender. Of a pair of which `handled` letters were taken in, the
+//! next has the number `handled` + 1; one that isn't above `handled` comes again; one that is above the next came
+//! early, and is near enough to be held where it isn't more than `AHEAD` above `handled`.
 //!
 //! ```rust
 //! pub fn a_letter_comes_again(letter: &Letter) -> bool {

@@ -46,7 +46,8 @@ counts_down (Some a) = met_by a (nat_le a.calls 1)
 
 module _ {E T : Type 0} (seen : E → Seen T) (old mid new : E) (served : IsServed seen old mid) where
   pub then_served : IsServed seen mid new → IsServed seen old new
-  then_served h = (served.0, h.1, h.2 ∙ served.2, still_armed (seen old).armed (seen mid).armed (seen new).armed served.3 h.3)
+  then_served h =
+      (served.0, h.1, h.2 ∙ served.2, still_armed (seen old).armed (seen mid).armed (seen new).armed served.3 h.3)
 
   pub then_failed : HasFailed seen mid new → HasFailed seen old new
   then_failed h = (

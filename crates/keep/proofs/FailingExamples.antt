@@ -5,7 +5,8 @@ use Rattle.keep.specs.declared.fault.KeepFault.TheVariants.{Failed, Memory, Wron
 use Rattle.keep.specs.declared.faulty.Arming.{Arming}
 use Rattle.keep.specs.declared.faulty.Leaves.{Leaves}
 use Rattle.keep.specs.declared.faulty.Leaves.TheVariants.{Old, New}
-use Rattle.keep.specs.Failing.{Failing, due, counted_down, through, LeavesOnly, LeavesNew, IsLeft, FailsArmed, FailsUnasked, FailsAsInside}
+use Rattle.keep.specs.Failing.{Failing, due, counted_down, through, LeavesOnly, LeavesNew, IsLeft, FailsArmed}
+use Rattle.keep.specs.Failing.{FailsUnasked, FailsAsInside}
 use Rattle.keep.specs.Failing.{IsReadDue, IsTransactionDue, ReadsDue, WritesDue, ReopensThrough}
 use Rattle.keep.proofs.CallExamples.{old, new, third, only, either, may_leave, Store, seen, holds, broken}
 
@@ -29,22 +30,27 @@ abbrev downed : Store → Option Arming → Failing Store
 downed store armed = record (over store armed) { is_down = true; failures = 4 }
 
 -- both counts are seen, and both are to be usable; the tables are those inside
-both_are_seen : ((through seen (over (holds old) None)).failures ≡ 7) × ((through seen (over (holds old) None)).usable ≡ true)
-    × ((through seen (downed (holds old) None)).usable ≡ false) × ((through seen (over (broken (only old)) None)).usable ≡ false)
+both_are_seen : ((through seen (over (holds old) None)).failures ≡ 7)
+    × ((through seen (over (holds old) None)).usable ≡ true)
+    × ((through seen (downed (holds old) None)).usable ≡ false)
+    × ((through seen (over (broken (only old)) None)).usable ≡ false)
     × ((through seen (over (holds old) None)).tables ≡ old)
 both_are_seen = (refl, refl, refl, refl, refl)
 
 -- ---- what is left
 
--- a stop leaves what was chosen: the new tables where they were made, the old ones where memory was refused, either where that failed too
+-- a stop leaves what was chosen: the new tables where they were made, the old ones where memory was refused, either
+-- where that failed too
 the_chosen_is_left : LeavesOnly old (may_leave (only old)) × LeavesNew old new (may_leave (only new)) (Ok tt)
     × LeavesNew old new (may_leave (only old)) (Err Memory)
     × LeavesNew old new (may_leave (either old new)) (Err Failed)
 the_chosen_is_left = (λ t h. h, λ t h. h, λ t h. h, λ t h. h)
 
 -- and no others
-no_other_is_left : (LeavesOnly old (may_leave (either old new)) → ⊥) × (LeavesNew old new (may_leave (only old)) (Ok tt) → ⊥)
-    × (LeavesNew old new (may_leave (only new)) (Err Memory) → ⊥) × (LeavesNew old new (may_leave (only third)) (Err Failed) → ⊥)
+no_other_is_left : (LeavesOnly old (may_leave (either old new)) → ⊥)
+    × (LeavesNew old new (may_leave (only old)) (Ok tt) → ⊥)
+    × (LeavesNew old new (may_leave (only new)) (Err Memory) → ⊥)
+    × (LeavesNew old new (may_leave (only third)) (Err Failed) → ⊥)
     × (LeavesNew old new (may_leave (only old)) (Err WrongFile) → ⊥)
 no_other_is_left = (
   λ h. let e = h new (inr refl) in omega (arith, e),
@@ -61,7 +67,8 @@ what_is_due_is_left : IsLeft None old new (may_leave (only third)) (λ answer. �
     × (IsLeft (Some Old) old new (may_leave (only new)) (λ answer. ⊥) → ⊥)
     × (IsLeft (Some New) old new (may_leave (only old)) (λ answer. answer ≡ Ok tt) → ⊥)
     × (IsLeft (Some New) old new (may_leave (only new)) (λ answer. ⊥) → ⊥)
-what_is_due_is_left = (tt, λ t h. h, (Ok tt, refl, λ t h. h), λ h. let e = h new refl in omega (arith, e), not_old, λ h. h.1)
+what_is_due_is_left =
+    (tt, λ t h. h, (Ok tt, refl, λ t h. h), λ h. let e = h new refl in omega (arith, e), not_old, λ h. h.1)
   where
     not_old : IsLeft (Some New) old new (may_leave (only old)) (λ answer. answer ≡ Ok tt) → ⊥
     not_old (Ok _, is, left) = let e = left old refl in omega (arith, e)
@@ -74,7 +81,8 @@ an_armed_call_fails : FailsArmed seen (over (holds old) (in_calls 1 Old)) (downe
     × FailsArmed seen (record (over (holds old) None) { failures = 2 ^ 64 - 1 })
     (record (downed (holds old) None) { failures = 2 ^ 64 - 1 }) {R = ℕ} (Err Failed)
     × (FailsArmed seen (over (holds old) (in_calls 1 Old)) (downed (holds old) None) {R = ℕ} (Ok 10) → ⊥)
-    × (FailsArmed seen (over (holds old) (in_calls 1 Old)) (record (downed (holds old) None) { failures = 5 }) {R = ℕ} (Err Failed) → ⊥)
+    × (FailsArmed seen (over (holds old) (in_calls 1 Old)) (record (downed (holds old) None) { failures = 5 }) {R = ℕ}
+    (Err Failed) → ⊥)
     × (FailsArmed seen (over (holds old) (in_calls 1 Old)) (over (holds old) None) {R = ℕ} (Err Failed) → ⊥)
 an_armed_call_fails = (
   (refl, refl),
@@ -85,7 +93,8 @@ an_armed_call_fails = (
 )
 
 -- the store inside wasn't asked where it is as it was; where it was asked, only what it says is told
-the_store_is_asked_or_not : FailsUnasked seen (over (holds old) (in_calls 1 Old)) (downed (holds old) None) {R = ℕ} (Err Failed)
+the_store_is_asked_or_not : FailsUnasked seen (over (holds old) (in_calls 1 Old)) (downed (holds old) None) {R = ℕ}
+    (Err Failed)
     × (FailsUnasked seen (over (holds old) (in_calls 1 Old)) (downed (holds new) None) {R = ℕ} (Err Failed) → ⊥)
     × FailsAsInside seen (over (holds old) None) (over (holds old) None) {R = ℕ} (Ok 10)
     × FailsAsInside seen (over (holds old) None) (over (broken (only old)) None) {R = ℕ} (Err Failed)
@@ -101,7 +110,8 @@ the_store_is_asked_or_not = (
 )
 
 -- a read that is due fails whatever was chosen, and isn't asked; one that isn't due answers what the store inside does
-a_read_fails_where_due : IsReadDue seen (over (holds old) (in_calls 1 New)) (downed (holds old) None) {R = ℕ} (Some New) (Err Failed)
+a_read_fails_where_due : IsReadDue seen (over (holds old) (in_calls 1 New)) (downed (holds old) None) {R = ℕ} (Some New)
+    (Err Failed)
     × IsReadDue seen (over (holds old) None) (over (holds old) None) {R = ℕ} None (Ok 10)
     × (IsReadDue seen (over (holds old) (in_calls 1 New)) (downed (holds old) None) {R = ℕ} (Some New) (Ok 10) → ⊥)
     × (IsReadDue seen (over (holds old) None) (downed (holds old) None) {R = ℕ} None (Err Failed) → ⊥)
@@ -112,8 +122,10 @@ a_read_fails_where_due = (
   λ h. let e = h.0 in omega (arith, e),
 )
 
--- a transaction that is to leave the old tables isn't asked of the store inside, and one that is to leave the new ones is; both fail
-a_transaction_fails_where_due : IsTransactionDue seen (over (holds old) (in_calls 1 Old)) (downed (holds old) None) (Some Old) (Err Failed)
+-- a transaction that is to leave the old tables isn't asked of the store inside, and one that is to leave the new ones
+-- is; both fail
+a_transaction_fails_where_due : IsTransactionDue seen (over (holds old) (in_calls 1 Old)) (downed (holds old) None)
+    (Some Old) (Err Failed)
     × IsTransactionDue seen (over (holds old) (in_calls 1 New)) (downed (holds new) None) (Some New) (Err Failed)
     × IsTransactionDue seen (over (holds old) None) (over (holds new) None) None (Ok tt)
     × (IsTransactionDue seen (over (holds old) (in_calls 1 Old)) (downed (holds new) None) (Some Old) (Err Failed) → ⊥)
@@ -133,7 +145,8 @@ abbrev tenfold : ℕ → ℕ → Type 0
 tenfold t answer = answer ≡ 10 * t
 
 -- the first read answers and the second fails; a read that is due doesn't answer, and an arming is counted down
-reads_are_counted_down : ReadsDue seen (over (holds old) (in_calls 2 Old)) (over (holds old) (in_calls 1 Old)) tenfold (Ok 10)
+reads_are_counted_down : ReadsDue seen (over (holds old) (in_calls 2 Old)) (over (holds old) (in_calls 1 Old)) tenfold
+    (Ok 10)
     × ReadsDue seen (over (holds old) (in_calls 1 Old)) (downed (holds old) None) {R = ℕ} tenfold (Err Failed)
     × (ReadsDue seen (over (holds old) (in_calls 1 Old)) (over (holds old) None) tenfold (Ok 10) → ⊥)
     × (ReadsDue seen (over (holds old) (in_calls 2 Old)) (over (holds old) (in_calls 2 Old)) tenfold (Ok 10) → ⊥)
@@ -145,7 +158,11 @@ reads_are_counted_down = (
     fails = (refl, (refl, refl, refl, refl));
   },
   record {
-    reads = record { call = (refl, refl, (omega arith, omega arith), inl refl); doubt = omega arith; clean = λ _ t h. h };
+    reads = record {
+      call = (refl, refl, (omega arith, omega arith), inl refl);
+      doubt = omega arith;
+      clean = λ _ t h. h;
+    };
     armed = refl;
     fails = ((refl, refl), refl);
   },
@@ -162,7 +179,8 @@ abbrev double : ℕ → ℕ
 double t = 2 * t
 
 -- one that isn't due is made; one that is leaves the old tables or the new ones, as was chosen
-transactions_leave_what_was_chosen : WritesDue seen (over (holds old) None) (over (holds new) None) fits_one double (Ok tt)
+transactions_leave_what_was_chosen : WritesDue seen (over (holds old) None) (over (holds new) None) fits_one double
+    (Ok tt)
     × WritesDue seen (over (holds old) (in_calls 1 Old)) (downed (holds old) None) fits_one double (Err Failed)
     × WritesDue seen (over (holds old) (in_calls 1 New)) (downed (holds new) None) fits_one double (Err Failed)
     × (WritesDue seen (over (holds old) (in_calls 1 New)) (over (holds new) None) fits_one double (Ok tt) → ⊥)
@@ -175,13 +193,21 @@ transactions_leave_what_was_chosen = (
     left = λ _ _. tt;
   },
   record {
-    writes = record { call = (refl, refl, (omega arith, omega arith), inl refl); doubt = omega arith; clean = λ _ _ t h. inl h };
+    writes = record {
+      call = (refl, refl, (omega arith, omega arith), inl refl);
+      doubt = omega arith;
+      clean = λ _ _ t h. inl h;
+    };
     armed = refl;
     fails = ((refl, refl), refl);
     left = λ _ _ t h. h;
   },
   record {
-    writes = record { call = (refl, refl, (omega arith, omega arith), inl refl); doubt = omega arith; clean = λ _ _ t h. inr h };
+    writes = record {
+      call = (refl, refl, (omega arith, omega arith), inl refl);
+      doubt = omega arith;
+      clean = λ _ _ t h. inr h;
+    };
     armed = refl;
     fails = (refl, refl);
     left = λ _ _. (Ok tt, (refl, refl, refl, refl), λ t h. h);
@@ -195,7 +221,8 @@ a_reopening_passes : ReopensThrough seen (downed (holds old) (in_calls 2 New))
     (record (downed (holds old) (in_calls 2 New)) { is_down = false }) (Ok tt)
     × ReopensThrough seen (over (broken (only old)) None) (over (broken (only old)) None) (Err Memory)
     × (ReopensThrough seen (over (broken (only old)) None) (over (broken (only old)) None) (Ok tt) → ⊥)
-    × (ReopensThrough seen (downed (holds old) (in_calls 2 New)) (record (downed (holds old) None) { is_down = false }) (Ok tt) → ⊥)
+    × (ReopensThrough seen (downed (holds old) (in_calls 2 New)) (record (downed (holds old) None) { is_down = false })
+    (Ok tt) → ⊥)
     × (ReopensThrough seen (downed (holds old) None) (over (holds old) None) (Ok tt) → ⊥)
 a_reopening_passes = (
   record {

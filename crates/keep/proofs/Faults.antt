@@ -1,11 +1,13 @@
 -- What a keep says of a call, from what the keep inside says of it.
-use Rattle.std.proofs.Common.{ℕ, ◌+◌, ◌-◌, ◌^◌, ◌≤◌, ◌≡◌, inl, inr, min, Bool, true, false, not, ◌&&◌, Some, None, Result, Ok, Err, refl}
+use Rattle.std.proofs.Common.{ℕ, ◌+◌, ◌-◌, ◌^◌, ◌≤◌, ◌≡◌, inl, inr, min, Bool, true, false, not, ◌&&◌, Some, None}
+use Rattle.std.proofs.Common.{Result, Ok, Err, refl}
 use Rattle.std.proofs.Common.{sym, ap, subst, ◌∙◌, arith}
 use Rattle.keep.specs.declared.fault.KeepFault.{KeepFault}
 use Rattle.keep.specs.declared.fault.KeepFault.TheVariants.{Failed, Memory, WrongFile}
 use Rattle.keep.specs.declared.faulty.Leaves.{Leaves}
 use Rattle.keep.specs.declared.faulty.Leaves.TheVariants.{Old, New}
-use Rattle.keep.specs.Law.{MoreFailures, LeavesEither, Never, IsCall, IsRead, IsTransaction, IsReopenCall, IsReopening, HasFailed, Reads}
+use Rattle.keep.specs.Law.{MoreFailures, LeavesEither, Never, IsCall, IsRead, IsTransaction, IsReopenCall, IsReopening}
+use Rattle.keep.specs.Law.{HasFailed, Reads}
 use Rattle.keep.specs.Law.{StaysArmed, MayBeMet, Writes, Reopens}
 use Rattle.keep.specs.Seen.{Seen, IsSound, keep_end}
 use Rattle.keep.specs.Failing.{Failing, through, due, counted_down, LeavesNew, ReadsDue, WritesDue, ReopensThrough}
@@ -41,7 +43,8 @@ module _ {K T : Type 0} (seen : K → Seen T) (old new : Failing K) where
     call_inside (Err WrongFile) stays h = absurd h.1
 
     -- a reopening inside is a reopening
-    reopen_inside : (r : Result Unit KeepFault) → new.armed ≡ old.armed → IsReopenCall seen old.keep new.keep (keep_end r)
+    reopen_inside : (r : Result Unit KeepFault) → new.armed ≡ old.armed
+        → IsReopenCall seen old.keep new.keep (keep_end r)
         → IsReopenCall (through seen) old new (keep_end r)
     reopen_inside (Ok _) stays h = (up new.is_down _ is h.0, same _ _ h.1, stays)
     reopen_inside (Err Memory) stays h = (down new.is_down _ h.0, same _ _ h.1, stays)
@@ -50,7 +53,8 @@ module _ {K T : Type 0} (seen : K → Seen T) (old new : Failing K) where
 
   -- and what it says of the tables stays
   read_clean : {R : Type 0} (gives : T → R → Type 0) (r : Result R KeepFault)
-      → IsRead seen old.keep new.keep gives (λ _. Never) (keep_end r) → IsRead (through seen) old new gives (λ _. Never) (keep_end r)
+      → IsRead seen old.keep new.keep gives (λ _. Never) (keep_end r)
+      → IsRead (through seen) old new gives (λ _. Never) (keep_end r)
   read_clean gives (Ok _) h = h
   read_clean gives (Err Memory) h = h
   read_clean gives (Err Failed) h = h
@@ -75,7 +79,8 @@ module _ {K T : Type 0} (seen : K → Seen T) (old new : Failing K) where
   still armed unarmed = subst (StaysArmed old.armed) (sym armed) (unmet old.armed unarmed)
 
   -- a call that the keep inside answers
-  pub read_inside : {R : Type 0} (gives : T → R → Type 0) (r : Result R KeepFault) → old.is_down ≡ false → new.is_down ≡ false
+  pub read_inside : {R : Type 0} (gives : T → R → Type 0) (r : Result R KeepFault) → old.is_down ≡ false
+      → new.is_down ≡ false
       → new.failures ≡ old.failures
       → new.armed ≡ counted_down old.armed → due old.armed ≡ None → Reads seen old.keep new.keep gives (keep_end r)
       → ReadsDue seen old new gives r
@@ -90,7 +95,8 @@ module _ {K T : Type 0} (seen : K → Seen T) (old new : Failing K) where
     fails = rw unarmed (own, h.call);
   }
 
-  pub write_inside : (Fit : T → Type 0) (to : T → T) (r : Result Unit KeepFault) → old.is_down ≡ false → new.is_down ≡ false
+  pub write_inside : (Fit : T → Type 0) (to : T → T) (r : Result Unit KeepFault) → old.is_down ≡ false
+      → new.is_down ≡ false
       → new.failures ≡ old.failures
       → new.armed ≡ counted_down old.armed → due old.armed ≡ None → Writes seen old.keep new.keep Fit to (keep_end r)
       → WritesDue seen old new Fit to r
@@ -106,10 +112,15 @@ module _ {K T : Type 0} (seen : K → Seen T) (old new : Failing K) where
     left = rw unarmed (λ _ _. tt);
   }
 
-  pub reopened_inside : (r : Result Unit KeepFault) → old.is_down ≡ false → new.is_down ≡ false → new.failures ≡ old.failures
+  pub reopened_inside : (r : Result Unit KeepFault) → old.is_down ≡ false → new.is_down ≡ false
+      → new.failures ≡ old.failures
       → new.armed ≡ old.armed → Reopens seen old.keep new.keep (keep_end r) → ReopensThrough seen old new r
   reopened_inside r was is own armed h = record {
-    reopens = record { call = reopen_inside was is own r armed h.call; doubt = h.doubt; clean = λ e. reopen_clean r (h.clean e) };
+    reopens = record {
+      call = reopen_inside was is own r armed h.call;
+      doubt = h.doubt;
+      clean = λ e. reopen_clean r (h.clean e);
+    };
     armed = armed;
     passes = (own, h.call);
   }
@@ -146,13 +157,16 @@ module _ {K T : Type 0} (seen : K → Seen T) (old new : Failing K) where
         )
 
     failed_doubt : (seen old.keep).doubt ≤ (seen new.keep).doubt
-    failed_doubt = let e : (seen new.keep).doubt ≡ (seen old.keep).doubt = ap (λ k. (seen k).doubt) kept in omega (arith, e)
+    failed_doubt =
+        let e : (seen new.keep).doubt ≡ (seen old.keep).doubt = ap (λ k. (seen k).doubt) kept in omega (arith, e)
 
     failed_clean : (seen new.keep).doubt ≡ 0 → (t : T) → (seen new.keep).may_leave t → t ≡ (seen old.keep).tables
-    failed_clean clean t l = sound.only_now (subst (λ k. (seen k).doubt ≡ 0) kept clean) (inside old.is_down (seen old.keep).usable usable)
+    failed_clean clean t l =
+        sound.only_now (subst (λ k. (seen k).doubt ≡ 0) kept clean) (inside old.is_down (seen old.keep).usable usable)
         t (subst (λ k. (seen k).may_leave t) kept l)
 
-    pub read_failed : {R : Type 0} (gives : T → R → Type 0) (r : Result R KeepFault) (leaves : Leaves) → due old.armed ≡ Some leaves
+    pub read_failed : {R : Type 0} (gives : T → R → Type 0) (r : Result R KeepFault) (leaves : Leaves)
+        → due old.armed ≡ Some leaves
         → r ≡ Err Failed → ReadsDue seen old new gives r
     read_failed gives r leaves due_is fails = rw fails (record {
       reads = record { call = failed_call; doubt = failed_doubt; clean = failed_clean };
@@ -160,7 +174,8 @@ module _ {K T : Type 0} (seen : K → Seen T) (old new : Failing K) where
       fails = rw due_is ((refl, own_now), kept);
     })
 
-    pub write_failed : (Fit : T → Type 0) (to : T → T) (r : Result Unit KeepFault) → due old.armed ≡ Some Old → r ≡ Err Failed
+    pub write_failed : (Fit : T → Type 0) (to : T → T) (r : Result Unit KeepFault) → due old.armed ≡ Some Old
+        → r ≡ Err Failed
         → WritesDue seen old new Fit to r
     write_failed Fit to r due_is fails = rw fails (record {
       writes = record { call = failed_call; doubt = failed_doubt; clean = λ clean _ t l. inl (failed_clean clean t l) };
@@ -209,7 +224,8 @@ module _ {K T : Type 0} (seen : K → Seen T) (old new : Failing K) where
     either_by to (Err Failed) left = left
     either_by to (Err WrongFile) left = absurd left
 
-    pub write_hidden : (Fit : T → Type 0) (to : T → T) (r answer : Result Unit KeepFault) → due old.armed ≡ Some New → r ≡ Err Failed
+    pub write_hidden : (Fit : T → Type 0) (to : T → T) (r answer : Result Unit KeepFault) → due old.armed ≡ Some New
+        → r ≡ Err Failed
         → Writes seen mid.keep asked.keep Fit to (keep_end answer) → WritesDue seen old new Fit to r
     write_hidden Fit to r answer due_is fails did =
         let inner : Writes seen old.keep asked.keep Fit to (keep_end answer) =
@@ -239,8 +255,13 @@ module _ {K T : Type 0} (seen : K → Seen T) (old new : Failing K) where
                 (λ clean fit. either_by to answer (left clean fit));
           };
           armed = hidden_armed;
-          fails = rw due_is (refl, ap (λ (f : Failing K). f.failures) counted ∙ ap (λ n. min (n + 1) (2 ^ 64 - 1)) hidden_own);
-          left = rw due_is (later (λ k. (seen k).doubt ≡ 0 → Fit (seen old.keep).tables → (answer : Result Unit KeepFault)
+          fails = rw due_is (
+            refl,
+            ap (λ (f : Failing K). f.failures) counted
+                ∙ ap (λ n. min (n + 1) (2 ^ 64 - 1)) hidden_own,
+          );
+          left = rw due_is (later (λ k. (seen k).doubt ≡ 0 → Fit (seen old.keep).tables
+              → (answer : Result Unit KeepFault)
               × IsCall seen old.keep k Never (keep_end answer)
               × LeavesNew (seen old.keep).tables (to (seen old.keep).tables) (seen k).may_leave answer)
               (λ clean fit. (answer, inner.call, left clean fit)));

@@ -41,7 +41,8 @@ listed_letters_stand messages after (suc n) (k ∷ ks) are l (inr more) =
     (r.0, later_than after (place_of k) (place_of l) are.0.later r.1)
 
 -- the first letter of a page, or one behind it
-first_or_behind : (messages : Messages) (after : Option Place) (k : Letter) (x : Place) (m : Message) → IsNext messages after k
+first_or_behind : (messages : Messages) (after : Option Place) (k : Letter) (x : Place) (m : Message)
+    → IsNext messages after k
     → IsAfter after x → messages x.pair x.number ≡ Some m
     → (o : Ordering) → place_cmp x (place_of k) ≡ o → (letter x.pair x.number m ≡ k) ⊎ IsBefore (place_of k) x
 first_or_behind messages after k x m next late stands Less e = absurd (never_none _ m stands (next.first x late e))
@@ -54,9 +55,11 @@ first_or_behind messages after k x m next late stands Greater e = inr (place_cmp
 
 pub standing_letters_are_listed : StandingLettersAreListed
 standing_letters_are_listed messages after zero xs are short x m late stands = absurd (omega (arith, short))
-standing_letters_are_listed messages after (suc n) [] are short x m late stands = absurd (never_none _ m stands (are x late))
+standing_letters_are_listed messages after (suc n) [] are short x m late stands =
+    absurd (never_none _ m stands (are x late))
 standing_letters_are_listed messages after (suc n) (k ∷ ks) are short x m late stands =
     elim (first_or_behind messages after k x m are.0 late stands (place_cmp x (place_of k)) refl) [
       | inl same ↦ inl same
-      | inr behind ↦ inr (standing_letters_are_listed messages (Some (place_of k)) n ks are.1 (omega (arith, short)) x m behind stands)
+      | inr behind ↦ inr (standing_letters_are_listed messages (Some (place_of k)) n ks are.1 (omega (arith, short)) x m
+          behind stands)
     ]

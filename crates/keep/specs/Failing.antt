@@ -1,5 +1,6 @@
 -- A keep that fails where it is told to.
-use Rattle.std.specs.Prelude.{◌≡◌, ℕ, ◌+◌, not, ◌&&◌, ◌-◌, ◌^◌, min, nat_le, Bool, Option, Some, None, Result, Ok, Err, if◌then◌else◌, ⊤}
+use Rattle.std.specs.Prelude.{◌≡◌, ℕ, ◌+◌, not, ◌&&◌, ◌-◌, ◌^◌, min, nat_le, Bool, Option, Some, None, Result, Ok, Err}
+use Rattle.std.specs.Prelude.{if◌then◌else◌, ⊤}
 use Rattle.keep.specs.declared.fault.KeepFault.{KeepFault}
 use Rattle.keep.specs.declared.fault.KeepFault.TheVariants.{Failed, Memory, WrongFile}
 use Rattle.keep.specs.declared.faulty.Arming.{Arming}
@@ -48,11 +49,13 @@ LeavesNew old new may_leave (Err Memory) = LeavesOnly old may_leave
 LeavesNew old new may_leave (Err Failed) = LeavesEither old new may_leave
 LeavesNew old new may_leave (Err WrongFile) = ⊥
 
--- what a stop may leave after a transaction that was due to fail: `IsAnswer` holds of the answer of the keep inside, where it was asked
+-- what a stop may leave after a transaction that was due to fail: `IsAnswer` holds of the answer of the keep inside,
+-- where it was asked
 abbrev pub IsLeft : {T : Type 0} → Option Leaves → T → T → (T → Type 0) → (Result Unit KeepFault → Type 0) → Type 0
 IsLeft None old new may_leave IsAnswer = ⊤
 IsLeft (Some Old) old new may_leave IsAnswer = LeavesOnly old may_leave
-IsLeft (Some New) old new may_leave IsAnswer = (answer : Result Unit KeepFault) × IsAnswer answer × LeavesNew old new may_leave answer
+IsLeft (Some New) old new may_leave IsAnswer =
+    (answer : Result Unit KeepFault) × IsAnswer answer × LeavesNew old new may_leave answer
 
 -- a call of a failing keep
 module _ {K T : Type 0} (seen : K → Seen T) (old new : Failing K) where

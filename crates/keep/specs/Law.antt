@@ -7,7 +7,8 @@ use Rattle.keep.specs.Seen.{Seen, Cause, no_memory, failed, unusable, refused, E
 abbrev pub MoreFailures : ℕ → ℕ → Type 0
 MoreFailures before after = (before ≤ after) × (min (before + 1) (2 ^ 64 - 1) ≤ after)
 
--- what is armed behind calls none of which was to fail: nothing where nothing was, else the same failure, at no later call
+-- what is armed behind calls none of which was to fail: nothing where nothing was, else the same failure, at no later
+-- call
 abbrev pub StaysArmed : Option Arming → Option Arming → Type 0
 StaysArmed None new = new ≡ None
 StaysArmed (Some was) None = ⊥
@@ -34,7 +35,8 @@ module _ {E T : Type 0} (seen : E → Seen T) (old new : E) where
 
   -- the store was usable, and a failure was counted: it isn't usable until it is reopened
   abbrev pub HasFailed : Type 0
-  HasFailed = ((seen old).usable ≡ true) × ((seen new).usable ≡ false) × MoreFailures (seen old).failures (seen new).failures
+  HasFailed =
+      ((seen old).usable ≡ true) × ((seen new).usable ≡ false) × MoreFailures (seen old).failures (seen new).failures
       × MayBeMet (seen old).armed (seen new).armed
 
   -- the store wasn't usable, and is as it was
@@ -84,7 +86,8 @@ module _ {E T : Type 0} (seen : E → Seen T) (old new : E) where
   -- what the cause tells for which a reopening wasn't done: the store isn't usable
   abbrev pub IsReopenCause : {F : Type 0} → Cause F → Type 0
   IsReopenCause no_memory = ((seen new).usable ≡ false) × ((seen new).failures ≡ (seen old).failures) × LeavesArmed
-  IsReopenCause failed = ((seen new).usable ≡ false) × MoreFailures (seen old).failures (seen new).failures × LeavesArmed
+  IsReopenCause failed =
+      ((seen new).usable ≡ false) × MoreFailures (seen old).failures (seen new).failures × LeavesArmed
   IsReopenCause unusable = ⊥
   IsReopenCause (refused _) = ⊥
 

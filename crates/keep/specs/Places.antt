@@ -3,7 +3,8 @@ use Rattle.std.specs.Prelude.{◌≡◌, Bool, ◌&&◌, ◌==◌, refl}
 use Rattle.std.specs.declared.cmp.Ordering.{Ordering}
 use Rattle.std.specs.declared.cmp.Ordering.TheVariants.{Less}
 use Rattle.std.specs.Ordering.{nat_cmp, then_cmp, on, is_eq, as_partial_cmp}
-use Rattle.std.specs.Cmp.{IsEquivalence, IsPartialOrder, IsTotalOrder, on_equiv, and_equiv, then_total, on_total, both_tied}
+use Rattle.std.specs.Cmp.{IsEquivalence, IsPartialOrder, IsTotalOrder, on_equiv, and_equiv, then_total, on_total}
+use Rattle.std.specs.Cmp.{both_tied}
 use Rattle.std.specs.Cmp.{partial_order_from_agreeing_total, nat_cmp_total, nat_eq_equiv, unsigned_ties}
 use Rattle.base.specs.Order.{pair_cmp, pair_cmp-total, same_pair, same_pair-equivalence, same_pair-ties}
 use Rattle.keep.specs.declared.change.Place.{Place}
@@ -27,7 +28,8 @@ same_place-equivalence = and_equiv (on_equiv (λ (x : Place). x.pair) same_pair-
     (on_equiv (λ (x : Place). x.number) nat_eq_equiv)
 
 pub place_cmp-total : IsTotalOrder place_cmp
-place_cmp-total = then_total (on_total (λ (x : Place). x.pair) pair_cmp-total) (on_total (λ (x : Place). x.number) nat_cmp_total)
+place_cmp-total =
+    then_total (on_total (λ (x : Place). x.pair) pair_cmp-total) (on_total (λ (x : Place). x.number) nat_cmp_total)
 
 pub same_place-ties : (a b : Place) → same_place a b ≡ is_eq (place_cmp a b)
 same_place-ties a b = both_tied _ _ (pair_cmp a.pair b.pair) (nat_cmp a.number b.number) (same_pair-ties a.pair b.pair)

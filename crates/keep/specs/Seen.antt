@@ -25,8 +25,8 @@ pub record IsSound {T : Type 0} (s : Seen T) : Type 0 where
   pub stays : s.doubt ≡ 0 → s.usable ≡ true → s.may_leave s.tables
   pub leaves : s.doubt ≡ 0 → ∥ ((t : T) × s.may_leave t) ∥₁
 
--- why a call didn't do its work, whatever its faults are called: memory was refused, or the store failed, or it had failed before, or for a
--- reason of the call's own
+-- why a call didn't do its work, whatever its faults are called: memory was refused, or the store failed, or it had
+-- failed before, or for a reason of the call's own
 pub data Cause (F : Type 0) : Type 0 where
   no_memory : Cause F
   failed : Cause F

@@ -96,7 +96,10 @@ impl<K: Keep + Drop> Faulty<K> {
     fn fail<R>(&mut self) -> Result<R, KeepFault>
         ensures failed { result ≡ Err Failed }
         ensures more { MoreFailures self.old.failures self.new.failures }
-        ensures counted { self.new ≡ record self.old { is_down = true; failures = min (self.old.failures + 1) (2 ^ 64 - 1) } }
+        ensures counted { self.new ≡ record self.old {
+          is_down = true;
+          failures = min (self.old.failures + 1) (2 ^ 64 - 1);
+        } }
     {
         self.is_down = true;
         self.failures = self.failures.saturating_add(1);
@@ -199,7 +202,8 @@ impl<K: Keep + Drop> Keep for Faulty<K> {
         limit: usize,
     ) -> Result<Vec<Letter>, KeepFault>
         requires { (through K.seen self.old).usable ≡ true }
-        ensures { ReadsDue K.seen self.old self.new (λ t letters. AreFirst t.unsettled after.now limit letters.items) result }
+        ensures { ReadsDue K.seen self.old self.new (λ t letters. AreFirst t.unsettled after.now limit letters.items)
+            result }
     {
         match self.strike() {
             None => self.keep.unsettled(alloc, after, limit),
@@ -215,7 +219,8 @@ impl<K: Keep + Drop> Keep for Faulty<K> {
         limit: usize,
     ) -> Result<Vec<JournalRow<K::Command>>, KeepFault>
         requires { (through K.seen self.old).usable ≡ true }
-        ensures { ReadsDue K.seen self.old self.new (λ t rows. rows.items ≡ take limit (drop (from - 1) t.journal)) result }
+        ensures { ReadsDue K.seen self.old self.new (λ t rows. rows.items ≡ take limit (drop (from - 1) t.journal))
+            result }
     {
         match self.strike() {
             None => self.keep.journal(alloc, from, limit),

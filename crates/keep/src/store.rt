@@ -10,9 +10,9 @@ use std::alloc::Global;
 
 /// What keeps the tables of a service, in memory or in files.
 ///
-/// Contracts see of it a `Seen`. Each word `Reads`, `Writes` and `Reopens` tells three things: what the call says of the keep's use and its
-/// failures whatever the disk did; that doubt never falls; and what it says of tables, which holds while there is no doubt. A keep is not
-/// usable after `Failed`, until a `reopen` is Ok.
+/// Contracts see of it a `Seen`. Each word `Reads`, `Writes` and `Reopens` tells three things: what the call says of
+/// the keep's use and its failures whatever the disk did; that doubt never falls; and what it says of tables, which
+/// holds while there is no doubt. A keep is not usable after `Failed`, until a `reopen` is Ok.
 pub trait Keep {
     ghost use Rattle.keep.specs.Tables.{Tables, changed, ArePlaced};
     ghost use Rattle.keep.specs.Seen.{Seen, IsSound, keep_end};
@@ -34,8 +34,8 @@ pub trait Keep {
     /// An entity's row, where it has one.
     ///
     /// # Errors
-    /// As every read: `Failed` where the store failed, which is counted, and then a stop leaves the tables as they were; `Memory` where
-    /// a growth was refused.
+    /// As every read: `Failed` where the store failed, which is counted, and then a stop leaves the tables as they
+    /// were; `Memory` where a growth was refused.
     fn entity(&mut self, alloc: Global, entity: &Entity) -> Result<Option<Self::State>, KeepFault>
         requires { (seen self.old).usable ≡ true }
         ensures { Reads seen self.old self.new (λ t row. row ≡ t.entity entity.now) (keep_end result) };
@@ -70,7 +70,8 @@ pub trait Keep {
         requires { (seen self.old).usable ≡ true }
         ensures { Reads seen self.old self.new (λ t. IsDrainable (next_held t.held t.handled)) (keep_end result) };
 
-    /// The first `limit` letters of the outbox after a place, or all of them where they are fewer: by pair, and then by number.
+    /// The first `limit` letters of the outbox after a place, or all of them where they are fewer: by pair, and then by
+    /// number.
     fn unsettled(
         &mut self,
         alloc: Global,
@@ -78,9 +79,11 @@ pub trait Keep {
         limit: usize,
     ) -> Result<Vec<Letter>, KeepFault>
         requires { (seen self.old).usable ≡ true }
-        ensures { Reads seen self.old self.new (λ t letters. AreFirst t.unsettled after.now limit letters.items) (keep_end result) };
+        ensures { Reads seen self.old self.new (λ t letters. AreFirst t.unsettled after.now limit letters.items)
+            (keep_end result) };
 
-    /// The first `limit` rows of the journal from a position on, or all of them where they are fewer. Positions begin at 1; 0 is read as 1.
+    /// The first `limit` rows of the journal from a position on, or all of them where they are fewer. Positions begin
+    /// at 1; 0 is read as 1.
     fn journal(
         &mut self,
         alloc: Global,
@@ -88,19 +91,20 @@ pub trait Keep {
         limit: usize,
     ) -> Result<Vec<JournalRow<Self::Command>>, KeepFault>
         requires { (seen self.old).usable ≡ true }
-        ensures { Reads seen self.old self.new (λ t rows. rows.items ≡ take limit (drop (from - 1) t.journal)) (keep_end result) };
+        ensures { Reads seen self.old self.new (λ t rows. rows.items ≡ take limit (drop (from - 1) t.journal))
+            (keep_end result) };
 
     /// How many rows the journal has: the position of the last. The store knows it, and nothing is read.
     fn length(&self) -> u64
         requires { (seen self.now).usable ≡ true }
         ensures { (seen self.now).doubt ≡ 0 → result ≡ length (seen self.now).tables.journal };
 
-    /// Makes all of these changes in order, in one transaction. What it does is told where each row of the journal has the position
-    /// behind the last.
+    /// Makes all of these changes in order, in one transaction. What it does is told where each row of the journal has
+    /// the position behind the last.
     ///
     /// # Errors
-    /// `Failed` where the store failed, which is counted: a stop leaves the tables as they were, or those with all changes. `Memory`
-    /// where a growth was refused: the tables are as they were.
+    /// `Failed` where the store failed, which is counted: a stop leaves the tables as they were, or those with all
+    /// changes. `Memory` where a growth was refused: the tables are as they were.
     fn apply(
         &mut self,
         alloc: Global,
@@ -109,11 +113,12 @@ pub trait Keep {
         requires { (seen self.old).usable ≡ true }
         ensures { Writes seen self.old self.new (ArePlaced changes.items) (changed changes.items) (keep_end result) };
 
-    /// Opens the store again: the tables now are some that a stop may leave. A usable keep may be reopened too, and has its tables then.
+    /// Opens the store again: the tables now are some that a stop may leave. A usable keep may be reopened too, and has
+    /// its tables then.
     ///
     /// # Errors
-    /// `Failed` where the store failed, which is counted, and `Memory` where a growth was refused. After either the keep isn't usable,
-    /// a stop leaves nothing that it couldn't leave before, and `reopen` may be called again.
+    /// `Failed` where the store failed, which is counted, and `Memory` where a growth was refused. After either the
+    /// keep isn't usable, a stop leaves nothing that it couldn't leave before, and `reopen` may be called again.
     fn reopen(&mut self, alloc: Global) -> Result<(), KeepFault>
         ensures { Reopens seen self.old self.new (keep_end result) };
 

@@ -1,5 +1,6 @@
 -- Slots in the order of their keys: what stands at a key, and the first slot that is filled.
-use Rattle.std.proofs.Common.{◌≡◌, inl, inr, true, false, List, [], ◌∷◌, Option, Some, None, Ordering, Less, Equal, Greater}
+use Rattle.std.proofs.Common.{◌≡◌, inl, inr, true, false, List, [], ◌∷◌, Option, Some, None, Ordering, Less, Equal}
+use Rattle.std.proofs.Common.{Greater}
 use Rattle.std.proofs.Common.{refl, sym, ap, subst, ◌∙◌, true≢false}
 use Rattle.std.specs.Prelude.{is_some}
 use Rattle.std.specs.Ordering.{is_eq}
@@ -51,7 +52,8 @@ module _ {K V : Type 0} (cmp : K → K → Ordering) (total : IsTotalOrder cmp) 
     | inr apart ↦ sym (skipped cmp (k, None) es q apart)
   ]
 
-  first_among : (es : List (K × Option V)) → IsStrictlySortedBy cmp (keys_of es) → IsFirstFilled cmp (found cmp es) (first_key es)
+  first_among : (es : List (K × Option V)) → IsStrictlySortedBy cmp (keys_of es)
+      → IsFirstFilled cmp (found cmp es) (first_key es)
   unfolding IsStrictlySortedBy
   first_among [] o = λ q. refl
   first_among ((k, None) ∷ es) o =

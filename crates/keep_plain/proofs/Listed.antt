@@ -1,5 +1,6 @@
 -- Slots in the order of their places: the letters that stand in them.
-use Rattle.std.proofs.Common.{◌≡◌, ◌⊎◌, inl, inr, ℕ, suc, append_assoc, ◌++◌, ◌&&◌, Bool, true, false, List, [], ◌∷◌, filter}
+use Rattle.std.proofs.Common.{◌≡◌, ◌⊎◌, inl, inr, ℕ, suc, append_assoc, ◌++◌, ◌&&◌, Bool, true, false, List, [], ◌∷◌}
+use Rattle.std.proofs.Common.{filter}
 use Rattle.std.proofs.Common.{take, Option, Some, None, Less, refl, sym, ap, subst, ◌∙◌}
 use Rattle.std.specs.Ordering.{is_eq, is_lt, ordering_reverse}
 use Rattle.std.specs.Cmp.{tied_itself}
@@ -36,7 +37,8 @@ Ordered es = IsStrictlySortedBy place_cmp (keys_of es)
 
 -- ---- the letters are in order
 
-after_letters : (x : Place) (es : List Slot) → AllAfter x es → AllByRecursion (λ k. IsBefore x (place_of k)) (letters_at es)
+after_letters : (x : Place) (es : List Slot) → AllAfter x es
+    → AllByRecursion (λ k. IsBefore x (place_of k)) (letters_at es)
 after_letters x [] a = tt
 after_letters x ((y, None) ∷ es) a = after_letters x es a.1
 after_letters x ((y, Some m) ∷ es) a = (a.0, after_letters x es a.1)
@@ -62,7 +64,8 @@ later_found : (e : Slot) (es : List Slot) (l : Letter) → AllAfter e.0 es → H
 later_found e es l a h f = skipped place_cmp e es (place_of l)
     (turned e.0 (place_of l) (among (λ k. IsBefore e.0 (place_of k)) (letters_at es) l (after_letters e.0 es a) h)) ∙ f
 
-letters_stand : (es : List Slot) → Ordered es → (l : Letter) → Has (letters_at es) l → found place_cmp es (place_of l) ≡ Some l.message
+letters_stand : (es : List Slot) → Ordered es → (l : Letter) → Has (letters_at es) l
+    → found place_cmp es (place_of l) ≡ Some l.message
 unfolding IsStrictlySortedBy
 letters_stand [] o l h = absurd h
 letters_stand ((y, None) ∷ es) o l h = later_found (y, None) es l o.0 h (letters_stand es o.1 l h)
@@ -75,7 +78,8 @@ letters_stand ((y, Some m) ∷ es) o l (inr h) = later_found (y, Some m) es l o.
 tied : (x y : Place) → is_eq (place_cmp x y) ≡ true → y ≡ x
 tied x y h = sym (place_cmp-Equal x y (equal_is (place_cmp x y) h))
 
-letters_all : (es : List Slot) (x : Place) → (found place_cmp es x ≡ None) ⊎ ((l : Letter) × Has (letters_at es) l × (place_of l ≡ x))
+letters_all : (es : List Slot) (x : Place) → (found place_cmp es x ≡ None)
+    ⊎ ((l : Letter) × Has (letters_at es) l × (place_of l ≡ x))
 letters_all [] x = inl refl
 letters_all ((y, None) ∷ es) x = elim (cases_Bool (is_eq (place_cmp x y))) [
   | inl e ↦ inl (stopped place_cmp (y, None) es x e)
@@ -95,7 +99,8 @@ true_and : (b : Bool) → (b && true) ≡ b
 true_and true = refl
 true_and false = refl
 
-in_range : (after : Option Place) (l : Letter) → range_contains place_cmp (start_after after) Unbounded (place_of l) ≡ is_after after l
+in_range : (after : Option Place) (l : Letter)
+    → range_contains place_cmp (start_after after) Unbounded (place_of l) ≡ is_after after l
 in_range None l = refl
 in_range (Some a) l = true_and (is_lt (place_cmp a (place_of l)))
 
@@ -110,16 +115,19 @@ letters_between after ((y, None) ∷ es) = elim (cases_Bool (range_contains plac
 letters_between after ((y, Some m) ∷ es) =
     let l : Letter = record { pair = y.pair; number = y.number; message = m } in
     elim (cases_Bool (range_contains place_cmp (start_after after) Unbounded y)) [
-      | inl e ↦ let k : is_after after l ≡ true = sym (in_range after l) ∙ e in rw (e, k) (ap (λ ls. l ∷ ls) (letters_between after es))
+      | inl e ↦ let k : is_after after l ≡ true =
+          sym (in_range after l) ∙ e in rw (e, k) (ap (λ ls. l ∷ ls) (letters_between after es))
       | inr e ↦ let k : is_after after l ≡ false = sym (in_range after l) ∙ e in rw (e, k) (letters_between after es)
     ]
 
 -- the first letters in the slots after a place are the answer of a listing
-pub letters_listed : (m : BTreeMap Place (Option Message)) → IsOrdered place_cmp m → (after : Option Place) (limit : ℕ) (r : List Slot)
+pub letters_listed : (m : BTreeMap Place (Option Message)) → IsOrdered place_cmp m
+    → (after : Option Place) (limit : ℕ) (r : List Slot)
     → r ≡ entries_between place_cmp (start_after after) Unbounded m.entries
     → AreFirst (messages_in m) after limit (take limit (letters_at r))
 letters_listed m o after limit r e =
-    subst (λ ls. AreFirst (messages_in m) after limit (take limit ls)) (sym (ap letters_at e ∙ letters_between after m.entries))
+    subst (λ ls. AreFirst (messages_in m) after limit (take limit ls)) (sym
+    (ap letters_at e ∙ letters_between after m.entries))
     (sorted_letters_are_listed (messages_in m) (letters_at m.entries) (letters_sorted m.entries o)
     (record { stand = letters_stand m.entries o; all = letters_all m.entries }) after limit)
 
@@ -129,9 +137,11 @@ pub page_full : (xs rest ys : List Letter) (n : ℕ) → n ≡ 0 → xs ++ take 
 page_full xs rest ys n none e = sym (append-nil xs) ∙ subst (λ k. xs ++ take k rest ≡ ys) none e
 
 pub page_over : (xs rest ys : List Letter) (n : ℕ) → rest ≡ [] → xs ++ take n rest ≡ ys → xs ≡ ys
-page_over xs rest ys n none e = sym (append-nil xs) ∙ ap (λ l. xs ++ l) (sym (take-nil n)) ∙ subst (λ r. xs ++ take n r ≡ ys) none e
+page_over xs rest ys n none e =
+    sym (append-nil xs) ∙ ap (λ l. xs ++ l) (sym (take-nil n)) ∙ subst (λ r. xs ++ take n r ≡ ys) none e
 
-pub page_more : (xs more rest left ys : List Letter) (l : Letter) (n k : ℕ) → more ≡ xs ++ l ∷ [] → rest ≡ l ∷ left → n ≡ suc k
+pub page_more : (xs more rest left ys : List Letter) (l : Letter) (n k : ℕ) → more ≡ xs ++ l ∷ [] → rest ≡ l ∷ left
+    → n ≡ suc k
     → xs ++ take n rest ≡ ys → more ++ take k left ≡ ys
 page_more xs more rest left ys l n k pushed next one e =
     ap (λ m. m ++ take k left) pushed ∙ append_assoc xs (l ∷ []) (take k left)

@@ -1,5 +1,6 @@
 -- What the tables become as slots are set.
-use Rattle.std.proofs.Common.{◌≡◌, inl, inr, ℕ, ◌++◌, Bool, true, false, List, [], ◌∷◌, Option, Some, None, refl, sym, ap, ◌∙◌}
+use Rattle.std.proofs.Common.{◌≡◌, inl, inr, ℕ, ◌++◌, Bool, true, false, List, [], ◌∷◌, Option, Some, None, refl, sym}
+use Rattle.std.proofs.Common.{ap, ◌∙◌}
 use Rattle.std.proofs.Common.{if◌then◌else◌}
 use Rattle.std.specs.Option.{unwrap_or}
 use Rattle.std.specs.List.{AllByRecursion}
@@ -33,15 +34,19 @@ use Rattle.keep_plain.proofs.Upto.{set_at, emptied_is}
 
 -- ---- one table
 
-sets_entity : {S : Type 0} (e : Name) (row : Option S) (old new : BTreeMap Name (Option S)) → SetsAt entity_cmp e row old new
+sets_entity : {S : Type 0} (e : Name) (row : Option S) (old new : BTreeMap Name (Option S))
+    → SetsAt entity_cmp e row old new
     → at entity_cmp new ≡ set_entity e row (at entity_cmp old)
-sets_entity e row old new h = fun_ext (λ x. h x ∙ ap (λ b. if b then row else at entity_cmp old x) (sym (same_entity-ties e x)))
+sets_entity e row old new h =
+    fun_ext (λ x. h x ∙ ap (λ b. if b then row else at entity_cmp old x) (sym (same_entity-ties e x)))
 
-sets_message : (x : Place) (m : Option Message) (old new : BTreeMap Place (Option Message)) → SetsAt place_cmp x m old new
+sets_message : (x : Place) (m : Option Message) (old new : BTreeMap Place (Option Message))
+    → SetsAt place_cmp x m old new
     → messages_in new ≡ set_message x.pair x.number m (messages_in old)
 sets_message x m old new h = fun_ext (λ q. fun_ext (λ k. set_at x m old new h q k))
 
-without : (p : Pair) (n : ℕ) (old new : BTreeMap Place (Option Message)) → EmptiesFrom p 0 n (messages_in old) (messages_in new)
+without : (p : Pair) (n : ℕ) (old new : BTreeMap Place (Option Message))
+    → EmptiesFrom p 0 n (messages_in old) (messages_in new)
     → messages_in new ≡ without_upto p n (messages_in old)
 without p n old new h = fun_ext (λ q. fun_ext (λ k. emptied_is p n (messages_in old) (messages_in new) h q k))
 
@@ -64,16 +69,19 @@ abbrev each : (Marks → ℕ) → BTreeMap Pair (Option Marks) → Pair → ℕ
 each f marks q = f (marks_at marks q)
 
 -- one of the marks of a pair is set
-mark_is : (f : Marks → ℕ) (p : Pair) (n : ℕ) (w : Marks) (old new : BTreeMap Pair (Option Marks)) → SetsAt pair_cmp p (Some w) old new
+mark_is : (f : Marks → ℕ) (p : Pair) (n : ℕ) (w : Marks) (old new : BTreeMap Pair (Option Marks))
+    → SetsAt pair_cmp p (Some w) old new
     → f w ≡ n → each f new ≡ set_mark p n (each f old)
-mark_is f p n w old new h e = fun_ext (λ q. ap f (marks_set p w old new h q) ∙ chosen (same_pair p q) (f (marks_at old q)) q)
+mark_is f p n w old new h e =
+    fun_ext (λ q. ap f (marks_set p w old new h q) ∙ chosen (same_pair p q) (f (marks_at old q)) q)
   where
     chosen : (b : Bool) (m : ℕ) (q : Pair) → f (if b then w else marks_at old q) ≡ (if b then n else f (marks_at old q))
     chosen true m q = e
     chosen false m q = refl
 
 -- and another stays
-mark_stays : (f : Marks → ℕ) (p : Pair) (w : Marks) (old new : BTreeMap Pair (Option Marks)) → SetsAt pair_cmp p (Some w) old new
+mark_stays : (f : Marks → ℕ) (p : Pair) (w : Marks) (old new : BTreeMap Pair (Option Marks))
+    → SetsAt pair_cmp p (Some w) old new
     → f w ≡ f (marks_at old p) → each f new ≡ each f old
 mark_stays f p w old new h e = fun_ext (λ q. ap f (marks_set p w old new h q) ∙ elim (cases_Bool (same_pair p q)) [
   | inl same ↦ rw same (e ∙ ap (λ x. f (marks_at old x)) ((same_pair-Decides p q).0 same))
@@ -94,7 +102,8 @@ handled_is p n old new h = fun_ext (λ q.
 -- ---- the tables
 
 -- tables are the same where their parts are
-same_parts : {S C : Type 0} (a b : Tables S C) → a.journal ≡ b.journal → a.entity ≡ b.entity → a.unsettled ≡ b.unsettled → a.sent ≡ b.sent
+same_parts : {S C : Type 0} (a b : Tables S C) → a.journal ≡ b.journal → a.entity ≡ b.entity → a.unsettled ≡ b.unsettled
+    → a.sent ≡ b.sent
     → a.settled ≡ b.settled → a.handled ≡ b.handled → a.held ≡ b.held → a ≡ b
 same_parts {S} {C} a b j e u s t h d =
     ap (λ x. record a { journal = x }) j ∙ ap (λ x. record a { journal = b.journal; entity = x }) e
@@ -130,7 +139,8 @@ module _ {S C : Type 0} (old : Maps S C) where
       refl
       refl
 
-  pub settled_made : (p : Pair) (n : ℕ) (marks : BTreeMap Pair (Option Marks)) (outbox : BTreeMap Place (Option Message))
+  pub settled_made : (p : Pair) (n : ℕ) (marks : BTreeMap Pair (Option Marks))
+      (outbox : BTreeMap Place (Option Message))
       → SetsAt pair_cmp p (Some (with_mark mark.Settled n (marks_at old.marks p))) old.marks marks
       → EmptiesFrom p 0 n (messages_in old.outbox) (messages_in outbox)
       → tables_in (record old { marks = marks; outbox = outbox }) ≡ changed_by (Settled p n) (tables_in old)
@@ -141,7 +151,8 @@ module _ {S C : Type 0} (old : Maps S C) where
       refl
       refl
 
-  pub handled_made : (p : Pair) (n : ℕ) (arrivals : Arrivals) → SetsAt pair_cmp p (Some n) old.arrivals.handled arrivals.handled
+  pub handled_made : (p : Pair) (n : ℕ) (arrivals : Arrivals)
+      → SetsAt pair_cmp p (Some n) old.arrivals.handled arrivals.handled
       → arrivals.held ≡ old.arrivals.held
       → tables_in (record old { arrivals = arrivals }) ≡ changed_by (Handled p n) (tables_in old)
   handled_made p n arrivals h e = same_parts _ _ refl refl refl refl refl
@@ -149,7 +160,8 @@ module _ {S C : Type 0} (old : Maps S C) where
       (ap messages_in e)
 
   -- a message is put at a place, or taken away there
-  message_made : (x : Place) (m : Option Message) (arrivals : Arrivals) → SetsAt place_cmp x m old.arrivals.held arrivals.held
+  message_made : (x : Place) (m : Option Message) (arrivals : Arrivals)
+      → SetsAt place_cmp x m old.arrivals.held arrivals.held
       → arrivals.handled ≡ old.arrivals.handled
       → tables_in (record old { arrivals = arrivals })
       ≡ record (tables_in old) { held = set_message x.pair x.number m (tables_in old).held }
@@ -157,7 +169,8 @@ module _ {S C : Type 0} (old : Maps S C) where
       (ap handled_at e)
       (sets_message x m old.arrivals.held arrivals.held h)
 
-  pub held_made : (l : Letter) (arrivals : Arrivals) → SetsAt place_cmp (place_of l) (Some l.message) old.arrivals.held arrivals.held
+  pub held_made : (l : Letter) (arrivals : Arrivals)
+      → SetsAt place_cmp (place_of l) (Some l.message) old.arrivals.held arrivals.held
       → arrivals.handled ≡ old.arrivals.handled
       → tables_in (record old { arrivals = arrivals }) ≡ changed_by (Held l) (tables_in old)
   held_made l = message_made (place_of l) (Some l.message)
@@ -170,7 +183,8 @@ module _ {S C : Type 0} (old : Maps S C) where
 
 -- ---- slots that are there stay
 
-pub ready_kept : {S C : Type 0} (old new : Maps S C) → KeepsAll old new → (c : Change S C) → IsReady old c → IsReady new c
+pub ready_kept : {S C : Type 0} (old new : Maps S C) → KeepsAll old new → (c : Change S C) → IsReady old c
+    → IsReady new c
 ready_kept old new k (Journal position row) h = tt
 ready_kept old new k (State e row) h = k.rows e h
 ready_kept old new k (Sent l) h = (k.marks l.pair h.0, k.outbox (place_of l) h.1)
@@ -179,12 +193,14 @@ ready_kept old new k (Handled p n) h = (k.arrivals.handled p h.0, k.arrivals.dra
 ready_kept old new k (Held l) h = (k.arrivals.held (place_of l) h.0, k.arrivals.drainable l.pair h.1)
 ready_kept old new k (NotHeld p n) h = tt
 
-pub all_kept : {S C : Type 0} (old new : Maps S C) → KeepsAll old new → (cs : List (Change S C)) → AllByRecursion (IsReady old) cs
+pub all_kept : {S C : Type 0} (old new : Maps S C) → KeepsAll old new → (cs : List (Change S C))
+    → AllByRecursion (IsReady old) cs
     → AllByRecursion (IsReady new) cs
 all_kept old new k [] h = tt
 all_kept old new k (c ∷ cs) h = (ready_kept old new k c h.0, all_kept old new k cs h.1)
 
-pub all_more : {S C : Type 0} (m : Maps S C) (cs : List (Change S C)) (c : Change S C) → AllByRecursion (IsReady m) cs → IsReady m c
+pub all_more : {S C : Type 0} (m : Maps S C) (cs : List (Change S C)) (c : Change S C) → AllByRecursion (IsReady m) cs
+    → IsReady m c
     → AllByRecursion (IsReady m) (cs ++ c ∷ [])
 all_more m [] c h r = (r, tt)
 all_more m (d ∷ cs) c h r = (h.0, all_more m cs c h.1 r)
@@ -197,7 +213,11 @@ same_after a b c h k = record {
   rows = λ q. k.rows q ∙ h.rows q;
   marks = λ q. k.marks q ∙ h.marks q;
   outbox = λ q. k.outbox q ∙ h.outbox q;
-  arrivals = record { handled = λ q. k.arrivals.handled q ∙ h.arrivals.handled q; held = λ q. k.arrivals.held q ∙ h.arrivals.held q };
+  arrivals = record {
+    handled = λ q. k.arrivals.handled q ∙ h.arrivals.handled q;
+    held = λ q. k.arrivals.held q
+        ∙ h.arrivals.held q;
+  };
 }
 
 pub with_room : {S C : Type 0} (m : Maps S C) (journal : Vec (JournalRow C)) → journal.items ≡ m.journal.items

@@ -1,4 +1,5 @@
--- Examples: slots and what stands in them, the marks of a pair, letters in order, and the pairs whose next letter is held.
+-- Examples: slots and what stands in them, the marks of a pair, letters in order, and the pairs whose next letter is
+-- held.
 use Rattle.std.proofs.Common.{◌≡◌, ℕ, ◌+◌, List, [], ◌∷◌, Bool, true, false, cond, refl, sym, ap, ◌∙◌, arith}
 use Rattle.std.specs.Prelude.{codes, Option, Some, None, is_some}
 use Rattle.std.specs.Option.{unwrap_or}
@@ -48,7 +49,8 @@ place p n = record { pair = p; number = n }
 -- ---- slots
 
 -- an empty slot is as none
-slots_are_filled : (filled {V = ℕ} None ≡ None) × (filled {V = ℕ} (Some None) ≡ None) × (filled {V = ℕ} (Some (Some 8)) ≡ Some 8)
+slots_are_filled : (filled {V = ℕ} None ≡ None) × (filled {V = ℕ} (Some None) ≡ None)
+    × (filled {V = ℕ} (Some (Some 8)) ≡ Some 8)
 slots_are_filled = (refl, refl, refl)
 
 -- what rows have at an entity
@@ -68,11 +70,15 @@ hidden true = refl
 hidden false = refl
 
 -- an empty slot more changes no row; a filled one does
-a_slot_changes_nothing : (old new : BTreeMap Name (Option ℕ)) → old.entries ≡ [] → new.entries ≡ (o1, None) ∷ [] → SameAt entity_cmp old new
-a_slot_changes_nothing old new e f = λ q. ap (λ es. row_in es q) f ∙ hidden (is_eq (entity_cmp q o1)) ∙ sym (ap (λ es. row_in es q) e)
+a_slot_changes_nothing : (old new : BTreeMap Name (Option ℕ)) → old.entries ≡ [] → new.entries ≡ (o1, None) ∷ []
+    → SameAt entity_cmp old new
+a_slot_changes_nothing old new e f =
+    λ q. ap (λ es. row_in es q) f ∙ hidden (is_eq (entity_cmp q o1)) ∙ sym (ap (λ es. row_in es q) e)
 
-a_row_changes : (old new : BTreeMap Name (Option ℕ)) → old.entries ≡ [] → new.entries ≡ (o1, Some 8) ∷ [] → SameAt entity_cmp old new → ⊥
-a_row_changes old new e f h = let z : some_row ≡ None = sym (ap (λ es. row_in es o1) f) ∙ h o1 ∙ ap (λ es. row_in es o1) e in cc
+a_row_changes : (old new : BTreeMap Name (Option ℕ)) → old.entries ≡ [] → new.entries ≡ (o1, Some 8) ∷ []
+    → SameAt entity_cmp old new → ⊥
+a_row_changes old new e f h =
+    let z : some_row ≡ None = sym (ap (λ es. row_in es o1) f) ∙ h o1 ∙ ap (λ es. row_in es o1) e in cc
 
 -- without slots a row of the journal may be added, and no mark be set
 slots_are_needed : (m : Maps ℕ ℕ) (row : JournalRow ℕ) → m.arrivals.handled.entries ≡ [] → IsReady m (Journal 1 row)
@@ -84,7 +90,8 @@ slots_are_needed m row e = (
 )
 
 -- nothing fails in memory, and what is seen is what stands there
-memory_never_fails : (m : Maps ℕ ℕ) → ((in_memory m).usable ≡ true) × ((in_memory m).doubt ≡ 0) × ((in_memory m).failures ≡ 0)
+memory_never_fails : (m : Maps ℕ ℕ) → ((in_memory m).usable ≡ true) × ((in_memory m).doubt ≡ 0)
+    × ((in_memory m).failures ≡ 0)
     × ((in_memory m).tables ≡ tables_in m)
 memory_never_fails m = (refl, refl, refl, refl)
 
@@ -128,12 +135,15 @@ stands es p = filled (lookup (λ y. is_eq (pair_cmp p y)) es)
 
 -- where none was handled the first letter is next, so its pair is missed
 indexes_are_whole : (handled : BTreeMap Pair (Option ℕ)) (held : BTreeMap Place (Option Message))
-    (drainable : BTreeMap Pair (Option (Unit {0}))) → handled.entries ≡ [] → held.entries ≡ slots → drainable.entries ≡ []
+    (drainable : BTreeMap Pair (Option (Unit {0}))) → handled.entries ≡ [] → held.entries ≡ slots
+    → drainable.entries ≡ []
     → IsIndexed handled held drainable → ⊥
 indexes_are_whole handled held drainable e f g h =
     let z : false ≡ true = sym (ap (λ es. is_some (stands es there)) g) ∙ h there
-    ∙ ap (λ es. is_some (filled (lookup (λ y. is_eq (place_cmp (place there (unwrap_or (stands handled.entries there) 0 + 1)) y)) es))) f
-    ∙ ap (λ es. is_some (filled (lookup (λ y. is_eq (place_cmp (place there (unwrap_or (stands {V = ℕ} es there) 0 + 1)) y)) slots))) e in
+    ∙ ap (λ es. is_some (filled (lookup (λ y. is_eq (place_cmp (place there
+    (unwrap_or (stands handled.entries there) 0 + 1)) y)) es))) f
+    ∙ ap (λ es. is_some (filled (lookup (λ y. is_eq (place_cmp (place there (unwrap_or (stands {V = ℕ} es there) 0 + 1))
+    y)) slots))) e in
     cc
 
 abbrev both : Messages

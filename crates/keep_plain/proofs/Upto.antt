@@ -1,5 +1,6 @@
 -- The slots of a pair before a place, and what emptying them one after another makes of the messages.
-use Rattle.std.proofs.Common.{◌≡◌, inl, inr, ℕ, ◌<◌, ◌≤◌, ◌&&◌, ◌==◌, Bool, true, false, Option, Some, None, Ordering, Less, Equal, Greater}
+use Rattle.std.proofs.Common.{◌≡◌, inl, inr, ℕ, ◌<◌, ◌≤◌, ◌&&◌, ◌==◌, Bool, true, false, Option, Some, None, Ordering}
+use Rattle.std.proofs.Common.{Less, Equal, Greater}
 use Rattle.std.proofs.Common.{refl, sym, ap, subst, ◌∙◌, arith, true≢false, if◌then◌else◌}
 use Rattle.std.specs.Prelude.{IsSome, nat_le}
 use Rattle.std.specs.Ordering.{is_eq, is_lt, nat_cmp, ordering_then}
@@ -55,20 +56,25 @@ module _ (m : BTreeMap Place (Option Message)) (last x : Place) (before : IsBefo
   none_after : (q : Place) → IsBefore q x → IsBefore last q → get place_cmp m q ≡ None
   none_after q h l = unless_some _ (λ some. true≢false (sym (ap is_lt l) ∙ greatest q h some))
 
-  pub last_same : same_pair last.pair x.pair ≡ true → (last.number < x.number) × NoneBetween m x.pair (λ k. last.number < k) x.number
+  pub last_same : same_pair last.pair x.pair ≡ true → (last.number < x.number)
+      × NoneBetween m x.pair (λ k. last.number < k) x.number
   last_same same =
       let e : last.pair ≡ x.pair = (same_pair-Decides last.pair x.pair).0 same in
       let l : (p : Pair) → last.pair ≡ p → (k : ℕ) → place_cmp last (place p k) ≡ nat_cmp last.number k =
-      λ p h k. subst (λ (q : Pair). place_cmp last (place q k) ≡ nat_cmp last.number k) h (place_cmp-same last.pair last.number k) in (
+      λ p h k. subst (λ (q : Pair). place_cmp last (place q k) ≡ nat_cmp last.number k) h
+      (place_cmp-same last.pair last.number k) in (
         number_less last.number x.number (sym (l x.pair e x.number) ∙ before),
-        λ k after high. none_after (place x.pair k) (before_same x.pair k x.number high) (l x.pair e k ∙ nat_less last.number k after),
+        λ k after high. none_after (place x.pair k) (before_same x.pair k x.number high)
+            (l x.pair e k ∙ nat_less last.number k after),
       )
 
   pub last_other : same_pair last.pair x.pair ≡ false → NoneBetween m x.pair (λ k. 0 ≤ k) x.number
   last_other other = λ k after high.
       let less : pair_cmp last.pair x.pair ≡ Less =
-      less_parts (pair_cmp last.pair x.pair) (nat_cmp last.number x.number) before (sym (same_pair-ties last.pair x.pair) ∙ other) in
-      none_after (place x.pair k) (before_same x.pair k x.number high) (ap (λ o. ordering_then o (nat_cmp last.number k)) less)
+      less_parts (pair_cmp last.pair x.pair) (nat_cmp last.number x.number) before
+      (sym (same_pair-ties last.pair x.pair) ∙ other) in
+      none_after (place x.pair k) (before_same x.pair k x.number high) (ap
+      (λ o. ordering_then o (nat_cmp last.number k)) less)
 
 -- ---- one slot is emptied, and then those before it
 
@@ -83,7 +89,8 @@ if_false b x y h = ap (λ c. if c then x else y) h
 pub set_at : (x : Place) (v : Option Message) (old new : BTreeMap Place (Option Message)) → SetsAt place_cmp x v old new
     → (q : Pair) (k : ℕ)
     → messages_in new q k ≡ (if same_pair x.pair q && (x.number == k) then v else messages_in old q k)
-set_at x v old new h q k = h (place q k) ∙ ap (λ b. if b then v else messages_in old q k) (sym (same_place-ties x (place q k)))
+set_at x v old new h q k =
+    h (place q k) ∙ ap (λ b. if b then v else messages_in old q k) (sym (same_place-ties x (place q k)))
 
 module _ (x : Place) (old new : BTreeMap Place (Option Message)) (h : SetsAt place_cmp x None old new) where
   set_here : messages_in new x.pair x.number ≡ None
@@ -94,7 +101,8 @@ module _ (x : Place) (old new : BTreeMap Place (Option Message)) (h : SetsAt pla
   set_none q k e = set_at x None old new h q k ∙ if_none _ _ e
 
   set_number : (q : Pair) (k : ℕ) → (x.number ≡ k → ⊥) → messages_in new q k ≡ messages_in old q k
-  set_number q k e = set_at x None old new h q k ∙ if_false _ _ _ (and_right (same_pair x.pair q) _ (ne_eqb x.number k e))
+  set_number q k e =
+      set_at x None old new h q k ∙ if_false _ _ _ (and_right (same_pair x.pair q) _ (ne_eqb x.number k e))
 
   set_pair : (q : Pair) (k : ℕ) → same_pair x.pair q ≡ false → messages_in new q k ≡ messages_in old q k
   set_pair q k e = set_at x None old new h q k ∙ if_false _ _ _ (ap (λ b. b && (x.number == k)) e)
@@ -146,5 +154,6 @@ emptied_is p n old new h q k = elim (cases_Bool (same_pair p q)) [
     | inr under ↦ subst (λ r. new r k ≡ (if nat_le k n then None else old r k)) ((same_pair-Decides p q).0 same)
         (h.gone k (omega arith) under ∙ sym (ap (λ b. if b then None else old p k) (le-leb k n under)))
   ])
-  | inr other ↦ h.others q k other ∙ sym (if_false (same_pair p q && nat_le k n) None (old q k) (ap (λ b. b && nat_le k n) other))
+  | inr other ↦ h.others q k other ∙ sym (if_false (same_pair p q && nat_le k n) None (old q k)
+      (ap (λ b. b && nat_le k n) other))
 ]

@@ -15,12 +15,14 @@ written_back None = refl
 written_back (Some slot) = refl
 
 -- what stood at a key is written back there
-pub same_slot : {K V : Type 0} {cmp : K → K → Ordering} (o : IsTotalOrder cmp) (m : BTreeMap K (Option V)) (k q : K) (w : Option V)
+pub same_slot : {K V : Type 0} {cmp : K → K → Ordering} (o : IsTotalOrder cmp) (m : BTreeMap K (Option V)) (k q : K)
+    (w : Option V)
     (new : Option (Option V)) → w ≡ unwrap_or (get cmp m k) None
     → new ≡ cond (is_eq (cmp k q)) (Some w) (get cmp m q) → filled new ≡ at cmp m q
 same_slot {cmp = cmp} o m k q w new is h = elim (cases_Bool (is_eq (cmp k q))) [
   | inl same ↦
       let alike : cmp k ≡ cmp q = fun_ext (λ x. o.congr k q x (equal_is (cmp k q) same)) in
-      ap filled (h ∙ ap (λ b. cond b (Some w) (get cmp m q)) same) ∙ is ∙ written_back (get cmp m k) ∙ ap (λ c. filled (get_by c m)) alike
+      ap filled (h ∙ ap (λ b. cond b (Some w) (get cmp m q)) same) ∙ is ∙ written_back (get cmp m k)
+      ∙ ap (λ c. filled (get_by c m)) alike
   | inr apart ↦ ap filled (h ∙ ap (λ b. cond b (Some w) (get cmp m q)) apart)
 ]

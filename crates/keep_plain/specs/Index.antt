@@ -20,6 +20,7 @@ abbrev pub handled_at : BTreeMap Pair (Option ℕ) → Pair → ℕ
 handled_at handled p = unwrap_or (at pair_cmp handled p) 0
 
 -- those pairs stand among the drainable ones whose next message is held
-abbrev pub IsIndexed : BTreeMap Pair (Option ℕ) → BTreeMap Place (Option Message) → BTreeMap Pair (Option (Unit {0})) → Type 0
+abbrev pub IsIndexed : BTreeMap Pair (Option ℕ) → BTreeMap Place (Option Message) → BTreeMap Pair (Option (Unit {0}))
+    → Type 0
 IsIndexed handled held drainable = (p : Pair)
     → is_some (at pair_cmp drainable p) ≡ is_some (next_held (messages_in held) (handled_at handled) p)

@@ -1,5 +1,6 @@
-//! How changes are made: all or none. First each change gets the slots that it sets, which is all that takes memory and changes no table;
-//! then the changes are made in order, in these slots; and then the slots that are left empty are taken away.
+//! How changes are made: all or none. First each change gets the slots that it sets, which is all that takes memory and
+//! changes no table; then the changes are made in order, in these slots; and then the slots that are left empty are
+//! taken away.
 
 ghost use Rattle.std.specs.Prelude.{◌≡◌, ◌+◌, ◌≤◌, ◌<◌, OnOk, OnErr, vec_len, length};
 ghost use Rattle.std.specs.Vec.{vec_capacity};
@@ -85,7 +86,8 @@ fn handle<S: Drop, C: Drop>(maps: &mut Maps<S, C>, pair: Pair, number: Number) -
     place.pair
 }
 
-/// Holds a letter, in slots that are there, and gives its place. The slot of its pair as a drainable one may be left empty.
+/// Holds a letter, in slots that are there, and gives its place. The slot of its pair as a drainable one may be left
+/// empty.
 fn hold<S: Drop, C: Drop>(maps: &mut Maps<S, C>, letter: Letter) -> Place
     requires { IsReady maps.old (Held letter) }
     ensures made { tables_in maps.new ≡ changed_by (Held letter) (tables_in maps.old) }
@@ -112,7 +114,8 @@ fn release<S: Drop, C: Drop>(maps: &mut Maps<S, C>, pair: Pair, number: Number) 
     place.pair
 }
 
-/// Sets an entity's row, in a slot that is there. Where the row is taken away, the entity is given back: its slot is left empty.
+/// Sets an entity's row, in a slot that is there. Where the row is taken away, the entity is given back: its slot is
+/// left empty.
 fn set_row<S: Drop, C: Drop>(
     maps: &mut Maps<S, C>,
     entity: Entity,

@@ -1,4 +1,5 @@
-//! What arrives: the last number handled of each pair, the messages that came too early, and the pairs whose next message is one of them.
+//! What arrives: the last number handled of each pair, the messages that came too early, and the pairs whose next
+//! message is one of them.
 
 ghost use Rattle.std.specs.Prelude.{◌≡◌, ◌+◌, ◌==◌, ℕ, IfOk, OnOk, Some, None};
 ghost use Rattle.base.specs.Order.{pair_cmp};
@@ -16,7 +17,8 @@ use keep::Place;
 use std::alloc::{AllocError, Global};
 use std::collections::BTreeMap;
 
-/// What arrives. The pairs whose next message is held stand in a map of their own, so that the first of them is found without a search.
+/// What arrives. The pairs whose next message is held stand in a map of their own, so that the first of them is found
+/// without a search.
 #[derive(Drop)]
 pub struct Arrivals {
     /// The last number handled of each pair.

@@ -20,7 +20,8 @@ fn copy_rows<H: Handler>(
     Ok(copies)
 }
 
-/// Copies of the first `limit` rows from a position on, or of all where they are fewer. Positions begin at 1; 0 is read as 1.
+/// Copies of the first `limit` rows from a position on, or of all where they are fewer. Positions begin at 1; 0 is read
+/// as 1.
 pub fn copy_page<H: Handler>(
     alloc: Global,
     journal: &[JournalRow<H::Command>],

@@ -8,7 +8,8 @@ use envelope::Message;
 use keep::Place;
 use std::collections::BTreeMap;
 
-/// The tables of a service whose states are `S` and whose commands are `C`, as they stand in memory. An empty slot is as no row.
+/// The tables of a service whose states are `S` and whose commands are `C`, as they stand in memory. An empty slot is
+/// as no row.
 #[derive(Drop)]
 pub struct Maps<S, C> {
     /// The rows of the journal, in order.

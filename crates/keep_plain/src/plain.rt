@@ -120,7 +120,8 @@ impl<H: Handler> Keep for PlainKeep<H> {
         changes: Vec<Change<H::State, H::Command>>,
     ) -> Result<(), KeepFault>
         requires { (in_memory self.old.maps).usable ≡ true }
-        ensures { Writes (λ k. in_memory k.maps) self.old self.new (ArePlaced changes.items) (changed changes.items) (keep_end result) }
+        ensures { Writes (λ k. in_memory k.maps) self.old self.new (ArePlaced changes.items) (changed changes.items)
+            (keep_end result) }
     {
         apply(alloc, &mut self.maps, changes)?;
         Ok(())

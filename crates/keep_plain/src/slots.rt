@@ -1,5 +1,5 @@
-//! Maps of slots. What stands at a key is what its slot has; an empty slot is as none, so that one can be put where memory may be refused,
-//! and be filled where it may not.
+//! Maps of slots. What stands at a key is what its slot has; an empty slot is as none, so that one can be put where
+//! memory may be refused, and be filled where it may not.
 
 ghost use Rattle.std.specs.Prelude.{◌≡◌, IsSome, OnOk};
 ghost use Rattle.std.specs.Option.{option_copied};

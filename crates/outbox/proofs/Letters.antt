@@ -15,17 +15,22 @@ module _ {E T : Type 0} (seen : E → Seen T) (old new : E) where
       (Why : T → OutboxFault → Type 0) (fault : KeepFault) (r : Result S OutboxFault) (told : OutboxFault)
       → r ≡ Err told → told ≡ Store fault → Reads seen old new gives (keep_end (Err fault))
       → ReadsOr seen old new gives' May Why (outbox_end r)
-  read_told gives gives' May Why Memory r told is e h = rw (is, e) (record { call = h.call; doubt = h.doubt; clean = h.clean })
-  read_told gives gives' May Why Failed r told is e h = rw (is, e) (record { call = h.call; doubt = h.doubt; clean = h.clean })
+  read_told gives gives' May Why Memory r told is e h =
+      rw (is, e) (record { call = h.call; doubt = h.doubt; clean = h.clean })
+  read_told gives gives' May Why Failed r told is e h =
+      rw (is, e) (record { call = h.call; doubt = h.doubt; clean = h.clean })
   read_told gives gives' May Why WrongFile r told is e h = absurd h.call.1
 
 -- a call after others that left the tables
-module _ {E T : Type 0} (seen : E → Seen T) (old mid new : E) (served : IsServed seen old mid) (doubt : (seen old).doubt ≤ (seen mid).doubt)
+module _ {E T : Type 0} (seen : E → Seen T) (old mid new : E) (served : IsServed seen old mid)
+    (doubt : (seen old).doubt ≤ (seen mid).doubt)
     (same : (seen mid).doubt ≡ 0 → (seen mid).tables ≡ (seen old).tables) where
   pub read_later : (Why More : T → OutboxFault → Type 0) (fault : OutboxFault)
       → ((seen mid).doubt ≡ 0 → Why (seen mid).tables NumberLimit → More (seen old).tables NumberLimit)
-      → Tells seen mid new (IsCallCause seen mid new IsLimit (outbox_cause fault)) (IsReadCause seen mid new Why (outbox_cause fault))
-      → Tells seen old new (IsCallCause seen old new IsLimit (outbox_cause fault)) (IsReadCause seen old new More (outbox_cause fault))
+      → Tells seen mid new (IsCallCause seen mid new IsLimit (outbox_cause fault))
+      (IsReadCause seen mid new Why (outbox_cause fault))
+      → Tells seen old new (IsCallCause seen old new IsLimit (outbox_cause fault))
+      (IsReadCause seen old new More (outbox_cause fault))
   read_later Why More (Store Memory) f h = let a = h.doubt in record {
     call = then_served seen old mid new served h.call;
     doubt = omega (arith, doubt, a);
@@ -40,5 +45,6 @@ module _ {E T : Type 0} (seen : E → Seen T) (old mid new : E) (served : IsServ
   read_later Why More NumberLimit f h = let a = h.doubt in record {
     call = (then_served seen old mid new served h.call.0, tt);
     doubt = omega (arith, doubt, a);
-    clean = λ clean. let early : (seen mid).doubt ≡ 0 = omega (arith, clean, a) in let r = h.clean clean in (f early r.0, r.1 ∙ same early);
+    clean = λ clean. let early : (seen mid).doubt ≡ 0 =
+        omega (arith, clean, a) in let r = h.clean clean in (f early r.0, r.1 ∙ same early);
   }

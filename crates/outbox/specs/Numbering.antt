@@ -16,15 +16,16 @@ pair_between sender receiver = record { from = sender; to = receiver }
 
 -- where so many were sent on each pair, the numbers of what an entity sends now are within the limit
 abbrev pub NumbersFit : (Pair → ℕ) → Name → List Out → Type 0
-NumbersFit sent e outs = (r : Name) → 0 < length (messages_to r outs) → sent (pair_between e r) + length (messages_to r outs) ≤ MAX_NUMBER
+NumbersFit sent e outs =
+    (r : Name) → 0 < length (messages_to r outs) → sent (pair_between e r) + length (messages_to r outs) ≤ MAX_NUMBER
 
 -- one of them is above it
 abbrev pub NumbersPass : (Pair → ℕ) → Name → List Out → Type 0
 NumbersPass sent e outs = (r : Name) × (0 < length (messages_to r outs))
     × (MAX_NUMBER < sent (pair_between e r) + length (messages_to r outs))
 
--- The letter of a message that an entity sends, where so many were sent on each pair and it sends `before` first: its number is one
--- more than what went to its receiver so far.
+-- The letter of a message that an entity sends, where so many were sent on each pair and it sends `before` first: its
+-- number is one more than what went to its receiver so far.
 abbrev pub letter_to : (Pair → ℕ) → Name → List Out → Out → Letter
 letter_to sent e before o = record {
   pair = pair_between e o.receiver;
@@ -32,6 +33,7 @@ letter_to sent e before o = record {
   message = o.message;
 }
 
--- the changes that put what it sends into the outbox: for each message, in order, its letter where it sends those before it first
+-- the changes that put what it sends into the outbox: for each message, in order, its letter where it sends those
+-- before it first
 abbrev pub numbering : {S C : Type 0} → (Pair → ℕ) → Name → List Out → List (Change S C)
 numbering sent e outs = map (λ at. Sent (letter_to sent e (take at.0 outs) at.1)) (enumerate_from 0 outs)

@@ -1,8 +1,9 @@
-//! What a service sends: letters with the next numbers of their pairs, whose rows stand in the store until they are settled.
+//! What a service sends: letters with the next numbers of their pairs, whose rows stand in the store until they are
+//! settled.
 //!
-//! The letters of a pair are numbered 1, 2, .. in the order in which they were sent, and no number is above 2^40. A row is there for each
-//! letter above the pair's settled mark. What is made here are changes for one transaction of the store: a caller writes them together
-//! with what made the entity send.
+//! The letters of a pair are numbered 1, 2, .. in the order in which they were sent, and no number is above 2^40. A row
+//! is there for each letter above the pair's settled mark. What is made here are changes for one transaction of the
+//! store: a caller writes them together with what made the entity send.
 //!
 //! ```rust
 //! pub fn a_mark_is_one_change(alloc: Global, pair: &Pair) -> Result<usize, AllocError> {

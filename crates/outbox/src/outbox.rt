@@ -91,7 +91,8 @@ where
     K: Keep<State = H::State, Command = H::Command>,
     requires usable { (K.seen keep.old).usable ≡ true }
     requires room { length outs.now < 2 ^ 63 }
-    ensures { ReadsOr K.seen keep.old keep.new (λ t _. (changes.new.items ≡ changes.old.items ++ numbering t.sent entity.now outs.now)
+    ensures { ReadsOr K.seen keep.old keep.new (λ t _. (changes.new.items ≡ changes.old.items
+        ++ numbering t.sent entity.now outs.now)
         × NumbersFit t.sent entity.now outs.now) IsLimit
         (λ t _. NumbersPass t.sent entity.now outs.now) (outbox_end result) }
 {

@@ -1,5 +1,6 @@
 -- What is known of the partners of an order.
-use Rattle.std.proofs.Common.{◌≡◌, ◌≢◌, ℕ, zero, suc, ◌<◌, ◌≤◌, ◌++◌, List, [], ◌∷◌, Bool, true, false, length, get_or, set, take, drop}
+use Rattle.std.proofs.Common.{◌≡◌, ◌≢◌, ℕ, zero, suc, ◌<◌, ◌≤◌, ◌++◌, List, [], ◌∷◌, Bool, true, false, length, get_or}
+use Rattle.std.proofs.Common.{set, take, drop}
 use Rattle.std.proofs.Common.{refl, ap, arith, sym, ◌∙◌, subst, Option, None}
 use Rattle.std.proofs.Math.ListN.{drop_of_length-le}
 use Rattle.std.proofs.Math.Seq.{take-length}
@@ -20,12 +21,14 @@ use Rattle.trade.specs.declared.commands.OrderCommand.TheVariants.{Place}
 use Rattle.trade.specs.declared.items.Item.{Item}
 use Rattle.activities.specs.Applied.{IsSending}
 use Rattle.trade.specs.Items.{are_lines, are_numbers}
-use Rattle.trade.specs.Orders.{Partner, OrderState, all_tentative, with_phase, all_in, to_all, to_others, requests, partners_of}
+use Rattle.trade.specs.Orders.{Partner, OrderState, all_tentative, with_phase, all_in, to_all, to_others, requests}
+use Rattle.trade.specs.Orders.{partners_of}
 use Rattle.trade.specs.Orders.{on_order_command}
 use Rattle.trade.specs.Sound.{AreStocksThenAccount, ArePartners}
 use Rattle.trade.proofs.Sound.{entities-with_phase, entities-all_in}
 use Rattle.activities.proofs.Sameness.{either, same_entity-tells}
-use Rattle.purchasing.specs.Parts.Partners.{names, stands_in, is_stock, is_account, are_stocks_then_account, are_partners}
+use Rattle.purchasing.specs.Parts.Partners.{names, stands_in, is_stock, is_account, are_stocks_then_account}
+use Rattle.purchasing.specs.Parts.Partners.{are_partners}
 
 -- whether all are tentative: with this one's phase set to it, until it is found
 abbrev pub waits : Bool → Name → List Partner → Bool
@@ -54,7 +57,8 @@ apart e (o ∷ os) h =
 
 stands_nowhere : (e : Name) (es : List Name) → AllByRecursion (λ other. e ≢ other) es → stands_in e es ≡ false
 stands_nowhere e [] h = refl
-stands_nowhere e (o ∷ os) h = either (same_entity-tells e o) (λ k. absurd (h.0 k.1)) (λ k. rw k.0 (stands_nowhere e os h.1))
+stands_nowhere e (o ∷ os) h =
+    either (same_entity-tells e o) (λ k. absurd (h.0 k.1)) (λ k. rw k.0 (stands_nowhere e os h.1))
 
 stock_is : (k : Kind) → is_stock k ≡ true → k ≡ Stock
 stock_is Order h = absurd (cc)
@@ -91,12 +95,14 @@ partners_are_not es h is =
     let order = tested es is.in_order in
     let some : nat_lt 1 (length es) ≡ true = let s = is.some in grind (arith, nat_tests) in
     let few : nat_le (length es) 9 ≡ true = let s = is.few in grind (arith, nat_tests) in
-    let all : are_partners es ≡ true = three (nat_lt 1 (length es)) (nat_le (length es) 9) (are_stocks_then_account es) some few order in
+    let all : are_partners es ≡ true =
+    three (nat_lt 1 (length es)) (nat_le (length es) 9) (are_stocks_then_account es) some few order in
     absurd (cc)
 
 -- ---- one partner's phase
 
-pub with_phase-at : (e : Name) (phase : Phase) (ps : List Partner) (at : ℕ) (b d : Partner) → stands_in e (names (take at ps)) ≡ false
+pub with_phase-at : (e : Name) (phase : Phase) (ps : List Partner) (at : ℕ) (b d : Partner)
+    → stands_in e (names (take at ps)) ≡ false
     → at < length ps → same_entity e (get_or ps at b).entity ≡ true
     → with_phase e phase ps ≡ set ps at (record (get_or ps at d) { phase = phase })
 with_phase-at e phase [] at b d h lt same = absurd (omega arith)
@@ -105,7 +111,8 @@ with_phase-at e phase (p ∷ ps) (suc at) b d h lt same =
     let both : (same_entity e p.entity ≡ false) × (stands_in e (names (take at ps)) ≡ false) = grind arith in
     rw both.0 (ap (λ qs. p ∷ qs) (with_phase-at e phase ps at b d both.1 (omega arith) same))
 
-pub with_phase-none : (e : Name) (phase : Phase) (ps : List Partner) → stands_in e (names ps) ≡ false → with_phase e phase ps ≡ ps
+pub with_phase-none : (e : Name) (phase : Phase) (ps : List Partner) → stands_in e (names ps) ≡ false
+    → with_phase e phase ps ≡ ps
 with_phase-none e phase [] h = refl
 with_phase-none e phase (p ∷ ps) h =
     let both : (same_entity e p.entity ≡ false) × (stands_in e (names ps) ≡ false) = grind arith in
@@ -144,7 +151,8 @@ others-some s m (p ∷ ps) zero d lt other = told (same_entity s p.entity) other
     told : (t : Bool) → t ≡ false → Told s m p ps t ≢ []
     told true e = absurd (cc)
     told false e = λ none. absurd (cc)
-others-some s m (p ∷ ps) (suc at) d lt other = told (same_entity s p.entity) (others-some s m ps at d (omega arith) other)
+others-some s m (p ∷ ps) (suc at) d lt other =
+    told (same_entity s p.entity) (others-some s m ps at d (omega arith) other)
   where
     told : (t : Bool) → to_others s m ps ≢ [] → Told s m p ps t ≢ []
     told true h = h
@@ -156,7 +164,8 @@ length-names : (ps : List Partner) → length (names ps) ≡ length ps
 length-names [] = refl
 length-names (p ∷ ps) = ap suc (length-names ps)
 
-written : (old new : List Partner) (n : ℕ) → n ≡ length old → length new ≡ length old → take n (new ++ drop (length new) old) ≡ new
+written : (old new : List Partner) (n : ℕ) → n ≡ length old → length new ≡ length old
+    → take n (new ++ drop (length new) old) ≡ new
 written old new n e k =
     let none : drop (length new) old ≡ [] = drop_of_length-le old (omega arith) in
     rw none (rw append-nil (rw (e ∙ sym k) (take-length new)))
@@ -167,11 +176,13 @@ kept old new n e k h =
     let size : length new ≡ length old = sym (length-names new) ∙ ap length e ∙ length-names old in
     subst (λ ps. ArePartners (names ps)) (sym (written old new n k size)) (subst ArePartners (sym e) h)
 
-pub all_kept : (phase : Phase) (old new : List Partner) (n : ℕ) → new ≡ all_in phase old → n ≡ length old → ArePartners (names old)
+pub all_kept : (phase : Phase) (old new : List Partner) (n : ℕ) → new ≡ all_in phase old → n ≡ length old
+    → ArePartners (names old)
     → ArePartners (names (take n (new ++ drop (length new) old)))
 all_kept phase old new n e k h = kept old new n (ap names e ∙ entities-all_in phase old) k h
 
-pub phase_kept : (s : Name) (phase : Phase) (old new : List Partner) (n : ℕ) → new ≡ with_phase s phase old → n ≡ length old
+pub phase_kept : (s : Name) (phase : Phase) (old new : List Partner) (n : ℕ) → new ≡ with_phase s phase old
+    → n ≡ length old
     → ArePartners (names old) → ArePartners (names (take n (new ++ drop (length new) old)))
 phase_kept s phase old new n e k h = kept old new n (ap names e ∙ entities-with_phase s phase old) k h
 
@@ -181,6 +192,7 @@ requests-some : (is : List Item) (account : List ℕ) (amount : ℕ) → request
 requests-some [] account amount = λ e. absurd (cc)
 requests-some (i ∷ is) account amount = λ e. absurd (cc)
 
-pub placing_sends : (x : Option OrderState) (is : List Item) (account : List ℕ) (amount : ℕ) → x ≡ None → are_lines is ≡ true
+pub placing_sends : (x : Option OrderState) (is : List Item) (account : List ℕ) (amount : ℕ) → x ≡ None
+    → are_lines is ≡ true
     → are_numbers is ≡ true → is_number amount ≡ true → IsSending (on_order_command x (Place is account amount))
 placing_sends x is account amount e h k l = rw (e, h, k, l) (requests-some is account amount)

@@ -15,8 +15,9 @@ use trade::{Items, OrderCommand};
 
 /// What purchasing does with what its orders take in.
 ///
-/// An order is none until it is placed. Then it is open until all its partners hold what they were asked for, and is confirmed, or
-/// until a partner refuses or a seat gives it up, and is cancelled. An input that sends nothing never wants memory.
+/// An order is none until it is placed. Then it is open until all its partners hold what they were asked for, and is
+/// confirmed, or until a partner refuses or a seat gives it up, and is cancelled. An input that sends nothing never
+/// wants memory.
 pub struct Orders;
 
 impl Handler for Orders {
@@ -131,8 +132,8 @@ impl Reacting for Orders {
     }
 }
 
-/// Places the order and asks its partners, if it wasn't placed before, has one to eight lines, each of another stock, and its numbers
-/// are in range.
+/// Places the order and asks its partners, if it wasn't placed before, has one to eight lines, each of another stock,
+/// and its numbers are in range.
 #[tactic(auto, using(crate::proofs::Lists::placing_sends))]
 fn place(
     alloc: Global,
@@ -172,7 +173,8 @@ fn number_in_range(value: u64) -> Option<Number>
 
 /// Cancels the order and tells its partners, if it is open.
 fn cancel(alloc: Global, state: &mut Option<Order>, outs: &mut Outs) -> Result<(), HandlerFault>
-    ensures { IsAnswered (order_reactions.on_command state.old OrderCommand.CancelOrder) state.old outs.old state.new outs.new result }
+    ensures { IsAnswered (order_reactions.on_command state.old OrderCommand.CancelOrder) state.old outs.old state.new
+        outs.new result }
 {
     match state {
         Some(order) if order.is_open() => Ok(order.cancel(alloc, outs)?),

@@ -2,7 +2,8 @@
 
 ghost use Rattle.std.specs.Prelude.{◌≡◌, ◌≢◌, [], ◌++◌, true, IfOk, OnOk, OnErr};
 ghost use Rattle.trade.specs.Items.{are_numbers};
-ghost use Rattle.trade.specs.Orders.{awaits, with_phase, all_tentative, all_in, to_all, to_others, requests, partners_of};
+ghost use Rattle.trade.specs.Orders.{awaits, with_phase, all_tentative, all_in, to_all, to_others, requests};
+ghost use Rattle.trade.specs.Orders.{partners_of};
 ghost use Rattle.purchasing.specs.Parts.Partners.{names, stands_in, are_stocks_then_account, are_partners};
 
 use crate::Partner;

@@ -22,7 +22,8 @@ pub fn hold<S: Drop, C: Drop>(
     Ok(changes)
 }
 
-/// The changes of marks and held letters that go with a letter that is taken in: it is the last that was handled, and isn't held any more.
+/// The changes of marks and held letters that go with a letter that is taken in: it is the last that was handled, and
+/// isn't held any more.
 ///
 /// # Errors
 /// Where a growth was refused.

@@ -10,8 +10,8 @@ use envelope::Letter;
 use keep::{Keep, KeepFault};
 use std::alloc::Global;
 
-/// The held letter behind the last that was handled of a pair, or `None` where it isn't held. One read of the store; none where no number
-/// is left.
+/// The held letter behind the last that was handled of a pair, or `None` where it isn't held. One read of the store;
+/// none where no number is left.
 ///
 /// # Errors
 /// `Failed` where the store failed; `Memory` where a growth was refused.
@@ -22,7 +22,8 @@ pub fn next_held<K: Keep>(
     handled: u64,
 ) -> Result<Option<Letter>, KeepFault>
     requires { (K.seen keep.old).usable ≡ true }
-    ensures reads { Reads K.seen keep.old keep.new (λ t found. IsNextHeld t.held pair.now handled found) (keep_end result) }
+    ensures reads { Reads K.seen keep.old keep.new (λ t found. IsNextHeld t.held pair.now handled found)
+        (keep_end result) }
     ensures next { IfOk result (λ found. IsNextOf pair.now handled found) }
 {
     let Some(number) = Number::new(handled.saturating_add(1)) else {

@@ -74,7 +74,8 @@ unfolding same_entity
 one_tentative_waits = refl
 
 -- the second confirms the order, and both partners are told
-the_second_tentative_confirms : react order_reactions (order Open Phase.Tentative Phase.Requested) (FromEntity acme 1 Tentative)
+the_second_tentative_confirms : react order_reactions (order Open Phase.Tentative Phase.Requested)
+    (FromEntity acme 1 Tentative)
     ≡ Ok (order Confirmed Phase.Confirmed Phase.Confirmed, to bolts Confirm ∷ to acme Confirm ∷ [])
 unfolding same_entity
 the_second_tentative_confirms = refl
@@ -91,7 +92,8 @@ unfolding same_entity
 only_the_tentative_count = (refl, refl, refl)
 
 -- a refusal cancels the order; the other partner alone is told
-a_refusal_cancels_the_other : react order_reactions (order Open Phase.Tentative Phase.Requested) (FromEntity acme 1 Refused)
+a_refusal_cancels_the_other : react order_reactions (order Open Phase.Tentative Phase.Requested)
+    (FromEntity acme 1 Refused)
     ≡ Ok (order Cancelled Phase.Cancelled Phase.Refused, to bolts Cancel ∷ [])
 unfolding same_entity
 a_refusal_cancels_the_other = refl
@@ -136,9 +138,11 @@ each_stock_is_asked = refl
 
 -- while another wasn't heard of, a tentative answer sends nothing; the last one confirms all
 all_have_to_hold :
-    (react order_reactions (order_of_two Open Phase.Tentative Phase.Requested Phase.Requested) (FromEntity acme 1 Tentative)
+    (react order_reactions (order_of_two Open Phase.Tentative Phase.Requested Phase.Requested)
+    (FromEntity acme 1 Tentative)
     ≡ Ok (order_of_two Open Phase.Tentative Phase.Requested Phase.Tentative, []))
-    × (react order_reactions (order_of_two Open Phase.Tentative Phase.Requested Phase.Tentative) (FromEntity nuts 1 Tentative)
+    × (react order_reactions (order_of_two Open Phase.Tentative Phase.Requested Phase.Tentative)
+    (FromEntity nuts 1 Tentative)
     ≡ Ok (
       order_of_two Confirmed Phase.Confirmed Phase.Confirmed Phase.Confirmed,
       to bolts Confirm ∷ to nuts Confirm ∷ to acme Confirm ∷ [],
@@ -148,7 +152,8 @@ all_have_to_hold = (refl, refl)
 
 -- a refusal cancels the order; all others are told, whether they hold what they were asked for or weren't heard of
 a_refusal_cancels_all_others :
-    react order_reactions (order_of_two Open Phase.Tentative Phase.Requested Phase.Requested) (FromEntity nuts 1 Refused)
+    react order_reactions (order_of_two Open Phase.Tentative Phase.Requested Phase.Requested)
+    (FromEntity nuts 1 Refused)
     ≡ Ok (order_of_two Cancelled Phase.Cancelled Phase.Refused Phase.Cancelled, to bolts Cancel ∷ to acme Cancel ∷ [])
 unfolding same_entity
 a_refusal_cancels_all_others = refl
@@ -157,27 +162,34 @@ a_refusal_cancels_all_others = refl
 
 -- an order is placed once, for 1 at least; what isn't placed can't be cancelled
 commands_are_refused : (react order_reactions (order Open Phase.Requested Phase.Requested) placing ≡ Err AlreadyPlaced)
-    × (react order_reactions None (FromSeat 0 (Place (item (codes "bolts") 0 ∷ []) (codes "acme") 500)) ≡ Err OutOfRange)
+    × (react order_reactions None (FromSeat 0 (Place (item (codes "bolts") 0 ∷ []) (codes "acme") 500))
+    ≡ Err OutOfRange)
     × (react order_reactions None (FromSeat 0 CancelOrder) ≡ Err NotOpen)
 commands_are_refused = (refl, refl, refl)
 
 -- no line, a stock twice, and nine lines are refused, and before a number out of range is; eight lines aren't
 lines_are_one_to_eight : (react order_reactions None (FromSeat 0 (Place [] (codes "acme") 500)) ≡ Err BadLines)
-    × (react order_reactions None (FromSeat 0 (Place (item (codes "a") 1 ∷ item (codes "b") 1 ∷ item (codes "a") 1 ∷ []) (codes "acme") 5))
+    × (react order_reactions None (FromSeat 0 (Place (item (codes "a") 1 ∷ item (codes "b") 1 ∷ item (codes "a") 1 ∷ [])
+    (codes "acme") 5))
     ≡ Err BadLines)
-    × (react order_reactions None (FromSeat 0 (Place (item (codes "a") 0 ∷ item (codes "a") 1 ∷ []) (codes "acme") 0)) ≡ Err BadLines)
+    × (react order_reactions None (FromSeat 0 (Place (item (codes "a") 0 ∷ item (codes "a") 1 ∷ []) (codes "acme") 0))
+    ≡ Err BadLines)
     × (react order_reactions None (FromSeat 0 (Place (one_each (codes "abcdefghi")) (codes "acme") 5)) ≡ Err BadLines)
     × IsOk (react order_reactions None (FromSeat 0 (Place (one_each (codes "abcdefgh")) (codes "acme") 5)))
 lines_are_one_to_eight = (refl, refl, refl, refl, refl)
 
 -- what is asked for is 1 to 2^40, of each stock and of the account
-amounts_are_in_range : (react order_reactions None (FromSeat 0 (Place (item (codes "bolts") 3 ∷ item (codes "nuts") 0 ∷ [])
+amounts_are_in_range : (react order_reactions None (FromSeat 0 (Place (item (codes "bolts") 3 ∷ item (codes "nuts") 0 ∷
+    [])
     (codes "acme") 5))
     ≡ Err OutOfRange)
     × (react order_reactions None (FromSeat 0 (Place (item (codes "bolts") 3 ∷ []) (codes "acme") 0)) ≡ Err OutOfRange)
-    × (react order_reactions None (FromSeat 0 (Place (item (codes "bolts") 1099511627777 ∷ []) (codes "acme") 500)) ≡ Err OutOfRange)
-    × (react order_reactions None (FromSeat 0 (Place (item (codes "bolts") 3 ∷ []) (codes "acme") 1099511627777)) ≡ Err OutOfRange)
-    × IsOk (react order_reactions None (FromSeat 0 (Place (item (codes "bolts") 1099511627776 ∷ []) (codes "acme") 1099511627776)))
+    × (react order_reactions None (FromSeat 0 (Place (item (codes "bolts") 1099511627777 ∷ []) (codes "acme") 500))
+    ≡ Err OutOfRange)
+    × (react order_reactions None (FromSeat 0 (Place (item (codes "bolts") 3 ∷ []) (codes "acme") 1099511627777))
+    ≡ Err OutOfRange)
+    × IsOk (react order_reactions None (FromSeat 0 (Place (item (codes "bolts") 1099511627776 ∷ []) (codes "acme")
+    1099511627776)))
 amounts_are_in_range = (refl, refl, refl, refl, refl)
 
 -- a partner answers once: what it says behind its answer changes nothing
@@ -195,7 +207,8 @@ second_answers_change_nothing = (refl, refl, refl)
 late_answers_change_nothing :
     (react order_reactions (order Cancelled Phase.Cancelled Phase.Refused) (FromEntity bolts 1 Tentative)
     ≡ Ok (order Cancelled Phase.Cancelled Phase.Refused, []))
-    × (react order_reactions (order Open Phase.Requested Phase.Requested) (FromEntity (stock_of (codes "nuts")) 1 Refused)
+    × (react order_reactions (order Open Phase.Requested Phase.Requested)
+    (FromEntity (stock_of (codes "nuts")) 1 Refused)
     ≡ Ok (order Open Phase.Requested Phase.Requested, []))
 unfolding same_entity
 late_answers_change_nothing = (refl, refl)
@@ -229,7 +242,8 @@ unfolding same_entity
 handled_letters_are_counted = (refl, refl, refl)
 
 -- the stock's first letter to `o2` may follow; it has the number 1, since none was handled
-the_next_letter_may_follow : MayFollow order_reactions Order rows (record { entity = o2; input = FromEntity bolts 1 Tentative })
+the_next_letter_may_follow : MayFollow order_reactions Order rows (record
+    { entity = o2; input = FromEntity bolts 1 Tentative })
 unfolding same_entity
 the_next_letter_may_follow = record { of_kind = refl; seated = tt; accepted = refl; next = refl }
 
@@ -252,9 +266,11 @@ orders = record { kind = Order; reactions = order_reactions; is_none = λ s. is_
 -- no row stands for an order that took nothing in, nor for one whose state is none
 rows_stand_for_states : (row_after orders (placing ∷ []) ≡ Some (order Open Phase.Requested Phase.Requested))
     × (row_after orders [] ≡ None) × (row_after orders (FromEntity bolts 1 Tentative ∷ []) ≡ None)
-    × (row_for orders.is_none (order Open Phase.Requested Phase.Requested) ≡ Some (order Open Phase.Requested Phase.Requested))
+    × (row_for orders.is_none (order Open Phase.Requested Phase.Requested)
+    ≡ Some (order Open Phase.Requested Phase.Requested))
     × (state_for None (row_for orders.is_none None) ≡ None)
-    × (row_of orders (record { entity = o1; input = placing } ∷ []) o1 ≡ Some (order Open Phase.Requested Phase.Requested))
+    × (row_of orders (record { entity = o1; input = placing } ∷ []) o1
+    ≡ Some (order Open Phase.Requested Phase.Requested))
     × (row_of orders (record { entity = o1; input = placing } ∷ []) o2 ≡ None)
 unfolding same_entity
 rows_stand_for_states = (refl, refl, refl, refl, refl, refl, refl)
@@ -269,11 +285,13 @@ placed_and_answered = legal-more order_reactions Order (record { entity = o1; in
     (record { of_kind = refl; seated = omega arith; accepted = refl; next = tt }))
     (record { of_kind = refl; seated = tt; accepted = refl; next = refl })
 
-a_repeated_letter_is_not_legal : IsLegal order_reactions Order (rows ++ record { entity = o1; input = FromEntity bolts 1 Tentative } ∷ [])
+a_repeated_letter_is_not_legal : IsLegal order_reactions Order (rows
+    ++ record { entity = o1; input = FromEntity bolts 1 Tentative } ∷ [])
     → ⊥
 unfolding same_entity
 a_repeated_letter_is_not_legal legal =
-    apart ((legal-last order_reactions Order rows (record { entity = o1; input = FromEntity bolts 1 Tentative }) legal).next)
+    apart ((legal-last order_reactions Order rows (record { entity = o1; input = FromEntity bolts 1 Tentative })
+    legal).next)
   where
     apart : 1 ≡ suc 1 → ⊥
     apart h = omega arith

@@ -1,4 +1,5 @@
--- What holds of all states that hold for orders: it does after a message where it does after each of the four changes of lines.
+-- What holds of all states that hold for orders: it does after a message where it does after each of the four changes
+-- of lines.
 use Rattle.std.proofs.Common.{◌≡◌, ℕ, ◌+◌, List, Bool, true, false, refl, arith, Option, Some, None}
 use Rattle.std.specs.Prelude.{if◌then◌else◌, ◌&&◌, is_none}
 use Rattle.base.specs.Entity.{Name}
@@ -8,14 +9,17 @@ use Rattle.envelope.specs.declared.message.Message.{Message}
 use Rattle.envelope.specs.declared.message.Message.TheVariants.{Request, Tentative, Refused, Confirm, Cancel}
 use Rattle.trade.specs.declared.line_phase.LinePhase.{LinePhase}
 use Rattle.trade.specs.declared.line_phase.LinePhase.TheVariants.{Held, Done, Released}
-use Rattle.trade.specs.Holding.{Holding, held_for, refused_to, finished_for, freed_for, held_by, on_request, on_held, on_line_message}
+use Rattle.trade.specs.Holding.{Holding, held_for, refused_to, finished_for, freed_for, held_by, on_request, on_held}
+use Rattle.trade.specs.Holding.{on_line_message}
 use Rattle.trade.specs.Lines.{Line, is_order, same_phase, line_of, with_line_phase, share_of, total}
 use Rattle.trade.proofs.LineLists.{sum_by-with_phase}
 
 -- holding, refusing, finishing and freeing keep what holds of a state
 pub record KeepsHolding {S : Type 0} (h : Holding S) (P : S → Type 0) : Type 0 where
-  pub holds : (x : S) (s : Name) (n : ℕ) → s.kind ≡ Order → line_of s (h.lines x) ≡ None → h.fits x n ≡ true → P x → P (held_for h x s n)
-  pub refuses : (x : S) (s : Name) (n : ℕ) → s.kind ≡ Order → line_of s (h.lines x) ≡ None → P x → P (refused_to h x s n)
+  pub holds : (x : S) (s : Name) (n : ℕ) → s.kind ≡ Order → line_of s (h.lines x) ≡ None → h.fits x n ≡ true → P x
+      → P (held_for h x s n)
+  pub refuses : (x : S) (s : Name) (n : ℕ) → s.kind ≡ Order → line_of s (h.lines x) ≡ None → P x
+      → P (refused_to h x s n)
   pub finishes : (x : S) (s : Name) (n : ℕ) → held_by (line_of s (h.lines x)) ≡ Some n → P x → P (finished_for h x s n)
   pub frees : (x : S) (s : Name) (n : ℕ) → held_by (line_of s (h.lines x)) ≡ Some n → P x → P (freed_for h x s n)
 
@@ -28,7 +32,8 @@ pub none_is : {A : Type 0} (l : Option A) → is_none l ≡ true → l ≡ None
 none_is None h = refl
 none_is (Some l) h = absurd (cc)
 
-request_kept : {S : Type 0} (h : Holding S) (P : S → Type 0) → KeepsHolding h P → (x : S) (s : Name) (n : ℕ) → s.kind ≡ Order
+request_kept : {S : Type 0} (h : Holding S) (P : S → Type 0) → KeepsHolding h P → (x : S) (s : Name) (n : ℕ)
+    → s.kind ≡ Order
     → line_of s (h.lines x) ≡ None → P x → P (on_request h x s n).0
 request_kept h P keeps x s n kind none was = by_case (h.fits x n) refl
   where
@@ -36,16 +41,19 @@ request_kept h P keeps x s n kind none was = by_case (h.fits x n) refl
     by_case true e = rw e (keeps.holds x s n kind none e was)
     by_case false e = rw e (keeps.refuses x s n kind none was)
 
-held_kept : {S : Type 0} (P : S → Type 0) (held : Option ℕ) (becomes : ℕ → S) (x : S) → ((n : ℕ) → held ≡ Some n → P (becomes n)) → P x
+held_kept : {S : Type 0} (P : S → Type 0) (held : Option ℕ) (becomes : ℕ → S) (x : S)
+    → ((n : ℕ) → held ≡ Some n → P (becomes n)) → P x
     → P (on_held held becomes x).0
 held_kept P None becomes x keeps was = was
 held_kept P (Some n) becomes x keeps was = keeps n refl
 
-pub message_kept : {S : Type 0} (h : Holding S) (P : S → Type 0) → KeepsHolding h P → (x : S) (s : Name) (m : Message) → P x
+pub message_kept : {S : Type 0} (h : Holding S) (P : S → Type 0) → KeepsHolding h P → (x : S) (s : Name) (m : Message)
+    → P x
     → P (on_line_message h x s m).0
 message_kept h P keeps x s (Request n) was = by_case (is_order s.kind && is_none (line_of s (h.lines x))) refl
   where
-    by_case : (t : Bool) → (is_order s.kind && is_none (line_of s (h.lines x))) ≡ t → P (on_line_message h x s (Request n)).0
+    by_case : (t : Bool) → (is_order s.kind && is_none (line_of s (h.lines x))) ≡ t
+        → P (on_line_message h x s (Request n)).0
     by_case true e =
         let none : is_none (line_of s (h.lines x)) ≡ true = grind arith in
         let kind : is_order s.kind ≡ true = grind arith in
@@ -71,7 +79,8 @@ is_held LinePhase.Refused h = absurd (cc)
 is_held Done h = absurd (cc)
 is_held Released h = absurd (cc)
 
-left_from : (p : LinePhase) (o : Name) (l : Line) (ls : List Line) → line_of o ls ≡ Some l → same_phase Held l.phase ≡ true
+left_from : (p : LinePhase) (o : Name) (l : Line) (ls : List Line) → line_of o ls ≡ Some l
+    → same_phase Held l.phase ≡ true
     → same_phase Held p ≡ false → Left p o l.n ls
 left_from p o l ls at held none =
     let h = sum_by-with_phase (share_of Held) p o l ls at in
@@ -82,10 +91,12 @@ left_from p o l ls at held none =
     let no_more : share_of Held (record l { phase = p }) ≡ 0 = rw none in
     record { held = omega arith; done = omega arith }
 
-pub left : (p : LinePhase) (o : Name) (n : ℕ) (ls : List Line) → held_by (line_of o ls) ≡ Some n → same_phase Held p ≡ false → Left p o n ls
+pub left : (p : LinePhase) (o : Name) (n : ℕ) (ls : List Line) → held_by (line_of o ls) ≡ Some n
+    → same_phase Held p ≡ false → Left p o n ls
 left p o n ls held none = by_line (line_of o ls) refl held
   where
-    by_phase : (l : Line) (t : Bool) → same_phase Held l.phase ≡ t → line_of o ls ≡ Some l → (if t then Some l.n else None) ≡ Some n
+    by_phase : (l : Line) (t : Bool) → same_phase Held l.phase ≡ t → line_of o ls ≡ Some l
+        → (if t then Some l.n else None) ≡ Some n
         → Left p o n ls
     by_phase l true e at is = let same : l.n ≡ n = cc in rw (← same) (left_from p o l ls at e none)
     by_phase l false e at is = absurd (cc)

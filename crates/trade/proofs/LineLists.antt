@@ -1,5 +1,7 @@
--- Lines: the line of an order, sums, and what holds of all lines, after one more line and after a line's phase has changed.
-use Rattle.std.proofs.Common.{◌≡◌, ℕ, ◌+◌, List, [], ◌∷◌, Bool, true, false, ◌≢◌, refl, ap, arith, sym, ◌∙◌, Some, None, inl, inr, subst}
+-- Lines: the line of an order, sums, and what holds of all lines, after one more line and after a line's phase has
+-- changed.
+use Rattle.std.proofs.Common.{◌≡◌, ℕ, ◌+◌, List, [], ◌∷◌, Bool, true, false, ◌≢◌, refl, ap, arith, sym, ◌∙◌, Some, None}
+use Rattle.std.proofs.Common.{inl, inr, subst}
 use Rattle.std.specs.Prelude.{sum_by, map, if◌then◌else◌}
 use Rattle.std.specs.Cmp.Lexicographic.{slice_cmp}
 use Rattle.std.specs.FinMap.{nat_cmp-IsAntisymmetric, slice_cmp-IsAntisymmetric}
@@ -18,11 +20,13 @@ use Rattle.trade.specs.Lines.{Line, line_of, is_before, with_line, with_line_pha
 use Rattle.trade.specs.Sound.{HasOneLineEach, AreLinesSound}
 use Rattle.activities.proofs.Sameness.{Tells, same_entity-same, same_entity-tells, same_entity-comm}
 
-pub line_of-with_same : (l : Line) (ls : List Line) → line_of l.order ls ≡ None → line_of l.order (with_line l ls) ≡ Some l
+pub line_of-with_same : (l : Line) (ls : List Line) → line_of l.order ls ≡ None
+    → line_of l.order (with_line l ls) ≡ Some l
 line_of-with_same l [] h = grind (arith, same_entity-same)
 line_of-with_same l (k ∷ ks) h = grind (arith, same_entity-same, line_of-with_same l ks)
 
-pub line_of-with_other : (o : Name) (l : Line) (ls : List Line) → same_entity o l.order ≡ false → line_of o (with_line l ls) ≡ line_of o ls
+pub line_of-with_other : (o : Name) (l : Line) (ls : List Line) → same_entity o l.order ≡ false
+    → line_of o (with_line l ls) ≡ line_of o ls
 line_of-with_other o l [] h = grind arith
 line_of-with_other o l (k ∷ ks) h = grind (arith, line_of-with_other o l ks h)
 
@@ -34,7 +38,8 @@ line_of-with_phase_same o phase l (k ∷ ks) h = grind (arith, line_of-with_phas
 with_phase_other_more : (o s : Name) (phase : LinePhase) (k : Line) (ks : List Line) → o ≢ s
     → Tells s k.order (same_entity s k.order)
     → Tells o k.order (same_entity o k.order)
-    → line_of o (with_line_phase s phase ks) ≡ line_of o ks → line_of o (with_line_phase s phase (k ∷ ks)) ≡ line_of o (k ∷ ks)
+    → line_of o (with_line_phase s phase ks) ≡ line_of o ks
+    → line_of o (with_line_phase s phase (k ∷ ks)) ≡ line_of o (k ∷ ks)
 with_phase_other_more o s phase k ks h (inl a) (inl b) ih = absurd (h (b.1 ∙ sym a.1))
 with_phase_other_more o s phase k ks h (inl a) (inr b) ih = simp (a.0, b.0)
 with_phase_other_more o s phase k ks h (inr a) (inl b) ih = simp (a.0, b.0)
@@ -61,7 +66,8 @@ sum_by-with f l (k ∷ ks) = with_more f l k ks (is_before l.order k.order) (sum
 
 with_phase_more : (f : Line → ℕ) (phase : LinePhase) (o : Name) (l k : Line) (ks : List Line) (t : Bool)
     → (if t then Some k else line_of o ks) ≡ Some l
-    → (line_of o ks ≡ Some l → sum_by f (with_line_phase o phase ks) + f l ≡ sum_by f ks + f (record l { phase = phase }))
+    → (line_of o ks ≡ Some l → sum_by f (with_line_phase o phase ks) + f l ≡ sum_by f ks
+    + f (record l { phase = phase }))
     → sum_by f (if t then record k { phase = phase } ∷ ks else k ∷ with_line_phase o phase ks) + f l
     ≡ sum_by f (k ∷ ks) + f (record l { phase = phase })
 with_phase_more f phase o l k ks true h ih =
@@ -76,14 +82,17 @@ with_phase_more f phase o l k ks false h ih =
     omega arith
 
 -- the sums after a line's phase has changed
-pub sum_by-with_phase : (f : Line → ℕ) (phase : LinePhase) (o : Name) (l : Line) (ls : List Line) → line_of o ls ≡ Some l
+pub sum_by-with_phase : (f : Line → ℕ) (phase : LinePhase) (o : Name) (l : Line) (ls : List Line)
+    → line_of o ls ≡ Some l
     → sum_by f (with_line_phase o phase ls) + f l ≡ sum_by f ls + f (record l { phase = phase })
 sum_by-with_phase f phase o l [] h = absurd (cc)
-sum_by-with_phase f phase o l (k ∷ ks) h = with_phase_more f phase o l k ks (same_entity o k.order) h (sum_by-with_phase f phase o l ks)
+sum_by-with_phase f phase o l (k ∷ ks) h =
+    with_phase_more f phase o l k ks (same_entity o k.order) h (sum_by-with_phase f phase o l ks)
 
 -- ---- one line an order
 
-one_each-before : (l k : Line) (ks : List Line) (b : Bool) → same_entity l.order k.order ≡ false → line_of l.order ks ≡ None
+one_each-before : (l k : Line) (ks : List Line) (b : Bool) → same_entity l.order k.order ≡ false
+    → line_of l.order ks ≡ None
     → line_of k.order ks ≡ None → HasOneLineEach ks → HasOneLineEach (with_line l ks)
     → HasOneLineEach (if b then l ∷ k ∷ ks else k ∷ with_line l ks)
 one_each-before l k ks true apart none here rest more = (rw apart none, (here, rest))
@@ -92,30 +101,35 @@ one_each-before l k ks false apart none here rest more =
     (line_of-with_other k.order l ks back ∙ here, more)
 
 -- a line for an order that had none
-pub one_each-with : (l : Line) (ls : List Line) → line_of l.order ls ≡ None → HasOneLineEach ls → HasOneLineEach (with_line l ls)
+pub one_each-with : (l : Line) (ls : List Line) → line_of l.order ls ≡ None → HasOneLineEach ls
+    → HasOneLineEach (with_line l ls)
 one_each-with l [] none h = (refl, tt)
 one_each-with l (k ∷ ks) none h = by_case (same_entity l.order k.order) refl (λ rest. one_each-with l ks rest h.1)
   where
-    by_case : (t : Bool) → same_entity l.order k.order ≡ t → (line_of l.order ks ≡ None → HasOneLineEach (with_line l ks))
+    by_case : (t : Bool) → same_entity l.order k.order ≡ t
+        → (line_of l.order ks ≡ None → HasOneLineEach (with_line l ks))
         → HasOneLineEach (with_line l (k ∷ ks))
     by_case true e more = let some : line_of l.order (k ∷ ks) ≡ Some k = rw e refl in absurd (cc)
     by_case false e more =
         let rest : line_of l.order ks ≡ None = rw e at none in
         one_each-before l k ks (is_before l.order k.order) e rest h.0 h.1 (more rest)
 
-line_of-phase_none : (o s : Name) (phase : LinePhase) (ls : List Line) → line_of o ls ≡ None → line_of o (with_line_phase s phase ls) ≡ None
+line_of-phase_none : (o s : Name) (phase : LinePhase) (ls : List Line) → line_of o ls ≡ None
+    → line_of o (with_line_phase s phase ls) ≡ None
 line_of-phase_none o s phase [] h = refl
 line_of-phase_none o s phase (k ∷ ks) h =
     by_case (same_entity s k.order) (same_entity o k.order) refl refl (line_of-phase_none o s phase ks)
   where
     by_case : (t u : Bool) → same_entity s k.order ≡ t → same_entity o k.order ≡ u
-        → (line_of o ks ≡ None → line_of o (with_line_phase s phase ks) ≡ None) → line_of o (with_line_phase s phase (k ∷ ks)) ≡ None
+        → (line_of o ks ≡ None → line_of o (with_line_phase s phase ks) ≡ None)
+        → line_of o (with_line_phase s phase (k ∷ ks)) ≡ None
     by_case t true e f more = let some : line_of o (k ∷ ks) ≡ Some k = rw f refl in absurd (cc)
     by_case true false e f more = rw (e, f) (rw f at h)
     by_case false false e f more = rw (e, f) (more (rw f at h))
 
 -- a line's phase anew
-pub one_each-phase : (s : Name) (phase : LinePhase) (ls : List Line) → HasOneLineEach ls → HasOneLineEach (with_line_phase s phase ls)
+pub one_each-phase : (s : Name) (phase : LinePhase) (ls : List Line) → HasOneLineEach ls
+    → HasOneLineEach (with_line_phase s phase ls)
 one_each-phase s phase [] h = tt
 one_each-phase s phase (k ∷ ks) h = by_case (same_entity s k.order) refl (one_each-phase s phase ks h.1)
   where
@@ -138,7 +152,8 @@ less_is Equal h = absurd (cc)
 less_is Greater h = absurd (cc)
 
 -- a key before another comes before all those behind it
-before_all : (a b : List ℕ) (ks : List (List ℕ)) → Before a b → AllByRecursion (Before b) ks → AllByRecursion (Before a) ks
+before_all : (a b : List ℕ) (ks : List (List ℕ)) → Before a b → AllByRecursion (Before b) ks
+    → AllByRecursion (Before a) ks
 before_all a b [] h all = tt
 before_all a b (k ∷ ks) h all = (nat_list_cmp_total.trans a b k h all.0, before_all a b ks h all.1)
 
@@ -160,7 +175,8 @@ all_before-with a l (k ∷ ks) h all = by_case (is_before l.order k.order) (all_
     by_case false rest = (all.0, rest)
 
 -- the keys of orders of which the second has no line differ
-keys_differ : (l k : Line) (ks : List Line) → l.order.kind ≡ Order → k.order.kind ≡ Order → line_of l.order (k ∷ ks) ≡ None → key l ≢ key k
+keys_differ : (l k : Line) (ks : List Line) → l.order.kind ≡ Order → k.order.kind ≡ Order
+    → line_of l.order (k ∷ ks) ≡ None → key l ≢ key k
 keys_differ l k ks a b none same =
     let e : l.order ≡ k.order = λ i. record { kind = (a ∙ sym b) i; key = same i } in
     let t : same_entity l.order k.order ≡ true = ap (same_entity l.order) (sym e) ∙ same_entity-same l.order in
@@ -173,10 +189,12 @@ by_keys l k t e = e
 
 in_order-with : (l : Line) (ls : List Line) → l.order.kind ≡ Order → AllByRecursion (λ k. k.order.kind ≡ Order) ls
     → line_of l.order ls ≡ None
-    → IsStrictlySortedBy (slice_cmp nat_cmp) (map key ls) → IsStrictlySortedBy (slice_cmp nat_cmp) (map key (with_line l ls))
+    → IsStrictlySortedBy (slice_cmp nat_cmp) (map key ls)
+    → IsStrictlySortedBy (slice_cmp nat_cmp) (map key (with_line l ls))
 unfolding IsStrictlySortedBy
 in_order-with l [] a all none h = (tt, tt)
-in_order-with l (k ∷ ks) a all none h = by_case (is_before l.order k.order) refl (λ others. in_order-with l ks a all.1 others h.1)
+in_order-with l (k ∷ ks) a all none h =
+    by_case (is_before l.order k.order) refl (λ others. in_order-with l ks a all.1 others h.1)
   where
     rest : same_entity l.order k.order ≡ false → line_of l.order ks ≡ None
     rest e = rw e at none
@@ -202,11 +220,13 @@ in_order-with l (k ∷ ks) a all none h = by_case (is_before l.order k.order) re
       more (rest not_same),
     )
 
-all-with : (P : Line → Type 0) (l : Line) (ls : List Line) → P l → AllByRecursion P ls → AllByRecursion P (with_line l ls)
+all-with : (P : Line → Type 0) (l : Line) (ls : List Line) → P l → AllByRecursion P ls
+    → AllByRecursion P (with_line l ls)
 all-with P l [] h all = (h, tt)
 all-with P l (k ∷ ks) h all = by_case (is_before l.order k.order) (all-with P l ks h all.1)
   where
-    by_case : (t : Bool) → AllByRecursion P (with_line l ks) → AllByRecursion P (if t then l ∷ k ∷ ks else k ∷ with_line l ks)
+    by_case : (t : Bool) → AllByRecursion P (with_line l ks)
+        → AllByRecursion P (if t then l ∷ k ∷ ks else k ∷ with_line l ks)
     by_case true rest = (h, all)
     by_case false rest = (all.0, rest)
 
@@ -240,12 +260,14 @@ of_orders-with_phase s phase [] all = tt
 of_orders-with_phase s phase (k ∷ ks) all = by_case (same_entity s k.order) (of_orders-with_phase s phase ks all.1)
   where
     by_case : (t : Bool) → AllByRecursion (λ l. l.order.kind ≡ Order) (with_line_phase s phase ks)
-        → AllByRecursion (λ l. l.order.kind ≡ Order) (if t then record k { phase = phase } ∷ ks else k ∷ with_line_phase s phase ks)
+        → AllByRecursion (λ l. l.order.kind ≡ Order) (if t then record k { phase = phase } ∷ ks
+        else k ∷ with_line_phase s phase ks)
     by_case true rest = all
     by_case false rest = (all.0, rest)
 
 -- a line's phase anew
-pub lines_sound-with_phase : (s : Name) (phase : LinePhase) (ls : List Line) → AreLinesSound ls → AreLinesSound (with_line_phase s phase ls)
+pub lines_sound-with_phase : (s : Name) (phase : LinePhase) (ls : List Line) → AreLinesSound ls
+    → AreLinesSound (with_line_phase s phase ls)
 lines_sound-with_phase s phase ls h = record {
   of_orders = of_orders-with_phase s phase ls h.of_orders;
   one_each = one_each-phase s phase ls h.one_each;

@@ -1,5 +1,6 @@
 -- A line's place: what a search by halving finds among sound lines, and what an edit at that place does.
-use Rattle.std.proofs.Common.{◌≡◌, ℕ, zero, suc, ◌<◌, List, [], ◌∷◌, Bool, true, false, length, get_or, set, refl, ap, arith, sym, ◌∙◌}
+use Rattle.std.proofs.Common.{◌≡◌, ℕ, zero, suc, ◌<◌, List, [], ◌∷◌, Bool, true, false, length, get_or, set, refl, ap}
+use Rattle.std.proofs.Common.{arith, sym, ◌∙◌}
 use Rattle.std.proofs.Common.{Some, None, Result, Ok, Err, IfOk, IfErr, subst, add-one}
 use Rattle.std.specs.Prelude.{map}
 use Rattle.std.specs.Cmp.Lexicographic.{slice_cmp}
@@ -27,7 +28,8 @@ abbrev AreOrders : List Line → Type 0
 AreOrders ls = AllByRecursion (λ l. l.order.kind ≡ Order) ls
 
 -- all texts of orders begin alike
-orders_by_keys : (x y : List ℕ) → entity_cmp (record { kind = Order; key = x }) (record { kind = Order; key = y }) ≡ slice_cmp nat_cmp x y
+orders_by_keys : (x y : List ℕ) → entity_cmp (record { kind = Order; key = x }) (record { kind = Order; key = y })
+    ≡ slice_cmp nat_cmp x y
 orders_by_keys x y = refl
 
 pub by_keys : (a b : Name) → a.kind ≡ Order → b.kind ≡ Order → entity_cmp a b ≡ slice_cmp nat_cmp a.key b.key
@@ -42,7 +44,8 @@ by_keys a b p q =
 not_before : (a b : Name) → entity_cmp a b ≡ Less → is_lt (entity_cmp b a) ≡ false
 not_before a b e = let back : entity_cmp b a ≡ Greater = entity_cmp-total.antisymm b a ∙ rw e refl in rw back refl
 
-adjacent : (ls : List Line) → AreOrders ls → IsStrictlySortedBy (slice_cmp nat_cmp) (map key ls) → (k : ℕ) (d : Line) → suc k < length ls
+adjacent : (ls : List Line) → AreOrders ls → IsStrictlySortedBy (slice_cmp nat_cmp) (map key ls) → (k : ℕ) (d : Line)
+    → suc k < length ls
     → is_lt (entity_cmp (get_or ls (suc k) d).order (get_or ls k d).order) ≡ false
 unfolding IsStrictlySortedBy
 adjacent [] all up k d within = absurd (omega arith)
@@ -50,7 +53,8 @@ adjacent (l ∷ []) all up k d within = absurd (omega arith)
 adjacent (l ∷ m ∷ ls) all up zero d within = not_before l.order m.order (by_keys l.order m.order all.0 all.1.0 ∙ up.0.0)
 adjacent (l ∷ m ∷ ls) all up (suc k) d within = adjacent (m ∷ ls) all.1 up.1 k d (omega arith)
 
-rising : (o : Name) (ls : List Line) → AreLinesSound ls → IsNonDecreasingBy (λ y. ordering_index (entity_cmp y.order o)) ls
+rising : (o : Name) (ls : List Line) → AreLinesSound ls
+    → IsNonDecreasingBy (λ y. ordering_index (entity_cmp y.order o)) ls
 rising o ls sound = searchable_from_sorted entity_cmp-total (λ (l : Line). l.order) ls o
     (λ k d from within. rw add-one (adjacent ls sound.of_orders sound.in_order k d (omega arith)))
 
@@ -60,7 +64,8 @@ pub record IsPlace (o : Name) (ls : List Line) (r : Result ℕ ℕ) : Type 0 whe
   pub absent : IfErr r (IsPlaceFor o ls)
 
 tied : (a b : Name) → entity_cmp a b ≡ Equal → a ≡ b
-tied a b e = either (same_entity-tells a b) (λ h. h.1) (λ h. let t : same_entity a b ≡ true = same_entity-ties a b ∙ rw e refl in cc)
+tied a b e = either (same_entity-tells a b) (λ h. h.1) (λ h. let t : same_entity a b ≡ true = same_entity-ties a b
+    ∙ rw e refl in cc)
 
 pub searched : (o : Name) (ls : List Line) → AreLinesSound ls → (r : Result ℕ ℕ) → IsSearchInRange r (length ls)
     → IsBinarySearchResult (λ (l : Line). entity_cmp l.order o) ls r → IsPlace o ls r
@@ -86,14 +91,16 @@ place_in_tail o l ls at h = record { in_range = omega (arith, h.in_range); of_or
 pub line_of-at : (o : Name) (ls : List Line) (at : ℕ) (d : Line) → HasOneLineEach ls → IsPlaceOf o ls at
     → line_of o ls ≡ Some (get_or ls at d)
 line_of-at o [] at d one h = absurd (omega (arith, h.in_range))
-line_of-at o (l ∷ ls) zero d one h = let same : same_entity o l.order ≡ true = rw (h.of_order d) (same_entity-same o) in rw same refl
+line_of-at o (l ∷ ls) zero d one h =
+    let same : same_entity o l.order ≡ true = rw (h.of_order d) (same_entity-same o) in rw same refl
 line_of-at o (l ∷ ls) (suc at) d one h =
     let there = line_of-at o ls at d one.1 (place_in_tail o l ls at h) in
     either (same_entity-tells o l.order)
     (λ e. let none : line_of o ls ≡ None = subst (λ x. line_of x ls ≡ None) (sym e.1) one.0 in cc)
     (λ e. rw e.0 there)
 
-pub with_line_phase-at : (o : Name) (phase : LinePhase) (ls : List Line) (at : ℕ) (d : Line) → HasOneLineEach ls → IsPlaceOf o ls at
+pub with_line_phase-at : (o : Name) (phase : LinePhase) (ls : List Line) (at : ℕ) (d : Line) → HasOneLineEach ls
+    → IsPlaceOf o ls at
     → with_line_phase o phase ls ≡ set ls at (record (get_or ls at d) { phase = phase })
 with_line_phase-at o phase [] at d one h = absurd (omega (arith, h.in_range))
 with_line_phase-at o phase (l ∷ ls) zero d one h =
@@ -108,7 +115,8 @@ with_line_phase-at o phase (l ∷ ls) (suc at) d one h =
 
 -- ---- where the order has no line
 
-differs : (o : Name) (l : Line) (c : Ordering) → entity_cmp l.order o ≡ c → is_eq c ≡ false → same_entity o l.order ≡ false
+differs : (o : Name) (l : Line) (c : Ordering) → entity_cmp l.order o ≡ c → is_eq c ≡ false
+    → same_entity o l.order ≡ false
 differs o l c e apart = same_entity-comm o l.order ∙ same_entity-ties l.order o ∙ rw e apart
 
 no_place_in_tail : (o : Name) (l : Line) (ls : List Line) (at : ℕ) → IsPlaceFor o (l ∷ ls) (suc at) → IsPlaceFor o ls at
@@ -128,11 +136,13 @@ behind_place_in_tail o l ls h = record {
 pub line_of-absent : (o : Name) (ls : List Line) (at : ℕ) → IsPlaceFor o ls at → line_of o ls ≡ None
 line_of-absent o [] at h = refl
 line_of-absent o (l ∷ ls) zero h =
-    rw (differs o l Greater (h.after 0 l (omega arith) (omega arith)) refl) (line_of-absent o ls 0 (behind_place_in_tail o l ls h))
+    rw (differs o l Greater (h.after 0 l (omega arith) (omega arith)) refl)
+    (line_of-absent o ls 0 (behind_place_in_tail o l ls h))
 line_of-absent o (l ∷ ls) (suc at) h =
     rw (differs o l Less (h.before 0 l (omega arith)) refl) (line_of-absent o ls at (no_place_in_tail o l ls at h))
 
-pub with_line_phase-absent : (o : Name) (phase : LinePhase) (ls : List Line) → line_of o ls ≡ None → with_line_phase o phase ls ≡ ls
+pub with_line_phase-absent : (o : Name) (phase : LinePhase) (ls : List Line) → line_of o ls ≡ None
+    → with_line_phase o phase ls ≡ ls
 with_line_phase-absent o phase [] h = refl
 with_line_phase-absent o phase (l ∷ ls) h = by_case (same_entity o l.order) refl (with_line_phase-absent o phase ls)
   where
@@ -141,7 +151,8 @@ with_line_phase-absent o phase (l ∷ ls) h = by_case (same_entity o l.order) re
     by_case true e rest = let some : line_of o (l ∷ ls) ≡ Some l = rw e refl in absurd (cc)
     by_case false e rest = rw e (ap (λ ks. l ∷ ks) (rest (rw e at h)))
 
-before_by_keys : (a b : Name) (c : Ordering) → a.kind ≡ Order → b.kind ≡ Order → entity_cmp b a ≡ c → is_before a b ≡ is_lt (entity_cmp a b)
+before_by_keys : (a b : Name) (c : Ordering) → a.kind ≡ Order → b.kind ≡ Order → entity_cmp b a ≡ c
+    → is_before a b ≡ is_lt (entity_cmp a b)
 unfolding is_before
 before_by_keys a b c p q e = rw (by_keys a b p q) refl
 

@@ -1,5 +1,6 @@
 -- What always holds of an order, of a stock and of an account.
-use Rattle.std.proofs.Common.{◌≡◌, ℕ, ◌+◌, ◌≤◌, ◌≢◌, List, [], ◌∷◌, Bool, true, false, refl, ap, arith, sym, Option, Some, None}
+use Rattle.std.proofs.Common.{◌≡◌, ℕ, ◌+◌, ◌≤◌, ◌≢◌, List, [], ◌∷◌, Bool, true, false, refl, ap, arith, sym, Option}
+use Rattle.std.proofs.Common.{Some, None}
 use Rattle.std.proofs.Common.{subst}
 use Rattle.std.specs.Prelude.{map, suc, length, ◌<◌, if◌then◌else◌, nat_le, nat_lt, ◌==◌, ◌&&◌, ◌||◌, IfOk}
 use Rattle.std.proofs.lemmas.Bool.Decides.{nat_tests}
@@ -28,7 +29,8 @@ use Rattle.trade.specs.Accounts.{AccountState, account_reactions, account_holdin
 use Rattle.trade.specs.Holding.{held_for, refused_to, finished_for, freed_for, held_by}
 use Rattle.trade.specs.Items.{has_stock, are_apart, are_lines, are_numbers}
 use Rattle.trade.specs.Lines.{line_of, share_of}
-use Rattle.trade.specs.Orders.{Partner, OrderState, is_open, awaits, with_phase, all_tentative, all_in, partners_of, tentative_from}
+use Rattle.trade.specs.Orders.{Partner, OrderState, is_open, awaits, with_phase, all_tentative, all_in, partners_of}
+use Rattle.trade.specs.Orders.{tentative_from}
 use Rattle.trade.specs.Orders.{refused_by, on_order_message, order_reactions}
 use Rattle.activities.specs.Reaction.{react}
 use Rattle.activities.specs.Invariant.{IsInvariant}
@@ -42,7 +44,8 @@ use Rattle.trade.proofs.LineLists.{sum_by-with, lines_sound-none, lines_sound-wi
 abbrev pub entities : List Partner → List Name
 entities ps = map (λ (p : Partner). p.entity) ps
 
-pub entities-with_phase : (e : Name) (phase : Phase) (ps : List Partner) → entities (with_phase e phase ps) ≡ entities ps
+pub entities-with_phase : (e : Name) (phase : Phase) (ps : List Partner)
+    → entities (with_phase e phase ps) ≡ entities ps
 entities-with_phase e phase [] = refl
 entities-with_phase e phase (p ∷ ps) = by_case (same_entity e p.entity) (entities-with_phase e phase ps)
   where
@@ -56,7 +59,8 @@ entities-all_in phase [] = refl
 entities-all_in phase (p ∷ ps) = ap (λ es. p.entity ∷ es) (entities-all_in phase ps)
 
 -- other phases, the same partners
-as_before : (ps later : List Partner) → entities later ≡ entities ps → ArePartners (entities ps) → ArePartners (entities later)
+as_before : (ps later : List Partner) → entities later ≡ entities ps → ArePartners (entities ps)
+    → ArePartners (entities later)
 as_before ps later e h = subst ArePartners (sym e) h
 
 -- a stock that stands in none of these items is no partner of theirs
@@ -65,7 +69,8 @@ another : (stock : List ℕ) (is : List Item) (account : List ℕ) (amount : ℕ
 another stock [] account amount h = (λ e. let kinds : Stock ≡ Account = ap (λ o. o.kind) e in absurd (cc), tt)
 another stock (i ∷ is) account amount h =
     let neither : (bytes_eq i.stock stock ≡ false) × (has_stock stock is ≡ false) = grind arith in (
-      λ e. let same : bytes_eq i.stock stock ≡ true = (bytes_eq-Decides i.stock stock).1 (sym (ap (λ o. o.key) e)) in absurd (cc),
+      λ e. let same : bytes_eq i.stock stock ≡ true =
+          (bytes_eq-Decides i.stock stock).1 (sym (ap (λ o. o.key) e)) in absurd (cc),
       another stock is account amount neither.1,
     )
 
@@ -78,7 +83,8 @@ new_partners (i ∷ j ∷ is) account amount h =
     (refl, another i.stock (j ∷ is) account amount both.0, new_partners (j ∷ is) account amount both.1)
 
 -- one partner for each item, and the account
-partners-length : (is : List Item) (account : List ℕ) (amount : ℕ) → length (entities (partners_of is account amount)) ≡ suc (length is)
+partners-length : (is : List Item) (account : List ℕ) (amount : ℕ)
+    → length (entities (partners_of is account amount)) ≡ suc (length is)
 partners-length [] account amount = refl
 partners-length (i ∷ is) account amount = ap suc (partners-length is account amount)
 
@@ -91,7 +97,8 @@ new_sound is account amount h =
     let size = partners-length is account amount in
     record { in_order = new_partners is account amount apart; some = omega arith; few = omega arith }
 
-pub all_sound : (phase : Phase) (ps : List Partner) → ArePartners (entities ps) → ArePartners (entities (all_in phase ps))
+pub all_sound : (phase : Phase) (ps : List Partner) → ArePartners (entities ps)
+    → ArePartners (entities (all_in phase ps))
 all_sound phase ps h = as_before ps (all_in phase ps) (entities-all_in phase ps) h
 
 pub phase_sound : (e : Name) (phase : Phase) (ps : List Partner) → ArePartners (entities ps)
@@ -100,7 +107,8 @@ phase_sound e phase ps h = as_before ps (with_phase e phase ps) (entities-with_p
 
 order_command : (x : Option OrderState) (seat : ℕ) (c : OrderCommand) → IsOrderSound x
     → IfOk (react order_reactions x (FromSeat seat c)) (λ done. IsOrderSound done.0)
-order_command None seat (Place is account amount) h = by_case (are_lines is) (are_numbers is && is_number amount) refl refl
+order_command None seat (Place is account amount) h =
+    by_case (are_lines is) (are_numbers is && is_number amount) refl refl
   where
     by_case : (t u : Bool) → are_lines is ≡ t → (are_numbers is && is_number amount) ≡ u
         → IfOk (react order_reactions None (FromSeat seat (Place is account amount))) (λ done. IsOrderSound done.0)
@@ -119,11 +127,13 @@ order_command (Some o) seat CancelOrder h = by_case (is_open o.status) refl
 order_tentative : (o : OrderState) (s : Name) → IsOrderSound (Some o) → IsOrderSound (tentative_from o s).0
 order_tentative o s h = by_case (all_tentative (with_phase s Phase.Tentative o.partners)) refl
   where
-    by_case : (t : Bool) → all_tentative (with_phase s Phase.Tentative o.partners) ≡ t → IsOrderSound (tentative_from o s).0
+    by_case : (t : Bool) → all_tentative (with_phase s Phase.Tentative o.partners) ≡ t
+        → IsOrderSound (tentative_from o s).0
     by_case true e = rw e (all_sound Phase.Confirmed o.partners h)
     by_case false e = rw e (phase_sound s Phase.Tentative o.partners h)
 
-order_message : (x : Option OrderState) (s : Name) (m : Message) → IsOrderSound x → IsOrderSound (on_order_message x s m).0
+order_message : (x : Option OrderState) (s : Name) (m : Message) → IsOrderSound x
+    → IsOrderSound (on_order_message x s m).0
 order_message None s m h = tt
 order_message (Some o) s Tentative h = by_case (is_open o.status && awaits s o.partners)
   where
@@ -133,7 +143,8 @@ order_message (Some o) s Tentative h = by_case (is_open o.status && awaits s o.p
 order_message (Some o) s Refused h = by_case (is_open o.status && awaits s o.partners)
   where
     by_case : (t : Bool) → IsOrderSound (if t then refused_by o s else (Some o, [])).0
-    by_case true = phase_sound s Phase.Refused (all_in Phase.Cancelled o.partners) (all_sound Phase.Cancelled o.partners h)
+    by_case true =
+        phase_sound s Phase.Refused (all_in Phase.Cancelled o.partners) (all_sound Phase.Cancelled o.partners h)
     by_case false = h
 order_message (Some o) s (Request n) h = h
 order_message (Some o) s Confirm h = h
@@ -295,12 +306,14 @@ account_frees x s n at h =
     }
 
 pub accounts_keep : KeepsHolding account_holding IsAccountSound
-accounts_keep = record { holds = account_holds; refuses = account_refuses; finishes = account_finishes; frees = account_frees }
+accounts_keep =
+    record { holds = account_holds; refuses = account_refuses; finishes = account_finishes; frees = account_frees }
 
 account_kept : (x : AccountState) (input : Input AccountCommand) → IsAccountSound x
     → IfOk (react account_reactions x input) (λ done. IsAccountSound done.0)
 account_kept x (FromEntity s number m) h = message_kept account_holding IsAccountSound accounts_keep x s m h
-account_kept x (FromSeat seat (SetLimit n)) h = by_case (nat_lt 1099511627776 n) (nat_lt n (x.billed + x.held)) refl refl
+account_kept x (FromSeat seat (SetLimit n)) h =
+    by_case (nat_lt 1099511627776 n) (nat_lt n (x.billed + x.held)) refl refl
   where
     by_case : (t u : Bool) → nat_lt 1099511627776 n ≡ t → nat_lt n (x.billed + x.held) ≡ u
         → IfOk (react account_reactions x (FromSeat seat (SetLimit n))) (λ done. IsAccountSound done.0)
@@ -313,6 +326,7 @@ account_kept x (FromSeat seat (SetLimit n)) h = by_case (nat_lt 1099511627776 n)
 
 pub accounts-invariant : IsInvariant account_reactions IsAccountSound
 accounts-invariant = record {
-  opening = record { bounded = omega arith; covered = omega arith; held = refl; billed = refl; lines = lines_sound-none };
+  opening =
+      record { bounded = omega arith; covered = omega arith; held = refl; billed = refl; lines = lines_sound-none };
   kept = account_kept;
 }

@@ -41,7 +41,8 @@ line order n phase = record { order = order; n = n; phase = phase }
 stocks_and_then_an_account : AreStocksThenAccount (bolts ∷ acme ∷ []) × AreStocksThenAccount (bolts ∷ nuts ∷ acme ∷ [])
     × IsOrderSound (Some (record {
       status = Open;
-      partners = record { entity = bolts; n = 3; phase = Phase.Requested } ∷ record { entity = acme; n = 500; phase = Phase.Tentative }
+      partners = record { entity = bolts; n = 3; phase = Phase.Requested } ∷ record
+          { entity = acme; n = 500; phase = Phase.Tentative }
           ∷ [];
     }))
 stocks_and_then_an_account = (
@@ -71,9 +72,18 @@ other_partners :
     × (AreStocksThenAccount (bolts ∷ bolts ∷ acme ∷ []) → ⊥)
     × (AreStocksThenAccount (bolts ∷ nuts ∷ bolts ∷ acme ∷ []) → ⊥)
     × (AreStocksThenAccount (o1 ∷ acme ∷ []) → ⊥)
-    × (IsOrderSound (Some (record { status = Open; partners = record { entity = bolts; n = 3; phase = Phase.Requested } ∷ [] })) → ⊥)
-    × (IsOrderSound (Some (record { status = Open; partners = record { entity = acme; n = 500; phase = Phase.Requested } ∷ [] })) → ⊥)
-    × (ArePartners (stock_of (codes "1") ∷ stock_of (codes "2") ∷ stock_of (codes "3") ∷ stock_of (codes "4") ∷ stock_of (codes "5")
+    × (IsOrderSound (Some (record {
+      status = Open;
+      partners =
+          record { entity = bolts; n = 3; phase = Phase.Requested } ∷ [];
+    })) → ⊥)
+    × (IsOrderSound (Some (record {
+      status = Open;
+      partners =
+          record { entity = acme; n = 500; phase = Phase.Requested } ∷ [];
+    })) → ⊥)
+    × (ArePartners (stock_of (codes "1") ∷ stock_of (codes "2") ∷ stock_of (codes "3") ∷ stock_of (codes "4") ∷ stock_of
+    (codes "5")
     ∷ stock_of (codes "6") ∷ stock_of (codes "7") ∷ stock_of (codes "8") ∷ stock_of (codes "9") ∷ acme ∷ []) → ⊥)
 other_partners = (
   λ h. h,
@@ -111,7 +121,8 @@ lines_are_unsound = (
 )
 
 abbrev stock : ℕ → ℕ → ℕ → ℕ → List Line → StockState
-stock on_hand held shipped received ls = record { on_hand = on_hand; held = held; shipped = shipped; received = received; lines = ls }
+stock on_hand held shipped received ls =
+    record { on_hand = on_hand; held = held; shipped = shipped; received = received; lines = ls }
 
 abbrev account : ℕ → ℕ → ℕ → List Line → AccountState
 account limit billed held ls = record { limit = limit; billed = billed; held = held; lines = ls }
@@ -120,13 +131,20 @@ account limit billed held ls = record { limit = limit; billed = billed; held = h
 these_are_sound : IsStockSound (stock 1099511627770 3 6 1099511627776 both) × IsAccountSound (account 9 6 3 both)
     × IsAccountSound (account 1099511627776 0 0 [])
 these_are_sound = (
-  record { conserved = refl; bounded = omega arith; covered = omega arith; held = refl; shipped = refl; lines = both_sound },
+  record {
+    conserved = refl;
+    bounded = omega arith;
+    covered = omega arith;
+    held = refl;
+    shipped = refl;
+    lines = both_sound;
+  },
   record { bounded = omega arith; covered = omega arith; held = refl; billed = refl; lines = both_sound },
   record { bounded = omega arith; covered = omega arith; held = refl; billed = refl; lines = lines_sound-none },
 )
 
--- a bolt is gone; more is held than is there; more is held, or shipped, than the lines say; more came in than ever may; lines aren't in
--- order
+-- a bolt is gone; more is held than is there; more is held, or shipped, than the lines say; more came in than ever may;
+-- lines aren't in order
 stocks_are_unsound :
     (IsStockSound (stock 9 0 0 10 []) → ⊥)
     × (IsStockSound (stock 2 3 0 2 (line o1 3 LinePhase.Held ∷ [])) → ⊥)
@@ -144,8 +162,8 @@ stocks_are_unsound = (
   λ h. let e = h.lines.in_order.0.0 in absurd (cc),
 )
 
--- the limit leaves too little for what is billed and held together; more is held, or billed, than the lines say; the limit is too great; an
--- order has two lines
+-- the limit leaves too little for what is billed and held together; more is held, or billed, than the lines say; the
+-- limit is too great; an order has two lines
 accounts_are_unsound :
     (IsAccountSound (account 5 3 3 (line o1 3 LinePhase.Done ∷ line o2 3 LinePhase.Held ∷ [])) → ⊥)
     × (IsAccountSound (account 5 0 3 []) → ⊥)
@@ -164,7 +182,8 @@ accounts_are_unsound = (
 -- ---- invariants
 
 -- that nothing came in holds at first and is ended; that something did doesn't hold at first
-no_invariants : (IsInvariant stock_reactions (λ x. x.received ≡ 0) → ⊥) × (IsInvariant stock_reactions (λ x. 0 < x.received) → ⊥)
+no_invariants : (IsInvariant stock_reactions (λ x. x.received ≡ 0) → ⊥)
+    × (IsInvariant stock_reactions (λ x. 0 < x.received) → ⊥)
 no_invariants = (
   λ h. let later : 10 ≡ 0 = h.kept (stock 0 0 0 0 []) (FromSeat 0 (Receive 10)) refl in omega arith,
   λ h. let at_first : 0 < 0 = h.opening in omega arith,

@@ -33,7 +33,8 @@ abbrev later_line : List Line
 later_line = record { order = o2; n = 6; phase = LinePhase.Held } ∷ []
 
 abbrev stock : ℕ → ℕ → ℕ → ℕ → List Line → StockState
-stock on_hand held shipped received ls = record { on_hand = on_hand; held = held; shipped = shipped; received = received; lines = ls }
+stock on_hand held shipped received ls =
+    record { on_hand = on_hand; held = held; shipped = shipped; received = received; lines = ls }
 
 abbrev account : ℕ → ℕ → ℕ → List Line → AccountState
 account limit billed held ls = record { limit = limit; billed = billed; held = held; lines = ls }
@@ -49,7 +50,8 @@ a_stock_holds_what_is_free = (refl, refl)
 
 -- the line of a later key goes behind
 lines_stand_in_order :
-    react stock_reactions (stock 9 3 0 9 (record { order = o1; n = 3; phase = LinePhase.Held } ∷ [])) (FromEntity o2 1 (Request 6))
+    react stock_reactions (stock 9 3 0 9 (record { order = o1; n = 3; phase = LinePhase.Held } ∷ []))
+    (FromEntity o2 1 (Request 6))
     ≡ Ok (stock 9 9 0 9 (lines LinePhase.Held LinePhase.Held), to o2 Tentative ∷ [])
 unfolding same_entity is_before
 lines_stand_in_order = refl
@@ -74,12 +76,15 @@ a_stock_ships_or_releases = (refl, refl, refl)
 -- a request that comes again, or from an entity that is no order, changes nothing, and isn't answered
 a_stock_is_asked_once :
     (react stock_reactions (stock 9 6 0 9 later_line) (FromEntity o2 2 (Request 1)) ≡ Ok (stock 9 6 0 9 later_line, []))
-    × (react stock_reactions (stock 9 0 0 9 []) (FromEntity (account_of (codes "acme")) 1 (Request 1)) ≡ Ok (stock 9 0 0 9 [], []))
-    × (react stock_reactions (stock 9 0 0 9 []) (FromEntity (stock_of (codes "nuts")) 1 (Request 1)) ≡ Ok (stock 9 0 0 9 [], []))
+    × (react stock_reactions (stock 9 0 0 9 []) (FromEntity (account_of (codes "acme")) 1 (Request 1))
+    ≡ Ok (stock 9 0 0 9 [], []))
+    × (react stock_reactions (stock 9 0 0 9 []) (FromEntity (stock_of (codes "nuts")) 1 (Request 1))
+    ≡ Ok (stock 9 0 0 9 [], []))
 unfolding same_entity
 a_stock_is_asked_once = (refl, refl, refl)
 
--- what was refused or released isn't shipped, what was released isn't freed again, and an order that never asked has no line
+-- what was refused or released isn't shipped, what was released isn't freed again, and an order that never asked has no
+-- line
 a_stock_ships_what_is_held :
     (react stock_reactions (stock 9 0 0 9 (lines LinePhase.Refused LinePhase.Released)) (FromEntity o1 2 Confirm)
     ≡ Ok (stock 9 0 0 9 (lines LinePhase.Refused LinePhase.Released), []))
@@ -94,7 +99,8 @@ a_stock_ships_what_is_held = (refl, refl, refl, refl)
 -- 1 at least comes in, and no more than 2^40 in all, shipped or not
 stock_comes_in : (react stock_reactions (stock 7 0 3 10 []) (FromSeat 0 (Receive 5)) ≡ Ok (stock 12 0 3 15 [], []))
     × (react stock_reactions (stock 7 0 3 10 []) (FromSeat 0 (Receive 0)) ≡ Err OutOfRange)
-    × (react stock_reactions (stock 7 0 3 10 []) (FromSeat 0 (Receive 1099511627766)) ≡ Ok (stock 1099511627773 0 3 1099511627776 [], []))
+    × (react stock_reactions (stock 7 0 3 10 []) (FromSeat 0 (Receive 1099511627766))
+    ≡ Ok (stock 1099511627773 0 3 1099511627776 [], []))
     × (react stock_reactions (stock 7 0 3 10 []) (FromSeat 0 (Receive 1099511627767)) ≡ Err OutOfRange)
 stock_comes_in = (refl, refl, refl, refl)
 
@@ -118,9 +124,12 @@ an_account_bills_or_releases = (refl, refl)
 
 -- a request that comes again, or from an entity that is no order, changes nothing, and isn't answered
 an_account_is_asked_once :
-    (react account_reactions (account 10 0 6 later_line) (FromEntity o2 2 (Request 1)) ≡ Ok (account 10 0 6 later_line, []))
-    × (react account_reactions (account 10 0 0 []) (FromEntity (account_of (codes "acme")) 1 (Request 1)) ≡ Ok (account 10 0 0 [], []))
-    × (react account_reactions (account 10 0 0 []) (FromEntity (stock_of (codes "bolts")) 1 (Request 1)) ≡ Ok (account 10 0 0 [], []))
+    (react account_reactions (account 10 0 6 later_line) (FromEntity o2 2 (Request 1))
+    ≡ Ok (account 10 0 6 later_line, []))
+    × (react account_reactions (account 10 0 0 []) (FromEntity (account_of (codes "acme")) 1 (Request 1))
+    ≡ Ok (account 10 0 0 [], []))
+    × (react account_reactions (account 10 0 0 []) (FromEntity (stock_of (codes "bolts")) 1 (Request 1))
+    ≡ Ok (account 10 0 0 [], []))
 unfolding same_entity
 an_account_is_asked_once = (refl, refl, refl)
 
@@ -140,6 +149,7 @@ an_account_bills_what_is_held = (refl, refl, refl, refl)
 -- a limit is 2^40 at most, and not below what is billed and held
 limits_are_set : (react account_reactions (account 10 1 6 []) (FromSeat 0 (SetLimit 7)) ≡ Ok (account 7 1 6 [], []))
     × (react account_reactions (account 10 1 6 []) (FromSeat 0 (SetLimit 6)) ≡ Err BelowUse)
-    × (react account_reactions (account 10 1 6 []) (FromSeat 0 (SetLimit 1099511627776)) ≡ Ok (account 1099511627776 1 6 [], []))
+    × (react account_reactions (account 10 1 6 []) (FromSeat 0 (SetLimit 1099511627776))
+    ≡ Ok (account 1099511627776 1 6 [], []))
     × (react account_reactions (account 10 1 6 []) (FromSeat 0 (SetLimit 1099511627777)) ≡ Err OutOfRange)
 limits_are_set = (refl, refl, refl, refl)

@@ -1,4 +1,5 @@
--- What stocks and accounts do alike: they hold what orders ask for, with a line for each order that asked, until it is finished or freed.
+-- What stocks and accounts do alike: they hold what orders ask for, with a line for each order that asked, until it is
+-- finished or freed.
 use Rattle.std.specs.Prelude.{ℕ, Bool, ◌&&◌, is_none, List, [], Option, Some, None, if◌then◌else◌}
 use Rattle.base.specs.Entity.{Name}
 use Rattle.envelope.specs.declared.message.Message.{Message}
@@ -9,8 +10,8 @@ use Rattle.trade.specs.declared.line_phase.LinePhase.TheVariants.{Held, Done, Re
 use Rattle.trade.specs.Lines.{Line, is_order, line_of, with_line, with_line_phase, same_phase}
 use Rattle.activities.specs.Reaction.{reply}
 
--- how states hold for orders: their lines, whether so much more fits, and what a state is where so much more is held, where so much of what
--- is held is finished, where it is free again, and with other lines
+-- how states hold for orders: their lines, whether so much more fits, and what a state is where so much more is held,
+-- where so much of what is held is finished, where it is free again, and with other lines
 pub record Holding (S : Type 0) : Type 0 where
   pub lines : S → List Line
   pub with_lines : S → List Line → S
@@ -25,7 +26,8 @@ held_for h x order n = h.with_lines (h.hold x n) (with_line (record { order = or
 
 -- so much is refused to an order
 abbrev pub refused_to : {S : Type 0} → Holding S → S → Name → ℕ → S
-refused_to h x order n = h.with_lines x (with_line (record { order = order; n = n; phase = LinePhase.Refused }) (h.lines x))
+refused_to h x order n =
+    h.with_lines x (with_line (record { order = order; n = n; phase = LinePhase.Refused }) (h.lines x))
 
 -- so much that is held for an order is finished
 abbrev pub finished_for : {S : Type 0} → Holding S → S → Name → ℕ → S
@@ -49,9 +51,11 @@ abbrev pub on_held : {S : Type 0} → Option ℕ → (ℕ → S) → S → S × 
 on_held None becomes x = (x, [])
 on_held (Some n) becomes x = (becomes n, [])
 
--- a request counts from an order without a line, a confirm and a cancel go to the sender's line; anything else changes nothing
+-- a request counts from an order without a line, a confirm and a cancel go to the sender's line; anything else changes
+-- nothing
 abbrev pub on_line_message : {S : Type 0} → Holding S → S → Name → Message → S × List Out
-on_line_message h x s (Request n) = if is_order s.kind && is_none (line_of s (h.lines x)) then on_request h x s n else (x, [])
+on_line_message h x s (Request n) =
+    if is_order s.kind && is_none (line_of s (h.lines x)) then on_request h x s n else (x, [])
 on_line_message h x s Confirm = on_held (held_by (line_of s (h.lines x))) (finished_for h x s) x
 on_line_message h x s Cancel = on_held (held_by (line_of s (h.lines x))) (freed_for h x s) x
 on_line_message h x s m = (x, [])

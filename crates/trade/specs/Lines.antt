@@ -1,4 +1,5 @@
--- The lines of a stock or an account: what it does for each order that asked it, one line an order, in order of the orders' keys.
+-- The lines of a stock or an account: what it does for each order that asked it, one line an order, in order of the
+-- orders' keys.
 use Rattle.std.specs.Prelude.{ℕ, Bool, true, false, List, [], ◌∷◌, Option, Some, None, if◌then◌else◌, sum_by}
 use Rattle.std.specs.Ordering.{is_lt, nat_cmp}
 use Rattle.std.specs.Cmp.Lexicographic.{slice_cmp}

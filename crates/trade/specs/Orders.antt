@@ -1,5 +1,6 @@
 -- The reactions of an order.
-use Rattle.std.specs.Prelude.{ℕ, Bool, true, false, ◌&&◌, not, List, [], ◌∷◌, ◌++◌, map, filter, Option, Some, None, Result, Ok, Err}
+use Rattle.std.specs.Prelude.{ℕ, Bool, true, false, ◌&&◌, not, List, [], ◌∷◌, ◌++◌, map, filter, Option, Some, None}
+use Rattle.std.specs.Prelude.{Result, Ok, Err}
 use Rattle.std.specs.Prelude.{if◌then◌else◌}
 use Rattle.envelope.specs.declared.message.Message.{Message}
 use Rattle.envelope.specs.declared.message.Message.TheVariants.{Request, Tentative, Refused, Confirm, Cancel}
@@ -52,7 +53,8 @@ awaits e (p ∷ ps) = if same_entity e p.entity then is_requested p.phase else a
 -- the partners, with this phase for one of them
 abbrev pub with_phase : Name → Phase → List Partner → List Partner
 with_phase e phase [] = []
-with_phase e phase (p ∷ ps) = if same_entity e p.entity then record p { phase = phase } ∷ ps else p ∷ with_phase e phase ps
+with_phase e phase (p ∷ ps) =
+    if same_entity e p.entity then record p { phase = phase } ∷ ps else p ∷ with_phase e phase ps
 
 -- whether each partner holds what it was asked for
 abbrev pub all_tentative : List Partner → Bool
@@ -81,24 +83,29 @@ asked e n = record { entity = e; n = n; phase = Phase.Requested }
 
 -- the partners of a new order: its stocks, and its account
 abbrev pub partners_of : List Item → List ℕ → ℕ → List Partner
-partners_of items account amount = map (λ (i : Item). asked (stock_of i.stock) i.quantity) items ++ asked (account_of account) amount ∷ []
+partners_of items account amount =
+    map (λ (i : Item). asked (stock_of i.stock) i.quantity) items ++ asked (account_of account) amount ∷ []
 
 -- a new order, and its requests
 abbrev pub placed : List Partner → Option OrderState × List Out
 placed ps = (Some (record { status = Open; partners = ps }), requests ps)
 
--- an order is placed once, with one to eight lines, each of another stock, and with numbers in range, and cancelled while it is open; any
--- other command is refused
+-- an order is placed once, with one to eight lines, each of another stock, and with numbers in range, and cancelled
+-- while it is open; any other command is refused
 abbrev pub on_order_command : Option OrderState → OrderCommand → Result (Option OrderState × List Out) Refusal
 on_order_command (Some o) (Place items account amount) = Err AlreadyPlaced
 on_order_command None (Place items account amount) =
     if not (are_lines items)
     then Err BadLines
-    else (if are_numbers items && is_number amount then Ok (placed (partners_of items account amount)) else Err OutOfRange)
+    else (if are_numbers items && is_number amount then Ok (placed (partners_of items account amount))
+    else Err OutOfRange)
 on_order_command None CancelOrder = Err NotOpen
 on_order_command (Some o) CancelOrder =
     if is_open o.status
-    then Ok (Some (record { status = Cancelled; partners = all_in Phase.Cancelled o.partners }), to_all Cancel o.partners)
+    then Ok (
+      Some (record { status = Cancelled; partners = all_in Phase.Cancelled o.partners }),
+      to_all Cancel o.partners,
+    )
     else Err NotOpen
 
 -- a partner's phase is tentative: the order is confirmed if that was the last
@@ -115,9 +122,11 @@ refused_by o s = (
   to_others s Cancel o.partners,
 )
 
--- tentative and refused count at an open order, from a partner that was asked and hasn't answered; anything else changes nothing
+-- tentative and refused count at an open order, from a partner that was asked and hasn't answered; anything else
+-- changes nothing
 abbrev pub on_order_message : Option OrderState → Name → Message → Option OrderState × List Out
-on_order_message (Some o) s Tentative = if is_open o.status && awaits s o.partners then tentative_from o s else (Some o, [])
+on_order_message (Some o) s Tentative =
+    if is_open o.status && awaits s o.partners then tentative_from o s else (Some o, [])
 on_order_message (Some o) s Refused = if is_open o.status && awaits s o.partners then refused_by o s else (Some o, [])
 on_order_message order s m = (order, [])
 

@@ -10,7 +10,8 @@ pub record IsPlaceOf (order : Name) (ls : List Line) (at : ℕ) : Type 0 where
   pub in_range : at < length ls
   pub of_order : (d : Line) → (slice_index_or ls at d).order ≡ order
 
--- the order's line would go here: those before it are of orders that come before, and those from here on of orders that come after
+-- the order's line would go here: those before it are of orders that come before, and those from here on of orders that
+-- come after
 pub record IsPlaceFor (order : Name) (ls : List Line) (at : ℕ) : Type 0 where
   pub in_range : at ≤ length ls
   pub before : (i : ℕ) (d : Line) → i < at → entity_cmp (slice_index_or ls i d).order order ≡ Less

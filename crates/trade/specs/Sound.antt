@@ -41,8 +41,8 @@ pub record AreLinesSound (ls : List Line) : Type 0 where
   pub one_each : HasOneLineEach ls
   pub in_order : IsStrictlySortedBy (slice_cmp nat_cmp) (map (λ (l : Line). l.order.key) ls)
 
--- of a stock: what came in is there or was shipped, and is 2^40 at most; what is held is there; held and shipped are the totals over its
--- lines
+-- of a stock: what came in is there or was shipped, and is 2^40 at most; what is held is there; held and shipped are
+-- the totals over its lines
 pub record IsStockSound (x : StockState) : Type 0 where
   pub conserved : x.on_hand + x.shipped ≡ x.received
   pub bounded : x.received ≤ MAX_NUMBER

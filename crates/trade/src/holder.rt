@@ -3,7 +3,8 @@
 ghost use Rattle.std.specs.Prelude.{◌≡◌, true, false, Some, None, OnOk, OnErr};
 ghost use Rattle.base.specs.declared.entity.Kind.TheVariants.{Order};
 ghost use Rattle.activities.specs.Applied.{IsAtomic};
-ghost use Rattle.trade.specs.Holding.{Holding, held_for, refused_to, finished_for, freed_for, held_by, on_request, on_line_message};
+ghost use Rattle.trade.specs.Holding.{Holding, held_for, refused_to, finished_for, freed_for, held_by, on_request};
+ghost use Rattle.trade.specs.Holding.{on_line_message};
 ghost use Rattle.trade.specs.Lines.{line_of};
 
 use crate::Lines;
@@ -57,8 +58,8 @@ pub trait Holder {
         ensures { self.new ≡ freed_for holding self.old order.now number };
 }
 
-/// Takes a message in: a request counts from an order without a line, a confirm and a cancel go to the sender's line, and anything else
-/// changes nothing.
+/// Takes a message in: a request counts from an order without a line, a confirm and a cancel go to the sender's line,
+/// and anything else changes nothing.
 ///
 /// # Errors
 /// Where a growth was refused for a request's line or its answer; nothing has changed then.
@@ -69,11 +70,13 @@ pub fn take_line_message<H: Holder>(
     message: Message,
     outs: &mut Outs,
 ) -> Result<(), AllocError>
-    ensures { IsAtomic (on_line_message H.holding holder.old sender.now message) holder.old outs.old holder.new outs.new result }
+    ensures { IsAtomic (on_line_message H.holding holder.old sender.now message) holder.old outs.old holder.new outs.new
+        result }
 {
     match message {
         Message::Request(number) => {
-            // A line is a request's trace: one that comes again was answered, and one that was released isn't held anew.
+            // A line is a request's trace: one that comes again was answered, and one that was released isn't held
+            // anew.
             if sender.kind() != Kind::Order || holder.lines().find(sender).is_some() {
                 return Ok(());
             }
@@ -104,7 +107,8 @@ fn ask<H: Holder>(
 ) -> Result<(), AllocError>
     requires order { order.now.kind ≡ Order }
     requires new { line_of order.now (H.holding.lines holder.old) ≡ None }
-    ensures { IsAtomic (on_request H.holding holder.old order.now number) holder.old outs.old holder.new outs.new result }
+    ensures { IsAtomic (on_request H.holding holder.old order.now number) holder.old outs.old holder.new outs.new
+        result }
 {
     let fits = holder.fits(number);
     let answer = if fits {

@@ -125,7 +125,8 @@ fn has_stock(stock: &Key, items: &[Item]) -> bool
 fn are_apart(items: &[Item]) -> bool
     ensures { result ≡ are_apart items.now }
 {
-    // Each is compared with those behind it, and not put into a set: a set wants memory, and of those that count there are eight.
+    // Each is compared with those behind it, and not put into a set: a set wants memory, and of those that count there
+    // are eight.
     let mut rest = items;
     while let Some((first, others)) = rest.split_first() {
         if has_stock(&first.stock, others) {

@@ -18,15 +18,15 @@ pub fn orders_stay_sound()
     ensures always { (inputs : List (Input OrderCommand)) → IsOrderSound (state order_reactions inputs) }
 {}
 
-/// Nothing that came into a stock is lost or used twice: it is there or was shipped, what is held is there, and held and shipped are the
-/// totals over the lines. Lines are of orders alone, one an order, in order of their keys.
+/// Nothing that came into a stock is lost or used twice: it is there or was shipped, what is held is there, and held
+/// and shipped are the totals over the lines. Lines are of orders alone, one an order, in order of their keys.
 pub fn stocks_stay_sound()
     ensures kept { IsInvariant stock_reactions IsStockSound }
     ensures always { (inputs : List (Input StockCommand)) → IsStockSound (state stock_reactions inputs) }
 {}
 
-/// Nothing of an account's limit is used twice: it covers what is billed and held, and these are the totals over the lines. Lines are of
-/// orders alone, one an order, in order of their keys.
+/// Nothing of an account's limit is used twice: it covers what is billed and held, and these are the totals over the
+/// lines. Lines are of orders alone, one an order, in order of their keys.
 pub fn accounts_stay_sound()
     ensures kept { IsInvariant account_reactions IsAccountSound }
     ensures always { (inputs : List (Input AccountCommand)) → IsAccountSound (state account_reactions inputs) }

@@ -1,8 +1,8 @@
-//! The business of the three services: what seats can ask of orders, stocks and accounts, the lines that stocks and accounts have, and
-//! what each of the three does with what it takes in.
+//! The business of the three services: what seats can ask of orders, stocks and accounts, the lines that stocks and
+//! accounts have, and what each of the three does with what it takes in.
 //!
-//! Orders, stocks and accounts stay sound whatever they take in: `orders_stay_sound`, `stocks_stay_sound` and `accounts_stay_sound`. The
-//! code of the three is in the crates `purchasing`, `warehouse` and `billing`.
+//! Orders, stocks and accounts stay sound whatever they take in: `orders_stay_sound`, `stocks_stay_sound` and
+//! `accounts_stay_sound`. The code of the three is in the crates `purchasing`, `warehouse` and `billing`.
 //!
 //! ```rust
 //! pub fn order_of_one(

@@ -132,7 +132,8 @@ impl Lines {
         ensures found { IfOk result (IsPlaceOf order.now self.now) }
         ensures absent { IfErr result (IsPlaceFor order.now self.now) }
     {
-        // Entities are compared by their kinds first; all lines are of orders, so that their keys alone tell where one stands.
+        // Entities are compared by their kinds first; all lines are of orders, so that their keys alone tell where one
+        // stands.
         self.items.binary_search_by(|line| line.order().cmp(order))
     }
 }

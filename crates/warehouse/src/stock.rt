@@ -14,7 +14,8 @@ use trade::{Holder, LinePhase, Lines};
 
 /// A stock: contracts see how much is on hand, held, shipped and received, and the list of its lines.
 ///
-/// What it received is on hand or was shipped, what is held is on hand, and held and shipped are the totals over its lines.
+/// What it received is on hand or was shipped, what is held is on hand, and held and shipped are the totals over its
+/// lines.
 #[derive(Debug, Drop)]
 pub struct Stock {
     on_hand: u64,
@@ -50,7 +51,8 @@ impl Stock {
         }
     }
 
-    /// The stock of these numbers and lines; `None` where something would be lost or used twice, or the numbers aren't those of the lines.
+    /// The stock of these numbers and lines; `None` where something would be lost or used twice, or the numbers aren't
+    /// those of the lines.
     pub fn from_parts(
         on_hand: u64,
         held: u64,
@@ -59,7 +61,13 @@ impl Stock {
         lines: Lines,
     ) -> Option<Stock>
         ensures { MatchOption result
-            (¬ IsStockSound (record { on_hand = on_hand; held = held; shipped = shipped; received = received; lines = lines }))
+            (¬ IsStockSound (record {
+              on_hand = on_hand;
+              held = held;
+              shipped = shipped;
+              received = received;
+              lines = lines;
+            }))
             (λ s. (s ≡ record { on_hand = on_hand; held = held; shipped = shipped; received = received; lines = lines })
             × IsStockSound s) }
     {

@@ -14,8 +14,8 @@ use trade::{StockCommand, take_line_message};
 
 /// What warehouse does with what its stocks take in.
 ///
-/// A stock holds what an order asks for where enough is there and free, and keeps a line for the order: held, and then shipped or
-/// released; or refused. Only a request that is answered wants memory.
+/// A stock holds what an order asks for where enough is there and free, and keeps a line for the order: held, and then
+/// shipped or released; or refused. Only a request that is answered wants memory.
 pub struct Stocks;
 
 impl Handler for Stocks {

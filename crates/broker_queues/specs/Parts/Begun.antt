@@ -39,7 +39,8 @@ abbrev pub AreHeld : List Subscriber → List Logged → Type 0
 AreHeld subscribers [] = Unit {0}
 AreHeld subscribers (e ∷ log) = IsHeldBy (subscriber_at e.age subscribers) e × AreHeld subscribers log
 
--- What was there when a transaction began is there, but for fates that were noted; what came since is ready, and is listed where it goes.
+-- What was there when a transaction began is there, but for fates that were noted; what came since is ready, and is
+-- listed where it goes.
 pub record IsBegun (start : Holding) (log : List Logged) (now : Holding) : Type 0 where
   pub sound : IsSound now
   pub kept : before start.last log now.kept ≡ start.kept
@@ -67,24 +68,27 @@ NotesIf kept entry age old new true = NotesIt kept entry age old new
 NotesIf kept entry age old new false = new ≡ old
 
 -- the same, unless memory was refused
-abbrev pub NotesOne : {A E : Type 0} → List Kept → Entry → ℕ → Subscription → Option ℕ → List Logged → List Logged → Result A E → Type 0
+abbrev pub NotesOne : {A E : Type 0} → List Kept → Entry → ℕ → Subscription → Option ℕ → List Logged → List Logged
+    → Result A E → Type 0
 NotesOne kept entry age s answered old new (Ok _) =
     NotesIf kept entry age old new (passes (counts_in s answered) (fate_of_kept (kept_at entry.number kept)))
 NotesOne kept entry age s answered old new (Err _) = new ≡ old
 
 -- What was noted is so, and among these deliveries of a subscriber each is noted for which an answer counts.
-pub record Noted (h : Holding) (s : Subscriber) (answered : Option ℕ) (es : List Entry) (old new : List Logged) : Type 0 where
-  pub later : List Logged
-  pub more : new ≡ old ++ later
-  pub holds : AreTrue h.kept later
-  pub held : AreHeld h.subscribers later
-  pub all : AreAll (counts_in s.subscription answered) h.kept es later
+pub record Noted (h : Holding) (s : Subscriber) (answered : Option ℕ) (es : List Entry) (old new : List Logged) : Type 0
+  where
+    pub later : List Logged
+    pub more : new ≡ old ++ later
+    pub holds : AreTrue h.kept later
+    pub held : AreHeld h.subscribers later
+    pub all : AreAll (counts_in s.subscription answered) h.kept es later
 
 -- all of a subscriber's were, or memory was refused behind some
 abbrev pub NotesAll : {A E : Type 0} → Holding → ℕ → Option ℕ → List Logged → List Logged → Result A E → Type 0
 NotesAll h age answered old new (Ok _) = (s : Subscriber) → subscriber_at age h.subscribers ≡ Some s
     → Noted h s answered s.entries old new
-NotesAll h age answered old new (Err _) = (s : Subscriber) → subscriber_at age h.subscribers ≡ Some s → Noted h s answered [] old new
+NotesAll h age answered old new (Err _) =
+    (s : Subscriber) → subscriber_at age h.subscribers ≡ Some s → Noted h s answered [] old new
 
 -- ---- steps of a transaction
 
@@ -95,8 +99,10 @@ Goes step new (Err Memory) = Unit {0}
 Goes step new (Err fault) = step ≡ Err fault
 
 -- an answer within a transaction can be undone
-abbrev pub AnswersNoted : {A : Type 0} → ℕ → ℕ → Bool → Holding → List Logged → Holding → List Logged → Result A QueueFault → Type 0
-AnswersNoted session ack again old noted new now result = ((start : Holding) → IsBegun start noted old → IsBegun start now new)
+abbrev pub AnswersNoted : {A : Type 0} → ℕ → ℕ → Bool → Holding → List Logged → Holding → List Logged
+    → Result A QueueFault → Type 0
+AnswersNoted session ack again old noted new now result =
+    ((start : Holding) → IsBegun start noted old → IsBegun start now new)
     × ((accepted : List Accepted) → IsSound old
     → IsSound new × Goes (step_of again (book_of old accepted) session ack) (book_of new accepted) result)
 
@@ -106,7 +112,8 @@ pub record Grows {A : Type 0} (old new : List A) : Type 0 where
   pub is : new ≡ old ++ more
 
 -- a step of a transaction can be undone
-pub record Acts {A : Type 0} (step : Book → Result Book QueueFault) (old : Holding) (noted : List Logged) (given : List Accepted)
+pub record Acts {A : Type 0} (step : Book → Result Book QueueFault) (old : Holding) (noted : List Logged)
+    (given : List Accepted)
     (new : Holding) (now : List Logged) (accepted : List Accepted) (result : Result A QueueFault) : Type 0 where
   pub sound : IsSound new
   pub begun : (start : Holding) → IsBegun start noted old → IsBegun start now new
@@ -114,7 +121,8 @@ pub record Acts {A : Type 0} (step : Book → Result Book QueueFault) (old : Hol
   pub grows : Grows given accepted
 
 -- A SEND was accepted.
-pub record Accepts (full : ℕ) (old : Holding) (given : List Accepted) (sent : Sent) (new : Holding) (accepted : List Accepted)
+pub record Accepts (full : ℕ) (old : Holding) (given : List Accepted) (sent : Sent) (new : Holding)
+    (accepted : List Accepted)
     : Type 0 where
   pub sound : IsSound new
   pub puts : Puts old sent new
@@ -123,7 +131,8 @@ pub record Accepts (full : ℕ) (old : Holding) (given : List Accepted) (sent : 
   pub grows : Grows given accepted
 
 -- or it was refused
-abbrev pub PutsAccepted : {A : Type 0} → ℕ → Holding → List Accepted → Sent → Holding → List Accepted → Result A QueueFault → Type 0
+abbrev pub PutsAccepted : {A : Type 0} → ℕ → Holding → List Accepted → Sent → Holding → List Accepted
+    → Result A QueueFault → Type 0
 PutsAccepted full old given sent new accepted (Ok _) = Accepts full old given sent new accepted
 PutsAccepted full old given sent new accepted (Err fault) = PutsNone full old sent fault new × (accepted ≡ given)
 
@@ -136,7 +145,8 @@ TakesLast old new = (start : Holding) (log : List Logged) → IsBegun start log 
 
 -- the last message that came is gone again
 abbrev pub Unputs : Holding → Holding → Type 0
-Unputs old new = (start : Holding) (log : List Logged) → IsBegun start log old → start.last < old.last → IsBegun start log new
+Unputs old new =
+    (start : Holding) (log : List Logged) → IsBegun start log old → start.last < old.last → IsBegun start log new
 
 -- all that came behind a number are
 abbrev pub UnputsAll : Holding → ℕ → Holding → Type 0
@@ -161,7 +171,8 @@ PutsBackAll old log new = (start : Holding) → IsBegun start log old → old.la
 
 -- the same messages are kept as when a transaction began, and nothing else of the book is other
 abbrev pub Undoes : Holding → ℕ → List Logged → Holding → Type 0
-Undoes old last log new = (start : Holding) → IsBegun start log old → start.last ≡ last → (new.kept ≡ start.kept) × Tidies start new
+Undoes old last log new =
+    (start : Holding) → IsBegun start log old → start.last ≡ last → (new.kept ≡ start.kept) × Tidies start new
 
 -- ---- putting away
 
@@ -182,6 +193,8 @@ LetsGo old n new false = (kept_at n old.kept ≡ None) × (new ≡ old)
 -- ---- whole
 
 -- actions were done in order, or refused and nothing has changed
-abbrev pub Applies : {A : Type 0} → ℕ → ℕ → List Action → Holding → List Accepted → Holding → List Accepted → Result A QueueFault → Type 0
+abbrev pub Applies : {A : Type 0} → ℕ → ℕ → List Action → Holding → List Accepted → Holding → List Accepted
+    → Result A QueueFault → Type 0
 Applies full session actions old accepted new now result = IsSound new
-    × UnlessMemory (apply_of full session (book_of old accepted) actions) (book_of old accepted) (book_of new now) result
+    × UnlessMemory (apply_of full session (book_of old accepted) actions) (book_of old accepted) (book_of new now)
+    result

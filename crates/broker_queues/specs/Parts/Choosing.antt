@@ -1,5 +1,6 @@
 -- Which message goes out next, and to whom.
-use Rattle.std.specs.Prelude.{◌≡◌, ◌≤◌, ℕ, Bool, true, false, nat_le, if◌then◌else◌, List, Option, Some, None, Result, Ok, Err}
+use Rattle.std.specs.Prelude.{◌≡◌, ◌≤◌, ℕ, Bool, true, false, nat_le, if◌then◌else◌, List, Option, Some, None, Result}
+use Rattle.std.specs.Prelude.{Ok, Err}
 use Rattle.std.specs.Str.{bytes_eq}
 use Rattle.broker_book.specs.declared.parts.Accepted.{Accepted}
 use Rattle.broker_book.specs.Books.{Ready, is_auto}
@@ -19,16 +20,17 @@ pub record Rests (old new : Holding) : Type 0 where
   pub given : new.given ≡ old.given
 
 -- A message is ready and goes to a destination, and a subscriber there may take it.
-pub record IsDueAt (kept : List Kept) (subscribers : List Subscriber) (given : ℕ) (name : List ℕ) (number : ℕ) : Type 0 where
-  pub message : Kept
-  pub there : kept_at number kept ≡ Some message
-  pub ready : message.fate ≡ Some Ready
-  pub for_it : message.sent.destination ≡ name
-  pub age : ℕ
-  pub subscriber : Subscriber
-  pub sits : subscriber_at age subscribers ≡ Some subscriber
-  pub same : bytes_eq subscriber.subscription.destination message.sent.destination ≡ true
-  pub may : may_have given subscriber ≡ true
+pub record IsDueAt (kept : List Kept) (subscribers : List Subscriber) (given : ℕ) (name : List ℕ) (number : ℕ) : Type 0
+  where
+    pub message : Kept
+    pub there : kept_at number kept ≡ Some message
+    pub ready : message.fate ≡ Some Ready
+    pub for_it : message.sent.destination ≡ name
+    pub age : ℕ
+    pub subscriber : Subscriber
+    pub sits : subscriber_at age subscribers ≡ Some subscriber
+    pub same : bytes_eq subscriber.subscription.destination message.sent.destination ≡ true
+    pub may : may_have given subscriber ≡ true
 
 -- A message of this number is ready, and this is the oldest subscriber that may take it.
 pub record MayGo (kept : List Kept) (subscribers : List Subscriber) (given n a : ℕ) : Type 0 where
@@ -59,7 +61,8 @@ IsPick kept subscribers given (Some p) = MayGo kept subscribers given p.message.
 
 -- no message that is due at a destination is before a pick's
 abbrev pub Covers : List Kept → List Subscriber → ℕ → List ℕ → Option Pick → Type 0
-Covers kept subscribers given name best = (number : ℕ) → IsDueAt kept subscribers given name number → is_at_most best number ≡ true
+Covers kept subscribers given name best =
+    (number : ℕ) → IsDueAt kept subscribers given name number → is_at_most best number ≡ true
 
 -- One destination was looked at: this is what can be done there, first of all.
 pub record Looked (old : Holding) (name : List ℕ) (new : Holding) (found : Option Pick) : Type 0 where
@@ -91,11 +94,14 @@ is_auto_of None = false
 is_auto_of (Some s) = is_auto s.subscription.mode
 
 -- the first message that can go out does
-abbrev pub Hands : {S E : Type 0} → (S → Handed → S → Type 0) → ℕ → ℕ → Holding → S → Holding → S → Result (Unit {0}) E → Type 0
-Hands takes n a old from new to result = (accepted : List Accepted) (k : Kept) (s : Subscriber) → IsSound old → Picks old n k a s
+abbrev pub Hands : {S E : Type 0} → (S → Handed → S → Type 0) → ℕ → ℕ → Holding → S → Holding → S → Result (Unit {0}) E
+    → Type 0
+Hands takes n a old from new to result =
+    (accepted : List Accepted) (k : Kept) (s : Subscriber) → IsSound old → Picks old n k a s
     → IsSound new × DealsOne takes (book_of old accepted) from (book_of new accepted) to result
 
 -- the parts still agree, and the book was dealt from until nothing more can go out, or until memory was refused
-abbrev pub Dispatching : {S E : Type 0} → (S → Handed → S → Type 0) → Holding → S → Holding → S → Result (Unit {0}) E → Type 0
+abbrev pub Dispatching : {S E : Type 0} → (S → Handed → S → Type 0) → Holding → S → Holding → S → Result (Unit {0}) E
+    → Type 0
 Dispatching takes old from new to result = (accepted : List Accepted) → IsSound old
     → IsSound new × Dispatches takes (book_of old accepted) from (book_of new accepted) to result

@@ -17,7 +17,8 @@ abbrev pub number_or : Option Place → ℕ → ℕ
 number_or None number = number
 number_or (Some p) number = p.number
 
--- the first of these places from a number on that passes a test, among those up to the last number, however they are ordered
+-- the first of these places from a number on that passes a test, among those up to the last number, however they are
+-- ordered
 abbrev pub FirstOf : (ℕ → Bool) → List Place → ℕ → ℕ → Option Place → Type 0
 FirstOf test places from last None = (m : ℕ) → lists m places ≡ true → from ≤ m → m ≤ last → test m ≡ false
 FirstOf test places from last (Some p) = (test p.number ≡ true)
@@ -41,8 +42,10 @@ is_free given name (Some s) = bytes_eq s.subscription.destination name && may_ha
 abbrev pub takes_more : List Subscriber → ℕ → List ℕ → ℕ → Bool
 takes_more subscribers given name age = is_free given name (subscriber_at age subscribers)
 
--- The first ready message of a destination was looked for; its queue looks for one from there on now, and nothing else changed.
-pub record SeeksReady (kept : List Kept) (last : ℕ) (name : List ℕ) (old new : List ℕ → Option Queue) (found : Option Place) : Type 0 where
+-- The first ready message of a destination was looked for; its queue looks for one from there on now, and nothing else
+-- changed.
+pub record SeeksReady (kept : List Kept) (last : ℕ) (name : List ℕ) (old new : List ℕ → Option Queue)
+    (found : Option Place) : Type 0 where
   pub numbers : (d : List ℕ) → (queue_of new d).numbers ≡ (queue_of old d).numbers
   pub subscribers : (d : List ℕ) → (queue_of new d).subscribers ≡ (queue_of old d).subscribers
   pub count : SameCounts old new
@@ -52,7 +55,8 @@ pub record SeeksReady (kept : List Kept) (last : ℕ) (name : List ℕ) (old new
   pub from : IfSome found (λ p. (queue_of new name).ready_from ≤ p.number)
 
 -- The same of the oldest subscriber that may take one message more.
-pub record SeeksTaker (subscribers : List Subscriber) (given : ℕ) (name : List ℕ) (old new : List ℕ → Option Queue) (found : Option
+pub record SeeksTaker (subscribers : List Subscriber) (given : ℕ) (name : List ℕ) (old new : List ℕ → Option Queue)
+    (found : Option
     Place) : Type 0 where
   pub last : ℕ
   pub young : All (λ s. s.age < last) subscribers
@@ -61,7 +65,8 @@ pub record SeeksTaker (subscribers : List Subscriber) (given : ℕ) (name : List
   pub count : SameCounts old new
   pub ready : (d : List ℕ) → (queue_of new d).ready_from ≡ (queue_of old d).ready_from
   pub others : (d : List ℕ) → (d ≡ name → ⊥) → (queue_of new d).taker_from ≡ (queue_of old d).taker_from
-  pub first : FirstOf (takes_more subscribers given name) (queue_of old name).subscribers (queue_of old name).taker_from last found
+  pub first : FirstOf (takes_more subscribers given name) (queue_of old name).subscribers (queue_of old name).taker_from
+      last found
   pub from : IfSome found (λ p. (queue_of new name).taker_from ≤ p.number)
 
 -- One deal was made and taken; or memory was refused, and nothing has changed.
@@ -72,10 +77,12 @@ DealsOne takes old from new to (Err _) = (new ≡ old) × (to ≡ from)
 -- The first message that can go out does, to the oldest subscriber that may take it, whose mode is `auto` or not.
 abbrev pub HandsOut : {S E : Type 0} → (S → Handed → S → Type 0) → Bool → ℕ → ℕ → Holding → S → Holding → S
     → Result (Unit {0}) E → Type 0
-HandsOut takes auto n a old from new to result = (accepted : List Accepted) (k : Kept) (s : Subscriber) → IsSound old → Picks old n k a s
+HandsOut takes auto n a old from new to result =
+    (accepted : List Accepted) (k : Kept) (s : Subscriber) → IsSound old → Picks old n k a s
     → is_auto s.subscription.mode ≡ auto
     → IsSound new × DealsOne takes (book_of old accepted) from (book_of new accepted) to result
 
 -- and nothing that is gone is kept, where nothing was
 abbrev pub HandsWhole : Holding → ℕ → ℕ → Holding → Type 0
-HandsWhole old n a new = (k : Kept) (s : Subscriber) → IsSound old → Picks old n k a s → NoneGone old.kept → NoneGone new.kept
+HandsWhole old n a new =
+    (k : Kept) (s : Subscriber) → IsSound old → Picks old n k a s → NoneGone old.kept → NoneGone new.kept

@@ -81,7 +81,8 @@ rise number low (x ∷ xs) = nat_le low (number x) && rise number (number x + 1)
 
 -- each kept message is in the queue of its destination
 abbrev pub ArePlaced : List Kept → (List ℕ → Option Queue) → Type 0
-ArePlaced kept queues = (n : ℕ) (k : Kept) → kept_at n kept ≡ Some k → lists n (queue_of queues k.sent.destination).numbers ≡ true
+ArePlaced kept queues =
+    (n : ℕ) (k : Kept) → kept_at n kept ≡ Some k → lists n (queue_of queues k.sent.destination).numbers ≡ true
 
 -- each queue counts its living messages
 abbrev pub AreCounted : List Kept → (List ℕ → Option Queue) → Type 0
@@ -89,7 +90,8 @@ AreCounted kept queues = (d : List ℕ) → (queue_of queues d).count ≡ count_
 
 -- each message that is out is noted at a subscriber that has it
 abbrev pub AreNoted : List Kept → List Subscriber → Type 0
-AreNoted kept subscribers = (n : ℕ) (k : Kept) (x : ℕ) (i : List ℕ) (a : ℕ) → kept_at n kept ≡ Some k → k.fate ≡ Some (Out x i a)
+AreNoted kept subscribers =
+    (n : ℕ) (k : Kept) (x : ℕ) (i : List ℕ) (a : ℕ) → kept_at n kept ≡ Some k → k.fate ≡ Some (Out x i a)
     → list_any (holds_number x i n) subscribers ≡ true
 
 -- each subscriber counts the messages that are out to it
@@ -114,11 +116,14 @@ AreAhead kept queues = (n : ℕ) (k : Kept) → kept_at n kept ≡ Some k → k.
 
 -- no subscriber with credit is before the place from which its queue looks for one
 abbrev pub AreTakers : ℕ → List Subscriber → (List ℕ → Option Queue) → Type 0
-AreTakers given subscribers queues = (a : ℕ) (s : Subscriber) → subscriber_at a subscribers ≡ Some s → may_have given s ≡ true
+AreTakers given subscribers queues =
+    (a : ℕ) (s : Subscriber) → subscriber_at a subscribers ≡ Some s → may_have given s ≡ true
     → (queue_of queues s.subscription.destination).taker_from ≤ a
 
 -- a queue with a ready message and a subscriber that may take it is awake
 abbrev pub AreAwake : ℕ → List Kept → List Subscriber → (List ℕ → Bool) → Type 0
-AreAwake given kept subscribers awake = (n : ℕ) (k : Kept) (a : ℕ) (s : Subscriber) → kept_at n kept ≡ Some k → k.fate ≡ Some Ready
-    → subscriber_at a subscribers ≡ Some s → bytes_eq s.subscription.destination k.sent.destination ≡ true → may_have given s ≡ true
+AreAwake given kept subscribers awake =
+    (n : ℕ) (k : Kept) (a : ℕ) (s : Subscriber) → kept_at n kept ≡ Some k → k.fate ≡ Some Ready
+    → subscriber_at a subscribers ≡ Some s → bytes_eq s.subscription.destination k.sent.destination ≡ true
+    → may_have given s ≡ true
     → awake k.sent.destination ≡ true

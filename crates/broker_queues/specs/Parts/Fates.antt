@@ -45,7 +45,8 @@ abbrev pub fate_of_kept : Option Kept → Option Fate
 fate_of_kept None = None
 fate_of_kept (Some k) = k.fate
 
--- whether an answer to a delivery of a subscription counts for a message; without an answer, whether it is out to the subscription
+-- whether an answer to a delivery of a subscription counts for a message; without an answer, whether it is out to the
+-- subscription
 abbrev pub counts_in : Subscription → Option ℕ → Fate → Bool
 counts_in s None = out_to s.session s.id
 counts_in s (Some answered) = covered s answered
@@ -53,7 +54,8 @@ counts_in s (Some answered) = covered s answered
 -- whether a delivery of this number is out to a subscriber
 abbrev pub is_held : List Kept → ℕ → Subscriber → Bool
 is_held kept number s =
-    list_any (λ e. passes (out_as s.subscription.session s.subscription.id number) (fate_of_kept (kept_at e.number kept))) s.entries
+    list_any (λ e. passes (out_as s.subscription.session s.subscription.id number)
+    (fate_of_kept (kept_at e.number kept))) s.entries
 
 -- the same of the subscriber at a place, where there is one
 abbrev pub held_by : List Kept → ℕ → Option Subscriber → Bool

@@ -1,5 +1,6 @@
 -- What the parts of a book hold.
-use Rattle.std.specs.Prelude.{◌≡◌, ◌<◌, ◌+◌, ℕ, Bool, true, List, [], length, map, take, Option, Some, None, Result, if◌then◌else◌}
+use Rattle.std.specs.Prelude.{◌≡◌, ◌<◌, ◌+◌, ℕ, Bool, true, List, [], length, map, take, Option, Some, None, Result}
+use Rattle.std.specs.Prelude.{if◌then◌else◌}
 use Rattle.broker_book.specs.declared.fault.QueueFault.{QueueFault}
 use Rattle.broker_book.specs.declared.parts.Accepted.{Accepted}
 use Rattle.broker_book.specs.Steps.{ack_of, nack_of, Exactly}
@@ -27,7 +28,8 @@ holding_of p = record {
 -- a delivery of a message to a subscriber is taken back
 abbrev pub TakesBack : Holding → ℕ → ℕ → Bool → Holding → Type 0
 TakesBack old n age again new = (k : Kept) (s : Subscriber) → IsSound old → kept_at n old.kept ≡ Some k
-    → subscriber_at age old.subscribers ≡ Some s → passes (out_to s.subscription.session s.subscription.id) k.fate ≡ true
+    → subscriber_at age old.subscribers ≡ Some s
+    → passes (out_to s.subscription.session s.subscription.id) k.fate ≡ true
     → Changes old n k (back again) new
 
 -- A subscriber is there as it was, with another count perhaps.
@@ -37,7 +39,8 @@ pub record IsSame (s : Subscriber) (o : Option Subscriber) : Type 0 where
   pub subscription : now.subscription ≡ s.subscription
   pub entries : now.entries ≡ s.entries
 
--- A subscriber's deliveries were gone through: the messages among them that pass a test turned to a fate, and nothing else changed.
+-- A subscriber's deliveries were gone through: the messages among them that pass a test turned to a fate, and nothing
+-- else changed.
 pub record Turns (old : Holding) (age : ℕ) (s : Subscriber) (to : Option Fate) (test : Fate
     → Bool) (es : List Entry) (new : Holding) : Type 0 where
   pub sound : IsSound new
@@ -51,7 +54,8 @@ pub record Turns (old : Holding) (age : ℕ) (s : Subscriber) (to : Option Fate)
   pub last : new.last ≡ old.last
   pub given : new.given ≡ old.given
   pub numbers : (d : List ℕ) → (queue_of new.queues d).numbers ≡ (queue_of old.queues d).numbers
-  pub others : (b : ℕ) (u : Subscriber) → subscriber_at b old.subscribers ≡ Some u → IsSame u (subscriber_at b new.subscribers)
+  pub others : (b : ℕ) (u : Subscriber) → subscriber_at b old.subscribers ≡ Some u
+      → IsSame u (subscriber_at b new.subscribers)
 
 -- the deliveries of a subscriber, none where there is none
 abbrev pub entries_of : Option Subscriber → List Entry
@@ -76,4 +80,5 @@ step_of again b session number = if again then nack_of b session number else ack
 -- the parts still agree, and the book took the step, or nothing has changed
 abbrev pub Responds : {A : Type 0} → Holding → ℕ → ℕ → Bool → Holding → Result A QueueFault → Type 0
 Responds old session number again new result = (accepted : List Accepted) → IsSound old
-    → IsSound new × Exactly (step_of again (book_of old accepted) session number) (book_of old accepted) (book_of new accepted) result
+    → IsSound new × Exactly (step_of again (book_of old accepted) session number) (book_of old accepted)
+    (book_of new accepted) result

@@ -28,9 +28,11 @@ abbrev pub awake_in : Bool → List (List ℕ) → List ℕ → Bool
 awake_in all names d = all || list_any (λ n. bytes_eq n d) names
 
 -- a destination learns that a message of this number is ready again, or that it has one living message fewer
-pub record Marks (again : Bool) (name : List ℕ) (number : ℕ) (old new : List ℕ → Option Queue) (was now : List ℕ → Bool) : Type 0 where
+pub record Marks (again : Bool) (name : List ℕ) (number : ℕ) (old new : List ℕ → Option Queue) (was now : List ℕ → Bool)
+    : Type 0 where
   pub lowers : Lowers old new
-  pub counts : (d : List ℕ) → (queue_of new d).count ≡ (queue_of old d).count - (if again then 0 else (if bytes_eq name d then 1 else 0))
+  pub counts : (d : List ℕ) → (queue_of new d).count ≡ (queue_of old d).count -
+      (if again then 0 else (if bytes_eq name d then 1 else 0))
   pub wakes : Wakes was now
   pub from : again ≡ true → (queue_of new name).ready_from ≤ number
   pub awake : again ≡ true → now name ≡ true

@@ -31,7 +31,8 @@ adding place q = record q { numbers = q.numbers ++ place ∷ []; count = q.count
 
 -- each queue stays, or was idle and is empty
 abbrev pub Closes : (List ℕ → Option Queue) → (List ℕ → Option Queue) → Type 0
-Closes old new = (d : List ℕ) → (queue_of new d ≡ queue_of old d) ⊎ ((is_idle (queue_of old d) ≡ true) × (queue_of new d ≡ empty_queue))
+Closes old new = (d : List ℕ) → (queue_of new d ≡ queue_of old d)
+    ⊎ ((is_idle (queue_of old d) ≡ true) × (queue_of new d ≡ empty_queue))
 
 -- ---- messages come
 
@@ -89,7 +90,8 @@ pub record Takes (old : Holding) (n : ℕ) (k : Kept) (new : Holding) : Type 0 w
   pub subscribers : new.subscribers ≡ old.subscribers
   pub last : new.last ≡ old.last
   pub given : new.given ≡ old.given
-  pub listed : (d : List ℕ) (m : ℕ) → lists m (queue_of new.queues d).numbers ≡ true → lists m (queue_of old.queues d).numbers ≡ true
+  pub listed : (d : List ℕ) (m : ℕ) → lists m (queue_of new.queues d).numbers ≡ true
+      → lists m (queue_of old.queues d).numbers ≡ true
   pub away : lists n (queue_of new.queues k.sent.destination).numbers ≡ false
 
 -- so it is for the message of a number, where it is gone
@@ -181,7 +183,8 @@ pub record Detached (old : Holding) (age : ℕ) (s : Subscriber) (new : Holding)
 -- so it is for the subscriber of an age, if there is one
 abbrev pub Detaches : Holding → ℕ → Holding → Type 0
 Detaches old age new = (s : Subscriber) → IsSound old → subscriber_at age old.subscribers ≡ Some s
-    → ((n : ℕ) (k : Kept) → kept_at n old.kept ≡ Some k → passes (out_to s.subscription.session s.subscription.id) k.fate ≡ false)
+    → ((n : ℕ) (k : Kept) → kept_at n old.kept ≡ Some k
+    → passes (out_to s.subscription.session s.subscription.id) k.fate ≡ false)
     → Detached old age s new
 
 -- A subscription has ended.
@@ -194,7 +197,8 @@ pub record Releases (old : Holding) (age : ℕ) (s : Subscriber) (new : Holding)
 
 -- that of the subscriber of an age ends, if there is one
 abbrev pub EndsOne : Holding → ℕ → Holding → Type 0
-EndsOne old age new = (s : Subscriber) → IsSound old → subscriber_at age old.subscribers ≡ Some s → Releases old age s new
+EndsOne old age new =
+    (s : Subscriber) → IsSound old → subscriber_at age old.subscribers ≡ Some s → Releases old age s new
 
 -- whether a subscriber has this name
 abbrev pub named_by : ℕ → List ℕ → Option Subscriber → Bool

@@ -1,5 +1,6 @@
 -- What takes back the answers of a transaction that is refused.
-use Rattle.std.specs.Prelude.{◌≡◌, ℕ, Bool, true, false, not, ◌&&◌, ◌==◌, nat_le, if◌then◌else◌, List, [], ◌∷◌, filter, map}
+use Rattle.std.specs.Prelude.{◌≡◌, ℕ, Bool, true, false, not, ◌&&◌, ◌==◌, nat_le, if◌then◌else◌, List, [], ◌∷◌, filter}
+use Rattle.std.specs.Prelude.{map}
 use Rattle.std.specs.Prelude.{Option, Some}
 use Rattle.std.specs.List.{list_any}
 use Rattle.broker_book.specs.Books.{Fate, Ready, Out}
@@ -36,7 +37,8 @@ AreTrue kept (e ∷ log) = (fate_of_kept (kept_at e.number kept) ≡ fate_of e.s
 
 -- each message among deliveries that passes a test was noted
 abbrev pub AreAll : (Fate → Bool) → List Kept → List Entry → List Logged → Type 0
-AreAll test kept entries log = (n : ℕ) (k : Kept) → kept_at n kept ≡ Some k → passes test k.fate ≡ true → notes n entries ≡ true
+AreAll test kept entries log =
+    (n : ℕ) (k : Kept) → kept_at n kept ≡ Some k → passes test k.fate ≡ true → notes n entries ≡ true
     → mentions n log ≡ true
 
 -- the messages up to a number, with their fates before what was noted

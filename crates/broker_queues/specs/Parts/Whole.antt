@@ -14,8 +14,8 @@ use Rattle.broker_queues.specs.Parts.Facts.{rise, kept_at, subscriber_at, sessio
 use Rattle.broker_queues.specs.Parts.Facts.{queue_of, message_of, holds_number, living_of, subscriptions_of, may_have}
 use Rattle.broker_queues.specs.Parts.Fates.{recounted, weight, fated, passes}
 
--- the messages, gone ones too; the subscribers; the queue of each destination; the subscribers of each session; the destinations where
--- something may be due; the last numbers that were given to a message and to a delivery
+-- the messages, gone ones too; the subscribers; the queue of each destination; the subscribers of each session; the
+-- destinations where something may be due; the last numbers that were given to a message and to a delivery
 pub record Holding : Type 0 where
   pub kept : List Kept
   pub subscribers : List Subscriber
@@ -50,9 +50,11 @@ pub record IsSound (h : Holding) : Type 0 where
   pub last : (n : ℕ) (k : Kept) → kept_at n h.kept ≡ Some k → n ≤ h.last
   pub listed_last : (d : List ℕ) (n : ℕ) → lists n (queue_of h.queues d).numbers ≡ true → n ≤ h.last
   pub ages : rise (λ s. s.age) 0 h.subscribers ≡ true
-  pub apart : (a b : ℕ) (s t : Subscriber) → subscriber_at a h.subscribers ≡ Some s → subscriber_at b h.subscribers ≡ Some t
+  pub apart : (a b : ℕ) (s t : Subscriber) → subscriber_at a h.subscribers ≡ Some s
+      → subscriber_at b h.subscribers ≡ Some t
       → is_named s.subscription.session s.subscription.id t.subscription ≡ true → a ≡ b
-  pub listeners : (d : List ℕ) (a : ℕ) → lists a (queue_of h.queues d).subscribers ≡ true → destination_at a h.subscribers ≡ Some d
+  pub listeners : (d : List ℕ) (a : ℕ) → lists a (queue_of h.queues d).subscribers ≡ true
+      → destination_at a h.subscribers ≡ Some d
   pub owners : (x a : ℕ) → lists a (h.sessions x) ≡ true → session_at a h.subscribers ≡ Some x
   pub owned_rise : (x : ℕ) → rise (λ p. p.number) 0 (h.sessions x) ≡ true
 
@@ -84,8 +86,10 @@ pub record Changes (old : Holding) (n : ℕ) (k : Kept) (fate : Option Fate) (ne
       → passes (out_to s.subscription.session s.subscription.id) k.fate ≡ true
       → (queue_of new.queues s.subscription.destination).taker_from ≤ a
   pub free_awake : (a : ℕ) (s : Subscriber) → subscriber_at a old.subscribers ≡ Some s
-      → passes (out_to s.subscription.session s.subscription.id) k.fate ≡ true → new.awake s.subscription.destination ≡ true
-  pub noted : (x : ℕ) (i : List ℕ) (a : ℕ) → fate ≡ Some (Out x i a) → list_any (holds_number x i n) old.subscribers ≡ true
+      → passes (out_to s.subscription.session s.subscription.id) k.fate ≡ true
+      → new.awake s.subscription.destination ≡ true
+  pub noted : (x : ℕ) (i : List ℕ) (a : ℕ) → fate ≡ Some (Out x i a)
+      → list_any (holds_number x i n) old.subscribers ≡ true
 
 -- the same messages counted at each destination
 abbrev pub SameCounts : (List ℕ → Option Queue) → (List ℕ → Option Queue) → Type 0
@@ -102,7 +106,8 @@ pub record Puts (old : Holding) (sent : Sent) (new : Holding) : Type 0 where
   pub sessions : new.sessions ≡ old.sessions
   pub last : new.last ≡ old.last + 1
   pub given : new.given ≡ old.given
-  pub numbers : (d : List ℕ) (m : ℕ) → lists m (queue_of old.queues d).numbers ≡ true → lists m (queue_of new.queues d).numbers ≡ true
+  pub numbers : (d : List ℕ) (m : ℕ) → lists m (queue_of old.queues d).numbers ≡ true
+      → lists m (queue_of new.queues d).numbers ≡ true
   pub added : lists (old.last + 1) (queue_of new.queues sent.destination).numbers ≡ true
   pub listed : (d : List ℕ) (m : ℕ) → lists m (queue_of new.queues d).numbers ≡ true → m ≤ old.last + 1
   pub count : (d : List ℕ) → (queue_of new.queues d).count
@@ -123,7 +128,8 @@ pub record Purges (old : Holding) (n : ℕ) (new : Holding) : Type 0 where
   pub given : new.given ≡ old.given
   pub numbers : (d : List ℕ) (m : ℕ) → (m ≡ n → ⊥) → lists m (queue_of old.queues d).numbers ≡ true
       → lists m (queue_of new.queues d).numbers ≡ true
-  pub listed : (d : List ℕ) (m : ℕ) → lists m (queue_of new.queues d).numbers ≡ true → lists m (queue_of old.queues d).numbers ≡ true
+  pub listed : (d : List ℕ) (m : ℕ) → lists m (queue_of new.queues d).numbers ≡ true
+      → lists m (queue_of old.queues d).numbers ≡ true
   pub count : SameCounts old.queues new.queues
   pub listeners : (d : List ℕ) → (queue_of new.queues d).subscribers ≡ (queue_of old.queues d).subscribers
   pub ready : (d : List ℕ) → (queue_of new.queues d).ready_from ≤ (queue_of old.queues d).ready_from
@@ -204,7 +210,8 @@ pub record Leaves (old : Holding) (age : ℕ) (s : Subscriber) (new : Holding) :
   pub owned_rise : (x : ℕ) → rise (λ p. p.number) 0 (new.sessions x) ≡ true
   pub wakes : Wakes old.awake new.awake
 
--- A message that is ready can go out to a subscriber: the first one that can go out to any, to the oldest that may take it.
+-- A message that is ready can go out to a subscriber: the first one that can go out to any, to the oldest that may take
+-- it.
 pub record Picks (h : Holding) (n : ℕ) (k : Kept) (a : ℕ) (s : Subscriber) : Type 0 where
   pub there : kept_at n h.kept ≡ Some k
   pub ready : k.fate ≡ Some Ready
@@ -214,5 +221,6 @@ pub record Picks (h : Holding) (n : ℕ) (k : Kept) (a : ℕ) (s : Subscriber) :
   pub oldest : (b : ℕ) (t : Subscriber) → subscriber_at b h.subscribers ≡ Some t
       → bytes_eq t.subscription.destination k.sent.destination ≡ true → may_have h.given t ≡ true → a ≤ b
   pub first : (m : ℕ) (l : Kept) (b : ℕ) (t : Subscriber) → kept_at m h.kept ≡ Some l → l.fate ≡ Some Ready
-      → subscriber_at b h.subscribers ≡ Some t → bytes_eq t.subscription.destination l.sent.destination ≡ true → may_have h.given t ≡ true
+      → subscriber_at b h.subscribers ≡ Some t → bytes_eq t.subscription.destination l.sent.destination ≡ true
+      → may_have h.given t ≡ true
       → n ≤ m

@@ -5,7 +5,8 @@ use Rattle.broker_queues.proofs.destinations.add_number.Goals as goal
 
 pub returns-in-Err-clause-err : goal.returns-in-Err-clause-err
 returns-in-Err-clause-err c =
-    closes_again (queue_at c.args.destinations.now) (queue_at c.push_number.new.self) (queue_at c.close.new.self) c.args.name.now
+    closes_again (queue_at c.args.destinations.now) (queue_at c.push_number.new.self) (queue_at c.close.new.self)
+    c.args.name.now
     (rw (← c.in-Err.ensures.err) at c.in_ok-open.ensures.ok) c.close.ensures
 
 pub returns-in-Ok-clause-ok : goal.returns-in-Ok-clause-ok

@@ -6,5 +6,6 @@ use Rattle.broker_queues.proofs.destinations.seek_ready.Goals as goal
 pub returns : goal.returns
 returns c =
     seeks_ready c.args.messages.now c.args.last c.number_or.result c.args.name.now (queue_at c.args.destinations.now)
-    (queue_at c.set_ready_from.new.self) c.in-Some.queue.now c.first_ready-found.result (sym c.in-Some.ensures) c.number_or.ensures
+    (queue_at c.set_ready_from.new.self) c.in-Some.queue.now c.first_ready-found.result (sym c.in-Some.ensures)
+    c.number_or.ensures
     c.set_ready_from.ensures c.first_ready-found.ensures

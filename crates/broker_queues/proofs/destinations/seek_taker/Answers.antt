@@ -6,5 +6,7 @@ use Rattle.broker_queues.proofs.destinations.seek_taker.Goals as goal
 pub returns : goal.returns
 returns c =
     seeks_taker c.args.subscribers.now c.args.given c.next_age-last.result c.number_or.result c.args.name.now
-    (queue_at c.args.destinations.now) (queue_at c.set_taker_from.new.self) c.in-Some.queue.now c.first_taker-found.result
-    c.next_age-last.ensures (sym c.in-Some.ensures) c.number_or.ensures c.set_taker_from.ensures c.first_taker-found.ensures
+    (queue_at c.args.destinations.now) (queue_at c.set_taker_from.new.self) c.in-Some.queue.now
+    c.first_taker-found.result
+    c.next_age-last.ensures (sym c.in-Some.ensures) c.number_or.ensures c.set_taker_from.ensures
+    c.first_taker-found.ensures

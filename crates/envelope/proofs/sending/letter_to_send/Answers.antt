@@ -6,7 +6,8 @@ use Rattle.envelope.proofs.Envelopes.{sent_carries}
 use Rattle.envelope.proofs.sending.letter_to_send.Goals as goal
 
 pub send-requires-clause-body : goal.send-requires-clause-body
-send-requires-clause-body c = rw (c.deref.ensures, c.in_ok-body.ensures.text) (short_body c.args.letter.now.message c.body.ensures.message)
+send-requires-clause-body c =
+    rw (c.deref.ensures, c.in_ok-body.ensures.text) (short_body c.args.letter.now.message c.body.ensures.message)
 
 pub returns-clause-carries : goal.returns-clause-carries
 returns-clause-carries c =

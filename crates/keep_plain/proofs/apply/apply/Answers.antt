@@ -9,7 +9,8 @@ returns-in-Err-clause-err g c = same_tables c.make_all_slots.new.maps c.sweep_al
     ∙ with_room c.args.maps.now c.reserve.new.self c.reserve.ensures.items
 
 pub returns-clause-ok : goal.returns-clause-ok
-returns-clause-ok g c = same_tables c.make_all.new.maps c.sweep_all-2.new.maps c.sweep_all-2.ensures ∙ c.make_all.ensures
+returns-clause-ok g c =
+    same_tables c.make_all.new.maps c.sweep_all-2.new.maps c.sweep_all-2.ensures ∙ c.make_all.ensures
     ∙ ap (changed c.args.changes.items)
     (same_tables _ c.make_all_slots.new.maps c.make_all_slots.ensures.same
     ∙ with_room c.args.maps.now c.reserve.new.self c.reserve.ensures.items)

@@ -19,7 +19,9 @@ loop-change-preserved g c =
     let kept = c.make_change-left.ensures.room in
     let grown = c.make_change-left.ensures.len in
     record {
-      made = ap (changed rest) c.make_change-left.ensures.made ∙ sym (ap (λ cs. changed cs (tables_in old)) next) ∙ inv.made;
-      ready = all_kept old new c.make_change-left.ensures.keeps rest (subst (AllByRecursion (IsReady old)) next inv.ready).1;
+      made = ap (changed rest) c.make_change-left.ensures.made ∙ sym (ap (λ cs. changed cs (tables_in old)) next)
+          ∙ inv.made;
+      ready = all_kept old new c.make_change-left.ensures.keeps rest (subst (AllByRecursion (IsReady old)) next
+          inv.ready).1;
       room = omega (arith, room, long, kept, grown);
     }

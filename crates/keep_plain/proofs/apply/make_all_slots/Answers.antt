@@ -7,14 +7,16 @@ use Rattle.keep_plain.proofs.apply.make_all_slots.Goals as goal
 
 pub returns-in_err-make_slots-clause-same : goal.returns-in_err-make_slots-clause-same
 returns-in_err-make_slots-clause-same g c =
-    same_after c.args.maps.now c.loop-change.maps c.make_slots.new.maps c.loop-change.invariant.same c.make_slots.ensures.same
+    same_after c.args.maps.now c.loop-change.maps c.make_slots.new.maps c.loop-change.invariant.same
+    c.make_slots.ensures.same
 
 pub loop-change-preserved : goal.loop-change-preserved
 loop-change-preserved g c =
     let change = c.change-item.result in
     let changes = c.args.changes.now in
     record {
-      same = same_after c.args.maps.now c.loop-change.maps c.make_slots.new.maps c.loop-change.invariant.same c.make_slots.ensures.same;
+      same = same_after c.args.maps.now c.loop-change.maps c.make_slots.new.maps c.loop-change.invariant.same
+          c.make_slots.ensures.same;
       journal = c.make_slots.ensures.journal ∙ c.loop-change.invariant.journal;
       ready = subst (AllByRecursion (IsReady c.make_slots.new.maps))
           (sym (take_more changes c.loop-change.change-index change c.loop-change-test.true

@@ -24,9 +24,11 @@ returns-then-is_behind c =
     let x = c.args.place.now in
     let m = c.args.held.now in
     let range = c.range.ensures.in_range tt in
-    let first = subst (λ (r : List (Place × Option Message)). IfSome (slice_get r 0) (IsEntryInRange place_cmp (Excluded x) Unbounded m))
+    let first = subst (λ (r : List (Place × Option Message)). IfSome (slice_get r 0)
+    (IsEntryInRange place_cmp (Excluded x) Unbounded m))
     c.in-Some.ensures.steps range.1 in
-    let least : (q : Place) → IsBefore x q → IsSome (get place_cmp m q) → is_gt (place_cmp c.in-Some.found.now q) ≡ false =
+    let least : (q : Place) → IsBefore x q → IsSome (get place_cmp m q)
+    → is_gt (place_cmp c.in-Some.found.now q) ≡ false =
     λ q h some. subst (λ (r : List (Place × Option Message)). IfSome (slice_get r 0) (λ e. IsLeBy place_cmp e.0 q))
     c.in-Some.ensures.steps (range.2 q (h, tt) some) in
     c.is_some.ensures ∙ ap is_some (sym (behind_is m x c.in-Some.found.now c.in-Some.slot.now first.0.0 first.1 least
@@ -37,10 +39,13 @@ returns-else-is_behind c =
     let x = c.args.place.now in
     let m = c.args.held.now in
     let range = c.range.ensures.in_range tt in
-    let first = subst (λ (r : List (Place × Option Message)). IfSome (slice_get r 0) (IsEntryInRange place_cmp (Excluded x) Unbounded m))
+    let first = subst (λ (r : List (Place × Option Message)). IfSome (slice_get r 0)
+    (IsEntryInRange place_cmp (Excluded x) Unbounded m))
     c.in-Some.ensures.steps range.1 in
-    let least : (q : Place) → IsBefore x q → IsSome (get place_cmp m q) → is_gt (place_cmp c.in-Some.found.now q) ≡ false =
+    let least : (q : Place) → IsBefore x q → IsSome (get place_cmp m q)
+    → is_gt (place_cmp c.in-Some.found.now q) ≡ false =
     λ q h some. subst (λ (r : List (Place × Option Message)). IfSome (slice_get r 0) (λ e. IsLeBy place_cmp e.0 q))
     c.in-Some.ensures.steps (range.2 q (h, tt) some) in
-    c.if-is_behind.false ∙ ap is_some (sym (behind_none m x c.in-Some.found.now c.in-Some.slot.now first.0.0 first.1 least
+    c.if-is_behind.false ∙ ap is_some (sym (behind_none m x c.in-Some.found.now c.in-Some.slot.now first.0.0 first.1
+    least
     (sym c.is_behind.ensures ∙ c.if-is_behind.false)))

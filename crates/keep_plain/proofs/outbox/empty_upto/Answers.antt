@@ -20,11 +20,14 @@ loop-number-preserved c =
     let inv = c.loop-number.invariant in
     let last = c.in-Some.ensures in
     record {
-      empties = emptied_more c.args.place.now.pair c.in-Some.number c.loop-number.place.number c.args.place.now.number c.args.outbox.now
+      empties = emptied_more c.args.place.now.pair c.in-Some.number c.loop-number.place.number c.args.place.now.number
+          c.args.outbox.now
           c.loop-number.outbox c.empty_slot-in-Some.new.map
           inv.empties last.0 inv.fits (subst
-          (λ p. NoneBetween c.loop-number.outbox p (λ k. c.in-Some.number < k) c.loop-number.place.number) inv.pair last.1)
-          (subst (λ (p : Pair). SetsAt place_cmp (record { pair = p; number = c.in-Some.number }) None c.loop-number.outbox
+          (λ p. NoneBetween c.loop-number.outbox p (λ k. c.in-Some.number < k) c.loop-number.place.number) inv.pair
+          last.1)
+          (subst (λ (p : Pair). SetsAt place_cmp (record { pair = p; number = c.in-Some.number }) None
+          c.loop-number.outbox
           c.empty_slot-in-Some.new.map) inv.pair c.empty_slot-in-Some.ensures.sets);
       keeps = λ q h. c.empty_slot-in-Some.ensures.keeps q (inv.keeps q h);
       pair = inv.pair;
@@ -34,5 +37,7 @@ loop-number-preserved c =
 pub returns-clause-empties : goal.returns-clause-empties
 returns-clause-empties c =
     let inv = c.loop-number.invariant in
-    emptied_all c.args.place.now.pair c.loop-number.place.number c.args.place.now.number c.args.outbox.now c.loop-number.outbox inv.empties
-    (subst (λ p. NoneBetween c.loop-number.outbox p (λ k. 0 ≤ k) c.loop-number.place.number) inv.pair c.in_default.ensures)
+    emptied_all c.args.place.now.pair c.loop-number.place.number c.args.place.now.number c.args.outbox.now
+    c.loop-number.outbox inv.empties
+    (subst (λ p. NoneBetween c.loop-number.outbox p (λ k. 0 ≤ k) c.loop-number.place.number) inv.pair
+    c.in_default.ensures)

@@ -14,6 +14,7 @@ invariant-loop-at g l =
       armed : StaysArmed (g.K.Keep.seen l.fn.keep).armed (g.K.Keep.seen l.keep).armed;
       doubt : (g.K.Keep.seen l.fn.keep).doubt ≤ (g.K.Keep.seen l.keep).doubt;
       same : (g.K.Keep.seen l.keep).doubt ≡ 0 → (g.K.Keep.seen l.keep).tables ≡ old;
-      items : (g.K.Keep.seen l.keep).doubt ≡ 0 → l.changes.items ≡ l.fn.changes.items ++ numbering old.sent l.entity (take l.at l.outs);
+      items : (g.K.Keep.seen l.keep).doubt ≡ 0
+          → l.changes.items ≡ l.fn.changes.items ++ numbering old.sent l.entity (take l.at l.outs);
       fits : (g.K.Keep.seen l.keep).doubt ≡ 0 → NumbersFit old.sent l.entity (take l.at l.outs);
     }

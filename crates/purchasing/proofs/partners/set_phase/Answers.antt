@@ -19,7 +19,8 @@ returns-then-is c =
     let item = ap (λ qs. get_or qs at d) same in
     let new = c.set_phase.ensures ∙ ap (λ (p : Partner). record p { phase = c.args.phase }) item in
     ap (λ qs. set qs at c.set_phase.new.self) same ∙ ap (λ p. set ps at p) new
-    ∙ sym (with_phase-at c.args.sender.now c.args.phase ps at b d c.loop-index.invariant.before c.loop-index-test.true found)
+    ∙ sym (with_phase-at c.args.sender.now c.args.phase ps at b d c.loop-index.invariant.before c.loop-index-test.true
+    found)
 
 pub loop-index-preserved : goal.loop-index-preserved
 loop-index-preserved c =
@@ -32,13 +33,15 @@ loop-index-preserved c =
     (sym c.is.ensures ∙ c.if-is.false) in
     record {
       same = same;
-      before = rw add-one (not_before c.args.sender.now ps at b c.loop-index.invariant.before c.loop-index-test.true other);
+      before = rw add-one (not_before c.args.sender.now ps at b c.loop-index.invariant.before c.loop-index-test.true
+          other);
     }
 
 pub returns : goal.returns
 returns c =
     let ps = c.args.partners.now in
     let none : stands_in c.args.sender.now (names ps) ≡ false =
-    subst (λ qs. stands_in c.args.sender.now (names qs) ≡ false) (take_all c.loop-index.index ps c.loop-index-test.false)
+    subst (λ qs. stands_in c.args.sender.now (names qs) ≡ false) (take_all c.loop-index.index ps
+    c.loop-index-test.false)
     c.loop-index.invariant.before in
     c.loop-index.invariant.same ∙ sym (with_phase-none c.args.sender.now c.args.phase ps none)

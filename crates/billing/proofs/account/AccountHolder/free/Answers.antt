@@ -11,7 +11,8 @@ use Rattle.billing.proofs.account.AccountHolder.free.Goals as goal
 pub overflow_sub-self : goal.overflow_sub-self
 overflow_sub-self c =
     let at : held_by (line_of c.args.order.now c.self.inside.lines) ≡ Some c.args.number =
-    subst (λ (x : AccountState). held_by (line_of c.args.order.now x.lines) ≡ Some c.args.number) (sym c.self.view_is) c.requires
+    subst (λ (x : AccountState). held_by (line_of c.args.order.now x.lines) ≡ Some c.args.number) (sym c.self.view_is)
+    c.requires
     in
     let now = left Released c.args.order.now c.args.number c.self.inside.lines at refl in
     let was = c.self.invariant.held in
@@ -22,7 +23,8 @@ overflow_sub-self c =
 pub invariant_of-self : goal.invariant_of-self
 invariant_of-self c =
     let at : held_by (line_of c.args.order.now c.self.inside.lines) ≡ Some c.args.number =
-    subst (λ (x : AccountState). held_by (line_of c.args.order.now x.lines) ≡ Some c.args.number) (sym c.self.view_is) c.requires
+    subst (λ (x : AccountState). held_by (line_of c.args.order.now x.lines) ≡ Some c.args.number) (sym c.self.view_is)
+    c.requires
     in
     rw (c.set_phase.ensures, c.get.ensures.value)
     (accounts_keep.frees (account_in c.self.inside) c.args.order.now c.args.number at c.self.invariant)

@@ -12,7 +12,9 @@ invariant_of-self-2 c =
     subst (λ (x : AccountState). line_of c.args.order x.lines ≡ None) (sym c.self.view_is) c.requires.new
     in
     let fits : nat_le (c.self.inside.billed + c.self.inside.held + c.args.number) c.self.inside.limit ≡ true =
-    subst (λ (x : AccountState). nat_le (x.billed + x.held + c.args.number) x.limit ≡ true) (sym c.self.view_is) c.requires.fits
+    subst (λ (x : AccountState). nat_le (x.billed + x.held + c.args.number) x.limit ≡ true) (sym c.self.view_is)
+    c.requires.fits
     in
     rw (c.in_ok-insert.ensures.ok, c.get.ensures.value)
-    (accounts_keep.holds (account_in c.self.inside) c.args.order c.args.number c.requires.order none fits c.self.invariant)
+    (accounts_keep.holds (account_in c.self.inside) c.args.order c.args.number c.requires.order none fits
+    c.self.invariant)

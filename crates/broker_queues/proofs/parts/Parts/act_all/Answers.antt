@@ -17,10 +17,13 @@ loop-action-preserved c =
       sound = c.in_ok-act.ensures.sound;
       begun = λ start b. c.in_ok-act.ensures.begun start (c.loop-action.invariant.begun start b);
       left = ap (then_all c.args.full c.args.session rest) (sym c.in_ok-act.ensures.goes)
-          ∙ sym (left_first c.args.full c.args.session c.args.actions.now c.loop-action.action-index c.action-item.result
-          (book_of (holding_of c.loop-action.self) c.loop-action.accepted.items) c.loop-action-test.true c.action-item.is)
+          ∙ sym (left_first c.args.full c.args.session c.args.actions.now c.loop-action.action-index
+          c.action-item.result
+          (book_of (holding_of c.loop-action.self) c.loop-action.accepted.items) c.loop-action-test.true
+          c.action-item.is)
           ∙ c.loop-action.invariant.left;
-      grows = grows_again c.args.accepted.now.items c.loop-action.accepted.items c.act.new.accepted.items c.loop-action.invariant.grows
+      grows = grows_again c.args.accepted.now.items c.loop-action.accepted.items c.act.new.accepted.items
+          c.loop-action.invariant.grows
           c.in_ok-act.ensures.grows;
     }
 
@@ -33,7 +36,8 @@ returns-in_err-act c =
       sound = c.in_err-act.ensures.sound;
       begun = λ start b. c.in_err-act.ensures.begun start (c.loop-action.invariant.begun start b);
       goes = goes_on (Unit {0}) (Unit {0}) (act_of c.args.full c.args.session b c.action-item.result)
-          (apply_of c.args.full c.args.session (book_of (holding_of c.args.self.now) c.args.accepted.now.items) c.args.actions.now)
+          (apply_of c.args.full c.args.session (book_of (holding_of c.args.self.now) c.args.accepted.now.items)
+          c.args.actions.now)
           (book_of (holding_of c.act.new.self) c.act.new.accepted.items)
           (book_of (holding_of c.act.new.self) c.act.new.accepted.items)
           c.in_err-act.field-0.0
@@ -43,7 +47,8 @@ returns-in_err-act c =
           ∙ ap (then_all c.args.full c.args.session rest) e
           ∙ refused_stays c.args.full c.args.session rest c.in_err-act.field-0.0)
           c.in_err-act.ensures.goes;
-      grows = grows_again c.args.accepted.now.items c.loop-action.accepted.items c.act.new.accepted.items c.loop-action.invariant.grows
+      grows = grows_again c.args.accepted.now.items c.loop-action.accepted.items c.act.new.accepted.items
+          c.loop-action.invariant.grows
           c.in_err-act.ensures.grows;
     })
 

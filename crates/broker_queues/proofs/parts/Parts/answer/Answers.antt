@@ -12,13 +12,15 @@ loop-index-init c s is sits =
 
 pub loop-index-preserved : goal.loop-index-preserved
 loop-index-preserved c s is sits =
-    let len : c.entries_len-len.result ≡ length s.entries = c.entries_len-len.ensures ∙ ap (λ o. length (entries_of o)) sits in
+    let len : c.entries_len-len.result ≡ length s.entries =
+    c.entries_len-len.ensures ∙ ap (λ o. length (entries_of o)) sits in
     let short : c.loop-index.index < length s.entries = omega (arith, len, c.loop-index-test.true) in
     c.answer_one.ensures (holding_of c.args.self.now) s is short (c.loop-index.invariant s is sits)
 
 pub returns : goal.returns
 returns c s is sits =
-    let len : c.entries_len-len.result ≡ length s.entries = c.entries_len-len.ensures ∙ ap (λ o. length (entries_of o)) sits in
+    let len : c.entries_len-len.result ≡ length s.entries =
+    c.entries_len-len.ensures ∙ ap (λ o. length (entries_of o)) sits in
     let all : take c.loop-index.index s.entries ≡ s.entries =
     take_all c.loop-index.index s.entries (omega (arith, len, c.loop-index-test.false)) in
     let t = c.loop-index.invariant s is sits in

@@ -7,6 +7,8 @@ use Rattle.broker_queues.specs.Parts.Whole.{IsSound}
 use Rattle.broker_queues.proofs.parts.Parts.answer.Given as goal
 
 abbrev pub invariant-loop-index : goal.invariant-loop-index
-invariant-loop-index l = (s : Subscriber) → IsSound (holding_of l.initial.self) → subscriber_at l.age l.initial.self.subscribers ≡ Some s
-    → Turns (holding_of l.initial.self) l.age s (back l.again) (counts_in s.subscription l.answered) (take l.index s.entries)
+invariant-loop-index l =
+    (s : Subscriber) → IsSound (holding_of l.initial.self) → subscriber_at l.age l.initial.self.subscribers ≡ Some s
+    → Turns (holding_of l.initial.self) l.age s (back l.again) (counts_in s.subscription l.answered)
+    (take l.index s.entries)
     (holding_of l.self)

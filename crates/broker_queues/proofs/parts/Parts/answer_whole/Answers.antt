@@ -7,14 +7,23 @@ use Rattle.broker_queues.proofs.parts.Parts.answer_whole.Goals as goal
 
 pub returns-clause-step : goal.returns-clause-step
 returns-clause-step c accepted is =
-    answered (holding_of c.args.self.now) (holding_of c.answer.new.self) (holding_of c.sweep.new.self) accepted c.args.session c.args.ack
+    answered (holding_of c.args.self.now) (holding_of c.answer.new.self) (holding_of c.sweep.new.self) accepted
+    c.args.session c.args.ack
     c.args.again c.in-Some.place is (sym c.in-Some.ensures) c.answer.ensures c.sweep.ensures.sweeps
 
 pub returns-in_default-clause-step : goal.returns-in_default-clause-step
-returns-in_default-clause-step c accepted is =
-    (is, (refused (holding_of c.args.self.now) accepted c.args.session c.args.ack c.args.again is (sym c.in_default.ensures), refl))
+returns-in_default-clause-step c accepted is = (
+  is,
+  (
+    refused (holding_of c.args.self.now) accepted c.args.session c.args.ack c.args.again is
+        (sym c.in_default.ensures),
+    refl,
+  ),
+)
 
 pub returns-clause-taken : goal.returns-clause-taken
 returns-clause-taken c is none =
-    none_gone (holding_of c.args.self.now) (holding_of c.answer.new.self) (holding_of c.sweep.new.self) is c.args.session c.args.ack
-    c.args.again c.in-Some.place (sym c.in-Some.ensures) c.answer.ensures c.sweep.ensures.clears c.sweep.ensures.rest none
+    none_gone (holding_of c.args.self.now) (holding_of c.answer.new.self) (holding_of c.sweep.new.self) is
+    c.args.session c.args.ack
+    c.args.again c.in-Some.place (sym c.in-Some.ensures) c.answer.ensures c.sweep.ensures.clears c.sweep.ensures.rest
+    none

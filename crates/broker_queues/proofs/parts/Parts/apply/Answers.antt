@@ -9,7 +9,8 @@ pub returns-in-Err-clause-applies : goal.returns-in-Err-clause-applies
 returns-in-Err-clause-applies c =
     unapplied c.args.full c.args.session c.args.actions.now (holding_of c.args.self.now) (holding_of c.act_all.new.self)
     (holding_of c.undo.new.self) c.new.result.items c.act_all.new.undo_log.answers.items c.args.accepted.now.items
-    c.act_all.new.accepted.items c.truncate.new.self.items c.in-Err.fault c.requires c.new.ensures.items c.in-Err.ensures
+    c.act_all.new.accepted.items c.truncate.new.self.items c.in-Err.fault c.requires c.new.ensures.items
+    c.in-Err.ensures
     (λ b. (c.undo.ensures (holding_of c.args.self.now) b refl).1)
     (c.truncate.ensures.items ∙ grown_cut c.args.accepted.now.items c.act_all.new.accepted.items
     (length c.as_slice-len.result.now) c.in-Err.ensures.grows (ap length c.as_slice-len.ensures.value))

@@ -20,8 +20,10 @@ loop-index-preserved-in-Some c =
       λ is. (let i = c.loop-index.invariant.1 is in
           let P : List (List ℕ) → Type 0 = λ names. Choosing (holding_of c.args.self.now) (holding_of c.look.new.self)
           (c.loop-index.index + 1) names (Some c.earlier.result) in
-          subst P (sym same) (chooses_found (holding_of c.args.self.now) (holding_of c.loop-index.self) c.loop-index.index
-          c.loop-index.self.active.names.items c.loop-index.best i (omega arith) (holding_of c.look.new.self) c.in-Some.pick
+          subst P (sym same) (chooses_found (holding_of c.args.self.now) (holding_of c.loop-index.self)
+          c.loop-index.index
+          c.loop-index.self.active.names.items c.loop-index.best i (omega arith) (holding_of c.look.new.self)
+          c.in-Some.pick
           c.earlier.result (c.in-Some.ensures.looks i.rests.sound) c.earlier.ensures)),
     )
 
@@ -32,7 +34,8 @@ loop-index-preserved c =
       λ is. (
           let i = c.loop-index.invariant.1 is in
           chooses_left (holding_of c.args.self.now) (holding_of c.loop-index.self) c.loop-index.index
-          c.loop-index.self.active.names.items c.loop-index.best i (omega arith) (holding_of c.look.new.self) c.look.new.self.active.all
+          c.loop-index.self.active.names.items c.loop-index.best i (omega arith) (holding_of c.look.new.self)
+          c.look.new.self.active.all
           c.sleep.new.self.all c.sleep.new.self.names.items (c.in_default.ensures.looks i.rests.sound)
           (ap (λ names. awake_in c.look.new.self.active.all names) same) c.sleep.ensures.all
           (c.sleep.ensures.names ∙ ap (λ names. remove names c.loop-index.index) same)),
@@ -42,6 +45,8 @@ pub returns : goal.returns
 returns c is all =
     let i = c.loop-index.invariant.1 is in (
       i.rests,
-      chosen (holding_of c.args.self.now) (holding_of c.loop-index.self) c.loop-index.index c.loop-index.self.active.names.items
-          c.loop-index.best i (ap (λ b. awake_in b c.loop-index.self.active.names.items) (c.loop-index.invariant.0 ∙ all)) (omega arith),
+      chosen (holding_of c.args.self.now) (holding_of c.loop-index.self) c.loop-index.index
+          c.loop-index.self.active.names.items
+          c.loop-index.best i (ap (λ b. awake_in b c.loop-index.self.active.names.items)
+          (c.loop-index.invariant.0 ∙ all)) (omega arith),
     )

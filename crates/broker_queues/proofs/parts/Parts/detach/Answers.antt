@@ -20,4 +20,5 @@ returns c s is sits quiet =
     let p = rw name at c.remove_subscriber.ensures in
     let r = rw name at c.close.ensures in
     let o = rw session at c.remove_place.ensures in
-    detached h i is c.args.age s (queue_at c.remove_subscriber.new.self) sits quiet p r o refl c.remove.ensures refl refl refl
+    detached h i is c.args.age s (queue_at c.remove_subscriber.new.self) sits quiet p r o refl c.remove.ensures refl
+    refl refl

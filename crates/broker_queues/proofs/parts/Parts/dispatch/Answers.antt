@@ -11,7 +11,8 @@ loop-pick-smaller g c =
     let next = rw c.in-Some.is at c.in_ok-pick.ensures in
     let n = next c.loop-pick.invariant.0 in
     let one = c.in_ok-hand.ensures.hands [] n.1.0 n.1.1 n.0.sound n.1.2 in
-    fewer_kept (holding_of c.loop-pick.self) (holding_of c.next_deal.new.self) (holding_of c.hand.new.self) n.0 one.1.0 one.1.1
+    fewer_kept (holding_of c.loop-pick.self) (holding_of c.next_deal.new.self) (holding_of c.hand.new.self) n.0 one.1.0
+    one.1.1
 
 pub loop-pick-preserved : goal.loop-pick-preserved
 loop-pick-preserved g c =
@@ -20,7 +21,8 @@ loop-pick-preserved g c =
     let none = c.in_ok-hand.ensures.hands [] n.1.0 n.1.1 n.0.sound n.1.2 in (
       none.0,
       λ (accepted : List Accepted). (let one = c.in_ok-hand.ensures.hands accepted n.1.0 n.1.1 n.0.sound n.1.2 in
-          dealt_next g.S.Sink.takes (holding_of c.args.self.now) (holding_of c.loop-pick.self) (holding_of c.next_deal.new.self)
+          dealt_next g.S.Sink.takes (holding_of c.args.self.now) (holding_of c.loop-pick.self)
+          (holding_of c.next_deal.new.self)
           c.args.sink.now c.loop-pick.sink n.0 c.loop-pick.invariant.1 (holding_of c.hand.new.self)
           c.hand.new.sink accepted one.1.0 one.1.1 one.1.2),
       λ kept. c.in_ok-hand.ensures.whole n.1.0 n.1.1 n.0.sound n.1.2
@@ -35,7 +37,8 @@ returns-in_err-hand-clause-deals g c accepted is =
     let failed = err_from_is_err_and c.from_residual-in_err-hand.result c.from_residual-in_err-hand.ensures.1 in (
       one.0,
       rw failed.1 (dealt_no_more g.S.Sink.takes (holding_of c.args.self.now) (holding_of c.loop-pick.self)
-          (holding_of c.next_deal.new.self) c.args.sink.now c.loop-pick.sink n.0 c.loop-pick.invariant.1 (holding_of c.hand.new.self)
+          (holding_of c.next_deal.new.self) c.args.sink.now c.loop-pick.sink n.0 c.loop-pick.invariant.1
+          (holding_of c.hand.new.self)
           c.hand.new.sink accepted one.1.0 one.1.1),
     )
 
@@ -45,7 +48,8 @@ returns-clause-deals g c accepted is =
     let n = next c.loop-pick.invariant.0 in (
       n.0.sound,
       (
-        dealt_still g.S.Sink.takes (holding_of c.args.self.now) (holding_of c.loop-pick.self) (holding_of c.next_deal.new.self)
+        dealt_still g.S.Sink.takes (holding_of c.args.self.now) (holding_of c.loop-pick.self)
+            (holding_of c.next_deal.new.self)
             c.args.sink.now c.loop-pick.sink n.0 c.loop-pick.invariant.1 accepted,
         ends_quiet (holding_of c.next_deal.new.self) n.0.sound n.1 accepted,
       ),
@@ -53,7 +57,8 @@ returns-clause-deals g c accepted is =
 
 pub returns-in_err-pick-clause-taken : goal.returns-in_err-pick-clause-taken
 returns-in_err-pick-clause-taken g c none =
-    none_same c.loop-pick.self.messages c.next_deal.new.self.messages (c.in_err-pick.ensures c.loop-pick.invariant.0).kept
+    none_same c.loop-pick.self.messages c.next_deal.new.self.messages (c.in_err-pick.ensures
+    c.loop-pick.invariant.0).kept
     (c.loop-pick.invariant.2 none)
 
 pub returns-in_err-hand-clause-taken : goal.returns-in_err-hand-clause-taken
@@ -66,4 +71,5 @@ returns-in_err-hand-clause-taken g c none =
 pub returns-clause-taken : goal.returns-clause-taken
 returns-clause-taken g c none =
     let next = rw c.in_default.is at c.in_ok-pick.ensures in
-    none_same c.loop-pick.self.messages c.next_deal.new.self.messages (next c.loop-pick.invariant.0).0.kept (c.loop-pick.invariant.2 none)
+    none_same c.loop-pick.self.messages c.next_deal.new.self.messages (next c.loop-pick.invariant.0).0.kept
+    (c.loop-pick.invariant.2 none)

@@ -10,7 +10,8 @@ use Rattle.broker_queues.proofs.parts.Parts.dispatch.Given as goal
 
 abbrev pub invariant-loop-pick : goal.invariant-loop-pick
 invariant-loop-pick g l = IsSound (holding_of l.self) × ((accepted : List Accepted)
-    → Dealt g.S.Sink.takes (book_of (holding_of l.initial.self) accepted) l.initial.sink (book_of (holding_of l.self) accepted) l.sink)
+    → Dealt g.S.Sink.takes (book_of (holding_of l.initial.self) accepted) l.initial.sink
+    (book_of (holding_of l.self) accepted) l.sink)
     × (NoneGone l.initial.self.messages → NoneGone l.self.messages)
 
 abbrev pub decreases-loop-pick : goal.decreases-loop-pick

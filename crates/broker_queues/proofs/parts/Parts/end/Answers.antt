@@ -16,5 +16,6 @@ loop-preserved c is =
 
 pub returns : goal.returns
 returns c is =
-    ends_all (holding_of c.args.self.now) (holding_of c.loop.self) c.args.session (c.subscribers_len-len.result - c.loop.counter)
+    ends_all (holding_of c.args.self.now) (holding_of c.loop.self) c.args.session
+    (c.subscribers_len-len.result - c.loop.counter)
     (c.loop.invariant is) (omega arith)

@@ -11,5 +11,6 @@ returns-in-Some c is =
 
 pub returns-in_default : goal.returns-in_default
 returns-in_default c is =
-    ends_nothing (holding_of c.args.self.now) is c.args.session (length (places_at c.args.self.now.sessions c.args.session) - 1)
+    ends_nothing (holding_of c.args.self.now) is c.args.session (length (places_at c.args.self.now.sessions
+    c.args.session) - 1)
     (no_first (places_at c.args.self.now.sessions c.args.session) (sym c.in_default.ensures))

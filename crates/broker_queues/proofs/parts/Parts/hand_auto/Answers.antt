@@ -14,11 +14,14 @@ returns-clause-hands g c accepted k s is p auto =
     let two : c.in-Some-get.subscriber.now ≡ s = cc in
     let sent : c.get-sent.result.now ≡ k.sent = cc in
     let to : c.subscription.result.now ≡ s.subscription = cc in
-    let fewer : CountsFewer (queue_at c.args.self.now.destinations) (queue_at c.count_fewer.new.destinations) k.sent.destination =
+    let fewer : CountsFewer (queue_at c.args.self.now.destinations) (queue_at c.count_fewer.new.destinations)
+    k.sent.destination =
     rw sent at c.count_fewer.ensures in
-    let dealt = auto_dealt (holding_of c.args.self.now) is c.args.message.number c.args.to.number k s p c.get-sent.result.now
+    let dealt =
+    auto_dealt (holding_of c.args.self.now) is c.args.message.number c.args.to.number k s p c.get-sent.result.now
     c.subscription.result.now sent to accepted _ (holding_of c.purge.new.self) auto
-    (handed_auto (holding_of c.args.self.now) is c.args.message.number k p.there p.ready _ None refl fewer c.set.ensures refl refl refl refl
+    (handed_auto (holding_of c.args.self.now) is c.args.message.number k p.there p.ready _ None refl fewer c.set.ensures
+    refl refl refl refl
     refl) refl c.purge.ensures.sweeps in
     (dealt.0, (_, dealt.1, c.in_ok-deliver.ensures.ok))
 
@@ -27,8 +30,11 @@ returns-clause-whole g c k s is p =
     let found : Some c.in-Some.stored.now ≡ Some k = c.in-Some.ensures ∙ p.there in
     let one : c.in-Some.stored.now ≡ k = cc in
     let sent : c.get-sent.result.now ≡ k.sent = cc in
-    let fewer : CountsFewer (queue_at c.args.self.now.destinations) (queue_at c.count_fewer.new.destinations) k.sent.destination =
+    let fewer : CountsFewer (queue_at c.args.self.now.destinations) (queue_at c.count_fewer.new.destinations)
+    k.sent.destination =
     rw sent at c.count_fewer.ensures in
-    none_handed (holding_of c.args.self.now) _ (holding_of c.purge.new.self) is c.args.message.number c.args.to.number k s p
-    (handed_auto (holding_of c.args.self.now) is c.args.message.number k p.there p.ready _ None refl fewer c.set.ensures refl refl refl refl
+    none_handed (holding_of c.args.self.now) _ (holding_of c.purge.new.self) is c.args.message.number c.args.to.number k
+    s p
+    (handed_auto (holding_of c.args.self.now) is c.args.message.number k p.there p.ready _ None refl fewer c.set.ensures
+    refl refl refl refl
     refl) c.purge.ensures.rest

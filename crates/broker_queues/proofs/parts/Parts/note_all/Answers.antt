@@ -14,7 +14,8 @@ nothing = record { ack = 0; number = 0; key = 0 }
 pub returns-in_err-note_one : goal.returns-in_err-note_one
 returns-in_err-note_one c =
     let p = err_from_is_err_and c.from_residual.result c.from_residual.ensures.1 in
-    rw p.1 (λ s sits. noted_less (holding_of c.args.self.now) s c.args.answered (take c.loop-entry.entry-index s.entries)
+    rw p.1 (λ s sits. noted_less (holding_of c.args.self.now) s c.args.answered
+    (take c.loop-entry.entry-index s.entries)
     c.args.log.now.items c.note_one.new.log.items (rw c.in_err-note_one.ensures (c.loop-entry.invariant s sits)))
 
 pub loop-entry-init : goal.loop-entry-init
@@ -25,7 +26,8 @@ unfolding nothing
 loop-entry-preserved c s sits =
     noted_entry (holding_of c.args.self.now) c.args.place.number s c.in-Some.subscriber.now c.args.answered
     c.entries-entry-items.result.now c.subscription.result.now c.loop-entry.entry-index nothing c.args.log.now.items
-    c.loop-entry.log.items c.note_one.new.log.items sits c.in-Some.ensures c.entries-entry-items.ensures c.subscription.ensures
+    c.loop-entry.log.items c.note_one.new.log.items sits c.in-Some.ensures c.entries-entry-items.ensures
+    c.subscription.ensures
     c.loop-entry-test.true (c.loop-entry.invariant s sits) c.in_ok-note_one.ensures
 
 pub returns : goal.returns

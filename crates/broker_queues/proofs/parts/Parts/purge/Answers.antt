@@ -8,7 +8,8 @@ use Rattle.broker_queues.proofs.parts.Parts.purge.Goals as goal
 pub returns-clause-sweeps : goal.returns-clause-sweeps
 returns-clause-sweeps c is =
     let gone : c.in-Some.stored.now.fate ≡ None =
-    gone_none c.in-Some.stored.now.fate (ap is_gone (sym c.standing.ensures) ∙ sym c.is_gone.ensures ∙ c.if-not-is_gone.false) in
+    gone_none c.in-Some.stored.now.fate (ap is_gone (sym c.standing.ensures) ∙ sym c.is_gone.ensures
+    ∙ c.if-not-is_gone.false) in
     purged (holding_of c.args.self.now) _ is c.args.number c.in-Some.stored.now (queue_at c.remove_number.new.self)
     c.get-2.result.now.destination (sym c.in-Some.ensures) gone c.remove_number.ensures c.close.ensures c.remove.ensures
     refl refl refl refl refl

@@ -8,7 +8,8 @@ use Rattle.broker_queues.proofs.parts.Parts.put.Goals as goal
 pub returns-in_err-key : goal.returns-in_err-key
 returns-in_err-key c =
     let moves = rw c.seek.ensures at c.in_err-key.ensures in
-    memory_refused c.args.full (holding_of c.args.self.now) c.args.sent.now (holding_of c.store.new.self) c.requires moves
+    memory_refused c.args.full (holding_of c.args.self.now) c.args.sent.now (holding_of c.store.new.self) c.requires
+    moves
     c.from_residual.result c.from_residual.ensures.1
 
 pub returns : goal.returns

@@ -5,4 +5,5 @@ use Rattle.broker_queues.proofs.parts.Parts.rouse.Goals as goal
 
 pub returns-in_ok-names-clause-rests : goal.returns-in_ok-names-clause-rests
 returns-in_ok-names-clause-rests c is =
-    roused (holding_of c.args.self.now) is c.args.self.now.destinations c.in_ok-names.names.items refl c.in_ok-names.ensures
+    roused (holding_of c.args.self.now) is c.args.self.now.destinations c.in_ok-names.names.items refl
+    c.in_ok-names.ensures

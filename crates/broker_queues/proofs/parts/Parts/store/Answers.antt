@@ -17,7 +17,8 @@ push-requires c = all_earlier (holding_of c.args.self.now) c.requires.sound
 
 pub add_number-requires-clause-above : goal.add_number-requires-clause-above
 add_number-requires-clause-above c =
-    all_below (c.args.self.now.last + 1) (queue_of (queue_at c.args.self.now.destinations) c.get.result.now.destination).numbers
+    all_below (c.args.self.now.last + 1) (queue_of (queue_at c.args.self.now.destinations)
+    c.get.result.now.destination).numbers
     (λ m listed. omega (arith, c.requires.sound.listed_last c.get.result.now.destination m listed))
 
 pub returns-in-Ok : goal.returns-in-Ok
@@ -34,13 +35,15 @@ returns-in-Ok c =
     let b : Becomes (adding place) h.queues q c.args.sent.now.destination = rw c.get.ensures at c.in-Ok.ensures.ok in
     let l = rw c.get.ensures at c.look_from.ensures in
     let awake = rw c.get.ensures at c.wake.ensures.awake in (
-      stored h c.requires.sound c.args.sent.now place q i refl b l c.in_ok-key.ensures.ok refl refl refl refl c.wake.ensures.wakes awake,
+      stored h c.requires.sound c.args.sent.now place q i refl b l c.in_ok-key.ensures.ok refl refl refl refl
+          c.wake.ensures.wakes awake,
       lists_only h c.requires.sound c.args.sent.now place q i refl b l,
     )
 
 pub returns-in-Err : goal.returns-in-Err
 returns-in-Err c =
     shut (holding_of c.args.self.now) c.requires.sound _ c.in-Err.ensures.err
-    (c.remove.ensures ∙ ap (λ kept. filter (λ k. not (k.number == c.args.self.now.last + 1)) kept) c.in_ok-key.ensures.ok
+    (c.remove.ensures ∙ ap (λ kept. filter (λ k. not (k.number == c.args.self.now.last + 1)) kept)
+    c.in_ok-key.ensures.ok
     ∙ taken_out (holding_of c.args.self.now) c.requires.sound (c.args.self.now.last + 1) c.args.sent.now refl)
     refl refl refl refl refl

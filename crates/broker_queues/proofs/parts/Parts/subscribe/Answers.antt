@@ -7,8 +7,10 @@ use Rattle.broker_queues.proofs.parts.Parts.subscribe.Goals as goal
 
 pub attach-requires : goal.attach-requires
 attach-requires c =
-    all_below c.in_ok-place.place.number (queue_of (queue_at c.args.self.now.destinations) c.get-name.result.now).subscribers
-    (λ a listed. listeners_lower (holding_of c.args.self.now) c.requires.sound c.in_ok-place.place.number c.in_ok-place.ensures.youngest
+    all_below c.in_ok-place.place.number (queue_of (queue_at c.args.self.now.destinations)
+    c.get-name.result.now).subscribers
+    (λ a listed. listeners_lower (holding_of c.args.self.now) c.requires.sound c.in_ok-place.place.number
+    c.in_ok-place.ensures.youngest
     c.get-name.result.now a listed)
 
 pub returns-in_err-place-clause-joins : goal.returns-in_err-place-clause-joins
@@ -18,11 +20,15 @@ returns-in_err-place-clause-joins c =
 
 pub returns-in-Ok-clause-joins : goal.returns-in-Ok-clause-joins
 returns-in-Ok-clause-joins c =
-    joined (holding_of c.args.self.now) (holding_of c.attach.new.self) c.requires.sound c.args.subscription.now c.in_ok-place.place
-    c.push.new.self c.in_ok-place.ensures.ok c.in_ok-place.ensures.youngest c.requires.free (rw c.get-name.ensures at c.in-Ok.ensures)
+    joined (holding_of c.args.self.now) (holding_of c.attach.new.self) c.requires.sound c.args.subscription.now
+    c.in_ok-place.place
+    c.push.new.self c.in_ok-place.ensures.ok c.in_ok-place.ensures.youngest c.requires.free
+    (rw c.get-name.ensures at c.in-Ok.ensures)
 
 pub returns-in-Err-clause-joins : goal.returns-in-Err-clause-joins
 returns-in-Err-clause-joins c =
-    goes_again (holding_of c.args.self.now) (holding_of c.attach.new.self) c.requires.sound c.args.subscription.now c.in_ok-place.place
-    c.push.new.self c.remove.new.self c.in_ok-place.ensures.ok c.in_ok-place.ensures.youngest c.in-Err.ensures.0 c.in-Err.ensures.1
+    goes_again (holding_of c.args.self.now) (holding_of c.attach.new.self) c.requires.sound c.args.subscription.now
+    c.in_ok-place.place
+    c.push.new.self c.remove.new.self c.in_ok-place.ensures.ok c.in_ok-place.ensures.youngest c.in-Err.ensures.0
+    c.in-Err.ensures.1
     c.remove.ensures

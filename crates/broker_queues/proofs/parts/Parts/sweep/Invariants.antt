@@ -9,7 +9,8 @@ use Rattle.broker_queues.proofs.parts.Parts.sweep.Given as goal
 abbrev pub invariant-loop-entry : goal.invariant-loop-entry
 invariant-loop-entry l = record {
   tidies : IsSound (holding_of l.initial.self) → Tidies (holding_of l.initial.self) (holding_of l.self);
-  clearing : (s : Subscriber) → IsSound (holding_of l.initial.self) → subscriber_at l.age l.initial.self.subscribers ≡ Some s
+  clearing : (s : Subscriber) → IsSound (holding_of l.initial.self)
+      → subscriber_at l.age l.initial.self.subscribers ≡ Some s
       → Clearing l.age s (holding_of l.self);
   swept : IsSound (holding_of l.initial.self) → SweptOne (holding_of l.initial.self) l.age (holding_of l.self);
 }

@@ -22,11 +22,13 @@ loop-logged-preserved c =
           tidies_again h i j before (c.sweep.ensures.sweeps before.sound);
       left = λ is held noted.
           let sound = (c.loop-logged.invariant.sweeps is).sound in
-          left_next i j c.args.log.now c.loop-logged.logged-index c.logged-item.result c.loop-logged-test.true c.logged-item.is sound
+          left_next i j c.args.log.now c.loop-logged.logged-index c.logged-item.result c.loop-logged-test.true
+          c.logged-item.is sound
           (c.sweep.ensures.rest sound) c.sweep.ensures.clears (c.loop-logged.invariant.left is held noted);
     }
 
 pub returns-clause-taken : goal.returns-clause-taken
 returns-clause-taken c is held noted =
     none_left (holding_of c.loop-logged.self) (drop c.loop-logged.logged-index c.args.log.now)
-    (drop_all c.loop-logged.logged-index c.args.log.now c.loop-logged-test.false) (c.loop-logged.invariant.left is held noted)
+    (drop_all c.loop-logged.logged-index c.args.log.now c.loop-logged-test.false)
+    (c.loop-logged.invariant.left is held noted)

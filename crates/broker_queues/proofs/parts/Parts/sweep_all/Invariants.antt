@@ -9,6 +9,7 @@ use Rattle.broker_queues.proofs.parts.Parts.sweep_all.Given as goal
 abbrev pub invariant-loop-logged : goal.invariant-loop-logged
 invariant-loop-logged l = record {
   sweeps : Sweeps (holding_of l.initial.self) (holding_of l.self);
-  left : IsSound (holding_of l.initial.self) → AreHeld l.initial.self.subscribers l.log → GoneAreNoted l.initial.self.messages l.log
+  left : IsSound (holding_of l.initial.self) → AreHeld l.initial.self.subscribers l.log
+      → GoneAreNoted l.initial.self.messages l.log
       → AreLeft (holding_of l.self) (drop l.logged-index l.log);
 }

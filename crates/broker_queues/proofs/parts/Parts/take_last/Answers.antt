@@ -8,5 +8,6 @@ returns-then-not-let_go c start log b later =
 
 pub returns : goal.returns
 returns c start log b later =
-    one_taken start (holding_of c.args.self.now) (holding_of c.let_go.new.self) (holding_of c.purge.new.self) log b later
+    one_taken start (holding_of c.args.self.now) (holding_of c.let_go.new.self) (holding_of c.purge.new.self) log b
+    later
     c.if-not-let_go.ensures c.purge.ensures.sweeps c.purge.ensures.taken

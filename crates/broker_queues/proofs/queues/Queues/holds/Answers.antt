@@ -9,5 +9,6 @@ use Rattle.broker_queues.proofs.queues.Queues.holds.Goals as goal
 pub returns : goal.returns
 returns g c =
     c.is_some.ensures ∙ ap is_some c.holder.ensures
-    ∙ asks_holder (holding_of c.self.inside.parts) c.self.inside.accepted.items c.args.session c.args.number c.self.invariant.sound
+    ∙ asks_holder (holding_of c.self.inside.parts) c.self.inside.accepted.items c.args.session c.args.number
+    c.self.invariant.sound
     ∙ ap (λ (b : Book). is_some (holder b c.args.session c.args.number)) c.self.view_is

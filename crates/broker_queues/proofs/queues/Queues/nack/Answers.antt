@@ -7,4 +7,5 @@ invariant_of-self g c = record {
 }
 
 pub returns : goal.returns
-returns g c = rw (← c.self.view_is) ((c.answer_whole.ensures.step c.self.inside.accepted.items c.self.invariant.sound).1)
+returns g c =
+    rw (← c.self.view_is) ((c.answer_whole.ensures.step c.self.inside.accepted.items c.self.invariant.sound).1)

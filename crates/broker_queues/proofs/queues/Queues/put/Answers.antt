@@ -9,6 +9,7 @@ invariant_of-self-2 g c =
     let new = new_kept (old.last + 1) c.args.sent.now in
     record {
       sound = c.in_ok-put_accepted.ensures.sound;
-      none_gone = none_same (old.messages ++ new ∷ []) c.put_accepted.new.self.messages c.in_ok-put_accepted.ensures.puts.kept
+      none_gone =
+          none_same (old.messages ++ new ∷ []) c.put_accepted.new.self.messages c.in_ok-put_accepted.ensures.puts.kept
           (none_pushed new refl old.messages c.self.invariant.none_gone);
     }

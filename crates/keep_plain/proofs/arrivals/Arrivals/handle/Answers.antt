@@ -10,5 +10,6 @@ invariant_of-self c =
     record {
       indexed = index_handled x.pair x.number a.handled c.set_slot.new.map a.held a.drainable c.set_slot-2.new.map
           c.then_some.result a.indexed c.set_slot.ensures.sets c.set_slot-2.ensures.sets
-          (ap is_some c.then_some.ensures ∙ some_where c.has_next-is_drainable.result ∙ c.has_next-is_drainable.ensures);
+          (ap is_some c.then_some.ensures ∙ some_where c.has_next-is_drainable.result
+          ∙ c.has_next-is_drainable.ensures);
     }

@@ -6,7 +6,8 @@ pub invariant_of-self-in-Break-branch-2 : goal.invariant_of-self-in-Break-branch
 invariant_of-self-in-Break-branch-2 c =
     let a = c.args.self.now in
     record {
-      indexed = same_index a.handled c.make_slot.new.map a.held a.held a.drainable a.drainable a.indexed c.make_slot.ensures.same
+      indexed = same_index a.handled c.make_slot.new.map a.held a.held a.drainable a.drainable a.indexed
+          c.make_slot.ensures.same
           (λ _. refl) (λ _. refl);
     }
 
@@ -14,7 +15,8 @@ pub invariant_of-self-in-Break-branch-3 : goal.invariant_of-self-in-Break-branch
 invariant_of-self-in-Break-branch-3 c =
     let a = c.args.self.now in
     record {
-      indexed = same_index a.handled c.make_slot.new.map a.held a.held a.drainable a.drainable a.indexed c.make_slot.ensures.same
+      indexed = same_index a.handled c.make_slot.new.map a.held a.held a.drainable a.drainable a.indexed
+          c.make_slot.ensures.same
           (λ _. refl) (λ _. refl);
     }
 

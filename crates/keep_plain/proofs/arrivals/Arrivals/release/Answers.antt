@@ -7,7 +7,8 @@ invariant_of-self c =
     let a = c.args.self.now in
     record {
       indexed = index_next a.handled c.args.place.now None a.held c.empty_slot.new.map a.drainable a.indexed
-          c.empty_slot.ensures.sets c.empty_slot-then-was_drainable.new.map None c.empty_slot-then-was_drainable.ensures.sets refl
+          c.empty_slot.ensures.sets c.empty_slot-then-was_drainable.new.map None
+          c.empty_slot-then-was_drainable.ensures.sets refl
           (sym c.is_next-was_drainable.ensures ∙ c.if-was_drainable.true);
     }
 

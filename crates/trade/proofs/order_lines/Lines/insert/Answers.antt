@@ -20,16 +20,19 @@ pub invariant_of-self-in-Err : goal.invariant_of-self-in-Err
 invariant_of-self-in-Err c =
     let lines = c.self.inside.items.items in
     let kind : c.new.result.order.kind ≡ Order = rw c.new.ensures c.requires.order in
-    let gap : IsPlaceFor c.new.result.order lines c.in-Err.at = rw (c.new.ensures, c.self.view_is) c.in-Err.ensures.absent in
+    let gap : IsPlaceFor c.new.result.order lines c.in-Err.at =
+    rw (c.new.ensures, c.self.view_is) c.in-Err.ensures.absent in
     let none : line_of c.new.result.order lines ≡ None = rw (c.new.ensures, c.self.view_is) c.requires.new in
     let placed = with_line-at c.new.result lines c.in-Err.at kind c.self.invariant.of_orders gap in
-    rw c.in_ok-insert-in-Err.ensures.items (subst AreLinesSound placed (lines_sound-with c.new.result lines kind none c.self.invariant))
+    rw c.in_ok-insert-in-Err.ensures.items (subst AreLinesSound placed (lines_sound-with c.new.result lines kind none
+    c.self.invariant))
 
 pub returns-clause-ok : goal.returns-clause-ok
 returns-clause-ok c =
     let lines = c.self.inside.items.items in
     let kind : c.new.result.order.kind ≡ Order = rw c.new.ensures c.requires.order in
-    let gap : IsPlaceFor c.new.result.order lines c.in-Err.at = rw (c.new.ensures, c.self.view_is) c.in-Err.ensures.absent in
+    let gap : IsPlaceFor c.new.result.order lines c.in-Err.at =
+    rw (c.new.ensures, c.self.view_is) c.in-Err.ensures.absent in
     let placed = with_line-at c.new.result lines c.in-Err.at kind c.self.invariant.of_orders gap in
     let items = c.in_ok-insert-in-Err.ensures.items in
     cc

@@ -11,8 +11,10 @@ invariant_of-self c =
     let lines = c.self.inside.items.items in
     let place : IsPlaceOf c.args.order.now lines c.in-Ok.at = rw c.self.view_is c.in-Ok.ensures.found in
     let line = c.index_mut-line.result.now in
-    let placed = with_line_phase-at c.args.order.now c.args.phase lines c.in-Ok.at line c.self.invariant.one_each place in
-    let is = c.set_phase.ensures ∙ ap (λ (l : Line). record l { phase = c.args.phase }) c.index_mut-line.ensures.value in
+    let placed =
+    with_line_phase-at c.args.order.now c.args.phase lines c.in-Ok.at line c.self.invariant.one_each place in
+    let is = c.set_phase.ensures ∙ ap (λ (l : Line). record l { phase = c.args.phase }) c.index_mut-line.ensures.value
+    in
     let sound = lines_sound-with_phase c.args.order.now c.args.phase lines c.self.invariant in
     subst AreLinesSound (placed ∙ ap (λ l. set lines c.in-Ok.at l) (sym is)) sound
 
@@ -21,8 +23,10 @@ returns-in-Ok c =
     let lines = c.self.inside.items.items in
     let place : IsPlaceOf c.args.order.now lines c.in-Ok.at = rw c.self.view_is c.in-Ok.ensures.found in
     let line = c.index_mut-line.result.now in
-    let placed = with_line_phase-at c.args.order.now c.args.phase lines c.in-Ok.at line c.self.invariant.one_each place in
-    let is = c.set_phase.ensures ∙ ap (λ (l : Line). record l { phase = c.args.phase }) c.index_mut-line.ensures.value in
+    let placed =
+    with_line_phase-at c.args.order.now c.args.phase lines c.in-Ok.at line c.self.invariant.one_each place in
+    let is = c.set_phase.ensures ∙ ap (λ (l : Line). record l { phase = c.args.phase }) c.index_mut-line.ensures.value
+    in
     rw (← c.self.view_is) (ap (λ l. set lines c.in-Ok.at l) is ∙ sym placed)
 
 pub returns-in-Err : goal.returns-in-Err
