@@ -16,7 +16,7 @@ use crate::marks::{find, prepare, set};
 use activities::Handler;
 use base::Pair;
 use endpoint::Endpoint;
-use envelope::{Envelope, Letter, to_send};
+use envelope::{Letter, letter_to_send};
 use keep::{Keep, Place};
 use std::alloc::Global;
 use std::collections::BTreeMap;
@@ -86,8 +86,7 @@ impl Relay {
         if client.receipts() == u64::MAX {
             return Err(RelayFault::Client(ClientFault::NumbersUsed));
         }
-        let envelope = Envelope::Letter(letter.copy(self.alloc)?);
-        let frame = to_send(self.alloc, &envelope)?;
+        let frame = letter_to_send(self.alloc, letter)?;
         prepare(self.alloc, &mut self.marks, &letter.pair)?;
         client.send_with_receipt(frame, letter.number.get())?;
         set(&mut self.marks, &letter.pair, letter.number);
