@@ -1,6 +1,6 @@
 //! The texts of the frames that a client writes for what came: each is made before anything is done, and appended as it is.
 
-ghost use Rattle.std.specs.Prelude.{◌≡◌, ◌≤◌, ◌++◌, ◌∷◌, [], List, false, length, IfOk, OnOk, IfErr, IsOkUnless};
+ghost use Rattle.std.specs.Prelude.{◌≡◌, ◌≤◌, ◌++◌, ◌∷◌, [], List, false, length, IfOk, OnOk, IfErr};
 ghost use Rattle.base.specs.Entity.{queue_of};
 ghost use Rattle.stomp_frame.specs.Commands.{is_exempt};
 ghost use Rattle.stomp_frame.specs.Frames.{Content};
@@ -15,7 +15,7 @@ ghost use Rattle.reception.specs.Faults.{IsWant};
 use crate::ReceptionFault;
 use base::limits::MAX_BODY;
 use base::{Kind, Number, Pair};
-use envelope::{Envelope, EnvelopeFault, to_send};
+use envelope::settle_to_send;
 use std::alloc::{AllocError, Global};
 use stomp_client::{
     ClientSession, answer_frame, in_transaction, subscribe_frame, transaction_frame,
@@ -86,19 +86,6 @@ pub(crate) fn subscribe_text(alloc: Global, kind: Kind) -> Result<Vec<u8>, Alloc
     text_of(alloc, &frame)
 }
 
-/// The SEND of a settle.
-fn settle_frame(
-    alloc: Global,
-    pair: &Pair,
-    number: Number,
-) -> Result<Frame<MAX_BODY>, EnvelopeFault>
-    ensures frame { IfOk result (λ f. f ≡ send_of (Settle pair.now number)) }
-    ensures fault { IsOkUnless result EnvelopeFault.Memory }
-{
-    let envelope = Envelope::Settle(pair.copy(alloc)?, number.get());
-    to_send(alloc, &envelope)
-}
-
 /// The SEND of a settle, in no transaction.
 pub(crate) fn settle_text(
     alloc: Global,
@@ -108,7 +95,7 @@ pub(crate) fn settle_text(
     ensures text { IfOk result (λ text. IsTextOf (send_of (Settle pair.now number) ∷ []) text.items) }
     ensures fault { IfErr result IsWant }
 {
-    let frame = settle_frame(alloc, pair, number)?;
+    let frame = settle_to_send(alloc, pair, number)?;
     Ok(text_of(alloc, &frame)?)
 }
 
@@ -122,7 +109,7 @@ fn settle_within(
     ensures frame { IfOk result (λ f. f ≡ in_transaction (Some transaction) (send_of (Settle pair.now number))) }
     ensures fault { IfErr result IsWant }
 {
-    let frame = settle_frame(alloc, pair, number)?;
+    let frame = settle_to_send(alloc, pair, number)?;
     Ok(in_transaction(frame, Some(transaction))?)
 }
 

@@ -14,7 +14,7 @@ use std::alloc::Global;
 use std::cmp::Ordering;
 use std::collections::BTreeMap;
 
-/// The text of the first entity: no other comes before it.
+/// The text of the first entity, as no key has a NUL and `account` is the first kind: no other comes before it.
 const FIRST: &str = "account/\u{1}";
 
 /// Whether an entity doesn't come before the sender of a place.
@@ -59,6 +59,7 @@ fn place_before(alloc: Global, marks: &BTreeMap<Pair, u64>, entity: &Entity) -> 
         from: entity.copy(alloc).ok()?,
         to: Entity::read(alloc, FIRST).ok()?,
     };
+    // No pair of the entity stands before `bound`, which has the first receiver. It's tested below, not proved.
     let (last, mark) = marks.range(..&bound).next_back()?;
     if last.from.cmp(entity) != Ordering::Less {
         return None;

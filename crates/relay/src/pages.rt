@@ -30,7 +30,7 @@ use keep::{Keep, Place};
 use std::cmp::Ordering;
 use stomp_client::ClientSession;
 
-/// How many rows are read at once.
+/// How many rows are read at once: few enough to be held, and so many that finding the first of them costs little.
 const PAGE: usize = 64;
 
 /// How many new rows of the journal are read, and no more: where there are more, they pay for a look from the first row on.
@@ -64,6 +64,8 @@ impl Relay {
             Ok(news) => news,
             Err(fault) => return Err(RelayFault::Endpoint(fault)),
         };
+        // The journal's length is set before the pages are read: they have all that its rows sent. `stay_at` takes it
+        // back where the pages end before the place that the cursor had.
         let since = self.rows;
         let reach = self.begin(rows);
         let sent = self.fill_pages(client, endpoint, &news, &reach, limit);
@@ -110,6 +112,7 @@ impl Relay {
         if self.behind.is_none() {
             return Ok(Vec::new(self.alloc));
         }
+        // A journal only grows: of a shorter one, another service's or one that lost rows, the cursor tells nothing.
         if rows < self.rows || rows - self.rows > NEWS as u64 {
             self.behind = None;
             return Ok(Vec::new(self.alloc));
@@ -260,6 +263,7 @@ impl Relay {
         ensures rows { self.new.rows ≡ self.old.rows }
     {
         if let Some(last) = rows.pop() {
+            // Earlier fillings may have sent more of this pair than the page has: they needn't be read again.
             let mark = find(&self.marks, &last.pair);
             self.behind = Some(Place {
                 number: greater(last.number, mark),

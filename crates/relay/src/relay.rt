@@ -16,7 +16,7 @@ use crate::marks::{find, prepare, set};
 use activities::Handler;
 use base::Pair;
 use endpoint::Endpoint;
-use envelope::{Envelope, Letter, to_send};
+use envelope::{Letter, letter_to_send};
 use keep::{Keep, Place};
 use std::alloc::Global;
 use std::collections::BTreeMap;
@@ -27,7 +27,9 @@ use stomp_client::{ClientFault, ClientSession, Stage};
 #[derive(Drop)]
 pub struct Relay {
     pub(crate) alloc: Global,
+    // The truth: what isn't above its pair's mark was sent, and isn't sent again.
     pub(crate) marks: BTreeMap<Pair, u64>,
+    // A hint, which saves reads: without it a filling reads more rows, and sends the same.
     pub(crate) behind: Option<Place>,
     pub(crate) rows: u64,
 }
@@ -83,11 +85,12 @@ impl Relay {
         ensures behind { self.new.behind ≡ self.old.behind }
         ensures rows { self.new.rows ≡ self.old.rows }
     {
+        // Tested before anything takes memory, so that no refused growth hides a fault that stays.
         if client.receipts() == u64::MAX {
             return Err(RelayFault::Client(ClientFault::NumbersUsed));
         }
-        let envelope = Envelope::Letter(letter.copy(self.alloc)?);
-        let frame = to_send(self.alloc, &envelope)?;
+        let frame = letter_to_send(self.alloc, letter)?;
+        // A mark that found no place behind the SEND would have the letter sent again, so its place is made before.
         prepare(self.alloc, &mut self.marks, &letter.pair)?;
         client.send_with_receipt(frame, letter.number.get())?;
         set(&mut self.marks, &letter.pair, letter.number);

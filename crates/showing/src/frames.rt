@@ -7,7 +7,7 @@ ghost use Rattle.stomp_frame.specs.Frames.{canonical};
 ghost use Rattle.showing.specs.Printed.{hexadecimal_octet, shown_octet, frame_line, frame_lines};
 
 use crate::words::push_text;
-use envelope::{Envelope, Letter, to_send};
+use envelope::{Letter, letter_to_send};
 use std::alloc::{AllocError, Global};
 use stomp_frame::encode;
 
@@ -62,12 +62,7 @@ fn push_octets(line: &mut Vec<u8>, octets: &[u8]) -> Result<(), AllocError>
 fn push_frame(alloc: Global, line: &mut Vec<u8>, letter: &Letter) -> Result<(), AllocError>
     ensures { OnOk result (line.new.items ≡ line.old.items ++ frame_line letter.now) }
 {
-    let envelope = Envelope::Letter(Letter {
-        pair: letter.pair.copy(alloc)?,
-        number: letter.number,
-        message: letter.message,
-    });
-    let Ok(frame) = to_send(alloc, &envelope) else {
+    let Ok(frame) = letter_to_send(alloc, letter) else {
         return Err(AllocError);
     };
     let mut octets = Vec::new(alloc);

@@ -1,7 +1,3 @@
-use Rattle.std.proofs.Common.{ap, subst, ◌∙◌}
-use Rattle.envelope.specs.Written.{IsEnvelope, send_of}
-use Rattle.envelope.specs.declared.message.Letter.{Letter}
-use Rattle.envelope.specs.declared.message.Envelope.TheVariants as envelope
 use Rattle.relay.specs.Filling.{marks_of}
 use Rattle.relay.specs.Marks.{mark_in}
 use Rattle.relay.proofs.Marking.{set_is}
@@ -14,6 +10,5 @@ returns-clause-sends c =
     c.send_with_receipt.new.self.client c.in_ok-frame.frame c.get.result
     (set_is c.args.self.now.marks c.prepare.new.marks c.set.new.marks c.args.letter.now.pair c.args.letter.now.number c.prepare.ensures.same
     c.set.ensures)
-    (subst (λ (l : Letter). IsEnvelope (envelope.Letter l)) c.in_ok-copy.ensures c.in_ok-frame.ensures.carries.envelope)
-    (c.in_ok-frame.ensures.frame ∙ ap (λ (l : Letter). send_of (envelope.Letter l)) c.in_ok-copy.ensures)
+    c.in_ok-frame.ensures.carries.envelope c.in_ok-frame.ensures.frame
     c.get.ensures.value c.in_ok-send_with_receipt.ensures.does.2.1 c.in_ok-send_with_receipt.ensures.wrote
