@@ -37,7 +37,7 @@ use hotel::{Room, Rooms};
 use inbox::{Class, classify};
 use keep::{Change, Faulty, Keep, KeepFault};
 use keep_plain::PlainKeep;
-use line_script::{WordFault, push_octets, read_octets};
+use line_script::{WordFault, read_octets};
 use mail::{Connection, Mail, OpenFault};
 use outbox::settle;
 use passage::what_is_read_passes;
@@ -56,6 +56,7 @@ use stomp_client::{ClientFault, ClientSession};
 use stomp_frame::{Command, Decoder, Frame, FrameFault};
 use stomp_session::{Headers, Octets, ServerSession, Text};
 use stomp_wire::{Link, LinkFault, MemoryWire, Way, pump_out};
+use text::{push_octets, read_number, unescape};
 use warehouse::{Stock, Stocks};
 
 pub fn an_entity_is_named_again(alloc: Global) -> Result<bool, EntityFault> {
@@ -63,6 +64,14 @@ pub fn an_entity_is_named_again(alloc: Global) -> Result<bool, EntityFault> {
     let order = Entity::new(alloc, Kind::Order, &key)?;
     let again = Entity::read(alloc, "order/o1")?;
     Ok(again == order)
+}
+
+pub fn a_line_is_read_again(alloc: Global) -> Result<bool, AllocError> {
+    let mut line = String::new(alloc);
+    push_octets(&mut line, b"7\n")?;
+    let octets = unescape(alloc, &line)?;
+    let is_same = octets.is_some_and(|octets| octets.as_slice() == b"7\n".as_slice());
+    Ok(is_same && line.as_str() == "7\\n" && read_number("07").is_none())
 }
 
 pub fn what_was_put_is_taken(alloc: Global) -> Result<Vec<u8>, LinkFault> {

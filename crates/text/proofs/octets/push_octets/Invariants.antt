@@ -1,6 +1,6 @@
 use Rattle.std.proofs.Common.{◌≡◌, ◌++◌, flat_map, string_bytes, take}
-use Rattle.line_script.specs.Escapes.{spelled}
-use Rattle.line_script.proofs.octets.push_octets.Given as goal
+use Rattle.text.specs.Escapes.{spelled}
+use Rattle.text.proofs.octets.push_octets.Given as goal
 
 -- the octets so far were appended
 abbrev pub invariant-loop-octet : goal.invariant-loop-octet

@@ -1,6 +1,6 @@
 use Rattle.std.proofs.Common.{length}
-use Rattle.line_script.specs.Escapes.{Spells}
-use Rattle.line_script.proofs.octets.read_octets.Given as goal
+use Rattle.text.specs.Escapes.{Spells}
+use Rattle.text.proofs.octets.unescape.Given as goal
 
 -- what was read stands in front of the rest
 abbrev pub invariant-loop-rest : goal.invariant-loop-rest

@@ -3,7 +3,7 @@ use Rattle.std.proofs.Common.{◌≡◌, ◌≢◌, ◌<◌, ◌≤◌, ℕ, ◌
 use Rattle.std.proofs.Common.{Some, None, refl, sym, ap, ◌∙◌, arith, inl, inr, get_or, suc}
 use Rattle.std.specs.List.{flat_map}
 use Rattle.std.proofs.lemmas.Bool.{cases_Bool, eqb-true, ltb-true, ltb-false, le-leb, lt-leb}
-use Rattle.line_script.specs.Escapes.{digit_of, digit, front, Spells, spelled}
+use Rattle.text.specs.Escapes.{digit_of, digit, front, Spells, spelled}
 
 -- one more octet was read
 pub spells_more : (text octets rest behind : List ℕ) (o : ℕ) → Spells text octets rest → front rest ≡ Some (o, behind)
