@@ -52,5 +52,5 @@ a_text_is_spelled = (_, refl, (_, refl, (_, refl, refl)))
 -- what is printed of an octet: itself from a space to a tilde but for a backslash, and else an escape
 octets_are_spelled : (spelled 97 ≡ codes "a") × (spelled 32 ≡ codes " ") × (spelled 126 ≡ codes "~") × (spelled 92 ≡ codes "\\\\")
     × (spelled 10 ≡ codes "\\n") × (spelled 13 ≡ codes "\\r") × (spelled 0 ≡ codes "\\x00") × (spelled 127 ≡ codes "\\x7f")
-    × (spelled 31 ≡ codes "\\x1f")
-octets_are_spelled = (refl, refl, refl, refl, refl, refl, refl, refl, refl)
+    × (spelled 31 ≡ codes "\\x1f") × (spelled 233 ≡ codes "\\xe9") × (spelled 171 ≡ codes "\\xab")
+octets_are_spelled = (refl, refl, refl, refl, refl, refl, refl, refl, refl, refl, refl)
