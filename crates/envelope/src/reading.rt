@@ -7,9 +7,9 @@ ghost use Rattle.envelope.specs.Reading.{read_entity, read_number, read_content,
 use crate::{Envelope, EnvelopeFault, Letter, Message};
 use base::limits::MAX_BODY;
 use base::{Entity, Number, Pair};
-use itoa::Buffer;
 use std::alloc::Global;
 use stomp_frame::{Command, Frame};
+use text::read_number;
 
 /// The entity that the first header of a name tells.
 fn entity_in(alloc: Global, frame: &Frame<MAX_BODY>, name: &str) -> Result<Entity, EnvelopeFault>
@@ -23,13 +23,8 @@ fn entity_in(alloc: Global, frame: &Frame<MAX_BODY>, name: &str) -> Result<Entit
 fn number_of(text: &str) -> Option<Number>
     ensures { result ≡ read_number text.now }
 {
-    let number = Number::new(text.parse::<u64>().ok()?)?;
-    let mut digits = Buffer::new();
-    if digits.format(number.get()) == text {
-        Some(number)
-    } else {
-        None
-    }
+    let number = read_number(text)?;
+    Number::new(number)
 }
 
 /// The letter or the settle of a word, a pair, a number and a body.
