@@ -1,7 +1,6 @@
 pub mod Committing
 pub mod Feedings
 pub mod Left
-pub mod Numerals
 pub mod Places
 pub mod Rising
 pub mod Streams

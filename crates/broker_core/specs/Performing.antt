@@ -3,6 +3,7 @@ use Rattle.std.specs.Prelude.{ℕ, Bool, ◌==◌, if◌then◌else◌, nat_lt, 
 use Rattle.std.specs.Prelude.{Result, Ok, Err}
 use Rattle.std.specs.List.{list_any}
 use Rattle.base.specs.declared.limits.TheConstants.{MAX_SUBSCRIPTIONS}
+use Rattle.text.specs.Numerals.{number_of}
 use Rattle.stomp_session.specs.Requests.{ack_mode}
 use Rattle.stomp_session.specs.declared.request.Request.{Request}
 use Rattle.stomp_session.specs.declared.request.Request.TheVariants.{Connect, Send, Subscribe, Unsubscribe, Ack, Nack, Begin, Commit}
@@ -22,7 +23,7 @@ use Rattle.broker_tx.specs.Transactions.{Transaction, is_open, actions_of, begin
 use Rattle.broker_tx.specs.declared.fault.TransactionFault.{TransactionFault}
 use Rattle.broker_tx.specs.declared.fault.TransactionFault.TheVariants.{TransactionExists as IsOpen, NoTransaction as IsClosed}
 use Rattle.broker_tx.specs.declared.fault.TransactionFault.TheVariants.{Memory as NoSpace, TooMany as IsLimit}
-use Rattle.broker_core.specs.Words.{is_destination, mode_of, number_of}
+use Rattle.broker_core.specs.Words.{is_destination, mode_of}
 use Rattle.broker_core.specs.declared.fault.FrameRefusal.{FrameRefusal}
 use Rattle.broker_core.specs.declared.fault.FrameRefusal.TheVariants.{BadDestination, SubscriptionExists, NoSubscription, BadAckMode}
 use Rattle.broker_core.specs.declared.fault.FrameRefusal.TheVariants.{TransactionExists, NoTransaction, NoSuchAck, QueueFull, TooMany}

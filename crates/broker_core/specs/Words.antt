@@ -1,11 +1,8 @@
 -- What the texts of a request mean.
-use Rattle.std.specs.Prelude.{ℕ, Bool, not, ◌&&◌, ◌||◌, ◌==◌, ◌^◌, slice_index, if◌then◌else◌, nat_lt, nat_le, List, length, take, drop}
-use Rattle.std.specs.Prelude.{codes}
+use Rattle.std.specs.Prelude.{ℕ, Bool, ◌&&◌, ◌||◌, ◌==◌, if◌then◌else◌, nat_le, List, length, take, drop, codes}
 use Rattle.std.specs.Prelude.{Option, Some, None}
 use Rattle.std.specs.List.{list_all}
 use Rattle.std.specs.Str.{bytes_eq}
-use Rattle.std.specs.Str.Parse.{digits_value}
-use Rattle.std.specs.Char.{is_ascii_digit}
 use Rattle.broker_book.specs.declared.parts.Mode.{Mode}
 use Rattle.broker_book.specs.declared.parts.Mode.TheVariants.{Auto, Client, Individual}
 
@@ -25,11 +22,3 @@ mode_of word =
     else if bytes_eq word (codes "client") then Some Client
     else if bytes_eq word (codes "client-individual") then Some Individual
     else None
-
--- digits without a leading zero
-abbrev pub is_numeral : List ℕ → Bool
-is_numeral text = list_all is_ascii_digit text && not (length text == 0) && not (nat_lt 1 (length text) && (slice_index text 0 == 48))
-
--- the number that a text writes: such a numeral below 2^64
-abbrev pub number_of : List ℕ → Option ℕ
-number_of text = if is_numeral text && nat_lt (digits_value 10 text) (2 ^ 64) then Some (digits_value 10 text) else None

@@ -6,7 +6,7 @@ ghost use Rattle.broker_tx.specs.Transactions.{Transaction, actions_of};
 ghost use Rattle.broker_core.specs.Parts.Asked.{is_ready, is_send, request_in, send_in};
 ghost use Rattle.broker_core.specs.Parts.Taking.{Performs, lifted, lifted_transaction};
 ghost use Rattle.broker_core.specs.Performing.{reach, performed, kept, commit_done, unanswered_number, unsubscribe_done};
-ghost use Rattle.broker_core.specs.Words.{number_of};
+ghost use Rattle.text.specs.Numerals.{number_of};
 
 use crate::FrameRefusal;
 use crate::asked::{Form, SharedSend};

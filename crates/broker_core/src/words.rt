@@ -1,9 +1,9 @@
 //! What the texts of a request mean.
 
-ghost use Rattle.std.specs.Prelude.{◌≡◌, ◌&&◌, ◌==◌, nat_lt, length, slice_index};
+ghost use Rattle.std.specs.Prelude.{◌≡◌};
 ghost use Rattle.std.specs.List.{list_all};
-ghost use Rattle.std.specs.Char.{is_ascii_digit};
-ghost use Rattle.broker_core.specs.Words.{is_destination, is_letter, is_numeral, mode_of, number_of};
+ghost use Rattle.text.specs.Numerals.{number_of};
+ghost use Rattle.broker_core.specs.Words.{is_destination, is_letter, mode_of};
 
 use broker_book::Mode;
 use stomp_session::Text;
@@ -42,34 +42,11 @@ fn is_letter(o: u8) -> bool
         || o == 47
 }
 
-/// The number that a text writes: decimal digits without a leading zero, below 2^64.
-pub fn read_number(text: &Text) -> Option<u64>
-    ensures { result ≡ number_of text.now }
+/// The number that a word writes: decimal digits without a leading zero, below 2^64.
+pub fn read_number(word: &Text) -> Option<u64>
+    ensures { result ≡ number_of word.now }
 {
-    let word = text.as_str();
-    if is_numeral(word.as_bytes()) {
-        word.parse::<u64>().ok()
-    } else {
-        None
-    }
-}
-
-fn is_numeral(octets: &[u8]) -> bool
-    ensures { result ≡ is_numeral octets.now }
-{
-    are_digits(octets) && !octets.is_empty() && !has_leading_zero(octets)
-}
-
-fn are_digits(octets: &[u8]) -> bool
-    ensures { result ≡ list_all is_ascii_digit octets.now }
-{
-    octets.iter().all(|o| o.is_ascii_digit())
-}
-
-fn has_leading_zero(octets: &[u8]) -> bool
-    ensures { result ≡ (nat_lt 1 (length octets.now) && (slice_index octets.now 0 == 48)) }
-{
-    octets.len() > 1 && octets[0] == b'0'
+    text::read_number(word.as_str())
 }
 
 /// The acknowledge mode of a word (STOMP 1.2, section "SUBSCRIBE ack Header").

@@ -3,6 +3,7 @@ use Rattle.std.proofs.Common.{◌≡◌, ℕ, Bool, true, false, cond, List, [],
 use Rattle.std.proofs.Common.{refl, ap, ◌∙◌, ◌+◌, ◌≤◌, subst, arith, not, map}
 use Rattle.std.specs.Prelude.{count_by, filter}
 use Rattle.std.proofs.lemmas.Grind.{flat_map-append}
+use Rattle.text.specs.Numerals.{number_of}
 use Rattle.stomp_session.specs.Requests.{ack_mode}
 use Rattle.stomp_session.specs.declared.request.Request.{Request}
 use Rattle.stomp_session.specs.declared.request.Request.TheVariants.{Connect, Send, Subscribe, Unsubscribe, Ack, Nack, Begin, Commit}
@@ -30,7 +31,7 @@ use Rattle.broker_tx.specs.declared.fault.TransactionFault.TheVariants.{TooMany 
 use Rattle.broker_core.specs.Performing.{Reach, performed, in_book, in_transactions, send_done, sent_of, subscribe_in, has_named}
 use Rattle.broker_core.specs.Performing.{answer_done, answer_kept, commit_done, ending}
 use Rattle.broker_core.specs.Serving.{Decided, Part, served, finished, confirmed, closing_if, is_last, reached}
-use Rattle.broker_core.specs.Words.{is_destination, mode_of, number_of}
+use Rattle.broker_core.specs.Words.{is_destination, mode_of}
 use Rattle.broker_core.specs.declared.fault.FrameRefusal.{FrameRefusal}
 use Rattle.broker_core.specs.declared.fault.FrameRefusal.TheVariants.{NoTransaction, SubscriptionExists, TooMany}
 use Rattle.broker_laws.specs.Deeds.{BrokerDeed, Brings, Acknowledges, Returns, answering, asked_of, done_in}

@@ -9,7 +9,7 @@ use Rattle.broker_book.specs.declared.parts.Sent.{Sent}
 use Rattle.broker_core.specs.Calls.{empty}
 use Rattle.broker_core.specs.Performing.{sent_of}
 use Rattle.broker_core.specs.Serving.{Decided, Server}
-use Rattle.broker_core.specs.Words.{number_of}
+use Rattle.text.specs.Numerals.{number_of}
 use Rattle.broker_laws.specs.Lives.{BrokerCall, Opened, FedTo, Dispatched, TakenFrom, Dropped, Named, Told, Does, Lives, accepted_in}
 use Rattle.broker_laws.specs.Lives.{dealt_in, frames_feeding}
 

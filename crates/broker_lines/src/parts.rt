@@ -1,8 +1,8 @@
 //! Answers of several parts, with `; ` between them.
 
 use broker_book::Accepted;
-use line_script::push_octets;
 use std::alloc::{AllocError, Global};
+use text::push_octets;
 
 /// Appends a part.
 pub fn push_part(text: &mut String, part: &str) -> Result<(), AllocError> {

@@ -5,6 +5,7 @@ use Rattle.std.proofs.lemmas.Bool.{ltb-true}
 use Rattle.std.specs.Prelude.{◌^◌, ◌-◌, ◌==◌, not, nat_lt, map}
 use Rattle.std.specs.List.{AllByRecursion, find, count_by}
 use Rattle.base.specs.declared.limits.TheConstants.{MAX_ACTIONS, MAX_SUBSCRIPTIONS, MAX_TRANSACTIONS}
+use Rattle.text.specs.Numerals.{number_of}
 use Rattle.broker_book.specs.Books.{Book, Fate, QueuedMessage, is_for, out_of, out_to}
 use Rattle.broker_book.specs.Steps.{ready_if, put_of, with_message, acked, nacked, ack_of, nack_of, act_of, then_all, apply_of, released}
 use Rattle.broker_book.specs.Steps.{ended}
@@ -28,7 +29,7 @@ use Rattle.broker_core.specs.Performing.{Reach, performed, in_book, in_transacti
 use Rattle.broker_core.specs.Performing.{subscription_count}
 use Rattle.broker_core.specs.Performing.{subscribe_in, unsubscribe_done, answer_now, unanswered_number, answer_kept, answer_done, without}
 use Rattle.broker_core.specs.Performing.{ending, commit_done}
-use Rattle.broker_core.specs.Words.{is_destination, mode_of, number_of}
+use Rattle.broker_core.specs.Words.{is_destination, mode_of}
 use Rattle.broker_core.specs.declared.fault.FrameRefusal.{FrameRefusal}
 use Rattle.broker_texts.specs.Fitting.{SentFits, MessageFits, AcceptedFits, BookFits, ActionFits, TransactionFits}
 use Rattle.broker_texts.proofs.Lists.{all_weaker, all_map, all_kept, all_found, all_changed}

@@ -5,13 +5,13 @@ use Rattle.std.specs.Prelude.{IsOk}
 use Rattle.std.specs.List.{AllByRecursion, Contains}
 use Rattle.std.proofs.lemmas.List.{append-nil}
 use Rattle.std.proofs.lemmas.List.Elements.{Contains-append_left, Contains-push}
+use Rattle.text.proofs.Digits.{number_read}
 use Rattle.receipts.specs.Books.{ReceiptBook, closed as closing_number, opened as opening}
 use Rattle.stomp_frame.specs.declared.command.Command.{Command}
 use Rattle.stomp_frame.specs.declared.command.Command.TheVariants as command
 use Rattle.stomp_frame.specs.Frames.{Content, Header, value_of}
 use Rattle.stomp_session.proofs.Owning.{all_append}
 use Rattle.stomp_session.specs.Replies.{receipt_frame, receipt_told}
-use Rattle.stomp_client.proofs.Numerals.{read_again}
 use Rattle.stomp_client.specs.Accepting.{Accepts, Tells, is_open, receipt_number}
 use Rattle.stomp_client.specs.Clients.{Client}
 use Rattle.stomp_client.specs.Frames.{connect_frame, with_receipt}
@@ -136,7 +136,7 @@ module _ (T : Type 0) where
       let n = next_numeral 0 book.last h.told (receipts_in read) v.0 t.0 (subst (AreNumerals 0 book.last) t.1 h.asked) h.numbers in
       let is : f ≡ receipt_frame (decimal (h.told + 1)) = v.1 ∙ ap receipt_frame n.0 in
       record {
-        number = ap receipt_number is ∙ read_again (h.told + 1) (omega (arith, n.1, h.small));
+        number = ap receipt_number is ∙ number_read (h.told + 1) (omega (arith, n.1, h.small));
         value = ap (λ (g : Content). receipts_in (g ∷ [])) is;
         low = n.1;
       }

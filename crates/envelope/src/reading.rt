@@ -2,15 +2,14 @@
 
 ghost use Rattle.std.specs.Prelude.{◌≡◌, codes, option_and_then};
 ghost use Rattle.stomp_frame.specs.Frames.{value_of};
-ghost use Rattle.envelope.specs.Reading.{read_entity, read_number, read_content, read_envelope, read_frame, IsAnswer};
-ghost use Rattle.envelope.specs.Reading.{IsReading};
+ghost use Rattle.envelope.specs.Reading.{read_entity, read_number, read_content, read_envelope, read_frame, IsAnswer, IsReading};
 
 use crate::{Envelope, EnvelopeFault, Letter, Message};
 use base::limits::MAX_BODY;
 use base::{Entity, Number, Pair};
-use itoa::Buffer;
 use std::alloc::Global;
 use stomp_frame::{Command, Frame};
+use text::read_number;
 
 /// The entity that the first header of a name tells.
 fn entity_in(alloc: Global, frame: &Frame<MAX_BODY>, name: &str) -> Result<Entity, EnvelopeFault>
@@ -24,14 +23,8 @@ fn entity_in(alloc: Global, frame: &Frame<MAX_BODY>, name: &str) -> Result<Entit
 fn number_of(text: &str) -> Option<Number>
     ensures { result ≡ read_number text.now }
 {
-    let number = Number::new(text.parse::<u64>().ok()?)?;
-    // `parse` also takes a sign and leading zeros: written again, they differ from what was read.
-    let mut digits = Buffer::new();
-    if digits.format(number.get()) == text {
-        Some(number)
-    } else {
-        None
-    }
+    let number = read_number(text)?;
+    Number::new(number)
 }
 
 /// The letter or the settle of a word, a pair, a number and a body.
@@ -70,9 +63,8 @@ fn envelope_in(alloc: Global, frame: &Frame<MAX_BODY>) -> Result<Envelope, Envel
     content_of(alloc, kind, Pair { from, to }, number, frame.body())
 }
 
-/// The envelope that a MESSAGE carries (STOMP 1.2, section "MESSAGE"): the first values of `kind`, `from`, `to` and
-/// `number` and the body must be those that `to_send` writes for it. Other headers, as those that a broker adds, aren't
-/// looked at.
+/// The envelope that a MESSAGE carries (STOMP 1.2, section "MESSAGE"): the first values of `kind`, `from`, `to` and `number` and the
+/// body must be those that `to_send` writes for it. Other headers, as those that a broker adds, aren't looked at.
 ///
 /// # Errors
 /// `BadEnvelope` where the frame is no MESSAGE, or these are no envelope's; else `Memory` where a growth was refused.

@@ -1,2 +1,1 @@
-pub mod Escapes
 mod Examples

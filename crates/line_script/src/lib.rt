@@ -4,8 +4,8 @@
 //! answer: what its call gives, or the text of its fault. So the answer to a line of the input stands at the same line of the output.
 //! Where a growth is refused the program ends there with status 3.
 //!
-//! A program has a type that implements `Script`, and its `main` hands one to `run`. Octets that no line can hold are written with
-//! escapes, and what is printed of octets is read back as they were:
+//! A program has a type that implements `Script`, and its `main` hands one to `run`. Octets that no line can hold are written with the
+//! escapes of `text`, and what is printed of octets is read back as they were:
 //!
 //! ```rust
 //! pub fn printed_octets_are_read(alloc: Global) -> Result<bool, WordFault> {
@@ -18,13 +18,11 @@
 #![tactic(auto)]
 
 mod fault;
-mod laws;
 mod octets;
 mod script;
 mod words;
 
 pub use fault::WordFault;
-pub use laws::printed_octets_are_read_back;
-pub use octets::{push_octets, read_octets, read_text};
+pub use octets::{read_octets, read_text};
 pub use script::{Fault, Script, answer_line, run};
 pub use words::{first_word, natural, size};

@@ -12,19 +12,28 @@ use broker_queues::Queues;
 use broker_server::Stop;
 use broker_texts::each_message_was_sent;
 use broker_tx::{TransactionFault, Transactions};
-use line_script::{WordFault, push_octets, read_octets};
+use line_script::{WordFault, read_octets};
 use receipts::{ReceiptFault, Receipts};
 use std::alloc::Global;
 use stomp_client::{ClientFault, ClientSession};
 use stomp_frame::{Command, Decoder, Frame, FrameFault};
 use stomp_session::{Headers, Octets, ServerSession, Text};
 use stomp_wire::{Link, LinkFault, MemoryWire, Way, pump_out};
+use text::{push_octets, read_number, unescape};
 
 pub fn an_entity_is_named_again(alloc: Global) -> Result<bool, EntityFault> {
     let key = Key::read(alloc, "o1")?;
     let order = Entity::new(alloc, Kind::Order, &key)?;
     let again = Entity::read(alloc, "order/o1")?;
     Ok(again == order)
+}
+
+pub fn a_line_is_read_again(alloc: Global) -> Result<bool, AllocError> {
+    let mut line = String::new(alloc);
+    push_octets(&mut line, b"7\n")?;
+    let octets = unescape(alloc, &line)?;
+    let is_same = octets.is_some_and(|octets| octets.as_slice() == b"7\n".as_slice());
+    Ok(is_same && line.as_str() == "7\\n" && read_number("07").is_none())
 }
 
 pub fn what_was_put_is_taken(alloc: Global) -> Result<Vec<u8>, LinkFault> {

@@ -6,10 +6,11 @@ mod examples;
 use anyhow::Result;
 use examples::{
     a_broker_answers_connect, a_client_asks_to_connect, a_frame_before_connect_is_refused,
-    a_frame_is_read_from_pieces, a_message_is_accepted, a_receipt_is_closed_once,
-    a_server_is_asked_to_end, a_transaction_keeps_its_actions, an_entity_is_named_again,
-    an_idle_destination_is_closed, answers_reach_back_in_mode_client, printed_octets_are_read,
-    what_a_client_reads_was_sent, what_wants_an_ack_stays_until_it_comes, what_was_put_is_taken,
+    a_frame_is_read_from_pieces, a_line_is_read_again, a_message_is_accepted,
+    a_receipt_is_closed_once, a_server_is_asked_to_end, a_transaction_keeps_its_actions,
+    an_entity_is_named_again, an_idle_destination_is_closed, answers_reach_back_in_mode_client,
+    printed_octets_are_read, what_a_client_reads_was_sent, what_wants_an_ack_stays_until_it_comes,
+    what_was_put_is_taken,
 };
 use std::alloc::Global;
 use std::error::Error;
@@ -34,6 +35,7 @@ fn tell<T: Debug + Drop, E: Error>(
 /// What is told, and the frames that carry it.
 fn print_frames(rt: &impl Print, alloc: Global) -> Result<()> {
     tell(rt, "base", an_entity_is_named_again(alloc))?;
+    tell(rt, "text", a_line_is_read_again(alloc))?;
     tell(rt, "stomp_wire", what_was_put_is_taken(alloc))?;
     tell(rt, "line_script", printed_octets_are_read(alloc))?;
     tell(rt, "stomp_frame", a_frame_is_read_from_pieces(alloc))

@@ -4,7 +4,7 @@ use crate::fault::LineFault;
 use crate::service::{Service, call_service, new_service};
 use crate::show::{fault_named, push_drained, push_event, push_sent, push_taken};
 use base::limits::MAX_BODY;
-use line_script::{Script, first_word, push_octets, read_octets, size};
+use line_script::{Script, first_word, read_octets, size};
 use reception::{drain, take_frame};
 use relay::Relay;
 use std::alloc::Global;
@@ -12,6 +12,7 @@ use std::io;
 use std::io::Write;
 use stomp_client::ClientSession;
 use stomp_frame::{Decoder, Frame};
+use text::push_octets;
 
 /// A service, a client's session, and the relay between them.
 #[derive(Drop)]

@@ -1,22 +1,16 @@
 -- What is printed is read again.
-use Rattle.std.proofs.Common.{◌≡◌, ℕ, zero, suc, ◌<◌, ◌^◌, List, [], ◌∷◌, ◌++◌, length, get_or, Bool, true, false, ◌&&◌, not, eqb, ltb}
-use Rattle.std.proofs.Common.{refl, sym, ap, subst, ◌∙◌, append_assoc, arith, Some, inl, inr, decimal}
+use Rattle.std.proofs.Common.{◌≡◌, ℕ, ◌<◌, List, [], ◌∷◌, ◌++◌, length, false, eqb}
+use Rattle.std.proofs.Common.{refl, sym, ap, subst, ◌∙◌, append_assoc, arith, Some, inl, inr}
 use Rattle.std.specs.List.{All, AllByRecursion as ByRecursion, flat_map}
 use Rattle.std.specs.Option.{option_map}
-use Rattle.std.specs.Str.Parse.{digits_value}
-use Rattle.std.proofs.lemmas.Bool.{cases_Bool, eqb-true, eqb-false, ltb-true, lt-ltb, ne_eqb}
-use Rattle.std.proofs.lemmas.Option.{cond_some}
+use Rattle.std.proofs.lemmas.Bool.{cases_Bool, eqb-true}
 use Rattle.std.proofs.lemmas.List.{append-nil}
 use Rattle.std.proofs.lemmas.List.Concat.{flat_map-cons}
 use Rattle.std.proofs.lemmas.List.Elements.{recursion_from_All, All-from_recursion}
-use Rattle.std.proofs.lemmas.Fmt.{digits_decimal, digits_value-decimal, decimal_nonempty, first_decimal, decimal_digit}
-use Rattle.std.proofs.lemmas.Fmt.{decimal-digits_value}
 use Rattle.schedules.specs.Words.{spelled, escaped, unescaped, word_of}
-use Rattle.schedules.specs.Numbers.{numeral_value, has_leading_zero}
 use Rattle.schedules.specs.Cuts.{Lacks}
 use Rattle.schedules.specs.Lines.{lines_of, ended}
 use Rattle.schedules.proofs.Cuts.{Lacks-cons, lines_at, lines_none, unescaped_octet, unescaped_escape}
-use Rattle.schedules.proofs.Numerals.{own, both_true}
 
 -- written lines, and what stands behind them
 lines_again : (lines : List (List ℕ)) (more : List ℕ) → ByRecursion (Lacks 10) lines
@@ -135,51 +129,3 @@ word_again [] some = absurd (omega arith)
 word_again (o ∷ os) some =
     ap word_of (flat_map-cons spelled o os) ∙ some_spelled o (flat_map spelled os) ∙ sym (ap unescaped (flat_map-cons spelled o os))
     ∙ unescaped_escaped (o ∷ os)
-
--- a number's digits have no leading zero
-leads : (n : ℕ) → n < 2 ^ 64 → has_leading_zero (decimal n) ≡ false
-leads zero small = rw (decimal_digit 0 (omega arith)) refl
-leads (suc n) small =
-    let first : 48 < get_or (decimal (suc n)) 0 0 = first_decimal (suc n) (omega arith) small in
-    both_false _ _ (eqb_above _ first)
-  where
-    both_false : (a b : Bool) → b ≡ false → (a && b) ≡ false
-    both_false true b e = e
-    both_false false b e = refl
-
-    eqb_above : (x : ℕ) → 48 < x → eqb x 48 ≡ false
-    eqb_above x above = ne_eqb x 48 (λ same. omega arith)
-
-pub number_read : (n : ℕ) → n < 2 ^ 64 → numeral_value (decimal n) ≡ Some n
-number_read n small =
-    let digits = digits_decimal own n small in
-    let some : eqb (length (decimal n)) 0 ≡ false = ne_eqb _ _ (λ none. omega (arith, decimal_nonempty n small)) in
-    let value = digits_value-decimal own n small in
-    let fits : ltb (digits_value 10 (decimal n)) (2 ^ 64) ≡ true = lt-ltb _ _ (rw value small) in
-    rw (digits, some, leads n small, fits) (ap Some value)
-
-pub number_only : (word : List ℕ) (n : ℕ) → numeral_value word ≡ Some n → decimal n ≡ word
-number_only word n read =
-    let found = cond_some _ _ _ read in
-    let fits = both_true _ _ found.0 in
-    let outer = both_true _ _ fits.0 in
-    let inner = both_true _ _ outer.0 in
-    let small : digits_value 10 word < 2 ^ 64 = ltb-true _ _ fits.1 in
-    let some : 0 < length word = grind (arith, inner.1) in
-    rw (← found.1) (decimal-digits_value own word inner.0 some (alone word some (of_not _ outer.1)) small)
-  where
-    second_false : (a b : Bool) → a ≡ true → (a && b) ≡ false → b ≡ false
-    second_false true b is both = both
-    second_false false b is both = absurd cc
-
-    of_not : (b : Bool) → not b ≡ true → b ≡ false
-    of_not true e = cc
-    of_not false e = refl
-
-    alone : (word : List ℕ) → 0 < length word → has_leading_zero word ≡ false → get_or word 0 0 ≡ 48 → length word ≡ 1
-    alone (o ∷ []) some no_lead zero_first = refl
-    alone (o ∷ p ∷ os) some no_lead zero_first =
-        let long : ltb 1 (length (o ∷ p ∷ os)) ≡ true = lt-ltb 1 (length (o ∷ p ∷ os)) (omega arith) in
-        let other : eqb o 48 ≡ false = second_false _ _ long no_lead in
-        absurd (eqb-false o 48 other zero_first)
-    alone [] some no_lead zero_first = absurd (omega arith)

@@ -21,7 +21,7 @@ use Rattle.schedules.specs.declared.event.ServiceName.TheVariants.{Purchasing, W
 use Rattle.schedules.specs.Events.{event_of, events_of}
 use Rattle.schedules.specs.Schedules.{found_in, found_on, is_faulty, events_on}
 use Rattle.schedules.specs.Lines.{lines_of, ended}
-use Rattle.schedules.specs.Numbers.{numeral_value, seat_number, ordinal_number, rounds_number}
+use Rattle.schedules.specs.Numbers.{seat_number, ordinal_number, rounds_number}
 use Rattle.schedules.specs.Words.{unescaped, word_of, words_of, escaped}
 
 -- the last line may lack its LF, and an empty line is one where LF ends it
@@ -53,13 +53,6 @@ single_spaces_separate : (words_of (codes "show order/a\\sb") ≡ Some (codes "s
     × (words_of (codes "a  b") ≡ None)
     × (words_of (codes " a") ≡ None) × (words_of (codes "a ") ≡ None)
 single_spaces_separate = (refl, refl, refl, refl)
-
--- a number is at most 2^64 - 1, without leading zeros or a sign
-numbers_are_read : (numeral_value (codes "0") ≡ Some 0) × (numeral_value (codes "18446744073709551615") ≡ Some 18446744073709551615)
-    × (numeral_value (codes "18446744073709551616") ≡ None)
-    × (numeral_value (codes "007") ≡ None) × (numeral_value (codes "00") ≡ None) × (numeral_value (codes "+1") ≡ None)
-    × (numeral_value [] ≡ None)
-numbers_are_read = (refl, refl, refl, refl, refl, refl, refl)
 
 -- seats are 0 to 15
 seats_are_sixteen : (seat_number 15 ≡ Some 15) × (seat_number 16 ≡ None)

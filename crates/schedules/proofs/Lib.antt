@@ -2,7 +2,6 @@ pub mod Cuts
 pub mod Joins
 pub mod Pairs
 pub mod Steps
-pub mod Numerals
 pub mod Named
 pub mod Faulty
 pub mod Utf8

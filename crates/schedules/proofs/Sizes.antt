@@ -1,5 +1,5 @@
 -- How long the line of an event is.
-use Rattle.std.proofs.Common.{◌≡◌, ◌⊎◌, ◌<◌, ◌≤◌, ◌+◌, ◌*◌, ◌^◌, ℕ, suc, List, [], ◌∷◌, length, drop, Bool, true, false, ◌||◌, cond, eqb}
+use Rattle.std.proofs.Common.{◌≡◌, ◌⊎◌, ◌<◌, ◌≤◌, ◌+◌, ◌*◌, ℕ, suc, List, [], ◌∷◌, length, drop, Bool, true, false, ◌||◌, cond, eqb}
 use Rattle.std.proofs.Common.{nat_eq, ltb, leb, refl, sym, ap, subst, ◌∙◌, arith, Option, Some, None, inl, inr, count_by}
 use Rattle.std.specs.Prelude.{codes}
 use Rattle.std.specs.List.{slice_split, onto_first, starts_with, list_all}
@@ -12,6 +12,8 @@ use Rattle.std.proofs.lemmas.Option.{cond_some}
 use Rattle.std.proofs.lemmas.Fmt.{length-decimal-le}
 use Rattle.std.proofs.lemmas.List.{length-drop}
 use Rattle.std.proofs.lemmas.List.Splits.{length-slice_split}
+use Rattle.text.specs.Numerals.{number_of}
+use Rattle.text.proofs.Digits.{both_true, number_only, number_small}
 use Rattle.base.specs.Entity.{Name, is_key, prefix_of, order_of, stock_of, account_of}
 use Rattle.base.specs.declared.entity.Kind.TheVariants.{Order, Stock, Account}
 use Rattle.base.specs.declared.pair.Pair.{Pair}
@@ -34,15 +36,13 @@ use Rattle.stomp_wire.specs.declared.wire.Way.TheVariants.{Up, Down}
 use Rattle.schedules.specs.declared.verb.Verb.{Verb}
 use Rattle.schedules.specs.declared.verb.Verb.TheVariants as verb
 use Rattle.schedules.specs.Words.{◌>>=◌, meant_by, octet_then, unescaped, word_of, words_in, words_of}
-use Rattle.schedules.specs.Numbers.{numeral_value, seat_number, ordinal_number, rounds_number}
+use Rattle.schedules.specs.Numbers.{seat_number, ordinal_number, rounds_number}
 use Rattle.schedules.specs.Arguments.{seat_of, ordinal_of, rounds_of, key_of, named, entity_of, service_of, connection_number}
 use Rattle.schedules.specs.Arguments.{way_of, leaves_of}
 use Rattle.schedules.specs.Commands.{item_of, pairs_of, placing_of, place_of, cancel_of, receive_of, limit_of}
 use Rattle.schedules.specs.Verbs.{verbs, verb_of}
 use Rattle.schedules.specs.Events.{alone, connection_of, fill_of, carry_of, fail_of, stopped_of, pair_of, agreement_of, event_by, event_of}
 use Rattle.schedules.specs.Schedules.{Language, is_quiet, found_on}
-use Rattle.schedules.proofs.Numerals.{both_true}
-use Rattle.schedules.proofs.Again.{number_only}
 
 -- ---- where a value comes from
 
@@ -135,14 +135,12 @@ words_size (part ∷ parts) words e = words_more part parts words (words_size pa
 
 -- ---- the words of events
 
-number_size : (word : List ℕ) (n : ℕ) → numeral_value word ≡ Some n → length word ≤ 20
+number_size : (word : List ℕ) (n : ℕ) → number_of word ≡ Some n → length word ≤ 20
 number_size word n e =
-    let found = cond_some _ _ _ e in
-    let small : n < 2 ^ 64 = rw (← found.1) (ltb-true _ _ (both_true _ _ found.0).1) in
-    rw (← number_only word n e) (length-decimal-le 20 n (omega arith) (omega arith) small)
+    rw (← number_only word n e) (length-decimal-le 20 n (omega arith) (omega arith) (number_small word n e))
 
 seat_size : (word : List ℕ) (seat : ℕ) → seat_of word ≡ Some seat → length word ≤ 20
-seat_size word seat e = let number = bound (numeral_value word) seat_number seat e in number_size word number.0 number.1
+seat_size word seat e = let number = bound (number_of word) seat_number seat e in number_size word number.0 number.1
 
 is_key_size : (key : List ℕ) → is_key key ≡ true → length key ≤ 64
 is_key_size key e = grind (arith, e)
@@ -190,7 +188,7 @@ item_size [] item e = absurd cc
 item_size (stock ∷ []) item e = absurd cc
 item_size (stock ∷ n ∷ []) item e =
     let first = bound (key_of stock) _ item e in
-    let second = bound (numeral_value n) _ item first.2 in
+    let second = bound (number_of n) _ item first.2 in
     (omega (arith, key_size stock first.0 first.1, number_size n second.0 second.1), omega arith)
 item_size (stock ∷ n ∷ more ∷ rest) item e = absurd cc
 
@@ -200,7 +198,7 @@ pairs_size [] command e = absurd cc
 pairs_size (a ∷ []) command e = absurd cc
 pairs_size (account ∷ amount ∷ []) command e =
     let first = bound (key_of account) _ command e in
-    let second = bound (numeral_value amount) _ command first.2 in
+    let second = bound (number_of amount) _ command first.2 in
     omega (arith, key_size account first.0 first.1, number_size amount second.0 second.1)
 pairs_size (stock ∷ n ∷ other ∷ words) command e =
     let first = bound (item_of (stock ∷ n ∷ [])) _ command e in
@@ -240,7 +238,7 @@ receive_size (seat ∷ key ∷ []) asked e = absurd cc
 receive_size (seat ∷ key ∷ n ∷ []) asked e =
     let first = bound (seat_of seat) _ asked e in
     let second = bound (key_of key) _ asked first.2 in
-    let third = bound (numeral_value n) _ asked second.2 in
+    let third = bound (number_of n) _ asked second.2 in
     (omega (arith, seat_size seat first.0 first.1, key_size key second.0 second.1, number_size n third.0 third.1), omega arith)
 receive_size (seat ∷ key ∷ n ∷ more ∷ rest) asked e = absurd cc
 
@@ -251,7 +249,7 @@ limit_size (seat ∷ key ∷ []) asked e = absurd cc
 limit_size (seat ∷ key ∷ n ∷ []) asked e =
     let first = bound (seat_of seat) _ asked e in
     let second = bound (key_of key) _ asked first.2 in
-    let third = bound (numeral_value n) _ asked second.2 in
+    let third = bound (number_of n) _ asked second.2 in
     (omega (arith, seat_size seat first.0 first.1, key_size key second.0 second.1, number_size n third.0 third.1), omega arith)
 limit_size (seat ∷ key ∷ n ∷ more ∷ rest) asked e = absurd cc
 
@@ -306,11 +304,11 @@ leaves_size word leaves e = elim (of_two_words (bytes_eq word (codes "old")) (by
 
 ordinal_size : (word : List ℕ) (place : ℕ) → ordinal_of word ≡ Some place → length word ≤ 72
 ordinal_size word place e =
-    let number = bound (numeral_value word) ordinal_number place e in omega (arith, number_size word number.0 number.1)
+    let number = bound (number_of word) ordinal_number place e in omega (arith, number_size word number.0 number.1)
 
 rounds_size : (word : List ℕ) (rounds : ℕ) → rounds_of word ≡ Some rounds → length word ≤ 72
 rounds_size word rounds e =
-    let number = bound (numeral_value word) rounds_number rounds e in omega (arith, number_size word number.0 number.1)
+    let number = bound (number_of word) rounds_number rounds e in omega (arith, number_size word number.0 number.1)
 
 any_service_size : (word : List ℕ) (service : ServiceName) → service_of word ≡ Some service → length word ≤ 72
 any_service_size word service e = omega (arith, service_size word service e)
@@ -350,7 +348,7 @@ fill_size (service ∷ []) event e = absurd cc
 fill_size (service ∷ number ∷ []) event e = absurd cc
 fill_size (service ∷ number ∷ limit ∷ []) event e =
     let first = bound (connection_of (service ∷ number ∷ [])) _ event e in
-    let second = bound (numeral_value limit) _ event first.2 in
+    let second = bound (number_of limit) _ event first.2 in
     let few : AreWithin (service ∷ number ∷ []) 24 2 = connection_size (service ∷ number ∷ []) first.0 first.1 in
     (omega (arith, few.0, number_size limit second.0 second.1), omega arith)
 fill_size (service ∷ number ∷ limit ∷ more ∷ rest) event e = absurd cc
@@ -363,7 +361,7 @@ carry_size (service ∷ number ∷ way ∷ []) event e = absurd cc
 carry_size (service ∷ number ∷ way ∷ most ∷ []) event e =
     let first = bound (connection_of (service ∷ number ∷ [])) _ event e in
     let second = bound (way_of way) _ event first.2 in
-    let third = bound (numeral_value most) _ event second.2 in
+    let third = bound (number_of most) _ event second.2 in
     let few : AreWithin (service ∷ number ∷ []) 24 2 = connection_size (service ∷ number ∷ []) first.0 first.1 in
     (omega (arith, few.0, way_size way second.0 second.1, number_size most third.0 third.1), omega arith)
 carry_size (service ∷ number ∷ way ∷ most ∷ more ∷ rest) event e = absurd cc

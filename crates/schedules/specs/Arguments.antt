@@ -3,6 +3,7 @@ use Rattle.std.specs.Prelude.{ℕ, nat_eq, List, codes, drop, length, Option, So
 use Rattle.std.specs.List.{starts_with}
 use Rattle.std.specs.Option.{option_map}
 use Rattle.std.specs.Str.{bytes_eq}
+use Rattle.text.specs.Numerals.{number_of}
 use Rattle.base.specs.Entity.{Name, order_of, stock_of, account_of, is_key, prefix_of}
 use Rattle.base.specs.declared.entity.Kind.TheVariants.{Order, Stock, Account}
 use Rattle.schedules.specs.declared.event.ServiceName.{ServiceName}
@@ -14,19 +15,19 @@ use Rattle.schedules.specs.declared.event.FailureLeaves.TheVariants.{Old, New}
 use Rattle.stomp_wire.specs.declared.wire.Way.{Way}
 use Rattle.stomp_wire.specs.declared.wire.Way.TheVariants.{Up, Down}
 use Rattle.schedules.specs.Words.{◌>>=◌}
-use Rattle.schedules.specs.Numbers.{numeral_value, seat_number, ordinal_number, rounds_number}
+use Rattle.schedules.specs.Numbers.{seat_number, ordinal_number, rounds_number}
 
 -- the seat that a word is
 abbrev pub seat_of : List ℕ → Option ℕ
-seat_of word = numeral_value word >>= seat_number
+seat_of word = number_of word >>= seat_number
 
 -- the place that a word is
 abbrev pub ordinal_of : List ℕ → Option ℕ
-ordinal_of word = numeral_value word >>= ordinal_number
+ordinal_of word = number_of word >>= ordinal_number
 
 -- the number of rounds that a word is
 abbrev pub rounds_of : List ℕ → Option ℕ
-rounds_of word = numeral_value word >>= rounds_number
+rounds_of word = number_of word >>= rounds_number
 
 -- the key that a word is
 abbrev pub key_of : List ℕ → Option (List ℕ)

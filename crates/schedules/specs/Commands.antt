@@ -1,5 +1,6 @@
 -- The commands of seats, as words say them.
 use Rattle.std.specs.Prelude.{ℕ, nat_le, List, [], ◌∷◌, ◌++◌, length, Option, Some, None, if◌then◌else◌}
+use Rattle.text.specs.Numerals.{number_of}
 use Rattle.base.specs.Entity.{order_of, stock_of, account_of}
 use Rattle.trade.specs.declared.commands.OrderCommand.{OrderCommand}
 use Rattle.trade.specs.declared.commands.OrderCommand.TheVariants.{Place, CancelOrder}
@@ -11,14 +12,13 @@ use Rattle.trade.specs.declared.items.Item.{Item}
 use Rattle.trade.specs.Items.{item}
 use Rattle.schedules.specs.declared.event.SeatCommand.{SeatCommand}
 use Rattle.schedules.specs.Arguments.{seat_of, key_of}
-use Rattle.schedules.specs.Numbers.{numeral_value}
 use Rattle.schedules.specs.Words.{◌>>=◌}
 
 -- STOCK N
 abbrev pub item_of : List (List ℕ) → Option Item
 item_of (stock ∷ n ∷ []) = do
   stock ← key_of stock
-  n ← numeral_value n
+  n ← number_of n
   Some (item stock n)
 item_of _ = None
 
@@ -31,7 +31,7 @@ asked_first items CancelOrder = CancelOrder
 abbrev pub pairs_of : List (List ℕ) → Option OrderCommand
 pairs_of (account ∷ amount ∷ []) = do
   account ← key_of account
-  amount ← numeral_value amount
+  amount ← number_of amount
   Some (Place [] account amount)
 pairs_of (stock ∷ n ∷ words) = do
   item ← item_of (stock ∷ n ∷ [])
@@ -65,7 +65,7 @@ abbrev pub receive_of : List (List ℕ) → Option (SeatCommand StockCommand)
 receive_of (seat ∷ key ∷ n ∷ []) = do
   seat ← seat_of seat
   key ← key_of key
-  n ← numeral_value n
+  n ← number_of n
   Some (record { seat = seat; entity = stock_of key; command = Receive n })
 receive_of _ = None
 
@@ -74,6 +74,6 @@ abbrev pub limit_of : List (List ℕ) → Option (SeatCommand AccountCommand)
 limit_of (seat ∷ key ∷ n ∷ []) = do
   seat ← seat_of seat
   key ← key_of key
-  n ← numeral_value n
+  n ← number_of n
   Some (record { seat = seat; entity = account_of key; command = SetLimit n })
 limit_of _ = None

@@ -2,6 +2,7 @@
 use Rattle.std.specs.Prelude.{ℕ, List, [], ◌∷◌, codes, Option, Some, None, Result, if◌then◌else◌}
 use Rattle.std.specs.Option.{option_map}
 use Rattle.std.specs.Str.{bytes_eq}
+use Rattle.text.specs.Numerals.{number_of}
 use Rattle.base.specs.declared.pair.Pair.{Pair}
 use Rattle.schedules.specs.declared.event.Event.{Event}
 use Rattle.schedules.specs.declared.event.Event.TheVariants as event
@@ -12,7 +13,6 @@ use Rattle.schedules.specs.declared.verb.Verb.TheVariants.{Repeat, Fail, Reopen,
 use Rattle.schedules.specs.declared.verb.Verb.TheVariants as verb
 use Rattle.schedules.specs.Arguments.{entity_of, service_of, connection_number, way_of, leaves_of, ordinal_of, rounds_of}
 use Rattle.schedules.specs.Commands.{place_of, cancel_of, receive_of, limit_of}
-use Rattle.schedules.specs.Numbers.{numeral_value}
 use Rattle.schedules.specs.Schedules.{read_by}
 use Rattle.schedules.specs.Verbs.{verb_of}
 use Rattle.schedules.specs.Words.{◌>>=◌}
@@ -34,7 +34,7 @@ connection_of _ = None
 abbrev pub fill_of : List (List ℕ) → Option Event
 fill_of (service ∷ number ∷ limit ∷ []) = do
   connection ← connection_of (service ∷ number ∷ [])
-  limit ← numeral_value limit
+  limit ← number_of limit
   Some (event.Fill connection limit)
 fill_of _ = None
 
@@ -43,7 +43,7 @@ abbrev pub carry_of : List (List ℕ) → Option Event
 carry_of (service ∷ number ∷ way ∷ most ∷ []) = do
   connection ← connection_of (service ∷ number ∷ [])
   way ← way_of way
-  most ← numeral_value most
+  most ← number_of most
   Some (event.Carry connection way most)
 carry_of _ = None
 

@@ -1,22 +1,22 @@
 //! The arguments of an event: what single words are.
 
 ghost use Rattle.std.specs.Prelude.{◌≡◌};
+ghost use Rattle.text.specs.Numerals.{number_of};
 ghost use Rattle.schedules.specs.Arguments.{seat_of, ordinal_of, rounds_of, key_of, entity_of, service_of, connection_number};
 ghost use Rattle.schedules.specs.Arguments.{way_of, leaves_of};
-ghost use Rattle.schedules.specs.Numbers.{numeral_value};
 ghost use Rattle.schedules.specs.Reading.{Reads};
 
 use crate::bounded::{Ordinal, Rounds, SeatNumber};
 use crate::event::{ConnectionNumber, FailureLeaves, ServiceName};
 use crate::fault::LineFault;
-use crate::numbers::read_number;
 use crate::words::Word;
 use base::{Entity, EntityFault, Key};
 use std::alloc::Global;
 use stomp_wire::Way;
+use text::read_number;
 
 pub(crate) fn number_at(word: &Word) -> Result<u64, LineFault>
-    ensures { Reads (λ n. n) result (numeral_value word.now) }
+    ensures { Reads (λ n. n) result (number_of word.now) }
 {
     read_number(word.as_str()).ok_or(LineFault::Bad)
 }

@@ -1,20 +1,13 @@
-//! What holds of all lines, words and numbers: each law is the contract of a function with nothing to do.
+//! What holds of all lines and words: each law is the contract of a function with nothing to do.
 
-ghost use Rattle.std.specs.Prelude.{◌≡◌, ◌<◌, ◌≤◌, ◌==◌, ◌^◌, ◌∷◌, [], ◌++◌, ℕ, List, All, Some, length, decimal};
+ghost use Rattle.std.specs.Prelude.{◌≡◌, ◌<◌, ◌≤◌, ◌==◌, ◌∷◌, [], ◌++◌, ℕ, List, All, Some, length};
 ghost use Rattle.std.specs.List.{slice_split};
 ghost use Rattle.schedules.specs.declared.event.Event.{Event};
 ghost use Rattle.schedules.specs.Cuts.{Lacks};
 ghost use Rattle.schedules.specs.Events.{event_of};
 ghost use Rattle.schedules.specs.Schedules.{found_on};
 ghost use Rattle.schedules.specs.Lines.{lines_of, ended};
-ghost use Rattle.schedules.specs.Numbers.{numeral_value};
 ghost use Rattle.schedules.specs.Words.{word_of, escaped};
-
-/// A number below 2^64 has one word: its decimal digits. No other word is read as it.
-pub fn a_number_has_one_word()
-    ensures read { (n : ℕ) → n < 2 ^ 64 → numeral_value (decimal n) ≡ Some n }
-    ensures only { (word : List ℕ) (n : ℕ) → numeral_value word ≡ Some n → decimal n ≡ word }
-{}
 
 /// A word that is printed with its escapes is read again.
 pub fn a_printed_word_is_read_again()

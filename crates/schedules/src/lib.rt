@@ -19,7 +19,6 @@ mod commands;
 mod event;
 mod fault;
 mod laws;
-mod numbers;
 mod outcome;
 mod parsing;
 mod reading;
@@ -30,8 +29,7 @@ pub use bounded::{Ordinal, Rounds, SeatNumber};
 pub use event::{ConnectionName, ConnectionNumber, Event, FailureLeaves, SeatCommand, ServiceName};
 pub use fault::ScheduleFault;
 pub use laws::{
-    a_number_has_one_word, a_printed_word_is_read_again, an_event_has_few_words,
-    written_lines_are_read_again,
+    a_printed_word_is_read_again, an_event_has_few_words, written_lines_are_read_again,
 };
 pub use outcome::{Outcome, Told};
 pub use reading::read_schedule;

@@ -21,7 +21,7 @@ use Rattle.activities.specs.declared.phase.Phase.TheVariants as phase
 use Rattle.trade.specs.declared.status.Status.TheVariants as status
 use Rattle.showing.specs.Printed.{shown_order, shown_stock, shown_account, shown_or_none, show_line, pair_line, shown_order_command}
 use Rattle.showing.specs.Printed.{shown_stock_command, shown_account_command, shown_message, journal_line, journal_lines}
-use Rattle.showing.specs.Printed.{hexadecimal_octet, shown_octet, frame_line, frame_lines}
+use Rattle.showing.specs.Printed.{frame_line, frame_lines}
 
 abbrev o1 : Name
 o1 = order_of (codes "o1")
@@ -110,10 +110,3 @@ frames_are_shown : (frame_line request
     × (frame_lines (request ∷ request ∷ []) ≡ frame_line request ++ frame_line request) × (frame_lines [] ≡ [])
 unfolding digits canonical line_of escape
 frames_are_shown = (refl, refl, refl)
-
--- LF, CR and a backslash have letters, 32 to 126 stand as they are, and others are two small hexadecimal digits
-octets_are_shown : (shown_octet 10 ≡ codes "\\n") × (shown_octet 13 ≡ codes "\\r")
-    × (shown_octet 92 ≡ codes "\\\\") × (shown_octet 32 ≡ codes " ") × (shown_octet 126 ≡ codes "~")
-    × (shown_octet 31 ≡ codes "\\x1f") × (shown_octet 127 ≡ codes "\\x7f") × (shown_octet 233 ≡ codes "\\xe9")
-    × (hexadecimal_octet 0 ≡ codes "\\x00") × (hexadecimal_octet 171 ≡ codes "\\xab")
-octets_are_shown = (refl, refl, refl, refl, refl, refl, refl, refl, refl, refl)

@@ -10,18 +10,13 @@ use Rattle.envelope.specs.declared.message.Letter.{Letter}
 use Rattle.activities.specs.declared.input.JournalRow.{JournalRow}
 use Rattle.trade.specs.Orders.{Partner}
 use Rattle.schedules.specs.Words.{spelled}
-use Rattle.showing.specs.Printed.{shown_octet, shown_partner, journal_line, frame_line}
+use Rattle.showing.specs.Printed.{shown_partner, journal_line, frame_line}
 
 -- one item more
 flat_more : {X : Type 0} (f : X → List ℕ) (xs : List X) (i : ℕ) (d : X) → i < length xs
     → flat_map f (take (i + 1) xs) ≡ flat_map f (take i xs) ++ f (get_or xs i d)
 flat_more f xs i d lt = rw (take_more xs i d lt)
     (flat_map-append f (take i xs) (get_or xs i d ∷ []) ∙ ap (λ (x : List ℕ). flat_map f (take i xs) ++ x) (append-nil (f (get_or xs i d))))
-
--- one octet of a frame more
-pub octets_more : (xs : List ℕ) (i : ℕ) → i < length xs
-    → flat_map shown_octet (take (i + 1) xs) ≡ flat_map shown_octet (take i xs) ++ shown_octet (get_or xs i 0)
-octets_more xs i lt = flat_more shown_octet xs i 0 lt
 
 -- one octet of a word more
 pub word_more : (word : List ℕ) (i : ℕ) → i < length word

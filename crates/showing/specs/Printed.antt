@@ -1,8 +1,7 @@
 -- What is printed of rows, marks, journals and frames.
-use Rattle.std.specs.Prelude.{ℕ, ◌/◌, ◌%◌, ◌==◌, ◌&&◌, nat_le, false, List, [], ◌∷◌, ◌++◌, codes, decimal, Option, Some, None}
-use Rattle.std.specs.Prelude.{if◌then◌else◌}
+use Rattle.std.specs.Prelude.{ℕ, List, [], ◌∷◌, ◌++◌, codes, decimal, Option, Some, None}
 use Rattle.std.specs.List.{flat_map, enumerate_from}
-use Rattle.std.specs.Fmt.{digit_glyph}
+use Rattle.text.specs.Escapes.{spelled}
 use Rattle.base.specs.Entity.{Name}
 use Rattle.base.specs.declared.pair.Pair.{Pair}
 use Rattle.envelope.specs.declared.message.Message.{Message}
@@ -101,22 +100,9 @@ journal_line shown pos row = decimal pos ++ codes " " ++ shown_entity row.entity
 abbrev pub journal_lines : {C : Type 0} → (C → List ℕ) → List (JournalRow C) → List ℕ
 journal_lines shown rows = flat_map (λ at. journal_line shown at.0 at.1) (enumerate_from 1 rows)
 
--- two hexadecimal digits
-abbrev pub hexadecimal_octet : ℕ → List ℕ
-hexadecimal_octet o = codes "\\x" ++ digit_glyph false (o / 16) ∷ digit_glyph false (o % 16) ∷ []
-
--- an octet of a frame: two hexadecimal digits where it isn't printable
-abbrev pub shown_octet : ℕ → List ℕ
-shown_octet o =
-    if o == 92 then codes "\\\\" else
-    if o == 10 then codes "\\n" else
-    if o == 13 then codes "\\r" else
-    if nat_le 32 o && nat_le o 126 then o ∷ [] else
-    hexadecimal_octet o
-
--- the line of a letter that is to be sent: the canonical text of its SEND
+-- the line of a letter that is to be sent: the canonical text of its SEND, with escapes
 abbrev pub frame_line : Letter → List ℕ
-frame_line letter = flat_map shown_octet (canonical (send_of (envelope.Letter letter))) ++ 10 ∷ []
+frame_line letter = flat_map spelled (canonical (send_of (envelope.Letter letter))) ++ 10 ∷ []
 
 -- the lines of `frames`
 abbrev pub frame_lines : List Letter → List ℕ

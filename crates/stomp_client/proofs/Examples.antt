@@ -1,13 +1,12 @@
--- Examples: the frames of a client and their texts, numbers in headers, and what was written and read.
+-- Examples: the frames of a client and their texts, and what was written and read.
 use Rattle.std.proofs.Common.{◌≡◌, ℕ, [], ◌∷◌, ◌≤◌, true, false, refl, codes, arith}
-use Rattle.std.specs.Prelude.{◌^◌, ◌-◌, replicate, Some, None, Ok, Err}
+use Rattle.std.specs.Prelude.{replicate, Some, None, Ok, Err}
 use Rattle.std.specs.Fmt.{digits}
 use Rattle.base.specs.declared.limits.TheConstants.{MAX_BODY}
 use Rattle.stomp_frame.specs.declared.command.Command.TheVariants.{Send, Message, Begin, Ack, Nack}
 use Rattle.stomp_frame.specs.Frames.{Content, frame, header, canonical, escape, line_of, IsFrame}
 use Rattle.stomp_client.specs.declared.fault.ClientFault.{ClientFault}
 use Rattle.stomp_client.specs.declared.fault.ClientFault.TheVariants.{Memory}
-use Rattle.stomp_client.specs.Numbers.{number_of}
 use Rattle.stomp_client.specs.Frames.{IsShort, IsPlain, connect_frame, subscribe_frame, disconnect_frame, transaction_frame, in_transaction}
 use Rattle.stomp_client.specs.Frames.{answer_frame, with_receipt, text_or_empty}
 use Rattle.stomp_client.specs.Delivered.{is_whole, IsDelivered}
@@ -80,20 +79,6 @@ destinations_are_short = (
 -- the first of a header's values, and nothing where it has none
 values_are_texts : (text_or_empty None ≡ []) × (text_or_empty (Some (codes "a")) ≡ codes "a")
 values_are_texts = (refl, refl)
-
--- ---- numbers
-
--- a number is written in one way
-numbers_are_written_in_one_way : (number_of (codes "12") ≡ Some 12) × (number_of (codes "0") ≡ Some 0) × (number_of (codes "012") ≡ None)
-    × (number_of (codes "+12") ≡ None)
-    × (number_of [] ≡ None) × (number_of (codes "1a") ≡ None)
-unfolding digits
-numbers_are_written_in_one_way = (refl, refl, refl, refl, refl, refl)
-
--- and has 64 bits
-numbers_are_small : (number_of (codes "18446744073709551615") ≡ Some (2 ^ 64 - 1)) × (number_of (codes "18446744073709551616") ≡ None)
-unfolding digits
-numbers_are_small = (refl, refl)
 
 -- ---- what was written
 

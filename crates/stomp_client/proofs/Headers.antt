@@ -8,7 +8,9 @@ use Rattle.std.specs.Char.{is_ascii_digit}
 use Rattle.std.proofs.lemmas.Bool.{cases_Bool, ltb-true, leb-true, lt-ltb}
 use Rattle.std.proofs.lemmas.Bool.Decides.{nat_tests}
 use Rattle.std.proofs.lemmas.Fmt.{length-decimal-le, digits_decimal}
+use Rattle.std.proofs.lemmas.Slice.Eq.{bytes_eq-Decides}
 use Rattle.std.proofs.lemmas.Str.Parse.{numerals_by_value, tells_all_ascii_digits}
+use Rattle.text.proofs.Digits.{both_true}
 use Rattle.stomp_frame.specs.declared.command.Command.{Command}
 use Rattle.stomp_frame.specs.declared.command.Command.TheVariants.{Message, Connect}
 use Rattle.stomp_frame.specs.declared.fault.FrameFault.TheVariants.{BadLine, LineTooLong, TooManyHeaders}
@@ -18,7 +20,6 @@ use Rattle.stomp_frame.specs.Building.{header_refused}
 use Rattle.stomp_frame.proofs.Escapes.{line_doubles, line_length, owned_alike}
 use Rattle.stomp_client.specs.Frames.{IsShort}
 use Rattle.stomp_client.specs.Parts.Names.{is_name}
-use Rattle.stomp_client.proofs.Numerals.{both_true, same_text}
 
 not_true : (b : Bool) → not b ≡ true → b ≡ false
 not_true true e = absurd cc
@@ -91,7 +92,7 @@ own_step : (c : Command) (name v : List ℕ) (h : Header) (hs : List Header) (b 
     → IsOwn c (header name v)
 own_step c name v h hs true e own others found =
     let its : h.value ≡ v = cc in
-    subst (IsOwn c) (ap (λ (n : List ℕ). header n h.value) (same_text h.name name e) ∙ ap (header name) its) own
+    subst (IsOwn c) (ap (λ (n : List ℕ). header n h.value) ((bytes_eq-Decides h.name name).0 e) ∙ ap (header name) its) own
 own_step c name v h hs false e own others found = others found
 
 -- the first value of a name, as a header of the frame

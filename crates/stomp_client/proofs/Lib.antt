@@ -1,4 +1,3 @@
-pub mod Numerals
 pub mod Headers
 pub mod Writing
 pub mod Serving

@@ -1,6 +1,7 @@
 -- What a server's frame tells a client.
 use Rattle.std.specs.Prelude.{◌≡◌, ℕ, ◌&&◌, Bool, true, false, if◌then◌else◌, is_some, List, codes, Option, Some, None, Result, Ok, Err}
 use Rattle.std.specs.String.{string_bytes}
+use Rattle.text.specs.Numerals.{number_of}
 use Rattle.receipts.specs.Books.{ReceiptBook, open_under}
 use Rattle.stomp_frame.specs.declared.command.Command.{Command}
 use Rattle.stomp_frame.specs.declared.command.Command.TheVariants as command
@@ -11,7 +12,6 @@ use Rattle.stomp_client.specs.declared.session.Stage.{Stage}
 use Rattle.stomp_client.specs.declared.session.Stage.TheVariants.{Connecting, Connected, Closed}
 use Rattle.stomp_client.specs.declared.event.ClientEvent.{ClientEvent}
 use Rattle.stomp_client.specs.declared.event.ClientEvent.TheVariants as event
-use Rattle.stomp_client.specs.Numbers.{number_of}
 use Rattle.stomp_client.specs.Frames.{text_or_empty}
 use Rattle.stomp_client.specs.Delivered.{is_whole, IsDelivered}
 use Rattle.stomp_client.specs.Clients.{Client, connected, receipt_closed, closing}

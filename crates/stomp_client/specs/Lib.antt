@@ -1,5 +1,4 @@
 pub mod Fault
-pub mod Numbers
 pub mod Frames
 pub mod Delivered
 pub mod Clients

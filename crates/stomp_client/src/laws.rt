@@ -1,8 +1,7 @@
 //! What holds of clients over any calls: each law is the contract of a function with nothing to do.
 
-ghost use Rattle.std.specs.Prelude.{◌≡◌, ◌<◌, ◌^◌, ◌++◌, ℕ, List, [], ◌∷◌, Some, Ok, IsOk, true, false};
+ghost use Rattle.std.specs.Prelude.{◌≡◌, ◌++◌, ℕ, List, [], ◌∷◌, Some, Ok, IsOk, true, false};
 ghost use Rattle.std.specs.List.{AllByRecursion};
-ghost use Rattle.std.specs.Fmt.{decimal};
 ghost use Rattle.base.specs.declared.limits.TheConstants.{MAX_BODY};
 ghost use Rattle.stomp_frame.specs.Frames.{Content};
 ghost use Rattle.stomp_frame.specs.Spelling.{NoFrame};
@@ -12,7 +11,6 @@ ghost use Rattle.stomp_frame.specs.Calls.{DecoderCall, Happened, fed, given};
 ghost use Rattle.stomp_wire.specs.Travel.{Travels};
 ghost use Rattle.stomp_session.specs.Requests.{request_of, asked};
 ghost use Rattle.stomp_client.specs.Frames.{connect_frame};
-ghost use Rattle.stomp_client.specs.Numbers.{number_of};
 ghost use Rattle.stomp_client.specs.Served.{answers_of, IsClients};
 ghost use Rattle.stomp_client.specs.Written.{Wrote};
 
@@ -48,11 +46,4 @@ pub fn what_a_client_wrote_is_taken()
     ensures read { (frames : List Content) (gone out received waiting carried : List ℕ) (calls : List DecoderCall) (held : Held)
         → AllByRecursion IsClients frames → Wrote (connect_frame ∷ frames) gone out → Travels gone received (Some waiting) (Some carried)
         → Happened MAX_BODY calls held → fed calls ≡ received → AllByRecursion (λ answer. IsOk answer) (answers_of false (given calls)) }
-{}
-
-/// A number that is written in decimal is read as that number, and no other text is: so the `receipt-id` that answers a `receipt` names
-/// its number.
-pub fn receipt_numbers_are_read()
-    ensures read { (number : ℕ) → number < 2 ^ 64 → number_of (decimal number) ≡ Some number }
-    ensures only { (text : List ℕ) (number : ℕ) → number_of text ≡ Some number → decimal number ≡ text }
 {}

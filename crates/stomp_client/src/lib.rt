@@ -26,14 +26,12 @@ mod event;
 mod fault;
 mod frames;
 mod laws;
-mod numbers;
 mod session;
 
 pub use event::ClientEvent;
 pub use fault::ClientFault;
 pub use frames::{answer_frame, connect_frame, in_transaction, subscribe_frame, transaction_frame};
 pub use laws::{
-    a_new_session_wrote_nothing, receipt_numbers_are_read, what_a_client_wrote_is_read,
-    what_a_client_wrote_is_taken,
+    a_new_session_wrote_nothing, what_a_client_wrote_is_read, what_a_client_wrote_is_taken,
 };
 pub use session::{ClientSession, Stage};

@@ -20,7 +20,6 @@ ghost use Rattle.stomp_client.specs.Accepting.{Accepts, is_closed, receipt_numbe
 use crate::frames::{
     answer_frame, connect_frame, in_transaction, subscribe_frame, transaction_frame, with_number,
 };
-use crate::numbers::read_number;
 use crate::{ClientEvent, ClientFault};
 use base::limits::MAX_BODY;
 use receipts::Receipts;
@@ -28,6 +27,7 @@ use std::alloc::{AllocError, Global};
 use std::marker::Model;
 use stomp_frame::{Command, Frame, Header};
 use stomp_session::Outgoing;
+use text::read_number;
 
 /// How far a session is.
 #[derive(Clone, Copy, Debug, PartialEq, Eq)]
@@ -458,7 +458,7 @@ fn is_whole(frame: &Frame<MAX_BODY>) -> bool
         && frame.get("ack").is_some()
 }
 
-/// The number of a RECEIPT.
+/// The number of a RECEIPT. A number has one text, so this is that of the frame's `receipt` that it answers.
 fn receipt_number(frame: &Frame<MAX_BODY>) -> Option<u64>
     ensures { result ≡ receipt_number frame.now }
 {
