@@ -2,7 +2,8 @@
 
 ghost use Rattle.std.specs.Prelude.{◌≡◌, codes, option_and_then};
 ghost use Rattle.stomp_frame.specs.Frames.{value_of};
-ghost use Rattle.envelope.specs.Reading.{read_entity, read_number, read_content, read_envelope, read_frame, IsAnswer, IsReading};
+ghost use Rattle.envelope.specs.Reading.{read_entity, read_number, read_content, read_envelope, read_frame, IsAnswer};
+ghost use Rattle.envelope.specs.Reading.{IsReading};
 
 use crate::{Envelope, EnvelopeFault, Letter, Message};
 use base::limits::MAX_BODY;
@@ -63,8 +64,9 @@ fn envelope_in(alloc: Global, frame: &Frame<MAX_BODY>) -> Result<Envelope, Envel
     content_of(alloc, kind, Pair { from, to }, number, frame.body())
 }
 
-/// The envelope that a MESSAGE carries (STOMP 1.2, section "MESSAGE"): the first values of `kind`, `from`, `to` and `number` and the
-/// body must be those that `to_send` writes for it. Other headers, as those that a broker adds, aren't looked at.
+/// The envelope that a MESSAGE carries (STOMP 1.2, section "MESSAGE"): the first values of `kind`, `from`, `to` and
+/// `number` and the body must be those that `to_send` writes for it. Other headers, as those that a broker adds, aren't
+/// looked at.
 ///
 /// # Errors
 /// `BadEnvelope` where the frame is no MESSAGE, or these are no envelope's; else `Memory` where a growth was refused.

@@ -1,11 +1,11 @@
 //! What programs share that answer lines: the loop over a script's lines, the words of a line, and octets as text.
 //!
-//! A script is read line by line. A comment, which begins with `#`, and an empty line are printed as they are. Each other line has one
-//! answer: what its call gives, or the text of its fault. So the answer to a line of the input stands at the same line of the output.
-//! Where a growth is refused the program ends there with status 3.
+//! A script is read line by line. A comment, which begins with `#`, and an empty line are printed as they are. Each
+//! other line has one answer: what its call gives, or the text of its fault. So the answer to a line of the input
+//! stands at the same line of the output. Where a growth is refused the program ends there with status 3.
 //!
-//! A program has a type that implements `Script`, and its `main` hands one to `run`. Octets that no line can hold are written with the
-//! escapes of `text`, and what is printed of octets is read back as they were:
+//! A program has a type that implements `Script`, and its `main` hands one to `run`. Octets that no line can hold are
+//! written with the escapes of `text`, and what is printed of octets is read back as they were:
 //!
 //! ```rust
 //! pub fn printed_octets_are_read(alloc: Global) -> Result<bool, WordFault> {

@@ -55,8 +55,8 @@ fn write_line<W: Write>(out: &mut W, text: &str) -> io::Result<()>
     out.write_all(b"\n")
 }
 
-/// Writes the answer to a line, or the text of its fault, and LF. An empty line and a comment are written as they are, and the script
-/// isn't asked.
+/// Writes the answer to a line, or the text of its fault, and LF. An empty line and a comment are written as they are,
+/// and the script isn't asked.
 ///
 /// # Errors
 /// `OutOfMemory` where the script was refused a growth, and those of `out`.
@@ -106,8 +106,8 @@ fn answer_input<R: AllocGlobal + Input + Print, S: Script>(
     answered
 }
 
-/// Runs a script: answers each line of the standard input on the standard output, as `answer_line` does. What was answered is written out
-/// whatever ends it. The status is 0, or 3 where a growth was refused.
+/// Runs a script: answers each line of the standard input on the standard output, as `answer_line` does. What was
+/// answered is written out whatever ends it. The status is 0, or 3 where a growth was refused.
 ///
 /// # Errors
 /// Those of the streams.

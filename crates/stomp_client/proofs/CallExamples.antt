@@ -11,7 +11,8 @@ use Rattle.stomp_client.specs.declared.session.Stage.TheVariants.{Fresh, Connect
 use Rattle.stomp_client.specs.declared.event.ClientEvent.TheVariants as event
 use Rattle.stomp_client.specs.Fault.{client_fault_number}
 use Rattle.stomp_client.specs.Frames.{disconnect_frame}
-use Rattle.stomp_client.specs.Clients.{Client, written, connecting, receipted, counting, begun, appended, without_first, connected, closing}
+use Rattle.stomp_client.specs.Clients.{Client, written, connecting, receipted, counting, begun, appended, without_first}
+use Rattle.stomp_client.specs.Clients.{connected, closing}
 use Rattle.stomp_client.specs.Calls.{unready, unconnectable, or_used, WritesFrame, Connects}
 use Rattle.stomp_client.specs.Accepting.{receipt_number, unaccepted, Accepts}
 
@@ -26,7 +27,8 @@ book = record { last = 3; tags = (2, 20) ∷ [] }
 -- ---- calls that write
 
 -- what refuses a call at each stage
-stages_refuse : (unready Fresh ≡ Some fault.NotConnected) × (unready Connecting ≡ Some fault.NotConnected) × (unready Connected ≡ None)
+stages_refuse : (unready Fresh ≡ Some fault.NotConnected) × (unready Connecting ≡ Some fault.NotConnected)
+    × (unready Connected ≡ None)
     × (unready Closed ≡ Some fault.Closed)
     × (unconnectable Fresh ≡ None) × (unconnectable Connecting ≡ Some fault.AlreadyConnected)
     × (unconnectable Connected ≡ Some fault.AlreadyConnected)
@@ -57,16 +59,20 @@ refusals_change_nothing = (
 )
 
 -- what stays where a frame is written, a transaction begun or counted, octets appended or sent
-changes_are_exact : (written disconnect_frame (client Connected book) ≡ record (client Connected book) { out = canonical disconnect_frame })
-    × (closing (client Connected book) ≡ client Closed book) × (connected (client Connecting book) ≡ client Connected book)
+changes_are_exact : (written disconnect_frame (client Connected book)
+    ≡ record (client Connected book) { out = canonical disconnect_frame })
+    × (closing (client Connected book) ≡ client Closed book)
+    × (connected (client Connecting book) ≡ client Connected book)
     × ((counting (client Connected book)).transactions ≡ 5) × ((begun (client Connected book)).transactions ≡ 5)
     × (appended (codes "ab") (client Closed book) ≡ record (client Closed book) { out = codes "ab" })
-    × (without_first 1 (record (client Closed book) { out = codes "ab" }) ≡ record (client Closed book) { out = codes "b" })
+    × (without_first 1 (record (client Closed book) { out = codes "ab" })
+    ≡ record (client Closed book) { out = codes "b" })
     × ((connecting (client Fresh book)).stage ≡ Connecting)
 changes_are_exact = (refl, refl, refl, refl, refl, refl, refl, refl)
 
 -- a SEND with a receipt opens its number for the tag
-receipts_are_opened : (receipted disconnect_frame 30 (client Connected book)).receipts ≡ record { last = 4; tags = (2, 20) ∷ (4, 30) ∷ [] }
+receipts_are_opened : (receipted disconnect_frame 30 (client Connected book)).receipts
+    ≡ record { last = 4; tags = (2, 20) ∷ (4, 30) ∷ [] }
 unfolding book
 receipts_are_opened = refl
 
@@ -96,7 +102,8 @@ unfolding book digits
 receipts_are_told = (refl, refl, refl, refl, refl)
 
 -- the event of that receipt, and the client after it
-a_receipt_is_closed : Accepts (receipt (codes "2")) (client Connected book) (client Connected (record { last = 3; tags = [] }))
+a_receipt_is_closed : Accepts (receipt (codes "2")) (client Connected book)
+    (client Connected (record { last = 3; tags = [] }))
     (Ok (event.Receipt 2 20))
 unfolding book digits
 a_receipt_is_closed = (refl, (refl, refl, refl, refl))

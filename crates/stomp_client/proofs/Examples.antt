@@ -7,7 +7,8 @@ use Rattle.stomp_frame.specs.declared.command.Command.TheVariants.{Send, Message
 use Rattle.stomp_frame.specs.Frames.{Content, frame, header, canonical, escape, line_of, IsFrame}
 use Rattle.stomp_client.specs.declared.fault.ClientFault.{ClientFault}
 use Rattle.stomp_client.specs.declared.fault.ClientFault.TheVariants.{Memory}
-use Rattle.stomp_client.specs.Frames.{IsShort, IsPlain, connect_frame, subscribe_frame, disconnect_frame, transaction_frame, in_transaction}
+use Rattle.stomp_client.specs.Frames.{IsShort, IsPlain, connect_frame, subscribe_frame, disconnect_frame}
+use Rattle.stomp_client.specs.Frames.{transaction_frame, in_transaction}
 use Rattle.stomp_client.specs.Frames.{answer_frame, with_receipt, text_or_empty}
 use Rattle.stomp_client.specs.Delivered.{is_whole, IsDelivered}
 use Rattle.stomp_client.specs.Written.{Wrote, frames_if, AreWhole}
@@ -16,7 +17,8 @@ use Rattle.stomp_client.specs.Written.{Wrote, frames_if, AreWhole}
 
 -- what is written to connect, to subscribe and to disconnect
 fixed_frames_are_spelled : (canonical connect_frame ≡ codes "CONNECT\naccept-version:1.2\nhost:outbox\n\n\0")
-    × (canonical (subscribe_frame (codes "/queue/a")) ≡ codes "SUBSCRIBE\nid:0\ndestination:/queue/a\nack:client-individual\n\n\0")
+    × (canonical (subscribe_frame (codes "/queue/a")) ≡ codes
+    "SUBSCRIBE\nid:0\ndestination:/queue/a\nack:client-individual\n\n\0")
     × (canonical disconnect_frame ≡ codes "DISCONNECT\n\n\0")
 unfolding canonical line_of escape
 fixed_frames_are_spelled = (refl, refl, refl)
@@ -29,7 +31,8 @@ transactions_are_named = refl
 -- a message handed out under the ack 9
 delivered : Content
 delivered = frame Message
-    (header (codes "destination") (codes "/queue/a") ∷ header (codes "message-id") (codes "7") ∷ header (codes "subscription") (codes "0")
+    (header (codes "destination") (codes "/queue/a") ∷ header (codes "message-id") (codes "7") ∷ header
+    (codes "subscription") (codes "0")
     ∷ header (codes "ack") (codes "9") ∷ [])
     (codes "hi")
 
@@ -44,8 +47,10 @@ letter : Content
 letter = frame Send (header (codes "destination") (codes "/queue/a") ∷ []) (codes "hi")
 
 -- its receipt or its transaction stands behind its own headers
-sends_are_marked : (canonical (with_receipt 1 letter) ≡ codes "SEND\ncontent-length:2\ndestination:/queue/a\nreceipt:1\n\nhi\0")
-    × (canonical (in_transaction (Some 2) letter) ≡ codes "SEND\ncontent-length:2\ndestination:/queue/a\ntransaction:2\n\nhi\0")
+sends_are_marked : (canonical (with_receipt 1 letter) ≡ codes
+    "SEND\ncontent-length:2\ndestination:/queue/a\nreceipt:1\n\nhi\0")
+    × (canonical (in_transaction (Some 2) letter) ≡ codes
+    "SEND\ncontent-length:2\ndestination:/queue/a\ntransaction:2\n\nhi\0")
     × (in_transaction None letter ≡ letter)
 unfolding letter canonical line_of escape digits
 sends_are_marked = (refl, refl, refl)
@@ -61,9 +66,11 @@ marked_once = (
 
 -- without one of its headers a MESSAGE isn't whole; empty values count
 messages_are_whole : (IsDelivered delivered)
-    × (is_whole (frame Message (header (codes "destination") [] ∷ header (codes "message-id") [] ∷ header (codes "subscription") [] ∷ [])
+    × (is_whole (frame Message (header (codes "destination") [] ∷ header (codes "message-id") [] ∷ header
+    (codes "subscription") [] ∷ [])
     []) ≡ false)
-    × (is_whole (frame Message (header (codes "destination") [] ∷ header (codes "message-id") [] ∷ header (codes "subscription") []
+    × (is_whole (frame Message (header (codes "destination") [] ∷ header (codes "message-id") [] ∷ header
+    (codes "subscription") []
     ∷ header (codes "ack") [] ∷ []) []) ≡ true)
 unfolding delivered
 messages_are_whole = (record { command = refl; whole = refl }, refl, refl)
@@ -104,6 +111,10 @@ no_frame_without_an_answer = (refl, refl)
 made_before : (AreWhole (codes "DISCONNECT\n\n\0DISCONNECT\n\n\0")) × (AreWhole [])
 unfolding canonical
 made_before = (
-  record { frames = disconnect_frame ∷ disconnect_frame ∷ []; each = (disconnect_is_a_frame, (disconnect_is_a_frame, tt)); whole = refl },
+  record {
+    frames = disconnect_frame ∷ disconnect_frame ∷ [];
+    each = (disconnect_is_a_frame, (disconnect_is_a_frame, tt));
+    whole = refl;
+  },
   record { frames = []; each = tt; whole = refl },
 )

@@ -1,5 +1,6 @@
 -- Headers that a client's frames take.
-use Rattle.std.proofs.Common.{◌≡◌, ℕ, ◌<◌, ◌≤◌, ◌^◌, Bool, true, false, ◌||◌, ◌&&◌, not, List, [], ◌∷◌, length, codes, decimal, Some, None}
+use Rattle.std.proofs.Common.{◌≡◌, ℕ, ◌<◌, ◌≤◌, ◌^◌, Bool, true, false, ◌||◌, ◌&&◌, not, List, [], ◌∷◌, length, codes}
+use Rattle.std.proofs.Common.{decimal, Some, None}
 use Rattle.std.proofs.Common.{refl, sym, ap, subst, ◌∙◌, arith, inl, inr}
 use Rattle.std.specs.Prelude.{nat_lt, nat_le, ◌==◌, if◌then◌else◌}
 use Rattle.std.specs.List.{AllByRecursion}
@@ -15,7 +16,8 @@ use Rattle.stomp_frame.specs.declared.command.Command.{Command}
 use Rattle.stomp_frame.specs.declared.command.Command.TheVariants.{Message, Connect}
 use Rattle.stomp_frame.specs.declared.fault.FrameFault.TheVariants.{BadLine, LineTooLong, TooManyHeaders}
 use Rattle.stomp_frame.specs.Commands.{is_exempt}
-use Rattle.stomp_frame.specs.Frames.{Header, header, frame, Content, escape, written, has, is_bad, gives_length, line_of, value_of, IsOwn}
+use Rattle.stomp_frame.specs.Frames.{Header, header, frame, Content, escape, written, has, is_bad, gives_length}
+use Rattle.stomp_frame.specs.Frames.{line_of, value_of, IsOwn}
 use Rattle.stomp_frame.specs.Building.{header_refused}
 use Rattle.stomp_frame.proofs.Escapes.{line_doubles, line_length, owned_alike}
 use Rattle.stomp_client.specs.Frames.{IsShort}
@@ -37,19 +39,23 @@ none_refuses : (a b c d : Bool) → a ≡ false → b ≡ false → c ≡ false 
 none_refuses a b c d p q r s = rw (p, q, r, s) refl
 
 -- a header that a frame can own, and for which there is room, isn't refused
-pub own_unrefused : (f : Content) (h : Header) → is_bad f.command h ≡ false → gives_length h ≡ false → length (line_of f.command h) ≤ 1024
+pub own_unrefused : (f : Content) (h : Header) → is_bad f.command h ≡ false → gives_length h ≡ false
+    → length (line_of f.command h) ≤ 1024
     → length f.headers < 32 → header_refused f h ≡ None
 own_unrefused f h good own short room =
-    none_refuses (is_bad f.command h) (gives_length h) (nat_lt 1024 (length (line_of f.command h))) (nat_lt (length f.headers) 32)
+    none_refuses (is_bad f.command h) (gives_length h) (nat_lt 1024 (length (line_of f.command h)))
+    (nat_lt (length f.headers) 32)
     good own (not_above 1024 (length (line_of f.command h)) short) (lt-ltb (length f.headers) 32 room)
 
 -- where escapes are written, a name and a value without NUL can stand on a line
-plain_good : (c : Command) (h : Header) → is_exempt c ≡ false → 0 < length h.name → has 0 h.name ≡ false → has 0 h.value ≡ false
+plain_good : (c : Command) (h : Header) → is_exempt c ≡ false → 0 < length h.name → has 0 h.name ≡ false
+    → has 0 h.value ≡ false
     → is_bad c h ≡ false
 plain_good c h escapes some plain value_plain = rw (not_zero (length h.name) some, plain, value_plain, escapes) refl
 
 -- a short value under a name isn't refused
-pub short_unrefused : (f : Content) (name value : List ℕ) → is_exempt f.command ≡ false → length f.headers < 32 → is_name name ≡ true
+pub short_unrefused : (f : Content) (name value : List ℕ) → is_exempt f.command ≡ false → length f.headers < 32
+    → is_name name ≡ true
     → IsShort value
     → header_refused f (header name value) ≡ None
 short_unrefused f name value escapes room named is =
@@ -70,7 +76,8 @@ neither : (a b : Bool) → a ≡ false → b ≡ false → (a || b) ≡ false
 neither a b p q = rw (p, q) refl
 
 digit_plain : (o : ℕ) → is_ascii_digit o ≡ true → (o == 0) ≡ false
-digit_plain o is = not_zero o (let range = both_true (nat_le 48 o) (nat_le o 57) is in omega (arith, leb-true 48 o range.0))
+digit_plain o is =
+    not_zero o (let range = both_true (nat_le 48 o) (nat_le o 57) is in omega (arith, leb-true 48 o range.0))
 
 digits_plain : (ds : List ℕ) → all_ascii_digits ds ≡ true → has 0 ds ≡ false
 digits_plain [] all = refl
@@ -87,24 +94,28 @@ short_number n small = record {
 
 -- ---- what a MESSAGE has
 
-own_step : (c : Command) (name v : List ℕ) (h : Header) (hs : List Header) (b : Bool) → bytes_eq h.name name ≡ b → IsOwn c h
+own_step : (c : Command) (name v : List ℕ) (h : Header) (hs : List Header) (b : Bool) → bytes_eq h.name name ≡ b
+    → IsOwn c h
     → (value_of name hs ≡ Some v → IsOwn c (header name v)) → (if b then Some h.value else value_of name hs) ≡ Some v
     → IsOwn c (header name v)
 own_step c name v h hs true e own others found =
     let its : h.value ≡ v = cc in
-    subst (IsOwn c) (ap (λ (n : List ℕ). header n h.value) ((bytes_eq-Decides h.name name).0 e) ∙ ap (header name) its) own
+    subst (IsOwn c) (ap (λ (n : List ℕ). header n h.value) ((bytes_eq-Decides h.name name).0 e) ∙ ap (header name) its)
+    own
 own_step c name v h hs false e own others found = others found
 
 -- the first value of a name, as a header of the frame
 found_own : (c : Command) (name v : List ℕ) (hs : List Header) → AllByRecursion (IsOwn c) hs → value_of name hs ≡ Some v
     → IsOwn c (header name v)
 found_own c name v [] all e = absurd cc
-found_own c name v (h ∷ hs) all e = own_step c name v h hs (bytes_eq h.name name) refl all.0 (found_own c name v hs all.1) e
+found_own c name v (h ∷ hs) all e =
+    own_step c name v h hs (bytes_eq h.name name) refl all.0 (found_own c name v hs all.1) e
 
 -- its value has no NUL
 value_plain : (c : Command) (name v : List ℕ) → is_bad c (header name v) ≡ false → has 0 v ≡ false
 value_plain c name v good = elim (cases_Bool (has 0 v)) [
-  | inl nul ↦ let bad : is_bad c (header name v) ≡ true = grind (arith, nul) in let no : true ≡ false = sym bad ∙ good in absurd cc
+  | inl nul ↦ let bad : is_bad c (header name v) ≡ true =
+      grind (arith, nul) in let no : true ≡ false = sym bad ∙ good in absurd cc
   | inr plain ↦ plain
 ]
 
@@ -119,7 +130,8 @@ shorter c v escapes short =
     omega (arith, short, line_length c (codes "ack") v, line_length c (codes "id") v, id)
 
 -- what a MESSAGE has as its ack can be the id of an answer: its line is shorter
-pub id_unrefused : (c : Command) (v : List ℕ) (hs : List Header) → is_exempt c ≡ false → AllByRecursion (IsOwn Message) hs
+pub id_unrefused : (c : Command) (v : List ℕ) (hs : List Header) → is_exempt c ≡ false
+    → AllByRecursion (IsOwn Message) hs
     → value_of (codes "ack") hs ≡ Some v
     → header_refused (frame c [] []) (header (codes "id") v) ≡ None
 id_unrefused c v hs escapes all found =
@@ -128,7 +140,8 @@ id_unrefused c v hs escapes all found =
     let same : is_exempt Message ≡ is_exempt c = sym escapes in
     let alike = owned_alike Message c (header (codes "ack") v) same own in
     own_unrefused f (header (codes "id") v)
-    (plain_good c (header (codes "id") v) escapes (omega arith) refl (value_plain Message (codes "ack") v own.header.good)) refl
+    (plain_good c (header (codes "id") v) escapes (omega arith) refl (value_plain Message (codes "ack") v
+    own.header.good)) refl
     (shorter c v escapes alike.header.short) (omega arith)
 
 -- ---- CONNECT
@@ -137,6 +150,7 @@ pub version_unrefused : header_refused (frame Connect [] []) (header (codes "acc
 unfolding line_of
 version_unrefused = refl
 
-pub host_unrefused : (h : Header) → header_refused (frame Connect (h ∷ []) []) (header (codes "host") (codes "outbox")) ≡ None
+pub host_unrefused : (h : Header) → header_refused (frame Connect (h ∷ []) []) (header (codes "host") (codes "outbox"))
+    ≡ None
 unfolding line_of
 host_unrefused h = refl

@@ -10,7 +10,8 @@ use Rattle.stomp_client.specs.Served.{answers_of, IsTakeable, IsAnswerable, IsCl
 
 -- a SEND with a destination
 abbrev message : Content
-message = frame command.Send (header (codes "destination") (codes "/queue/billing") ∷ header (codes "kind") (codes "settle") ∷ []) []
+message = frame command.Send (header (codes "destination") (codes "/queue/billing") ∷ header (codes "kind")
+    (codes "settle") ∷ []) []
 
 -- a server takes it, and so it does with a receipt; one without a destination is told apart
 messages_are_takeable : IsTakeable message × IsClients (with_receipt 1 message) × IsClients message
@@ -30,8 +31,10 @@ deliveries_are_answerable : IsAnswerable (frame command.Message (header (codes "
 deliveries_are_answerable = omega arith
 
 -- a session takes CONNECT and what follows it in order, and refuses what comes before it
-sessions_are_served : (answers_of false (connect_frame ∷ subscribe_frame (codes "/queue/billing") ∷ message ∷ disconnect_frame ∷ [])
-    ≡ Ok (asked connect_frame) ∷ Ok (asked (subscribe_frame (codes "/queue/billing"))) ∷ Ok (asked message) ∷ Ok (asked disconnect_frame)
+sessions_are_served : (answers_of false (connect_frame ∷ subscribe_frame (codes "/queue/billing") ∷ message ∷
+    disconnect_frame ∷ [])
+    ≡ Ok (asked connect_frame) ∷ Ok (asked (subscribe_frame (codes "/queue/billing"))) ∷ Ok (asked message) ∷ Ok
+    (asked disconnect_frame)
     ∷ [])
     × (answers_of false (disconnect_frame ∷ connect_frame ∷ []) ≡ Err NotConnected ∷ Ok (asked connect_frame) ∷ [])
 sessions_are_served = (refl, refl)

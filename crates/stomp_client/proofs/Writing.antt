@@ -15,24 +15,29 @@ use Rattle.stomp_wire.proofs.Journeys.{travels_keep}
 use Rattle.stomp_client.specs.Written.{Wrote}
 
 -- what was fed and what is to come are what was written
-whole_text : (frames : List Content) (gone out received waiting carried : List ℕ) (calls : List DecoderCall) → Wrote frames gone out
+whole_text : (frames : List Content) (gone out received waiting carried : List ℕ) (calls : List DecoderCall)
+    → Wrote frames gone out
     → Travels gone received (Some waiting) (Some carried) → fed calls ≡ received
     → canonical_texts frames ≡ fed calls ++ (carried ++ waiting ++ out)
 whole_text frames gone out received waiting carried calls wrote travels e =
-    let kept : gone ≡ received ++ carried ++ waiting = travels_keep gone received (Some waiting) (Some carried) travels in
+    let kept : gone ≡ received ++ carried ++ waiting =
+    travels_keep gone received (Some waiting) (Some carried) travels in
     sym wrote.whole ∙ rw (kept, e) (simp append_assoc)
 
-pub awaited : (frames : List Content) (gone out received waiting carried : List ℕ) (calls : List DecoderCall) (held : Held)
+pub awaited : (frames : List Content) (gone out received waiting carried : List ℕ) (calls : List DecoderCall)
+    (held : Held)
     → Wrote frames gone out
     → Travels gone received (Some waiting) (Some carried) → Happened MAX_BODY calls held → fed calls ≡ received
-    → (others : List Content) × (frames ≡ given calls ++ others) × Awaits MAX_BODY others held (carried ++ waiting ++ out)
+    → (others : List Content) × (frames ≡ given calls ++ others)
+    × Awaits MAX_BODY others held (carried ++ waiting ++ out)
 awaited frames gone out received waiting carried calls held wrote travels happened e =
     let spelled : SpellsAll MAX_BODY frames (fed calls ++ (carried ++ waiting ++ out)) =
     subst (SpellsAll MAX_BODY frames) (whole_text frames gone out received waiting carried calls wrote travels e)
     (canonical_texts_are_spelled MAX_BODY (omega arith) frames wrote.each) in
     sent_is_given MAX_BODY calls held frames (carried ++ waiting ++ out) happened spelled
 
-pub all_given : (frames : List Content) (gone received : List ℕ) (calls : List DecoderCall) (held : Held) → Wrote frames gone []
+pub all_given : (frames : List Content) (gone received : List ℕ) (calls : List DecoderCall) (held : Held)
+    → Wrote frames gone []
     → Travels gone received (Some []) (Some [])
     → Happened MAX_BODY calls held → fed calls ≡ received → NoFrame MAX_BODY held.octets → given calls ≡ frames
 all_given frames gone received calls held wrote travels happened e none =

@@ -1,5 +1,6 @@
 -- What a server's frame tells a client.
-use Rattle.std.specs.Prelude.{◌≡◌, ℕ, ◌&&◌, Bool, true, false, if◌then◌else◌, is_some, List, codes, Option, Some, None, Result, Ok, Err}
+use Rattle.std.specs.Prelude.{◌≡◌, ℕ, ◌&&◌, Bool, true, false, if◌then◌else◌, is_some, List, codes, Option, Some, None}
+use Rattle.std.specs.Prelude.{Result, Ok, Err}
 use Rattle.std.specs.String.{string_bytes}
 use Rattle.text.specs.Numerals.{number_of}
 use Rattle.receipts.specs.Books.{ReceiptBook, open_under}
@@ -56,7 +57,8 @@ module _ {T : Type 0} where
 
   -- why a frame isn't accepted
   abbrev pub unaccepted : Client T → Content → Option ClientFault
-  unaccepted c f = if is_closed c.stage then Some fault.Closed else if is_expected c f f.command then None else Some fault.Unexpected
+  unaccepted c f =
+      if is_closed c.stage then Some fault.Closed else if is_expected c f f.command then None else Some fault.Unexpected
 
   -- what an accepted frame tells, and the client after it
   abbrev pub Tells : Content → Client T → Client T → ClientEvent T → Type 0
@@ -67,7 +69,8 @@ module _ {T : Type 0} where
   Tells f old new (event.Error text) = (f.command ≡ command.Error)
       × (string_bytes text ≡ text_or_empty (value_of (codes "message") f.headers)) × (new ≡ closing old)
 
-  -- What accepting a frame does and answers: an event, or why it isn't accepted. One that is unexpected closes the session.
+  -- What accepting a frame does and answers: an event, or why it isn't accepted. One that is unexpected closes the
+  -- session.
   abbrev pub Accepts : Content → Client T → Client T → Result (ClientEvent T) ClientFault → Type 0
   Accepts f old new (Ok event) = (unaccepted old f ≡ None) × Tells f old new event
   Accepts f old new (Err fault.Closed) = (unaccepted old f ≡ Some fault.Closed) × (new ≡ old)

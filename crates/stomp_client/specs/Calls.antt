@@ -35,7 +35,8 @@ Refuses refusal old new fault.Memory = (refusal ≡ None) × (new ≡ old)
 Refuses refusal old new fault = (refusal ≡ Some fault) × (new ≡ old)
 
 -- A call that is done, with no refusal: what it writes is a frame, and this is done. Or one that isn't done.
-abbrev pub Does : {C R : Type 0} → (refusal : Option ClientFault) → (f : Content) → (done : R → C → Type 0) → (old new : C)
+abbrev pub Does : {C R : Type 0} → (refusal : Option ClientFault) → (f : Content) → (done : R → C → Type 0)
+    → (old new : C)
     → Result R ClientFault → Type 0
 Does refusal f done old new (Ok x) = (refusal ≡ None) × IsFrame MAX_BODY f × done x new
 Does refusal f done old new (Err fault) = Refuses refusal old new fault
@@ -63,4 +64,5 @@ module _ {T : Type 0} where
 
   -- DISCONNECT, and the session is closed
   abbrev pub Disconnects : Client T → Client T → Result (Unit {0}) ClientFault → Type 0
-  Disconnects old new r = Does (unready old.stage) disconnect_frame (λ _ c. c ≡ closing (written disconnect_frame old)) old new r
+  Disconnects old new r =
+      Does (unready old.stage) disconnect_frame (λ _ c. c ≡ closing (written disconnect_frame old)) old new r

@@ -1,7 +1,8 @@
 -- The numbers of the faults.
 use Rattle.std.specs.Prelude.{ℕ}
 use Rattle.stomp_client.specs.declared.fault.ClientFault.{ClientFault}
-use Rattle.stomp_client.specs.declared.fault.ClientFault.TheVariants.{NotConnected, AlreadyConnected, Unexpected, Closed, Memory}
+use Rattle.stomp_client.specs.declared.fault.ClientFault.TheVariants.{NotConnected, AlreadyConnected, Unexpected}
+use Rattle.stomp_client.specs.declared.fault.ClientFault.TheVariants.{Closed, Memory}
 use Rattle.stomp_client.specs.declared.fault.ClientFault.TheVariants.{NumbersUsed}
 
 -- a fault's number

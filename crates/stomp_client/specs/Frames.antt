@@ -13,13 +13,15 @@ pub record IsShort (value : List ℕ) : Type 0 where
 
 -- CONNECT
 abbrev pub connect_frame : Content
-connect_frame = frame Connect (header (codes "accept-version") (codes "1.2") ∷ header (codes "host") (codes "outbox") ∷ []) []
+connect_frame =
+    frame Connect (header (codes "accept-version") (codes "1.2") ∷ header (codes "host") (codes "outbox") ∷ []) []
 
 -- SUBSCRIBE to a destination, under the id 0
 abbrev pub subscribe_frame : List ℕ → Content
 subscribe_frame destination =
     frame Subscribe
-    (header (codes "id") (codes "0") ∷ header (codes "destination") destination ∷ header (codes "ack") (codes "client-individual") ∷ [])
+    (header (codes "id") (codes "0") ∷ header (codes "destination") destination ∷ header (codes "ack")
+    (codes "client-individual") ∷ [])
     []
 
 -- DISCONNECT
@@ -43,7 +45,8 @@ text_or_empty (Some text) = text
 -- ACK or NACK of a MESSAGE: it has the MESSAGE's ack as its id
 abbrev pub answer_frame : Command → Content → Option ℕ → Content
 answer_frame command message transaction =
-    in_transaction transaction (frame command (header (codes "id") (text_or_empty (value_of (codes "ack") message.headers)) ∷ []) [])
+    in_transaction transaction (frame command (header (codes "id") (text_or_empty
+    (value_of (codes "ack") message.headers)) ∷ []) [])
 
 -- the frame with the number of a receipt
 abbrev pub with_receipt : ℕ → Content → Content

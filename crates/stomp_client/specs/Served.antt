@@ -8,7 +8,8 @@ use Rattle.stomp_session.specs.declared.request.Request.{Request}
 use Rattle.stomp_session.specs.Headers.{has_none, own_headers}
 use Rattle.stomp_session.specs.Replies.{IsGiven, IsGivenIfAny}
 use Rattle.stomp_session.specs.Requests.{request_of}
-use Rattle.stomp_client.specs.Frames.{subscribe_frame, disconnect_frame, transaction_frame, in_transaction, answer_frame, with_receipt}
+use Rattle.stomp_client.specs.Frames.{subscribe_frame, disconnect_frame, transaction_frame, in_transaction}
+use Rattle.stomp_client.specs.Frames.{answer_frame, with_receipt}
 use Rattle.stomp_client.specs.Frames.{text_or_empty, IsPlain}
 
 -- what a session answers to frames in order, where it is connected, or not yet
@@ -31,7 +32,8 @@ pub data IsClients (f : Content) : Type 0 where
   subscribes : (destination : List ℕ) → f ≡ subscribe_frame destination → IsClients f
   sends : (message : Content) (transaction : Option ℕ) → IsTakeable message → IsGivenIfAny transaction
       → f ≡ in_transaction transaction message → IsClients f
-  sends_with_receipt : (message : Content) (number : ℕ) → IsTakeable message → IsGiven number → f ≡ with_receipt number message
+  sends_with_receipt : (message : Content) (number : ℕ) → IsTakeable message → IsGiven number
+      → f ≡ with_receipt number message
       → IsClients f
   acks : (message : Content) (transaction : Option ℕ) → IsAnswerable message → IsGivenIfAny transaction
       → f ≡ answer_frame Ack message transaction → IsClients f

@@ -4,7 +4,8 @@ use Rattle.base.specs.declared.limits.TheConstants.{MAX_BODY}
 use Rattle.stomp_frame.specs.Frames.{Content}
 use Rattle.stomp_frame.specs.Streams.{AreFrames, canonical_texts}
 
--- The octets that were taken, and those still to be sent, are the canonical texts of these frames, one behind the other.
+-- The octets that were taken, and those still to be sent, are the canonical texts of these frames, one behind the
+-- other.
 pub record Wrote (frames : List Content) (gone out : List ℕ) : Type 0 where
   pub each : AreFrames MAX_BODY frames
   pub whole : gone ++ out ≡ canonical_texts frames

@@ -5,7 +5,8 @@ ghost use Rattle.std.specs.Fmt.{decimal};
 ghost use Rattle.stomp_frame.specs.Commands.{is_exempt};
 ghost use Rattle.stomp_frame.specs.Frames.{with_header, header};
 ghost use Rattle.stomp_frame.specs.Building.{header_refused};
-ghost use Rattle.stomp_client.specs.Frames.{connect_frame, subscribe_frame, transaction_frame, in_transaction, answer_frame, IsShort};
+ghost use Rattle.stomp_client.specs.Frames.{connect_frame, subscribe_frame, transaction_frame, in_transaction};
+ghost use Rattle.stomp_client.specs.Frames.{answer_frame, IsShort};
 ghost use Rattle.stomp_client.specs.Delivered.{IsDelivered};
 ghost use Rattle.stomp_client.specs.Parts.Names.{is_name};
 

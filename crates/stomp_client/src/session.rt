@@ -1,6 +1,7 @@
 //! A client's session.
 
-ghost use Rattle.std.specs.Prelude.{◌≡◌, ℕ, List, ◌≤◌, ◌<◌, ◌-◌, ◌^◌, ◌+◌, ◌++◌, ◌∷◌, [], false, Ok, Err, None, length, take};
+ghost use Rattle.std.specs.Prelude.{◌≡◌, ℕ, List, ◌≤◌, ◌<◌, ◌-◌, ◌^◌, ◌+◌, ◌++◌, ◌∷◌, [], false, Ok, Err, None, length};
+ghost use Rattle.std.specs.Prelude.{take};
 ghost use Rattle.std.specs.Prelude.{OnOk, OnErr, IsOk, IsOkUnless, IfOk, IfErr};
 ghost use Rattle.std.specs.String.{string_bytes};
 ghost use Rattle.base.specs.declared.limits.TheConstants.{MAX_BODY};
@@ -9,12 +10,14 @@ ghost use Rattle.stomp_frame.specs.declared.command.Command.TheVariants.{Connect
 ghost use Rattle.stomp_frame.specs.Frames.{Content, IsFrame, value_of};
 ghost use Rattle.stomp_frame.specs.Streams.{AreFrames, canonical_texts};
 ghost use Rattle.stomp_client.specs.declared.fault.ClientFault.TheVariants.{Memory, Unexpected};
-ghost use Rattle.stomp_client.specs.Frames.{IsShort, IsPlain, connect_frame, subscribe_frame, disconnect_frame, transaction_frame};
+ghost use Rattle.stomp_client.specs.Frames.{IsShort, IsPlain, connect_frame, subscribe_frame, disconnect_frame};
+ghost use Rattle.stomp_client.specs.Frames.{transaction_frame};
 ghost use Rattle.stomp_client.specs.Frames.{in_transaction, answer_frame, with_receipt, text_or_empty};
 ghost use Rattle.stomp_client.specs.Delivered.{IsDelivered, is_whole};
 ghost use Rattle.stomp_client.specs.Clients.{new_client, written, counting, appended, without_first, closing};
 ghost use Rattle.stomp_client.specs.Written.{Wrote, Adds, AreWhole, frames_if};
-ghost use Rattle.stomp_client.specs.Calls.{unready, or_used, Refuses, WritesFrame, Connects, SendsWithReceipt, Begins, Disconnects};
+ghost use Rattle.stomp_client.specs.Calls.{unready, or_used, Refuses, WritesFrame, Connects, SendsWithReceipt, Begins};
+ghost use Rattle.stomp_client.specs.Calls.{Disconnects};
 ghost use Rattle.stomp_client.specs.Accepting.{Accepts, is_closed, receipt_number};
 
 use crate::frames::{
@@ -42,8 +45,8 @@ pub enum Stage {
     Closed,
 }
 
-/// A client's session: contracts see its stage, the octets still to be sent, its receipts by number with a tag each, the last number of a
-/// transaction, and how many more octets can be appended without memory.
+/// A client's session: contracts see its stage, the octets still to be sent, its receipts by number with a tag each,
+/// the last number of a transaction, and how many more octets can be appended without memory.
 #[derive(Drop)]
 pub struct ClientSession<T: Drop> {
     alloc: Global,
@@ -141,7 +144,8 @@ impl<T: Drop> ClientSession<T> {
         Ok(())
     }
 
-    /// Appends frames whose canonical texts were made before, all or none. Within the room that was asked for it takes no memory.
+    /// Appends frames whose canonical texts were made before, all or none. Within the room that was asked for it takes
+    /// no memory.
     ///
     /// # Errors
     /// `Memory` where a growth was refused, and then nothing was appended.
@@ -173,7 +177,8 @@ impl<T: Drop> ClientSession<T> {
     /// Tells why no frame but CONNECT may be written now.
     fn ready(&self) -> Result<(), ClientFault>
         ensures ok { OnOk result (unready self.now.client.stage ≡ None) }
-        ensures err { IfErr result (λ fault. Refuses (unready self.now.client.stage) self.now.client self.now.client fault) }
+        ensures err { IfErr result (λ fault. Refuses (unready self.now.client.stage) self.now.client self.now.client
+            fault) }
     {
         match self.stage {
             Stage::Connected => Ok(()),
@@ -184,8 +189,10 @@ impl<T: Drop> ClientSession<T> {
 
     /// The number behind the last one, or why no frame may be written with it now.
     fn next(&self, last: u64) -> Result<u64, ClientFault>
-        ensures ok { IfOk result (λ n. (or_used last (unready self.now.client.stage) ≡ None) × (n ≡ last + 1) × (n < 2 ^ 64)) }
-        ensures err { IfErr result (λ fault. Refuses (or_used last (unready self.now.client.stage)) self.now.client self.now.client fault) }
+        ensures ok { IfOk result (λ n. (or_used last (unready self.now.client.stage) ≡ None) × (n ≡ last + 1)
+            × (n < 2 ^ 64)) }
+        ensures err { IfErr result (λ fault. Refuses (or_used last (unready self.now.client.stage)) self.now.client
+            self.now.client fault) }
     {
         match self.stage {
             Stage::Connected => {
@@ -202,7 +209,8 @@ impl<T: Drop> ClientSession<T> {
     /// Writes CONNECT.
     ///
     /// # Errors
-    /// `Closed` after the end of the session, else `AlreadyConnected` where CONNECT was written, else `Memory`. Nothing has changed then.
+    /// `Closed` after the end of the session, else `AlreadyConnected` where CONNECT was written, else `Memory`. Nothing
+    /// has changed then.
     pub fn connect(&mut self) -> Result<(), ClientFault>
         ensures does { Connects self.old.client self.new.client result }
         ensures wrote { Adds (frames_if result (connect_frame ∷ [])) self.old.client.out self.new.client.out }
@@ -221,12 +229,13 @@ impl<T: Drop> ClientSession<T> {
     /// Writes SUBSCRIBE to a destination.
     ///
     /// # Errors
-    /// `NotConnected` before CONNECTED and `Closed` after the end of the session, else `Memory`. Nothing has changed then. The same
-    /// holds of every call below that writes.
+    /// `NotConnected` before CONNECTED and `Closed` after the end of the session, else `Memory`. Nothing has changed
+    /// then. The same holds of every call below that writes.
     pub fn subscribe(&mut self, destination: &str) -> Result<(), ClientFault>
         requires { IsShort destination.now }
         ensures does { WritesFrame (subscribe_frame destination.now) self.old.client self.new.client result }
-        ensures wrote { Adds (frames_if result (subscribe_frame destination.now ∷ [])) self.old.client.out self.new.client.out }
+        ensures wrote { Adds (frames_if result (subscribe_frame destination.now ∷ [])) self.old.client.out
+            self.new.client.out }
     {
         self.ready()?;
         let frame = subscribe_frame(self.alloc, destination)?;
@@ -242,7 +251,8 @@ impl<T: Drop> ClientSession<T> {
     ) -> Result<(), ClientFault>
         requires { IsPlain message }
         ensures does { WritesFrame (in_transaction transaction message) self.old.client self.new.client result }
-        ensures wrote { Adds (frames_if result (in_transaction transaction message ∷ [])) self.old.client.out self.new.client.out }
+        ensures wrote { Adds (frames_if result (in_transaction transaction message ∷ [])) self.old.client.out
+            self.new.client.out }
     {
         self.ready()?;
         let frame = in_transaction(message, transaction)?;
@@ -250,7 +260,8 @@ impl<T: Drop> ClientSession<T> {
         Ok(())
     }
 
-    /// Writes a SEND with the next receipt number, 1, 2, .., which is answered: a RECEIPT of that number gives the tag back.
+    /// Writes a SEND with the next receipt number, 1, 2, .., which is answered: a RECEIPT of that number gives the tag
+    /// back.
     ///
     /// # Errors
     /// Besides those of `subscribe`, and before `Memory`: `NumbersUsed` where the last number is 2^64 - 1.
@@ -296,7 +307,8 @@ impl<T: Drop> ClientSession<T> {
     /// Writes COMMIT of a transaction.
     pub fn commit(&mut self, transaction: u64) -> Result<(), ClientFault>
         ensures does { WritesFrame (transaction_frame Commit transaction) self.old.client self.new.client result }
-        ensures wrote { Adds (frames_if result (transaction_frame Commit transaction ∷ [])) self.old.client.out self.new.client.out }
+        ensures wrote { Adds (frames_if result (transaction_frame Commit transaction ∷ [])) self.old.client.out
+            self.new.client.out }
     {
         self.ready()?;
         let frame = transaction_frame(self.alloc, Command::Commit, transaction)?;
@@ -307,7 +319,8 @@ impl<T: Drop> ClientSession<T> {
     /// Writes ABORT of a transaction.
     pub fn abort(&mut self, transaction: u64) -> Result<(), ClientFault>
         ensures does { WritesFrame (transaction_frame Abort transaction) self.old.client self.new.client result }
-        ensures wrote { Adds (frames_if result (transaction_frame Abort transaction ∷ [])) self.old.client.out self.new.client.out }
+        ensures wrote { Adds (frames_if result (transaction_frame Abort transaction ∷ [])) self.old.client.out
+            self.new.client.out }
     {
         self.ready()?;
         let frame = transaction_frame(self.alloc, Command::Abort, transaction)?;
@@ -323,7 +336,8 @@ impl<T: Drop> ClientSession<T> {
     ) -> Result<(), ClientFault>
         requires { IsDelivered message.now }
         ensures does { WritesFrame (answer_frame Ack message.now transaction) self.old.client self.new.client result }
-        ensures wrote { Adds (frames_if result (answer_frame Ack message.now transaction ∷ [])) self.old.client.out self.new.client.out }
+        ensures wrote { Adds (frames_if result (answer_frame Ack message.now transaction ∷ [])) self.old.client.out
+            self.new.client.out }
     {
         self.ready()?;
         let frame = answer_frame(self.alloc, Command::Ack, message, transaction)?;
@@ -339,7 +353,8 @@ impl<T: Drop> ClientSession<T> {
     ) -> Result<(), ClientFault>
         requires { IsDelivered message.now }
         ensures does { WritesFrame (answer_frame Nack message.now transaction) self.old.client self.new.client result }
-        ensures wrote { Adds (frames_if result (answer_frame Nack message.now transaction ∷ [])) self.old.client.out self.new.client.out }
+        ensures wrote { Adds (frames_if result (answer_frame Nack message.now transaction ∷ [])) self.old.client.out
+            self.new.client.out }
     {
         self.ready()?;
         let frame = answer_frame(self.alloc, Command::Nack, message, transaction)?;
@@ -363,9 +378,9 @@ impl<T: Drop> ClientSession<T> {
     ///
     /// # Errors
     /// - `Closed` where the session is closed.
-    /// - `Unexpected` where no server may send the frame now, and then the session is closed: a client's command; CONNECTED but for the one
-    ///   that answers CONNECT; before CONNECTED any other but ERROR; a RECEIPT whose number isn't open; a MESSAGE without `destination`,
-    ///   `message-id`, `subscription` or `ack`.
+    /// - `Unexpected` where no server may send the frame now, and then the session is closed: a client's command;
+    ///   CONNECTED but for the one that answers CONNECT; before CONNECTED any other but ERROR; a RECEIPT whose number
+    ///   isn't open; a MESSAGE without `destination`, `message-id`, `subscription` or `ack`.
     pub fn accept(&mut self, frame: Frame<MAX_BODY>) -> Result<ClientEvent<T>, ClientFault>
         ensures accepts { Accepts frame self.old.client self.new.client result }
         ensures room { self.new.room ≡ self.old.room }

@@ -1,5 +1,6 @@
 -- A number is read exactly where its decimal digits are written.
-use Rattle.std.proofs.Common.{◌≡◌, ℕ, zero, suc, ◌<◌, ◌^◌, List, [], ◌∷◌, length, get_or, Bool, true, false, ◌&&◌, not, cond, eqb, ltb}
+use Rattle.std.proofs.Common.{◌≡◌, ℕ, zero, suc, ◌<◌, ◌^◌, List, [], ◌∷◌, length, get_or, Bool, true, false, ◌&&◌, not}
+use Rattle.std.proofs.Common.{cond, eqb, ltb}
 use Rattle.std.proofs.Common.{refl, sym, ap, ◌∙◌, arith, rules, Some, None, Result, Ok, Err, inl, inr, decimal}
 use Rattle.std.specs.List.{list_all}
 use Rattle.std.specs.Char.{is_ascii_digit}
@@ -51,7 +52,8 @@ none_leads false true small n e = refl
 none_leads digits false small n e = absurd cc
 
 pub number_leading : (text : List ℕ) → has_leading_zero text ≡ true → None ≡ number_of text
-number_leading text e = none_leads (are_digits text) (has_leading_zero text) (ltb (digits_value 10 text) (2 ^ 64)) (digits_value 10 text) e
+number_leading text e =
+    none_leads (are_digits text) (has_leading_zero text) (ltb (digits_value 10 text) (2 ^ 64)) (digits_value 10 text) e
 
 some_leads : (digits lead small : Bool) (n : ℕ) → lead ≡ false
     → cond (digits && small) (Some n) None ≡ cond (digits && not lead && small) (Some n) None
@@ -60,7 +62,8 @@ some_leads false false small n e = refl
 some_leads digits true small n e = absurd cc
 
 pub number_plain : (text : List ℕ) → has_leading_zero text ≡ false → digits_number text ≡ number_of text
-number_plain text e = some_leads (are_digits text) (has_leading_zero text) (ltb (digits_value 10 text) (2 ^ 64)) (digits_value 10 text) e
+number_plain text e =
+    some_leads (are_digits text) (has_leading_zero text) (ltb (digits_value 10 text) (2 ^ 64)) (digits_value 10 text) e
 
 -- ---- what is written is read
 

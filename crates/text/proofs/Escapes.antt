@@ -18,7 +18,8 @@ found_is_one : (a b : ℕ × List ℕ) → Some a ≡ Some b → b ≡ a
 found_is_one a b e = cc
 
 -- where a front stands for no octet, the text stands for none
-pub spells_none : (text octets rest all : List ℕ) → Spells text octets rest → front rest ≡ None → rest ≢ [] → Spells text all [] → ⊥
+pub spells_none : (text octets rest all : List ℕ) → Spells text octets rest → front rest ≡ None → rest ≢ []
+    → Spells text all [] → ⊥
 spells_none text [] rest [] e f more h = more (sym e ∙ h)
 spells_none text [] rest (p ∷ all) e f more h = found_is_some (p, h.0) (sym h.1 ∙ ap front e ∙ f)
 spells_none text (o ∷ octets) rest [] e f more h = found_is_some (o, e.0) (sym e.1 ∙ ap front h)
@@ -57,5 +58,8 @@ front_spelled o rest small = elim (cases_Bool (eqb o 92)) [
 -- what is printed of octets stands for them
 pub spelled_back : (octets : List ℕ) → ((i : ℕ) → get_or octets i 0 < 256) → Spells (flat_map spelled octets) octets []
 spelled_back [] small = refl
-spelled_back (o ∷ octets) small =
-    (flat_map spelled octets, front_spelled o (flat_map spelled octets) (small 0), spelled_back octets (λ i. small (suc i)))
+spelled_back (o ∷ octets) small = (
+  flat_map spelled octets,
+  front_spelled o (flat_map spelled octets) (small 0),
+  spelled_back octets (λ i. small (suc i)),
+)

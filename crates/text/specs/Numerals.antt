@@ -1,5 +1,6 @@
 -- Decimal numerals.
-use Rattle.std.specs.Prelude.{ℕ, ◌^◌, ◌==◌, Bool, ◌&&◌, not, nat_lt, List, length, slice_index, Option, Some, None, if◌then◌else◌}
+use Rattle.std.specs.Prelude.{ℕ, ◌^◌, ◌==◌, Bool, ◌&&◌, not, nat_lt, List, length, slice_index, Option, Some, None}
+use Rattle.std.specs.Prelude.{if◌then◌else◌}
 use Rattle.std.specs.List.{list_all}
 use Rattle.std.specs.Char.{is_ascii_digit}
 use Rattle.std.specs.Str.Parse.{digits_value}
@@ -10,7 +11,8 @@ are_digits text = list_all is_ascii_digit text && not (length text == 0)
 
 -- the number that digits write: it is below 2^64
 abbrev pub digits_number : List ℕ → Option ℕ
-digits_number text = if are_digits text && nat_lt (digits_value 10 text) (2 ^ 64) then Some (digits_value 10 text) else None
+digits_number text =
+    if are_digits text && nat_lt (digits_value 10 text) (2 ^ 64) then Some (digits_value 10 text) else None
 
 -- a 0 with more behind it
 abbrev pub has_leading_zero : List ℕ → Bool

@@ -1,8 +1,8 @@
 //! Text of lines: decimal numerals, and octets with escapes, as programs print and read them.
 //!
-//! `read_number` reads a number that is written in decimal without leading zeros, and no other text; `read_digits` allows leading zeros. A
-//! sign, a space and a number from 2^64 on are refused by both. `push_octets` prints octets that no line can hold with escapes, and
-//! `unescape` reads them as they were:
+//! `read_number` reads a number that is written in decimal without leading zeros, and no other text; `read_digits`
+//! allows leading zeros. A sign, a space and a number from 2^64 on are refused by both. `push_octets` prints octets
+//! that no line can hold with escapes, and `unescape` reads them as they were:
 //!
 //! ```rust
 //! pub fn a_line_is_read_again(alloc: Global) -> Result<bool, AllocError> {

@@ -5,8 +5,8 @@ ghost use Rattle.std.specs.List.{list_all};
 ghost use Rattle.std.specs.Char.{is_ascii_digit};
 ghost use Rattle.text.specs.Numerals.{are_digits, has_leading_zero, digits_number, number_of};
 
-/// The number that decimal digits write, leading zeros allowed: from 0 to 2^64 - 1. Any other text has none, as an empty one, or one with
-/// a sign.
+/// The number that decimal digits write, leading zeros allowed: from 0 to 2^64 - 1. Any other text has none, as an
+/// empty one, or one with a sign.
 pub fn read_digits(text: &str) -> Option<u64>
     ensures { result ≡ digits_number text.now }
 {
@@ -18,7 +18,8 @@ pub fn read_digits(text: &str) -> Option<u64>
     }
 }
 
-/// The number that a text writes in decimal without leading zeros: from 0 to 2^64 - 1. So no two texts write one number.
+/// The number that a text writes in decimal without leading zeros: from 0 to 2^64 - 1. So no two texts write one
+/// number.
 pub fn read_number(text: &str) -> Option<u64>
     ensures { result ≡ number_of text.now }
 {

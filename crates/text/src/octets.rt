@@ -1,5 +1,5 @@
-//! Octets as text: `\n`, `\r`, `\s`, `\0` and `\\` stand for LF, CR, a space, NUL and a backslash, and `\xHH` for the octet of these two
-//! hexadecimal digits, in lower case. Every other octet stands for itself.
+//! Octets as text: `\n`, `\r`, `\s`, `\0` and `\\` stand for LF, CR, a space, NUL and a backslash, and `\xHH` for the
+//! octet of these two hexadecimal digits, in lower case. Every other octet stands for itself.
 
 ghost use Rattle.std.specs.Prelude.{◌≡◌, ◌<◌, ◌++◌, List, ℕ, [], flat_map, string_bytes, OnOk, IfOk, MatchOption};
 ghost use Rattle.text.specs.Escapes.{digit_of, digit, meant_by, hex, escaped, front, Spells, spelled};
@@ -117,8 +117,8 @@ fn push_octet(text: &mut String, octet: u8) -> Result<(), AllocError>
     }
 }
 
-/// Appends octets to a text: LF, CR and a backslash as `\n`, `\r` and `\\`, printable ASCII and spaces as they are, and every other octet
-/// as `\xHH`.
+/// Appends octets to a text: LF, CR and a backslash as `\n`, `\r` and `\\`, printable ASCII and spaces as they are, and
+/// every other octet as `\xHH`.
 ///
 /// # Errors
 /// `AllocError`: a growth was refused; a part may have been appended.

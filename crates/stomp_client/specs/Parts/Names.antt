@@ -5,4 +5,5 @@ use Rattle.stomp_frame.specs.Frames.{has}
 
 -- a name of 1 to 128 octets without NUL, and not the one that tells a body's length
 abbrev pub is_name : List ℕ → Bool
-is_name name = nat_lt 0 (length name) && nat_le (length name) 128 && not (has 0 name) && not (bytes_eq name (codes "content-length"))
+is_name name = nat_lt 0 (length name) && nat_le (length name) 128 && not (has 0 name)
+    && not (bytes_eq name (codes "content-length"))

@@ -13,4 +13,5 @@ push-requires c =
     c.holds.ensures.headers in
     let found : value_of (codes "ack") c.args.message.now.headers ≡ Some c.in-Some.id.now = sym c.get.ensures
     ∙ ap option_copied c.in-Some.is in
-    rw c.new-frame.ensures (id_unrefused c.args.command c.in-Some.id.now c.args.message.now.headers c.requires.plain own found)
+    rw c.new-frame.ensures (id_unrefused c.args.command c.in-Some.id.now c.args.message.now.headers c.requires.plain own
+    found)
