@@ -9,7 +9,7 @@ ghost use Rattle.agreement.specs.Journals.{AreLawful};
 ghost use Rattle.agreement.specs.Steps.{Configuration, Reaches};
 ghost use Rattle.base.specs.declared.pair.Pair.{Pair};
 ghost use Rattle.broker_laws.specs.Runs.{NoLifeLosesAny};
-ghost use Rattle.broker_texts.specs.Carried.{MessagesWereSent};
+ghost use Rattle.broker_laws.specs.Carried.{ReadMessagesWereSent};
 ghost use Rattle.envelope.specs.declared.message.Envelope.{Envelope};
 ghost use Rattle.genuine.specs.Laws.{EventPasses};
 ghost use Rattle.mail.specs.Offices.{Office};
@@ -24,10 +24,9 @@ use billing::Accounts;
 use broker_book::{Action, Mode, QueueFault, Sent, Shared};
 use broker_core::{Broker, BrokerFault};
 use broker_index::Destinations;
-use broker_laws::no_message_is_lost;
+use broker_laws::{each_message_was_sent, no_message_is_lost};
 use broker_queues::Queues;
 use broker_server::Stop;
-use broker_texts::each_message_was_sent;
 use broker_tx::{TransactionFault, Transactions};
 use endpoint::{EndFault, Endpoint};
 use envelope::{Envelope, EnvelopeFault, Letter, Message, to_send};
@@ -150,7 +149,7 @@ pub fn what_wants_an_ack_stays_until_it_comes()
 }
 
 pub fn what_a_client_reads_was_sent()
-    ensures { MessagesWereSent }
+    ensures { ReadMessagesWereSent }
 {
     each_message_was_sent();
 }
