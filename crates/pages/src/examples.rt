@@ -19,6 +19,7 @@ ghost use Rattle.sites.specs.declared.site.Site.{Site};
 use accord::a_turn_keeps_the_laws;
 use activities::{AccountCommand, Handler, HandlerFault, Input, OrderCommand, Outs, StockCommand};
 use agreement::stays_authentic;
+use base::limits::MAX_QUEUED;
 use base::{Entity, EntityFault, Key, Kind, Number, Pair};
 use billing::Accounts;
 use broker_book::{Action, Mode, QueueFault, Sent, Shared};
@@ -108,7 +109,7 @@ pub fn an_idle_destination_is_closed(alloc: Global) -> Result<bool, QueueFault> 
 }
 
 pub fn a_message_is_accepted(alloc: Global) -> Result<usize, QueueFault> {
-    let mut queues: Queues<4096> = Queues::new(alloc);
+    let mut queues: Queues<MAX_QUEUED> = Queues::new(alloc);
     let sent = Sent {
         destination: Text::new(String::from_str(alloc, "/queue/a")?),
         headers: Headers::new(Vec::new(alloc)),
@@ -128,7 +129,7 @@ pub fn a_transaction_keeps_its_actions(alloc: Global) -> Result<usize, Transacti
 }
 
 pub fn a_broker_answers_connect(alloc: Global) -> Result<bool, BrokerFault> {
-    let mut broker: Broker<4096> = Broker::new(alloc);
+    let mut broker: Broker<MAX_QUEUED> = Broker::new(alloc);
     let session = broker.open()?;
     broker.feed(session, b"CONNECT\naccept-version:1.2\nho")?;
     let frames = broker.feed(session, b"st:h\n\n\0")?;
