@@ -489,7 +489,7 @@ BROKER = {
          [("broker_laws", "laws", it) for it in ("no_message_is_lost", "messages_were_sent", "accepted_sends_are_told_once",
                                                  "no_message_overtakes", "frames_are_handled_in_order_all_life")]),
         ("What a client reads was sent", ["The broker between its clients, over wires that cut what is written in any pieces."],
-         [("broker_texts", "laws", it) for it in ("what_a_client_wrote_is_handled", "each_message_was_sent", "each_receipt_was_asked_for",
+         [("broker_laws", "texts", it) for it in ("what_a_client_wrote_is_handled", "each_message_was_sent", "each_receipt_was_asked_for",
                                                   "a_client_refuses_nothing")]),
         ("Frames come out of a text however it is cut",
          ["The decoder's two calls, and what follows of every way to cut a text into pieces."],

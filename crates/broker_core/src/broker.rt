@@ -149,6 +149,7 @@ impl<const FULL: usize> Broker<FULL> {
             Err(_) => return Err(BrokerFault::Memory { took: false }),
             Ok(()) => {}
         }
+        // Each turn takes an octet or the frame that waits, so that the bound is never reached: it shows that this ends.
         let bound = self.bound(number);
         for count in 0..bound {
             match self.turn(number) {

@@ -77,6 +77,7 @@ impl Incoming {
     pub fn bound(&self) -> usize
         ensures { left_of self.now < result }
     {
+        // A frame has an octet at least; beside the frame that waits, the turn that finds none counts too.
         let octets = self.decoder.held_len();
         match &self.waiting {
             None => octets + 1,

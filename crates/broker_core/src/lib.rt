@@ -14,7 +14,7 @@
 //!
 //! ```rust
 //! pub fn a_broker_answers_connect(alloc: Global) -> Result<bool, BrokerFault> {
-//!     let mut broker: Broker<4096> = Broker::new(alloc);
+//!     let mut broker: Broker<MAX_QUEUED> = Broker::new(alloc);
 //!     let session = broker.open()?;
 //!     broker.feed(session, b"CONNECT\naccept-version:1.2\nho")?;
 //!     let frames = broker.feed(session, b"st:h\n\n\0")?;

@@ -108,6 +108,7 @@ fn put<const FULL: usize>(
     ensures { (session : ℕ) → Performs (performed FULL session (reach queues.old transactions.old) (send_in send.now))
         (reach queues.old transactions.old) (reach queues.new transactions.new) result }
 {
+    // Before the transaction is looked at, so that at a COMMIT no destination is refused any more.
     if !is_destination(&send.sent.get().destination) {
         return Err(HandlerFault::Refused(FrameRefusal::BadDestination));
     }
@@ -147,6 +148,8 @@ fn subscribe<const FULL: usize>(
         → Performs (performed FULL session (reach queues.old transactions) (Request.Subscribe asked.now))
         (reach queues.old transactions) (reach queues.new transactions) result }
 {
+    // What the frame says comes before what the session has, and the limit last: one too many is told only where all
+    // else is well.
     if !is_destination(&asked.destination) {
         return Err(HandlerFault::Refused(FrameRefusal::BadDestination));
     }

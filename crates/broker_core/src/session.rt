@@ -128,6 +128,7 @@ impl Session {
         ensures ok { OnOk result (part queues.new self.new ≡ refused refusal (option_copied receipt.entry) (part queues.old self.old)) }
         ensures err { OnErr result ((queues.new ≡ queues.old) × (self.new ≡ self.old)) }
     {
+        // First, since it alone may want memory: what comes behind it is never refused.
         self.out.write_error(alloc, refusal, receipt)?;
         self.fresh = true;
         queues.end(self.number);
@@ -206,6 +207,8 @@ impl Session {
         ensures ok { OnOk result (part queues.new self.new ≡ served FULL (Ok (request_in form.now)) (part queues.old self.old)) }
         ensures err { OnErr result ((queues.new ≡ queues.old) × (self.new ≡ self.old)) }
     {
+        // The reply comes first: it can be taken back where the request is refused, and a request that was done can't be
+        // undone where memory is refused to its reply.
         let before = self.out.len();
         let wrote = self.out.write_reply(form)?;
         match perform(alloc, queues, &mut self.transactions, self.number, form) {

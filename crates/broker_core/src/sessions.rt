@@ -1,4 +1,8 @@
 //! The sessions of a broker.
+//!
+//! What is true is the list of the sessions, in order of their numbers, and the last number that one was given. `last`
+//! and `noted` are hints: either may be wrong at any time, and is looked at before it counts. The first saves the search
+//! for a session that is called again, the second the search for one with fresh octets.
 
 ghost use Rattle.std.specs.Prelude.{◌≡◌, ◌<◌, ◌≤◌, ◌++◌, ◌∷◌, [], length, slice_set, true, false, Some, None, OnOk, OnErr, IfErr, IfSome};
 ghost use Rattle.std.specs.Option.{option_copied};
@@ -24,9 +28,9 @@ use std::alloc::{AllocError, Global};
 use std::marker::Model;
 use stomp_session::{Delivery, Refused};
 
-/// The sessions, the oldest first, and the last number that one was given: contracts see both. `noted` are numbers of sessions that may
-/// have fresh octets, at most one for each session, and `last` is where the session of the last call stood: hints, which are looked at
-/// before they count.
+/// The sessions, the oldest first, and the last number that one was given: contracts see both. `noted` are numbers of
+/// sessions that may have fresh octets, at most one for each session, and `last` is where the session of the last call
+/// stood.
 #[derive(Drop)]
 pub struct Sessions {
     alloc: Global,
@@ -91,9 +95,11 @@ impl Sessions {
     fn place(&self, number: u64) -> Option<usize>
         ensures { PlaceAnswer number self.now.sessions result }
     {
+        // Calls for one session mostly follow one another: it is fed, and then its frames are taken.
         if is_at(&self.items, self.last, number) {
             return Some(self.last);
         }
+        // Numbers rise and are never given twice, so that the list is in order without being sorted.
         self.items
             .binary_search_by_key(&number, |session| session.number)
             .ok()
@@ -146,6 +152,7 @@ impl Sessions {
     {
         if self.get(number).is_some() {
             queues.end(number);
+            // The hints stay as they are: what they name now is looked at before it counts.
             remove_from(&mut self.items, number);
         }
     }
@@ -290,6 +297,7 @@ fn is_fresh_at(items: &[Session], at: usize) -> bool {
 /// it isn't noted, and is found by a search.
 fn note(items: &[Session], at: usize, was_fresh: bool, noted: &mut Vec<u64>) {
     let Some(session) = items.get(at) else { return };
+    // Without the bound, sessions that are dropped before they are named would let the notes grow without end.
     if session.fresh && !was_fresh && noted.len() < items.len() {
         let _ = noted.push(session.number);
     }

@@ -1,10 +1,12 @@
 -- What a run of the book says of a broker's calls.
-use Rattle.std.proofs.Common.{◌≡◌, ℕ, ◌+◌, ◌≤◌, Bool, true, false, cond, List, [], ◌∷◌, ◌++◌, map, refl, sym, ap, ◌∙◌, subst, arith}
+use Rattle.std.proofs.Common.{◌≡◌, ℕ, ◌+◌, ◌≤◌, Bool, true, false, cond, List, [], ◌∷◌, ◌++◌, map, refl, sym, ap, ◌∙◌}
+use Rattle.std.proofs.Common.{subst, arith}
 use Rattle.std.specs.Prelude.{count_by, ◌==◌, ◌&&◌}
 use Rattle.std.specs.List.{AllByRecursion}
 use Rattle.broker_book.specs.Books.{empty_book, is_auto}
 use Rattle.broker_book.specs.Laws.{as_accepted, numbered}
-use Rattle.broker_book.specs.Runs.{BookEvent, Puts, Hands, Acks, Nacks, Subscribes, Releases, Ends, Takes, ended_by, ended_in, handed_in}
+use Rattle.broker_book.specs.Runs.{BookEvent, Puts, Hands, Acks, Nacks, Subscribes, Releases, Ends, Takes, ended_by}
+use Rattle.broker_book.specs.Runs.{ended_in, handed_in}
 use Rattle.broker_book.specs.Runs.{put_by}
 use Rattle.broker_book.specs.Runs.{put_in}
 use Rattle.broker_book.specs.Steps.{Handed}
@@ -18,8 +20,10 @@ use Rattle.broker_core.specs.Serving.{Server}
 use Rattle.broker_book.specs.declared.parts.Sent.{Sent}
 use Rattle.broker_laws.specs.Deeds.{AcceptedWereSent, BrokerDeed, Brings, brings, done_by, done_in}
 use Rattle.broker_laws.specs.Lives.{BrokerCall, accepted_in, dealt_in, told_in}
-use Rattle.broker_laws.specs.Runs.{Runs, hands_by, hands_in, acknowledged_by, acknowledged_in, brought, is_gone, StandsIn}
-use Rattle.broker_laws.specs.Runs.{BrokersAreOrderly, AcceptedAreToldOnce, MessagesWereAccepted, NoLifeLosesAny, NoneOvertakes}
+use Rattle.broker_laws.specs.Runs.{Runs, hands_by, hands_in, acknowledged_by, acknowledged_in, brought, is_gone}
+use Rattle.broker_laws.specs.Runs.{StandsIn}
+use Rattle.broker_laws.specs.Runs.{BrokersAreOrderly, AcceptedAreToldOnce, MessagesWereAccepted, NoLifeLosesAny}
+use Rattle.broker_laws.specs.Runs.{NoneOvertakes}
 use Rattle.broker_laws.proofs.Overtaking.{none_overtake}
 use Rattle.broker_laws.proofs.Running.{life_carries, life_runs}
 use Rattle.broker_book.proofs.AsPut.{run_passes}
@@ -64,10 +68,12 @@ were_accepted full calls b h =
     let dealt = dealt_in full empty calls b h in
     let r = life_runs full empty b calls h in
     let all = numbered 0 (put_in r.events) in
-    let k = run_passes (StandsIn all) r.events empty_book b.book r.run tt (numbered_stand [] 0 (put_in r.events) refl) in
+    let k = run_passes (StandsIn all) r.events empty_book b.book r.run tt (numbered_stand [] 0 (put_in r.events) refl)
+    in
     let told = sym (all_told calls b dealt r) in (
       subst (λ l. AllByRecursion (StandsIn l) (map brought dealt)) told
-          (subst (λ l. AllByRecursion (StandsIn all) l) (handed_brought r.events ∙ ap (λ l. map brought l) r.handed) k.1),
+          (subst (λ l. AllByRecursion (StandsIn all) l) (handed_brought r.events ∙ ap (λ l. map brought l) r.handed)
+          k.1),
       subst (λ l. AllByRecursion (StandsIn l) (map as_accepted b.book.living)) told k.0,
     )
 
@@ -88,7 +94,8 @@ one_gone : (n k : ℕ) (b : Bool) → stands n (cond b (k ∷ []) []) ≡ cond (
 one_gone n k true = let e = count-cons (λ (x : ℕ). x == n) k [] in omega (arith, e)
 one_gone n k false = refl
 
-event_split : (n : ℕ) (e : BookEvent) → stands n (ended_by e) ≡ stands n (acknowledged_by e) + count_by (is_gone n) (hands_by e)
+event_split : (n : ℕ) (e : BookEvent)
+    → stands n (ended_by e) ≡ stands n (acknowledged_by e) + count_by (is_gone n) (hands_by e)
 event_split n (Hands d) =
     let k = one_gone n d.number (is_auto d.to.mode) in
     let l = count-cons (is_gone n) d [] in
@@ -126,14 +133,16 @@ loses_none full calls b h =
       accounted = λ n.
           let kept = messages_kept k.runs.events b.book k.runs.run n in
           let split = all_split n k.runs.events in
-          let dealt : count_by (is_gone n) (hands_in k.runs.events) ≡ count_by (is_gone n) (dealt_in full empty calls b h)
+          let dealt : count_by (is_gone n) (hands_in k.runs.events)
+          ≡ count_by (is_gone n) (dealt_in full empty calls b h)
           = ap (λ l. count_by (is_gone n) l) k.runs.handed in
           omega (arith, kept, split, dealt);
     }
 
 -- ---- each SEND is accepted at most once
 
-numbered_count : (p : Sent → Bool) (last : ℕ) (ss : List Sent) → count_by (λ (a : Accepted). p a.sent) (numbered last ss) ≡ count_by p ss
+numbered_count : (p : Sent → Bool) (last : ℕ) (ss : List Sent)
+    → count_by (λ (a : Accepted). p a.sent) (numbered last ss) ≡ count_by p ss
 numbered_count p last [] = refl
 numbered_count p last (s ∷ ss) =
     let a = count-cons (λ (a : Accepted). p a.sent) (record { number = last + 1; sent = s }) (numbered (last + 1) ss) in
@@ -152,7 +161,8 @@ put_count p (Releases session id) = omega arith
 put_count p (Ends session) = omega arith
 put_count p (Takes accepted) = omega arith
 
-puts_count : (p : Sent → Bool) (events : List BookEvent) → count_by p (put_in events) ≤ count_by (brings p) (done_in events)
+puts_count : (p : Sent → Bool) (events : List BookEvent)
+    → count_by p (put_in events) ≤ count_by (brings p) (done_in events)
 puts_count p [] = omega arith
 puts_count p (e ∷ events) =
     let a = count-append p (put_by e) (put_in events) in

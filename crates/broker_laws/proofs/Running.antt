@@ -1,5 +1,6 @@
 -- Calls, and lives, are runs of the book, along which no more is done than was asked for.
-use Rattle.std.proofs.Common.{◌≡◌, ℕ, ◌+◌, ◌≤◌, Bool, true, false, List, [], ◌∷◌, ◌++◌, map, Option, Some, None, Result, Ok, Err, refl}
+use Rattle.std.proofs.Common.{◌≡◌, ℕ, ◌+◌, ◌≤◌, Bool, true, false, List, [], ◌∷◌, ◌++◌, map, Option, Some, None, Result}
+use Rattle.std.proofs.Common.{Ok, Err, refl}
 use Rattle.std.proofs.Common.{ap}
 use Rattle.std.proofs.Common.{subst, sym, ◌∙◌, append-nil, arith}
 use Rattle.std.specs.Prelude.{count_by}
@@ -15,9 +16,11 @@ use Rattle.broker_book.proofs.Counts.{count-append}
 use Rattle.broker_core.specs.Calls.{OpenAnswer, FreshAnswer, dropped, named, new_session, without_first}
 use Rattle.broker_core.specs.Feeding.{Dealing, Ends, closed, awaits, faulty, FeedAnswer, Handles, HandlesAll, Stops}
 use Rattle.broker_core.specs.Feeding.{TakesDecided as TakesNext}
-use Rattle.broker_core.specs.Feeding.{Hands as Writes, at_frame, in_step, in_deals, at_fault, at_end, delivery_of, taking, with_incoming}
+use Rattle.broker_core.specs.Feeding.{Hands as Writes, at_frame, in_step, in_deals, at_fault, at_end, delivery_of}
+use Rattle.broker_core.specs.Feeding.{taking, with_incoming}
 use Rattle.broker_core.specs.Feeding.{with_waiting}
-use Rattle.broker_core.specs.Serving.{Decided, Part, Roster, Server, changing, changing_part, part, refused, roster_of, served}
+use Rattle.broker_core.specs.Serving.{Decided, Part, Roster, Server, changing, changing_part, part, refused, roster_of}
+use Rattle.broker_core.specs.Serving.{served}
 use Rattle.broker_core.specs.Serving.{session_of, step, with_fault, writing}
 use Rattle.broker_core.specs.Streams.{stopped_frames}
 use Rattle.broker_core.specs.declared.fault.BrokerFault.{BrokerFault}
@@ -25,10 +28,12 @@ use Rattle.broker_core.specs.declared.fault.BrokerFault.TheVariants.{Memory, NoS
 use Rattle.broker_core.specs.declared.fault.FrameRefusal.TheVariants.{BadFrame}
 use Rattle.broker_core.specs.declared.session.Session.{Session}
 use Rattle.broker_core.proofs.Left.{served_number}
-use Rattle.broker_laws.specs.Deeds.{BrokerDeed, asked_by, asked_in, asked_of, done_in}
-use Rattle.broker_laws.specs.Lives.{BrokerCall, Opened, FedTo, Dispatched, TakenFrom, Dropped, Named, Told, Deals, Does, Lives, told_by}
+use Rattle.broker_laws.specs.Deeds.{BrokerDeed, asked_in, asked_of, deeds_by, done_in}
+use Rattle.broker_laws.specs.Lives.{BrokerCall, Opened, FedTo, Dispatched, TakenFrom, Dropped, Named, Told, Dispatches}
+use Rattle.broker_laws.specs.Lives.{Does, Lives, told_by}
 use Rattle.broker_laws.specs.Lives.{told_in}
-use Rattle.broker_laws.specs.Lives.{dealt_behind, dealt_before, dealt_feeding, dealt_dispatching, dealt_by, dealt_in, frames_feeding}
+use Rattle.broker_laws.specs.Lives.{dealt_behind, dealt_before, dealt_feeding, dealt_dispatching, dealt_by, dealt_in}
+use Rattle.broker_laws.specs.Lives.{frames_feeding}
 use Rattle.broker_laws.specs.Runs.{Runs, StepsAreRuns, CallsAreRuns, LivesAreRuns, hands_in}
 use Rattle.broker_laws.proofs.Steps.{PaysAt, ends, joined, pays_end, serves, stays}
 use Rattle.broker_laws.proofs.There.{Spares, found_number, spares_left, spares_piece}
@@ -36,18 +41,22 @@ use Rattle.broker_laws.proofs.Weights.{burden, load, weight, done_append, found_
 
 -- ---- what is carried from one broker to another
 
--- A run of the book led there: with what all transactions keep then, no more was done than they kept before and was asked for.
-pub record Carries (old : Server) (told : List Accepted) (dealt : List Handed) (asked : List BrokerDeed) (new : Server) : Type 0 where
+-- A run of the book led there: with what all transactions keep then, no more was done than they kept before and was
+-- asked for.
+pub record Carries (old : Server) (told : List Accepted) (dealt : List Handed) (asked : List BrokerDeed) (new : Server)
+    : Type 0 where
   pub runs : Runs old.book told dealt new.book
   pub owed : (p : BrokerDeed → Bool) → count_by p (done_in runs.events) + load p new ≤ load p old + count_by p asked
 
 -- the book is the same, and transactions keep no more
-lighter : (old new : Server) → new.book ≡ old.book → ((p : BrokerDeed → Bool) → load p new ≤ load p old) → Carries old [] [] [] new
+lighter : (old new : Server) → new.book ≡ old.book → ((p : BrokerDeed → Bool) → load p new ≤ load p old)
+    → Carries old [] [] [] new
 lighter old new e h = record { runs = stays old.book new.book e; owed = λ p. let l = h p in omega arith }
 
 same : (old new : Server) → new ≡ old → Carries old [] [] [] new
 same old new e =
-    lighter old new (ap (λ (b : Server). b.book) e) (λ p. let l : load p new ≡ load p old = ap (λ (b : Server). load p b) e in omega arith)
+    lighter old new (ap (λ (b : Server). b.book) e) (λ p. let l : load p new ≡ load p old =
+    ap (λ (b : Server). load p b) e in omega arith)
 
 both : (old mid new : Server) (t u : List Accepted) (d g : List Handed) (a c : List BrokerDeed) → Carries old t d a mid
     → Carries mid u g c new
@@ -100,23 +109,27 @@ deals_carry old new h = record {
 }
 
 -- what was carried, and deals behind it
-then_deals : (old mid new : Server) (d : List Handed) (a : List BrokerDeed) → Carries old [] d a mid → (h : Dealing mid new)
+then_deals : (old mid new : Server) (d : List Handed) (a : List BrokerDeed) → Carries old [] d a mid
+    → (h : Dealing mid new)
     → Carries old [] (d ++ h.handed) a new
 then_deals old mid new d a h k =
-    subst (λ l. Carries old [] (d ++ k.handed) l new) (append-nil a) (both old mid new [] [] d k.handed a [] h (deals_carry mid new k))
+    subst (λ l. Carries old [] (d ++ k.handed) l new) (append-nil a) (both old mid new [] [] d k.handed a [] h
+    (deals_carry mid new k))
 
 -- ---- changes of a session
 
 spared : (p : BrokerDeed → Bool) (f : Session → Session) → Spares f → (s : Session) → burden p (f s) ≡ burden p s
 spared p f k s = ap (λ n. weight p n (f s).transactions) (k.number s) ∙ ap (λ l. weight p s.number l) (k.transactions s)
 
-changed : (n : ℕ) (f : Session → Session) (old new : Server) → Spares f → new ≡ changing n f old → Carries old [] [] [] new
+changed : (n : ℕ) (f : Session → Session) (old new : Server) → Spares f → new ≡ changing n f old
+    → Carries old [] [] [] new
 changed n f old new k e =
     subst (λ (b : Server). Carries old [] [] [] b) (sym e) (lighter old (changing n f old) refl
     (λ p. let l = same_load p n f (spared p f k) old.sessions in omega (arith, l)))
 
 -- a session and the book are put back
-part_carries : (n : ℕ) (g : Part → Part) (asked : List BrokerDeed) (b : Server) (o : Option Session) → session_of n b ≡ o
+part_carries : (n : ℕ) (g : Part → Part) (asked : List BrokerDeed) (b : Server) (o : Option Session)
+    → session_of n b ≡ o
     → ((p : Part) → (g p).session.number ≡ p.session.number)
     → ((s : Session) → s.number ≡ n → PaysAt s.number (part b.book s) asked (g (part b.book s)))
     → Carries b [] [] asked (changing_part n g b o)
@@ -129,14 +142,16 @@ part_carries n g asked b (Some s) e number pays =
       owed = λ p.
           let l = found_load p n t b.sessions s e in
           let q = h.owed p in
-          let k : burden p t ≡ weight p s.number t.transactions = ap (λ m. weight p m t.transactions) (number (part b.book s)) in
+          let k : burden p t ≡ weight p s.number t.transactions =
+          ap (λ m. weight p m t.transactions) (number (part b.book s)) in
           omega (arith, l, q, k);
     }
 
 step_carries : (full n : ℕ) (d : Decided) (b : Server) → Carries b [] [] (asked_of n d) (step full n d b)
 step_carries full n d b =
     part_carries n (served full d) (asked_of n d) b (session_of n b) refl (served_number full d)
-    (λ s e. subst (λ m. PaysAt s.number (part b.book s) (asked_of m d) (served full d (part b.book s))) e (serves full d (part b.book s)))
+    (λ s e. subst (λ m. PaysAt s.number (part b.book s) (asked_of m d) (served full d (part b.book s))) e
+    (serves full d (part b.book s)))
 
 fault_carries : (n : ℕ) (b : Server) → Carries b [] [] [] (with_fault n b)
 fault_carries n b =
@@ -149,15 +164,18 @@ fault_carries n b =
 abbrev asks : ℕ → List Decided → List BrokerDeed
 asks n frames = flat_map (asked_of n) frames
 
-frame_carries : (full n : ℕ) (old mid : Server) (d : Decided) → TakesNext old n d mid → Carries old [] [] (asked_of n d) (step full n d mid)
+frame_carries : (full n : ℕ) (old mid : Server) (d : Decided) → TakesNext old n d mid
+    → Carries old [] [] (asked_of n d) (step full n d mid)
 frame_carries full n old mid d t =
-    both old mid (step full n d mid) [] [] [] [] [] (asked_of n d) (changed n (with_incoming t.left) old mid (spares_left t.left) t.changed)
+    both old mid (step full n d mid) [] [] [] [] [] (asked_of n d) (changed n (with_incoming t.left) old mid
+    (spares_left t.left) t.changed)
     (step_carries full n d mid)
 
 one_handled : (full n : ℕ) (old new : Server) (d : Decided) (h : Handles full n old d new)
     → Carries old [] h.settles.0.handed (asked_of n d) new
 one_handled full n old new d h =
-    then_deals old (step full n d h.taken) new [] (asked_of n d) (frame_carries full n old h.taken d h.takes) h.settles.0
+    then_deals old (step full n d h.taken) new [] (asked_of n d) (frame_carries full n old h.taken d h.takes)
+    h.settles.0
 
 all_handled : (full n : ℕ) (old new : Server) (frames : List Decided) (h : HandlesAll full n old frames new)
     → Carries old [] (dealt_behind full n old new frames h) (asks n frames) new
@@ -201,7 +219,8 @@ piece_carries full n old mid piece frames h =
 
 feeding_carries : (full : ℕ) (old : Server) (n : ℕ) (piece : List ℕ) (new : Server) (answer : Result ℕ BrokerFault)
     → (h : FeedAnswer full old n piece new answer)
-    → Carries old [] (dealt_feeding full old n piece new answer h) (asks n (frames_feeding full old n piece new answer h)) new
+    → Carries old [] (dealt_feeding full old n piece new answer h) (asks n
+    (frames_feeding full old n piece new answer h)) new
 feeding_carries full old n piece new (Ok count) h =
     let dealt = dealt_behind full n (changing n (taking piece) old) h.handled h.frames h.handles in
     let a = asks n h.frames in
@@ -221,7 +240,8 @@ feeding_carries full old n piece new (Err (Memory false)) h = same old new h.sam
 feeding_carries full old n piece new (Err NoSession) h = same old new h.1
 feeding_carries full old n piece new (Err TooMany) h = absurd h
 
-opening_carries : (old new : Server) (answer : Result ℕ BrokerFault) → OpenAnswer old new answer → Carries old [] [] [] new
+opening_carries : (old new : Server) (answer : Result ℕ BrokerFault) → OpenAnswer old new answer
+    → Carries old [] [] [] new
 opening_carries old new (Ok n) h =
     let s = new_session (old.opened + 1) in
     lighter old new (ap (λ (b : Server). b.book) h.changed) (λ p.
@@ -233,20 +253,23 @@ opening_carries old new (Err (Memory took)) h = same old new h.1
 opening_carries old new (Err NoSession) h = absurd h
 opening_carries old new (Err TooMany) h = same old new h.1
 
-dispatching_carries : (whole : Bool) (old new : Server) (h : Deals whole old new)
+dispatching_carries : (whole : Bool) (old new : Server) (h : Dispatches whole old new)
     → Carries old [] (dealt_dispatching whole old new h) [] new
 dispatching_carries true old new h = deals_carry old new h.0
 dispatching_carries false old new h = deals_carry old new h
 
 dropping_carries : (n : ℕ) (b : Server) (o : Option Session) → Carries b [] [] [] (dropped n b o)
 dropping_carries n b None = same b b refl
-dropping_carries n b (Some s) = record { runs = ends b.book n; owed = λ p. let l = gone_load p n b.sessions in omega (arith, l) }
+dropping_carries n b (Some s) =
+    record { runs = ends b.book n; owed = λ p. let l = gone_load p n b.sessions in omega (arith, l) }
 
 naming_carries : (old new : Server) (answer : Option ℕ) → FreshAnswer old new answer → Carries old [] [] [] new
-naming_carries old new (Some n) h = changed n named old new (record { number = λ s. refl; transactions = λ s. refl }) h.changed
+naming_carries old new (Some n) h =
+    changed n named old new (record { number = λ s. refl; transactions = λ s. refl }) h.changed
 naming_carries old new None h = same old new h.1
 
-told_carries : (old new : Server) (accepted : List Accepted) → Does 0 old (Told accepted) new → Carries old accepted [] [] new
+told_carries : (old new : Server) (accepted : List Accepted) → Does 0 old (Told accepted) new
+    → Carries old accepted [] [] new
 told_carries old new accepted h = record {
   runs = record {
     events = Takes accepted ∷ [];
@@ -258,23 +281,25 @@ told_carries old new accepted h = record {
 }
 
 pub call_carries : (full : ℕ) (old new : Server) (c : BrokerCall) (h : Does full old c new)
-    → Carries old (told_by c) (dealt_by full old c new h) (asked_by full old c new h) new
+    → Carries old (told_by c) (dealt_by full old c new h) (deeds_by c) new
 call_carries full old new (Opened answer) h = opening_carries old new answer h
-call_carries full old new (FedTo n piece answer) h = feeding_carries full old n piece new answer h
+call_carries full old new (FedTo n fed answer) h =
+    subst (λ frames. Carries old [] (dealt_feeding full old n fed.piece new answer h.0) (asks n frames) new) (sym h.1)
+    (feeding_carries full old n fed.piece new answer h.0)
 call_carries full old new (Dispatched whole) h = dispatching_carries whole old new h
-call_carries full old new (TakenFrom n count) h =
-    changed n (without_first count) old new (record { number = λ s. refl; transactions = λ s. refl }) h.1
+call_carries full old new (TakenFrom n octets) h =
+    changed n (without_first h.0) old new (record { number = λ s. refl; transactions = λ s. refl }) h.3
 call_carries full old new (Dropped n) h =
     subst (λ (b : Server). Carries old [] [] [] b) (sym h) (dropping_carries n old (session_of n old))
 call_carries full old new (Named answer) h = naming_carries old new answer h
 call_carries full old new (Told accepted) h = told_carries old new accepted h
 
 pub life_carries : (full : ℕ) (old new : Server) (calls : List BrokerCall) (h : Lives full old calls new)
-    → Carries old (told_in calls) (dealt_in full old calls new h) (asked_in full old calls new h) new
+    → Carries old (told_in calls) (dealt_in full old calls new h) (asked_in calls) new
 life_carries full old new [] h = same old new h
 life_carries full old new (c ∷ calls) h =
     both old h.0 new (told_by c) (told_in calls) (dealt_by full old c h.0 h.1) (dealt_in full h.0 calls new h.2)
-    (asked_by full old c h.0 h.1) (asked_in full h.0 calls new h.2) (call_carries full old h.0 c h.1) (life_carries full h.0 new calls h.2)
+    (deeds_by c) (asked_in calls) (call_carries full old h.0 c h.1) (life_carries full h.0 new calls h.2)
 
 -- ---- so the book runs
 

@@ -1,5 +1,6 @@
 -- Each message that is handed out was sent.
-use Rattle.std.proofs.Common.{◌≡◌, ℕ, suc, zero, ◌+◌, ◌≤◌, Bool, true, false, cond, List, [], ◌∷◌, map, refl, sym, ap, ◌∙◌, arith}
+use Rattle.std.proofs.Common.{◌≡◌, ℕ, suc, zero, ◌+◌, ◌≤◌, Bool, true, false, cond, List, [], ◌∷◌, map, refl, sym, ap}
+use Rattle.std.proofs.Common.{◌∙◌, arith}
 use Rattle.std.proofs.Common.{Some}
 use Rattle.std.proofs.lemmas.Bool.{and_parts, and_from}
 use Rattle.std.proofs.lemmas.Bool.Decides.{nat_tests}
@@ -51,7 +52,8 @@ same_headers_self (a ∷ xs) =
 
 sent_same : (a b : Sent) → same_sent a b ≡ true → b ≡ a
 sent_same a b h =
-    let k = and_parts (bytes_eq a.destination b.destination && bytes_eq a.body b.body) (same_headers a.headers b.headers) h in
+    let k = and_parts (bytes_eq a.destination b.destination && bytes_eq a.body b.body)
+    (same_headers a.headers b.headers) h in
     let l = and_parts (bytes_eq a.destination b.destination) (bytes_eq a.body b.body) k.0 in
     let destination : b.destination ≡ a.destination = sym ((bytes_eq-Decides a.destination b.destination).0 l.0) in
     let body : b.body ≡ a.body = sym ((bytes_eq-Decides a.body b.body).0 l.1) in
@@ -61,7 +63,8 @@ sent_same a b h =
 same_sent_self : (a : Sent) → same_sent a a ≡ true
 same_sent_self a =
     and_from (bytes_eq a.destination a.destination && bytes_eq a.body a.body) (same_headers a.headers a.headers)
-    (and_from (bytes_eq a.destination a.destination) (bytes_eq a.body a.body) ((bytes_eq-Decides a.destination a.destination).1 refl)
+    (and_from (bytes_eq a.destination a.destination) (bytes_eq a.body a.body)
+    ((bytes_eq-Decides a.destination a.destination).1 refl)
     ((bytes_eq-Decides a.body a.body).1 refl))
     (same_headers_self a.headers)
 
@@ -73,7 +76,8 @@ deed_same s (Acknowledges session number) h = absurd cc
 deed_same s (Returns session number) h = absurd cc
 
 contained_step : (s : Sent) (x : BrokerDeed) (xs : List BrokerDeed) (b : Bool) → brings (same_sent s) x ≡ b
-    → (list_any (brings (same_sent s)) xs ≡ true → Contains xs (Brings s)) → (b || list_any (brings (same_sent s)) xs) ≡ true
+    → (list_any (brings (same_sent s)) xs ≡ true → Contains xs (Brings s))
+    → (b || list_any (brings (same_sent s)) xs) ≡ true
     → Contains (x ∷ xs) (Brings s)
 contained_step s x xs true e ih h = (0, omega arith, deed_same s x e)
 contained_step s x xs false e ih h = let k = ih h in (suc k.0, (let l = k.1 in omega arith), k.2)
@@ -86,7 +90,8 @@ one_more : (b : Bool) (n : ℕ) → b ≡ true → 1 ≤ cond b 1 0 + n
 one_more true n e = omega arith
 one_more false n e = absurd cc
 
-counted : (p : Accepted → Bool) (xs : List Accepted) (i : ℕ) (a : Accepted) → slice_get xs i ≡ Some a → p a ≡ true → 1 ≤ count_by p xs
+counted : (p : Accepted → Bool) (xs : List Accepted) (i : ℕ) (a : Accepted) → slice_get xs i ≡ Some a → p a ≡ true
+    → 1 ≤ count_by p xs
 counted p [] i a h e = absurd cc
 counted p (x ∷ xs) zero a h e =
     let k : x ≡ a = cc in
@@ -115,5 +120,5 @@ each_sent accepted asked less (d ∷ ds) h =
 
 pub messages_sent : MessagesWereSent
 messages_sent full calls b h =
-    each_sent (accepted_in calls b) (asked_in full empty calls b h) (were_sent full calls b h) (dealt_in full empty calls b h)
+    each_sent (accepted_in calls b) (asked_in calls) (were_sent full calls b h) (dealt_in full empty calls b h)
     (were_accepted full calls b h).0

@@ -8,7 +8,8 @@ use Rattle.broker_book.specs.Laws.{numbered}
 use Rattle.broker_laws.specs.Runs.{StandsIn}
 
 -- the item behind a list
-item_behind : {X : Type 0} (before : List X) (x : X) (rest : List X) → slice_get (before ++ x ∷ rest) (length before) ≡ Some x
+item_behind : {X : Type 0} (before : List X) (x : X) (rest : List X)
+    → slice_get (before ++ x ∷ rest) (length before) ≡ Some x
 item_behind [] x rest = refl
 item_behind (y ∷ before) x rest = item_behind before x rest
 

@@ -1,15 +1,18 @@
 -- What the steps of one session leave of another.
-use Rattle.std.proofs.Common.{◌≡◌, ℕ, Bool, true, false, cond, List, [], ◌∷◌, ◌++◌, Option, Some, None, Result, Ok, Err, refl, sym, ap}
+use Rattle.std.proofs.Common.{◌≡◌, ℕ, Bool, true, false, cond, List, [], ◌∷◌, ◌++◌, Option, Some, None, Result, Ok, Err}
+use Rattle.std.proofs.Common.{refl, sym, ap}
 use Rattle.std.proofs.Common.{◌∙◌, subst}
 use Rattle.std.proofs.Common.{arith, append-nil}
 use Rattle.std.specs.Prelude.{◌==◌, is_some}
 use Rattle.std.specs.List.{find}
 use Rattle.std.proofs.lemmas.Bool.{eqb-true}
 use Rattle.std.proofs.lemmas.Bool.Decides.{nat_tests}
-use Rattle.broker_core.specs.Feeding.{Dealing, Ends, closed, awaits, faulty, FeedAnswer, Handles, HandlesAll, Stops, TakesDecided, fed}
+use Rattle.broker_core.specs.Feeding.{Dealing, Ends, closed, awaits, faulty, FeedAnswer, Handles, HandlesAll, Stops}
+use Rattle.broker_core.specs.Feeding.{TakesDecided, fed}
 use Rattle.broker_core.specs.Feeding.{taking}
 use Rattle.broker_core.specs.Feeding.{at_frame, in_step, in_deals, at_fault, at_end, with_incoming, with_waiting}
-use Rattle.broker_core.specs.Serving.{Decided, Part, Server, changing, changing_part, is_session, part, refused, roster_of, served}
+use Rattle.broker_core.specs.Serving.{Decided, Part, Server, changing, changing_part, is_session, part, refused}
+use Rattle.broker_core.specs.Serving.{roster_of, served}
 use Rattle.broker_core.specs.Serving.{session_of}
 use Rattle.broker_core.specs.Serving.{step, with_fault, with_session}
 use Rattle.broker_core.specs.declared.fault.BrokerFault.{BrokerFault}
@@ -41,7 +44,8 @@ abbrev pub spares_left : (left : Incoming) → Spares (with_incoming left)
 spares_left left = record { number = λ s. refl; transactions = λ s. refl }
 
 spares_if : (b : Bool) (s : Session) (i : Incoming)
-    → ((cond b s (record s { incoming = i })).number ≡ s.number) × ((cond b s (record s { incoming = i })).transactions ≡ s.transactions)
+    → ((cond b s (record s { incoming = i })).number ≡ s.number)
+    × ((cond b s (record s { incoming = i })).transactions ≡ s.transactions)
 spares_if true s i = (refl, refl)
 spares_if false s i = (refl, refl)
 
@@ -68,7 +72,8 @@ module _ (full m : ℕ) (R : List Decided → Server → Server → Type 0) (k :
 
   handled : (old new : Server) (d : Decided) → Handles full m old d new → R (d ∷ []) old new
   handled old new d h =
-      k.after (d ∷ []) [] old (step full m d h.taken) new (framed old h.taken d h.takes) (k.deals (step full m d h.taken) new h.settles.0)
+      k.after (d ∷ []) [] old (step full m d h.taken) new (framed old h.taken d h.takes)
+      (k.deals (step full m d h.taken) new h.settles.0)
 
   all_handled : (old new : Server) (frames : List Decided) → HandlesAll full m old frames new → R frames old new
   all_handled old new [] h = still old new h
@@ -92,7 +97,8 @@ module _ (full m : ℕ) (R : List Decided → Server → Server → Type 0) (k :
   stopped old new (at_fault s left o h e) = changed (with_incoming left) old new (spares_left left) e
   stopped old new (at_end mid h deals) = k.after [] [] old mid new (at_end_of old mid h) (k.deals mid new deals)
 
-  begun : (old new : Server) (piece : List ℕ) (frames : List Decided) → HandlesAll full m (changing m (taking piece) old) frames new
+  begun : (old new : Server) (piece : List ℕ) (frames : List Decided)
+      → HandlesAll full m (changing m (taking piece) old) frames new
       → R frames old new
   begun old new piece frames h =
       let mid = changing m (taking piece) old in
@@ -102,7 +108,8 @@ module _ (full m : ℕ) (R : List Decided → Server → Server → Type 0) (k :
       → (h : FeedAnswer full old m piece new answer) → R (frames_feeding full old m piece new answer h) old new
   call_follows old piece new (Ok count) h =
       then_more h.frames old h.ended new
-      (then_more h.frames old h.handled h.ended (begun old h.handled piece h.frames h.handles) (at_end_of h.handled h.ended h.ends))
+      (then_more h.frames old h.handled h.ended (begun old h.handled piece h.frames h.handles)
+      (at_end_of h.handled h.ended h.ends))
       (k.deals h.ended new h.settles.0)
   call_follows old piece new (Err (Memory true)) h =
       k.after h.frames (stopped_frames h.stops) old h.handled new (begun old h.handled piece h.frames h.handles)
@@ -112,9 +119,6 @@ module _ (full m : ℕ) (R : List Decided → Server → Server → Type 0) (k :
   call_follows old piece new (Err TooMany) h = absurd h
 
 -- ---- numbers
-
-pub other_number : (n m k : ℕ) → (m == n) ≡ false → (k == m) ≡ true → (k == n) ≡ false
-other_number n m k d e = grind (arith, nat_tests)
 
 same_number : (a b m : ℕ) → (a == m) ≡ true → (b == m) ≡ true → a ≡ b
 same_number a b m h k = grind (arith, nat_tests)
@@ -137,48 +141,9 @@ found_number n xs s h = eqb-true s.number n (found_passes (is_session n) xs s h)
 
 -- ---- a session of another number
 
--- a change of the sessions of one number, which have no other number before and behind it
-abbrev Apart : ℕ → ℕ → (Session → Session) → Type 0
-Apart n m f = (s : Session) → is_session m s ≡ true → (is_session n s ≡ false) × (is_session n (f s) ≡ false)
-
-apart_step : (n m : ℕ) (f : Session → Session) (s : Session) (ss : List Session) (t u : Bool) → is_session n s ≡ t → is_session m s ≡ u
-    → Apart n m f → find (is_session n) (with_session m f ss) ≡ find (is_session n) ss
-    → find (is_session n) (with_session m f (s ∷ ss)) ≡ find (is_session n) (s ∷ ss)
-apart_step n m f s ss t true k e a ih = let p = a s e in rw (e, p.0, p.1) refl
-apart_step n m f s ss true false k e a ih = rw (e, k) refl
-apart_step n m f s ss false false k e a ih = rw (e, k) ih
-
-apart_found : (n m : ℕ) (f : Session → Session) → Apart n m f → (ss : List Session)
-    → find (is_session n) (with_session m f ss) ≡ find (is_session n) ss
-apart_found n m f a [] = refl
-apart_found n m f a (s ∷ ss) = apart_step n m f s ss (is_session n s) (is_session m s) refl refl a (apart_found n m f a ss)
-
-keeps_apart : (n m : ℕ) (f : Session → Session) → ((s : Session) → (f s).number ≡ s.number) → (m == n) ≡ false → Apart n m f
-keeps_apart n m f k d s e = (other_number n m s.number d e, other_number n m (f s).number d (ap (λ x. x == m) (k s) ∙ e))
-
 -- what is seen of a session stays
 abbrev pub Stays : ℕ → Server → Server → Type 0
 Stays n old new = seen_in (session_of n new) ≡ seen_in (session_of n old)
-
-part_stays : (n m : ℕ) (g : Part → Part) (b : Server) → ((p : Part) → (g p).session.number ≡ p.session.number) → (m == n) ≡ false
-    → (o : Option Session) → session_of m b ≡ o → Stays n b (changing_part m g b o)
-part_stays n m g b k d None e = refl
-part_stays n m g b k d (Some s) e =
-    let t = (g (part b.book s)).session in
-    let own : (t.number == m) ≡ true
-    = ap (λ x. x == m) (k (part b.book s)) ∙ found_passes (is_session m) b.sessions s e in
-    ap seen_in (apart_found n m (λ _. t) (λ x h. (other_number n m x.number d h, other_number n m t.number d own)) b.sessions)
-
--- the calls of one session leave what is seen of another
-pub stays_follow : (full n m : ℕ) → (m == n) ≡ false → Follows full m (λ frames old new. Stays n old new)
-stays_follow full n m d = record {
-  same = λ b. refl;
-  after = λ frames more a b c h k. k ∙ h;
-  changes = λ f b k. ap seen_in (apart_found n m f (keeps_apart n m f k.number d) b.sessions);
-  steps = λ frame b. part_stays n m (served full frame) b (served_number full frame) d (session_of m b) refl;
-  faults = λ b. part_stays n m (refused BadFrame None) b (λ p. refl) d (session_of m b) refl;
-  deals = λ old new h. seen_taken n (roster_of old) (roster_of new) h.handed h.taken;
-}
 
 -- ---- a session that is there
 
@@ -186,7 +151,8 @@ stays_follow full n m d = record {
 abbrev Same : ℕ → ℕ → (Session → Session) → Type 0
 Same n m f = (s : Session) → is_session m s ≡ true → is_session n (f s) ≡ is_session n s
 
-there_step : (n m : ℕ) (f : Session → Session) (s : Session) (ss : List Session) (t u : Bool) → is_session n s ≡ t → is_session m s ≡ u
+there_step : (n m : ℕ) (f : Session → Session) (s : Session) (ss : List Session) (t u : Bool) → is_session n s ≡ t
+    → is_session m s ≡ u
     → Same n m f → is_some (find (is_session n) (with_session m f ss)) ≡ is_some (find (is_session n) ss)
     → is_some (find (is_session n) (with_session m f (s ∷ ss))) ≡ is_some (find (is_session n) (s ∷ ss))
 there_step n m f s ss true true k e a ih = let p = a s e ∙ k in rw (e, p, k) refl
@@ -197,7 +163,8 @@ there_step n m f s ss false false k e a ih = rw (e, k) ih
 there_found : (n m : ℕ) (f : Session → Session) → Same n m f → (ss : List Session)
     → is_some (find (is_session n) (with_session m f ss)) ≡ is_some (find (is_session n) ss)
 there_found n m f a [] = refl
-there_found n m f a (s ∷ ss) = there_step n m f s ss (is_session n s) (is_session m s) refl refl a (there_found n m f a ss)
+there_found n m f a (s ∷ ss) =
+    there_step n m f s ss (is_session n s) (is_session m s) refl refl a (there_found n m f a ss)
 
 -- a session stays there
 abbrev pub StaysThere : ℕ → Server → Server → Type 0
@@ -209,7 +176,8 @@ part_there n m g b k None e = refl
 part_there n m g b k (Some s) e =
     let t = (g (part b.book s)).session in
     let own : (s.number == m) ≡ true = found_passes (is_session m) b.sessions s e in
-    there_found n m (λ _. t) (λ x h. ap (λ j. j == n) (k (part b.book s) ∙ same_number s.number x.number m own h)) b.sessions
+    there_found n m (λ _. t) (λ x h. ap (λ j. j == n) (k (part b.book s) ∙ same_number s.number x.number m own h))
+    b.sessions
 
 some_seen : (o : Option Session) → is_some (seen_in o) ≡ is_some o
 some_seen None = refl

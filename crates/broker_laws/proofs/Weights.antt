@@ -38,7 +38,8 @@ module _ (p : BrokerDeed → Bool) (n : ℕ) where
 
   -- ---- an action more
 
-  one_more : (action : Action) (t : Transaction) → kept (with_action action t) ≡ kept t + count_by p (deed_of n action ∷ [])
+  one_more : (action : Action) (t : Transaction)
+      → kept (with_action action t) ≡ kept t + count_by p (deed_of n action ∷ [])
   one_more action t =
       let a = count-append (λ (a : Action). p (deed_of n a)) t.actions (action ∷ []) in
       let b = count-cons (λ (a : Action). p (deed_of n a)) action [] in
@@ -66,14 +67,16 @@ module _ (p : BrokerDeed → Bool) (n : ℕ) where
 
   -- ---- a transaction more, or less
 
-  pub begun_weight : (ts : List Transaction) (name : List ℕ) → weight (ts ++ record { name = name; actions = [] } ∷ []) ≡ weight ts
+  pub begun_weight : (ts : List Transaction) (name : List ℕ)
+      → weight (ts ++ record { name = name; actions = [] } ∷ []) ≡ weight ts
   begun_weight ts name =
       let t : Transaction = record { name = name; actions = [] } in
       let a = sum_by-append kept ts (t ∷ []) in
       let b = sum_by-cons kept t [] in
       omega (arith, a, b)
 
-  filter_step : (test : Transaction → Bool) (t : Transaction) (ts : List Transaction) (b : Bool) → weight (filter test ts) ≤ weight ts
+  filter_step : (test : Transaction → Bool) (t : Transaction) (ts : List Transaction) (b : Bool)
+      → weight (filter test ts) ≤ weight ts
       → weight (cond b (t ∷ filter test ts) (filter test ts)) ≤ weight (t ∷ ts)
   filter_step test t ts true h =
       let a = sum_by-cons kept t (filter test ts) in let b = sum_by-cons kept t ts in omega (arith, h, a, b)
@@ -84,11 +87,13 @@ module _ (p : BrokerDeed → Bool) (n : ℕ) where
   filter_weight test (t ∷ ts) = filter_step test t ts (test t) (filter_weight test ts)
 
   -- a transaction ends: what it keeps is gone from the others
-  ended_step : (name : List ℕ) (t : Transaction) (ts : List Transaction) (actions : List Action) (b : Bool) → is_transaction name t ≡ b
+  ended_step : (name : List ℕ) (t : Transaction) (ts : List Transaction) (actions : List Action) (b : Bool)
+      → is_transaction name t ≡ b
       → (actions_of ts name ≡ Some actions
       → weight (filter (λ x. not (is_transaction name x)) ts) + count_by (λ a. p (deed_of n a)) actions ≤ weight ts)
       → actions_of (t ∷ ts) name ≡ Some actions
-      → weight (filter (λ x. not (is_transaction name x)) (t ∷ ts)) + count_by (λ a. p (deed_of n a)) actions ≤ weight (t ∷ ts)
+      → weight (filter (λ x. not (is_transaction name x)) (t ∷ ts)) + count_by (λ a. p (deed_of n a)) actions
+      ≤ weight (t ∷ ts)
   ended_step name t ts actions true e ih h =
       let k : Some t.actions ≡ Some actions = rw e at h in
       let l : t.actions ≡ actions = cc in
@@ -105,7 +110,8 @@ module _ (p : BrokerDeed → Bool) (n : ℕ) where
   pub ended_weight : (name : List ℕ) (ts : List Transaction) (actions : List Action) → actions_of ts name ≡ Some actions
       → weight (filter (λ x. not (is_transaction name x)) ts) + count_by (λ a. p (deed_of n a)) actions ≤ weight ts
   ended_weight name [] actions h = absurd cc
-  ended_weight name (t ∷ ts) actions h = ended_step name t ts actions (is_transaction name t) refl (ended_weight name ts actions) h
+  ended_weight name (t ∷ ts) actions h =
+      ended_step name t ts actions (is_transaction name t) refl (ended_weight name ts actions) h
 
 -- ---- all sessions
 

@@ -1,5 +1,5 @@
 -- What frames ask for, and what a run of the book does of it.
-use Rattle.std.specs.Prelude.{◌≤◌, ℕ, Bool, false, List, [], ◌∷◌, ◌++◌, count_by, Option, Some, None, Ok}
+use Rattle.std.specs.Prelude.{◌≤◌, ℕ, Bool, false, List, [], ◌∷◌, count_by, Option, Some, None, Ok}
 use Rattle.std.specs.List.{AllByRecursion, Contains, flat_map}
 use Rattle.stomp_session.specs.declared.request.Request.TheVariants.{Send, Ack, Nack}
 use Rattle.broker_book.specs.Runs.{BookEvent, Puts, Acks, Nacks}
@@ -10,8 +10,7 @@ use Rattle.broker_core.specs.Calls.{empty}
 use Rattle.broker_core.specs.Performing.{sent_of}
 use Rattle.broker_core.specs.Serving.{Decided, Server}
 use Rattle.text.specs.Numerals.{number_of}
-use Rattle.broker_laws.specs.Lives.{BrokerCall, Opened, FedTo, Dispatched, TakenFrom, Dropped, Named, Told, Does, Lives, accepted_in}
-use Rattle.broker_laws.specs.Lives.{dealt_in, frames_feeding}
+use Rattle.broker_laws.specs.Lives.{BrokerCall, FedTo, Lives, accepted_in, dealt_in}
 
 -- ---- what is asked for
 
@@ -34,19 +33,13 @@ asked_of session (Ok (Nack a)) = answering (Returns session) (number_of a.id)
 asked_of session d = []
 
 -- what frames that had their step in a call asked for
-abbrev pub asked_by : (full : ℕ) (old : Server) (c : BrokerCall) (new : Server) → Does full old c new → List BrokerDeed
-asked_by full old (FedTo n piece answer) new h = flat_map (asked_of n) (frames_feeding full old n piece new answer h)
-asked_by full old (Dispatched whole) new h = []
-asked_by full old (Opened answer) new h = []
-asked_by full old (TakenFrom n count) new h = []
-asked_by full old (Dropped n) new h = []
-asked_by full old (Named answer) new h = []
-asked_by full old (Told accepted) new h = []
+abbrev pub deeds_by : BrokerCall → List BrokerDeed
+deeds_by (FedTo n fed answer) = flat_map (asked_of n) fed.frames
+deeds_by c = []
 
 -- what was asked for in these calls, in order
-abbrev pub asked_in : (full : ℕ) (old : Server) (calls : List BrokerCall) (new : Server) → Lives full old calls new → List BrokerDeed
-asked_in full old [] new h = []
-asked_in full old (c ∷ calls) new h = asked_by full old c h.0 h.1 ++ asked_in full h.0 calls new h.2
+abbrev pub asked_in : List BrokerCall → List BrokerDeed
+asked_in calls = flat_map deeds_by calls
 
 -- ---- what is done
 
@@ -74,10 +67,10 @@ brings p d = false
 
 -- each SEND is accepted at most once: no more accepted SENDs pass a test than SEND frames that had their step
 abbrev pub AcceptedWereSent : Type 0
-AcceptedWereSent = (full : ℕ) (calls : List BrokerCall) (b : Server) (h : Lives full empty calls b) (p : Sent → Bool)
-    → count_by (λ (a : Accepted). p a.sent) (accepted_in calls b) ≤ count_by (brings p) (asked_in full empty calls b h)
+AcceptedWereSent = (full : ℕ) (calls : List BrokerCall) (b : Server) → Lives full empty calls b → (p : Sent → Bool)
+    → count_by (λ (a : Accepted). p a.sent) (accepted_in calls b) ≤ count_by (brings p) (asked_in calls)
 
 -- each message that is handed out is what a SEND frame brought that had its step
 abbrev pub MessagesWereSent : Type 0
 MessagesWereSent = (full : ℕ) (calls : List BrokerCall) (b : Server) (h : Lives full empty calls b)
-    → AllByRecursion (λ (d : Handed). Contains (asked_in full empty calls b h) (Brings d.sent)) (dealt_in full empty calls b h)
+    → AllByRecursion (λ (d : Handed). Contains (asked_in calls) (Brings d.sent)) (dealt_in full empty calls b h)

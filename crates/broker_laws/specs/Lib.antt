@@ -1,4 +1,9 @@
+pub mod Carried
+pub mod Conversations
 pub mod Deeds
+pub mod Fitting
+pub mod Lifetime
 pub mod Lives
 pub mod Runs
 pub mod Streams
+pub mod Written

@@ -1,10 +1,13 @@
--- A broker's life: its calls, one after another, and what they fed, told and dealt.
-use Rattle.std.specs.Prelude.{◌≡◌, ◌≤◌, ℕ, Bool, true, false, ◌&&◌, ◌==◌, if◌then◌else◌, List, [], ◌∷◌, ◌++◌, length, Option, Result}
+-- A broker's life: its calls, one after another, and what they fed, told, dealt and took.
+use Rattle.std.specs.Prelude.{◌≡◌, ◌≤◌, ℕ, Bool, true, false, ◌&&◌, ◌==◌, if◌then◌else◌, List, [], ◌∷◌, ◌++◌, length}
+use Rattle.std.specs.Prelude.{take, Option, Result}
 use Rattle.std.specs.Prelude.{Ok, Err}
+use Rattle.std.specs.List.{flat_map}
 use Rattle.broker_book.specs.Steps.{Handed}
 use Rattle.broker_book.specs.declared.parts.Accepted.{Accepted}
 use Rattle.broker_core.specs.Calls.{FreshAnswer, OpenAnswer, dropped, out_in, without_first}
-use Rattle.broker_core.specs.Feeding.{Dealing, FeedAnswer, HandlesAll, Settles, Stops, at_frame, in_step, in_deals, at_fault, at_end}
+use Rattle.broker_core.specs.Feeding.{Dealing, FeedAnswer, HandlesAll, Settles, Stops, at_frame, in_step, in_deals}
+use Rattle.broker_core.specs.Feeding.{at_fault, at_end}
 use Rattle.broker_core.specs.Serving.{Decided, Server, changing, session_of}
 use Rattle.broker_core.specs.Streams.{Fed, stopped_frames}
 use Rattle.broker_core.specs.declared.fault.BrokerFault.{BrokerFault}
@@ -12,30 +15,53 @@ use Rattle.broker_core.specs.declared.fault.BrokerFault.TheVariants.{Memory, NoS
 
 -- ---- calls
 
--- a call of a broker that changes it, with what it was given and what it answered
+-- A call of a broker that changes it, with what it was given and what it answered. A `feed` also tells which frames had
+-- their step, and `taken` which octets went.
 pub data BrokerCall : Type 0 where
   Opened : (answer : Result ℕ BrokerFault) → BrokerCall
-  FedTo : (session : ℕ) → (piece : List ℕ) → (answer : Result ℕ BrokerFault) → BrokerCall
+  FedTo : (session : ℕ) → (fed : Fed) → (answer : Result ℕ BrokerFault) → BrokerCall
   Dispatched : (whole : Bool) → BrokerCall
-  TakenFrom : (session count : ℕ) → BrokerCall
+  TakenFrom : (session : ℕ) → (octets : List ℕ) → BrokerCall
   Dropped : (session : ℕ) → BrokerCall
   Named : (answer : Option ℕ) → BrokerCall
   Told : (accepted : List Accepted) → BrokerCall
 
--- a dispatch dealt until nothing could be dealt, or some deals before memory was refused
-abbrev pub Deals : Bool → Server → Server → Type 0
-Deals true old new = Settles old new
-Deals false old new = Dealing old new
+-- the frames that had their step while a piece was fed
+abbrev pub frames_feeding : (full : ℕ) (old : Server) (n : ℕ) (piece : List ℕ) (new : Server)
+    (answer : Result ℕ BrokerFault)
+    → FeedAnswer full old n piece new answer → List Decided
+frames_feeding full old n piece new (Ok count) h = h.frames
+frames_feeding full old n piece new (Err (Memory true)) h = h.frames ++ stopped_frames h.stops
+frames_feeding full old n piece new (Err (Memory false)) h = []
+frames_feeding full old n piece new (Err NoSession) h = []
+frames_feeding full old n piece new (Err TooMany) h = []
 
--- what a call does
+-- a piece was fed and answered so, and these frames had their step
+abbrev pub FeedsWith : ℕ → Server → ℕ → Fed → Server → Result ℕ BrokerFault → Type 0
+FeedsWith full old n fed new answer =
+    (h : FeedAnswer full old n fed.piece new answer) × (fed.frames ≡ frames_feeding full old n fed.piece new answer h)
+
+-- a dispatch dealt until nothing could be dealt, or some deals before memory was refused
+abbrev pub Dispatches : Bool → Server → Server → Type 0
+Dispatches true old new = Settles old new
+Dispatches false old new = Dealing old new
+
+-- octets for a session were taken: the first so many
+abbrev pub TakesFrom : Server → ℕ → List ℕ → Server → Type 0
+TakesFrom old n octets new =
+    (count : ℕ) × (count ≤ length (out_in (session_of n old))) × (octets ≡ take count (out_in (session_of n old)))
+    × (new ≡ changing n (without_first count) old)
+
+-- what a call does to a broker of which each queue holds so many messages
 abbrev pub Does : ℕ → Server → BrokerCall → Server → Type 0
 Does full old (Opened answer) new = OpenAnswer old new answer
-Does full old (FedTo n piece answer) new = FeedAnswer full old n piece new answer
-Does full old (Dispatched whole) new = Deals whole old new
-Does full old (TakenFrom n count) new = (count ≤ length (out_in (session_of n old))) × (new ≡ changing n (without_first count) old)
+Does full old (FedTo n fed answer) new = FeedsWith full old n fed new answer
+Does full old (Dispatched whole) new = Dispatches whole old new
+Does full old (TakenFrom n octets) new = TakesFrom old n octets new
 Does full old (Dropped n) new = new ≡ dropped n old (session_of n old)
 Does full old (Named answer) new = FreshAnswer old new answer
-Does full old (Told accepted) new = (accepted ≡ old.book.accepted) × (new ≡ record old { book = record old.book { accepted = [] } })
+Does full old (Told accepted) new =
+    (accepted ≡ old.book.accepted) × (new ≡ record old { book = record old.book { accepted = [] } })
 
 -- one call after another leads there
 abbrev pub Lives : ℕ → Server → List BrokerCall → Server → Type 0
@@ -61,7 +87,8 @@ accepted_in calls b = told_in calls ++ b.book.accepted
 -- ---- what is dealt
 
 -- what was dealt behind these frames
-abbrev pub dealt_behind : (full n : ℕ) (old new : Server) (frames : List Decided) → HandlesAll full n old frames new → List Handed
+abbrev pub dealt_behind : (full n : ℕ) (old new : Server) (frames : List Decided) → HandlesAll full n old frames new
+    → List Handed
 dealt_behind full n old new [] h = []
 dealt_behind full n old new (d ∷ frames) h = h.1.settles.0.handed ++ dealt_behind full n h.0 new frames h.2
 
@@ -74,31 +101,35 @@ dealt_before (at_fault s left is_open meets changed) = []
 dealt_before (at_end ended ends deals) = deals.handed
 
 -- what was dealt while a piece was fed
-abbrev pub dealt_feeding : (full : ℕ) (old : Server) (n : ℕ) (piece : List ℕ) (new : Server) (answer : Result ℕ BrokerFault)
+abbrev pub dealt_feeding : (full : ℕ) (old : Server) (n : ℕ) (piece : List ℕ) (new : Server)
+    (answer : Result ℕ BrokerFault)
     → FeedAnswer full old n piece new answer → List Handed
-dealt_feeding full old n piece new (Ok count) h = dealt_behind full n _ h.handled h.frames h.handles ++ h.settles.0.handed
-dealt_feeding full old n piece new (Err (Memory true)) h = dealt_behind full n _ h.handled h.frames h.handles ++ dealt_before h.stops
+dealt_feeding full old n piece new (Ok count) h =
+    dealt_behind full n _ h.handled h.frames h.handles ++ h.settles.0.handed
+dealt_feeding full old n piece new (Err (Memory true)) h =
+    dealt_behind full n _ h.handled h.frames h.handles ++ dealt_before h.stops
 dealt_feeding full old n piece new (Err (Memory false)) h = []
 dealt_feeding full old n piece new (Err NoSession) h = []
 dealt_feeding full old n piece new (Err TooMany) h = []
 
 -- what was dealt in a dispatch
-abbrev pub dealt_dispatching : (whole : Bool) (old new : Server) → Deals whole old new → List Handed
+abbrev pub dealt_dispatching : (whole : Bool) (old new : Server) → Dispatches whole old new → List Handed
 dealt_dispatching true old new h = h.0.handed
 dealt_dispatching false old new h = h.handed
 
 -- what was dealt in a call
 abbrev pub dealt_by : (full : ℕ) (old : Server) (c : BrokerCall) (new : Server) → Does full old c new → List Handed
-dealt_by full old (FedTo n piece answer) new h = dealt_feeding full old n piece new answer h
+dealt_by full old (FedTo n fed answer) new h = dealt_feeding full old n fed.piece new answer h.0
 dealt_by full old (Dispatched whole) new h = dealt_dispatching whole old new h
 dealt_by full old (Opened answer) new h = []
-dealt_by full old (TakenFrom n count) new h = []
+dealt_by full old (TakenFrom n octets) new h = []
 dealt_by full old (Dropped n) new h = []
 dealt_by full old (Named answer) new h = []
 dealt_by full old (Told accepted) new h = []
 
 -- what was dealt in these calls, in order
-abbrev pub dealt_in : (full : ℕ) (old : Server) (calls : List BrokerCall) (new : Server) → Lives full old calls new → List Handed
+abbrev pub dealt_in : (full : ℕ) (old : Server) (calls : List BrokerCall) (new : Server) → Lives full old calls new
+    → List Handed
 dealt_in full old [] new h = []
 dealt_in full old (c ∷ calls) new h = dealt_by full old c h.0 h.1 ++ dealt_in full h.0 calls new h.2
 
@@ -111,27 +142,39 @@ was_taken (Err (Memory took)) = took
 was_taken (Err NoSession) = false
 was_taken (Err TooMany) = false
 
--- the frames that had their step while a piece was fed
-abbrev pub frames_feeding : (full : ℕ) (old : Server) (n : ℕ) (piece : List ℕ) (new : Server) (answer : Result ℕ BrokerFault)
-    → FeedAnswer full old n piece new answer → List Decided
-frames_feeding full old n piece new (Ok count) h = h.frames
-frames_feeding full old n piece new (Err (Memory true)) h = h.frames ++ stopped_frames h.stops
-frames_feeding full old n piece new (Err (Memory false)) h = []
-frames_feeding full old n piece new (Err NoSession) h = []
-frames_feeding full old n piece new (Err TooMany) h = []
-
 -- the piece that a session took in a call, with its frames that had their step then
-abbrev pub fed_by : (full n : ℕ) (old : Server) (c : BrokerCall) (new : Server) → Does full old c new → List Fed
-fed_by full n old (FedTo m piece answer) new h =
-    if m == n && was_taken answer then record { piece = piece; frames = frames_feeding full old m piece new answer h } ∷ [] else []
-fed_by full n old (Dispatched whole) new h = []
-fed_by full n old (Opened answer) new h = []
-fed_by full n old (TakenFrom m count) new h = []
-fed_by full n old (Dropped m) new h = []
-fed_by full n old (Named answer) new h = []
-fed_by full n old (Told accepted) new h = []
+abbrev pub fed_by : ℕ → BrokerCall → List Fed
+fed_by n (FedTo m fed answer) = if n == m && was_taken answer then fed ∷ [] else []
+fed_by n c = []
 
 -- those that it took in these calls, in order
-abbrev pub fed_in : (full n : ℕ) (old : Server) (calls : List BrokerCall) (new : Server) → Lives full old calls new → List Fed
-fed_in full n old [] new h = []
-fed_in full n old (c ∷ calls) new h = fed_by full n old c h.0 h.1 ++ fed_in full n h.0 calls new h.2
+abbrev pub fed_in : ℕ → List BrokerCall → List Fed
+fed_in n calls = flat_map (fed_by n) calls
+
+-- all that it was fed in these calls
+abbrev pub pieces_in : ℕ → List BrokerCall → List ℕ
+pieces_in n calls = flat_map (λ f. f.piece) (fed_in n calls)
+
+-- its frames that were handled in these calls, in order
+abbrev pub handled_in : ℕ → List BrokerCall → List Decided
+handled_in n calls = flat_map (λ f. f.frames) (fed_in n calls)
+
+-- ---- what is taken
+
+-- the octets that a call took of those for a session
+abbrev pub octets_by : ℕ → BrokerCall → List ℕ
+octets_by n (TakenFrom m octets) = if n == m then octets else []
+octets_by n c = []
+
+-- all that these calls took
+abbrev pub octets_in : ℕ → List BrokerCall → List ℕ
+octets_in n calls = flat_map (octets_by n) calls
+
+-- what was taken of the octets for a session, and the frames of it that were handled
+pub record Account : Type 0 where
+  pub taken : List ℕ
+  pub handled : List Decided
+
+-- these of a number over calls
+abbrev pub account : ℕ → List BrokerCall → Account
+account n calls = record { taken = octets_in n calls; handled = handled_in n calls }

@@ -1,5 +1,6 @@
 -- What a broker's calls make of its book, and what holds of its book after any of them.
-use Rattle.std.specs.Prelude.{◌≡◌, ℕ, ◌+◌, ◌-◌, ◌<◌, Bool, true, Some, ◌&&◌, ◌==◌, nat_le, if◌then◌else◌, List, [], ◌∷◌, ◌++◌, map}
+use Rattle.std.specs.Prelude.{◌≡◌, ℕ, ◌+◌, ◌-◌, ◌<◌, Bool, true, Some, ◌&&◌, ◌==◌, nat_le, if◌then◌else◌, List, [], ◌∷◌}
+use Rattle.std.specs.Prelude.{◌++◌, map}
 use Rattle.std.specs.Prelude.{count_by, length}
 use Rattle.std.specs.List.{flat_map, list_any, slice_get, AllByRecursion}
 use Rattle.broker_book.specs.Books.{Book, empty_book, is_auto}
@@ -91,10 +92,13 @@ MessagesWereAccepted = (full : ℕ) (calls : List BrokerCall) (b : Server) (h : 
 abbrev pub was_handed : List Handed → ℕ → Bool
 was_handed handed number = list_any (λ (d : Handed). d.number == number) handed
 
--- no message overtakes another of its queue: when it is handed out, each accepted SEND of a lower number to its destination was, before it
+-- no message overtakes another of its queue: when it is handed out, each accepted SEND of a lower number to its
+-- destination was, before it
 abbrev pub NoneOvertakes : Type 0
-NoneOvertakes = (full : ℕ) (calls : List BrokerCall) (b : Server) (h : Lives full empty calls b) (before behind : List Handed) (d : Handed)
-    → dealt_in full empty calls b h ≡ before ++ d ∷ behind → (a : Accepted) → StandsIn (accepted_in calls b) a → a.number < d.number
+NoneOvertakes = (full : ℕ) (calls : List BrokerCall) (b : Server) (h : Lives full empty calls b)
+    (before behind : List Handed) (d : Handed)
+    → dealt_in full empty calls b h ≡ before ++ d ∷ behind → (a : Accepted) → StandsIn (accepted_in calls b) a
+    → a.number < d.number
     → a.sent.destination ≡ d.sent.destination → was_handed before a.number ≡ true
 
 -- ---- nothing is lost
@@ -103,20 +107,21 @@ NoneOvertakes = (full : ℕ) (calls : List BrokerCall) (b : Server) (h : Lives f
 abbrev pub is_gone : ℕ → Handed → Bool
 is_gone number d = is_auto d.to.mode && d.number == number
 
--- Each number from 1 to the last is that of one living message, or of one that an ACK covered, or of one that went out in mode `auto`,
--- once and never two of these; no other number is any.
+-- Each number from 1 to the last is that of one living message, or of one that an ACK covered, or of one that went out
+-- in mode `auto`, once and never two of these; no other number is any.
 abbrev pub IsAccounted : Book → List ℕ → List Handed → Type 0
 IsAccounted b acknowledged dealt = (n : ℕ)
     → count_by (is_numbered n) b.living + (count_by (λ k. k == n) acknowledged + count_by (is_gone n) dealt)
     ≡ (if nat_le 1 n && nat_le n b.last then 1 else 0)
 
 -- the book is the end of a run along which nothing was done that these deeds don't ask for, and nothing was lost
-pub record LosesNone (accepted : List Accepted) (dealt : List Handed) (asked : List BrokerDeed) (b : Book) : Type 0 where
-  pub runs : Runs empty_book accepted dealt b
-  pub were_asked : WereAsked (done_in runs.events) asked
-  pub accounted : IsAccounted b (acknowledged_in runs.events) dealt
+pub record LosesNone (accepted : List Accepted) (dealt : List Handed) (asked : List BrokerDeed) (b : Book) : Type 0
+  where
+    pub runs : Runs empty_book accepted dealt b
+    pub were_asked : WereAsked (done_in runs.events) asked
+    pub accounted : IsAccounted b (acknowledged_in runs.events) dealt
 
 -- in no life is a message lost
 abbrev pub NoLifeLosesAny : Type 0
 NoLifeLosesAny = (full : ℕ) (calls : List BrokerCall) (b : Server) (h : Lives full empty calls b)
-    → LosesNone (told_in calls) (dealt_in full empty calls b h) (asked_in full empty calls b h) b.book
+    → LosesNone (told_in calls) (dealt_in full empty calls b h) (asked_in calls) b.book

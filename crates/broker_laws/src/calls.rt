@@ -1,10 +1,11 @@
 //! The calls of a broker, as a life counts them.
 //!
-//! Each function is the broker's own call of its name; its contract says which call of a life it is.
+//! Each function is the broker's own call of its name; its contract says which call of a life it is, whatever it
+//! answers. With `new` of a broker they are all the calls that change one.
 
-ghost use Rattle.std.specs.Prelude.{◌≤◌, [], length, is_ok};
+ghost use Rattle.std.specs.Prelude.{◌≤◌, List, [], length, is_ok, take};
 ghost use Rattle.broker_core.specs.Calls.{empty, out_in};
-ghost use Rattle.broker_core.specs.Serving.{session_of};
+ghost use Rattle.broker_core.specs.Serving.{Decided, session_of};
 ghost use Rattle.broker_laws.specs.Lives.{Does, Dispatched, Dropped, FedTo, Lives, Named, Opened, TakenFrom, Told};
 
 use broker_book::Accepted;
@@ -28,7 +29,7 @@ pub fn open<const FULL: usize>(broker: &mut Broker<FULL>) -> Result<SessionId, B
     broker.open()
 }
 
-/// Feeds a piece of a client's octets to its session.
+/// Feeds a piece of a client's octets to its session. The call of a life also tells which frames had their step.
 ///
 /// # Errors
 /// Those of `Broker::feed`.
@@ -37,7 +38,8 @@ pub fn feed<const FULL: usize>(
     session: SessionId,
     piece: &[u8],
 ) -> Result<usize, BrokerFault>
-    ensures { Does FULL broker.old (FedTo session piece.now result) broker.new }
+    ensures { (frames : List Decided)
+        × Does FULL broker.old (FedTo session (record { piece = piece.now; frames = frames }) result) broker.new }
 {
     broker.feed(session, piece)
 }
@@ -58,7 +60,8 @@ pub fn dispatch<const FULL: usize>(broker: &mut Broker<FULL>) -> Result<(), Allo
 /// Takes the first octets for a session away. It takes no memory.
 pub fn taken<const FULL: usize>(broker: &mut Broker<FULL>, session: SessionId, count: usize)
     requires { count ≤ length (out_in (session_of session broker.old)) }
-    ensures { Does FULL broker.old (TakenFrom session count) broker.new }
+    ensures { Does FULL broker.old (TakenFrom session (take count (out_in (session_of session broker.old))))
+        broker.new }
 {
     broker.taken(session, count);
 }

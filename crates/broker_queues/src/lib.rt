@@ -16,7 +16,7 @@
 //!
 //! ```rust
 //! pub fn a_message_is_accepted(alloc: Global) -> Result<usize, QueueFault> {
-//!     let mut queues: Queues<4096> = Queues::new(alloc);
+//!     let mut queues: Queues<MAX_QUEUED> = Queues::new(alloc);
 //!     let sent = Sent {
 //!         destination: Text::new(String::from_str(alloc, "/queue/a")?),
 //!         headers: Headers::new(Vec::new(alloc)),

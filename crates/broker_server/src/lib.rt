@@ -5,7 +5,7 @@
 //! [`read_in`], [`write_out`] and [`Rest`]. What is around them, the loop over ready sockets, is safe; no contract says what a socket does.
 //!
 //! ```text
-//! let mut broker: Broker<4096> = Broker::new(alloc);
+//! let mut broker: Broker<MAX_QUEUED> = Broker::new(alloc);
 //! serve(rt, alloc, &mut broker, &mut listener, &stop)?;
 //! ```
 //!

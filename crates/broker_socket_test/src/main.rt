@@ -7,6 +7,7 @@
 mod client;
 mod talk;
 
+use base::limits::MAX_QUEUED;
 use broker_core::Broker;
 use broker_server::{ServeFault, Stop, serve};
 use mio::net::TcpListener;
@@ -66,7 +67,7 @@ fn main(rt: HostRuntime) -> io::Result<ExitCode> {
         || {
             // It is closed where serving ends, so that no client waits for more.
             let mut listener = listener;
-            let mut broker: Broker<4096> = Broker::new(rt.alloc());
+            let mut broker: Broker<MAX_QUEUED> = Broker::new(rt.alloc());
             serve(&rt, rt.alloc(), &mut broker, &mut listener, &stop)
         },
         || {

@@ -1,16 +1,16 @@
 //! One example for the page of each library that needs no service.
 
 ghost use Rattle.broker_laws.specs.Runs.{NoLifeLosesAny};
-ghost use Rattle.broker_texts.specs.Carried.{MessagesWereSent};
+ghost use Rattle.broker_laws.specs.Carried.{ReadMessagesWereSent};
 
+use base::limits::MAX_QUEUED;
 use base::{Entity, EntityFault, Key, Kind};
 use broker_book::{Action, Mode, QueueFault, Sent, Shared};
 use broker_core::{Broker, BrokerFault};
 use broker_index::Destinations;
-use broker_laws::no_message_is_lost;
+use broker_laws::{each_message_was_sent, no_message_is_lost};
 use broker_queues::Queues;
 use broker_server::Stop;
-use broker_texts::each_message_was_sent;
 use broker_tx::{TransactionFault, Transactions};
 use line_script::{WordFault, read_octets};
 use receipts::{ReceiptFault, Receipts};
@@ -80,7 +80,7 @@ pub fn an_idle_destination_is_closed(alloc: Global) -> Result<bool, QueueFault> 
 }
 
 pub fn a_message_is_accepted(alloc: Global) -> Result<usize, QueueFault> {
-    let mut queues: Queues<4096> = Queues::new(alloc);
+    let mut queues: Queues<MAX_QUEUED> = Queues::new(alloc);
     let sent = Sent {
         destination: Text::new(String::from_str(alloc, "/queue/a")?),
         headers: Headers::new(Vec::new(alloc)),
@@ -100,7 +100,7 @@ pub fn a_transaction_keeps_its_actions(alloc: Global) -> Result<usize, Transacti
 }
 
 pub fn a_broker_answers_connect(alloc: Global) -> Result<bool, BrokerFault> {
-    let mut broker: Broker<4096> = Broker::new(alloc);
+    let mut broker: Broker<MAX_QUEUED> = Broker::new(alloc);
     let session = broker.open()?;
     broker.feed(session, b"CONNECT\naccept-version:1.2\nho")?;
     let frames = broker.feed(session, b"st:h\n\n\0")?;
@@ -121,7 +121,7 @@ pub fn what_wants_an_ack_stays_until_it_comes()
 }
 
 pub fn what_a_client_reads_was_sent()
-    ensures { MessagesWereSent }
+    ensures { ReadMessagesWereSent }
 {
     each_message_was_sent();
 }

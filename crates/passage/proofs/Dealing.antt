@@ -10,7 +10,7 @@ use Rattle.broker_book.specs.Books.{Book}
 use Rattle.broker_book.specs.Steps.{Deals, Handed, Taken}
 use Rattle.broker_core.specs.Feeding.{Dealing, DispatchAnswer, Hands, delivery_of}
 use Rattle.broker_core.specs.Serving.{Roster, Server, roster_of, writing}
-use Rattle.broker_texts.proofs.Dealing.{HandsOut, hands_out}
+use Rattle.broker_laws.proofs.Dealing.{HandsOut, hands_out}
 use Rattle.envelope.specs.declared.message.Envelope.{Envelope}
 use Rattle.passage.specs.Passing.{Brought, HasName, GoodBook, GoodFrame, GoodServer}
 use Rattle.passage.proofs.Serving.{GoodSessions, sessions_of, writes_good}

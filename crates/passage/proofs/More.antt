@@ -10,8 +10,8 @@ use Rattle.broker_book.specs.declared.parts.Action.TheVariants.{Put, Ack as AckO
 use Rattle.broker_book.specs.declared.parts.Sent.{Sent}
 use Rattle.broker_core.specs.Serving.{Decided, Server}
 use Rattle.broker_core.specs.declared.session.Session.{Session}
-use Rattle.broker_texts.specs.Fitting.{AcceptedFits, ActionFits, MessageFits, SentFits, TransactionFits}
-use Rattle.broker_texts.proofs.Lists.{all_weaker}
+use Rattle.broker_laws.specs.Fitting.{AcceptedFits, ActionFits, MessageFits, SentFits, TransactionFits}
+use Rattle.broker_laws.proofs.Lists.{all_weaker}
 use Rattle.broker_tx.specs.Transactions.{Transaction}
 use Rattle.envelope.specs.declared.message.Envelope.{Envelope}
 use Rattle.mail.specs.Offices.{Office}

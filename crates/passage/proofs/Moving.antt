@@ -12,7 +12,7 @@ use Rattle.stomp_frame.specs.Frames.{Content}
 use Rattle.broker_core.specs.Calls.{dropped, empty, new_session, others, out_in, with_new_session, without_first}
 use Rattle.broker_core.specs.Serving.{Server, changing, is_session, session_of}
 use Rattle.broker_core.specs.declared.session.Session.{Session}
-use Rattle.broker_texts.proofs.Sessions.{new_found, none_left, old_found, others_left}
+use Rattle.broker_laws.proofs.Sessions.{new_found, none_left, old_found, others_left}
 use Rattle.envelope.specs.declared.message.Envelope.{Envelope}
 use Rattle.passage.specs.Passing.{GoodFrame, GoodServer, GoodSession, Spelled, at}
 use Rattle.passage.proofs.Serving.{ended_good}

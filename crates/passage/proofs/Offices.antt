@@ -22,7 +22,7 @@ use Rattle.mail.specs.Offices.{Office, new_office, restarted}
 use Rattle.mail.specs.declared.connection.Connection.{Connection}
 use Rattle.mail.specs.declared.fault.OpenFault.{OpenFault}
 use Rattle.mail.specs.declared.fault.OpenFault.TheVariants.{Client as OfClient, Broker as OfBroker}
-use Rattle.broker_texts.specs.Fitting.{AcceptedFits}
+use Rattle.broker_laws.specs.Fitting.{AcceptedFits}
 use Rattle.passage.specs.Laws.{TakenGood}
 use Rattle.passage.specs.Passing.{AreOf, Brought, GoodConnection, GoodFrame, GoodNext, GoodOffice, GoodServer, GoodWith, HasWritten}
 use Rattle.passage.specs.Passing.{Spelled, at, coming, going}

@@ -16,7 +16,7 @@ use Rattle.broker_core.specs.Feeding.{FeedAnswer}
 use Rattle.broker_core.specs.Serving.{Server, session_of}
 use Rattle.broker_core.specs.declared.fault.BrokerFault.{BrokerFault}
 use Rattle.broker_core.specs.declared.fault.BrokerFault.TheVariants.{Memory, NoSession, TooMany}
-use Rattle.broker_texts.specs.Fitting.{AcceptedFits, SentFits}
+use Rattle.broker_laws.specs.Fitting.{AcceptedFits, SentFits}
 use Rattle.envelope.specs.declared.message.Envelope.{Envelope}
 use Rattle.envelope.proofs.Headers.{read_envelope-before}
 use Rattle.mail.specs.Accepted.{sent_at, sent_in}

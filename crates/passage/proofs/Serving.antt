@@ -23,8 +23,8 @@ use Rattle.broker_core.specs.declared.fault.FrameRefusal.{FrameRefusal}
 use Rattle.broker_core.specs.declared.fault.FrameRefusal.TheVariants.{BadFrame, Unaccepted}
 use Rattle.broker_core.specs.declared.session.Session.{Session}
 use Rattle.broker_core.proofs.Left.{served_number}
-use Rattle.broker_texts.proofs.Fitting.{Brings, DoneFits, book_weaker, ended_fits, performed_fits}
-use Rattle.broker_texts.proofs.Replies.{error_fits, receipt_fits}
+use Rattle.broker_laws.proofs.Fitting.{Brings, DoneFits, book_weaker, ended_fits, performed_fits}
+use Rattle.broker_laws.proofs.Replies.{error_fits, receipt_fits}
 use Rattle.envelope.specs.declared.message.Envelope.{Envelope}
 use Rattle.passage.specs.Passing.{carries, Brought, HasName, GoodBook, GoodDecided, GoodFrame, GoodNext, GoodRequest, GoodServer}
 use Rattle.passage.specs.Passing.{GoodSession, Spelled}

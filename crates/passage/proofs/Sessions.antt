@@ -6,7 +6,7 @@ use Rattle.std.proofs.lemmas.Bool.{eqb-true}
 use Rattle.broker_core.specs.Serving.{is_session, with_session}
 use Rattle.broker_core.specs.declared.session.Session.{Session}
 use Rattle.broker_core.proofs.Left.{find_with}
-use Rattle.broker_texts.proofs.Sessions.{Keeps, none_changed, other_found}
+use Rattle.broker_laws.proofs.Sessions.{Keeps, none_changed, other_found}
 
 -- what holds of the session of each number, and of each number that none has
 pub record EachAt (P : ℕ → Session → Type 0) (N : ℕ → Type 0) (ss : List Session) : Type 0 where

@@ -9,7 +9,7 @@ use Rattle.stomp_frame.specs.Frames.{Content, IsFrame, canonical}
 use Rattle.stomp_frame.specs.Streams.{AreFrames, canonical_texts}
 use Rattle.stomp_session.proofs.Owning.{all_append}
 use Rattle.stomp_client.specs.Written.{Adds, Wrote}
-use Rattle.broker_texts.proofs.Lists.{all_split}
+use Rattle.broker_laws.proofs.Lists.{all_split}
 use Rattle.envelope.specs.declared.message.Envelope.{Envelope}
 use Rattle.mail.specs.Offices.{Office}
 use Rattle.mail.specs.declared.connection.Connection.{Connection}

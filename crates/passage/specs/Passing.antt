@@ -16,7 +16,7 @@ use Rattle.broker_book.specs.declared.parts.Sent.{Sent}
 use Rattle.broker_book.specs.declared.parts.Subscription.{Subscription}
 use Rattle.broker_core.specs.Serving.{Decided, Server, session_of}
 use Rattle.broker_core.specs.declared.session.Session.{Session}
-use Rattle.broker_texts.specs.Fitting.{AcceptedFits, BookFits, TransactionFits}
+use Rattle.broker_laws.specs.Fitting.{AcceptedFits, BookFits, TransactionFits}
 use Rattle.envelope.specs.Reading.{read_envelope}
 use Rattle.envelope.specs.declared.message.Envelope.{Envelope}
 use Rattle.mail.specs.Offices.{Office}
