@@ -4,7 +4,7 @@
 ghost use Rattle.std.specs.Prelude.{◌≡◌, ◌<◌, ◌++◌, List, ℕ, [], flat_map, string_bytes, OnOk, IfOk, IsErrOf, MatchOption};
 ghost use Rattle.line_script.specs.Escapes.{digit_of, digit, meant_by, hex, escaped, front, Spells, spelled};
 
-use crate::fault::WordFault;
+use crate::fault::LineFault;
 use std::alloc::{AllocError, Global};
 
 /// The value of a hexadecimal digit.
@@ -73,15 +73,15 @@ fn front(text: &[u8]) -> Option<(u8, &[u8])>
 ///
 /// # Errors
 /// `Unknown`: it stands for none. `Memory`.
-pub fn read_octets(alloc: Global, text: &str) -> Result<Vec<u8>, WordFault>
+pub fn read_octets(alloc: Global, text: &str) -> Result<Vec<u8>, LineFault>
     ensures ok { IfOk result (λ octets. Spells text.now octets.items []) }
-    ensures unknown { IsErrOf result WordFault.Unknown → (octets : List ℕ) → Spells text.now octets [] → ⊥ }
+    ensures unknown { IsErrOf result LineFault.Unknown → (octets : List ℕ) → Spells text.now octets [] → ⊥ }
 {
     let mut octets = Vec::new(alloc);
     let mut rest = text.as_bytes();
     while !rest.is_empty() {
         let Some((octet, behind)) = front(rest) else {
-            return Err(WordFault::Unknown);
+            return Err(LineFault::Unknown);
         };
         octets.push(octet)?;
         rest = behind;
@@ -93,12 +93,12 @@ pub fn read_octets(alloc: Global, text: &str) -> Result<Vec<u8>, WordFault>
 ///
 /// # Errors
 /// `Unknown`: it stands for no octets, or they aren't UTF-8. `Memory`.
-pub fn read_text(alloc: Global, text: &str) -> Result<String, WordFault>
+pub fn read_text(alloc: Global, text: &str) -> Result<String, LineFault>
     ensures { IfOk result (λ read. Spells text.now (string_bytes read) []) }
 {
     match String::from_utf8(read_octets(alloc, text)?) {
         Ok(text) => Ok(text),
-        Err(_) => Err(WordFault::Unknown),
+        Err(_) => Err(LineFault::Unknown),
     }
 }
 

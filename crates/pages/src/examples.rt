@@ -37,7 +37,7 @@ use hotel::{Room, Rooms};
 use inbox::{Class, classify};
 use keep::{Change, Faulty, Keep, KeepFault};
 use keep_plain::PlainKeep;
-use line_script::{WordFault, push_octets, read_octets};
+use line_script::{LineFault, push_octets, read_octets};
 use mail::{Connection, Mail, OpenFault};
 use outbox::settle;
 use passage::what_is_read_passes;
@@ -74,7 +74,7 @@ pub fn what_was_put_is_taken(alloc: Global) -> Result<Vec<u8>, LinkFault> {
     Ok(taken)
 }
 
-pub fn printed_octets_are_read(alloc: Global) -> Result<bool, WordFault> {
+pub fn printed_octets_are_read(alloc: Global) -> Result<bool, LineFault> {
     let octets = read_octets(alloc, "two\\swords\\x00")?;
     let mut text = String::new(alloc);
     push_octets(&mut text, &octets)?;
