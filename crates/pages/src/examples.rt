@@ -29,6 +29,7 @@ use broker_queues::Queues;
 use broker_server::Stop;
 use broker_texts::each_message_was_sent;
 use broker_tx::{TransactionFault, Transactions};
+use command_line::tell_bad_words;
 use endpoint::{EndFault, Endpoint};
 use envelope::{Envelope, EnvelopeFault, Letter, Message, to_send};
 use exchange::{Delivery, Event, Network, Outcome, exchange};
@@ -52,6 +53,7 @@ use schedules::{ConnectionName, ConnectionNumber, ScheduleFault, read_schedule};
 use showing::show_row;
 use sites::Site;
 use std::alloc::{AllocError, Global};
+use std::io;
 use stomp_client::{ClientFault, ClientSession};
 use stomp_frame::{Command, Decoder, Frame, FrameFault};
 use stomp_session::{Headers, Octets, ServerSession, Text};
@@ -307,6 +309,11 @@ pub fn a_row_is_shown(alloc: Global, bolt: &Entity) -> Result<bool, AllocError> 
     let line = show_row::<Stocks>(alloc, bolt, &row)?;
     let told = b"stock/bolt on_hand 0 held 0 shipped 0 received 0\n".as_slice();
     Ok(line.as_slice() == told)
+}
+
+pub fn words_that_are_no_text_are_told(alloc: Global) -> io::Result<u8> {
+    let mut err = Vec::new(alloc);
+    tell_bad_words(&mut err, "hi NAME")
 }
 
 pub fn a_schedule_is_run(alloc: Global) -> Result<bool, RunFault> {

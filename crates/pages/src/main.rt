@@ -24,7 +24,7 @@ use examples::{
     printed_octets_are_read, services_without_orders_agree, so_much_is_on_hand,
     so_much_is_the_limit, tables_hold_nothing_at_first, what_a_client_reads_was_sent,
     what_comes_early_waits, what_is_read_of_a_good_frame_passes,
-    what_wants_an_ack_stays_until_it_comes, what_was_put_is_taken,
+    what_wants_an_ack_stays_until_it_comes, what_was_put_is_taken, words_that_are_no_text_are_told,
 };
 use exchange::{Delivery, Event, Network, Outcome, exchange};
 use hotel::{RoomCommand, Rooms};
@@ -299,6 +299,7 @@ fn print_runs(rt: &impl Print, alloc: Global) -> Result<()> {
     a_service_that_acts_makes_nothing_up::<Orders, PlainKeep<Orders>>();
     show(rt, "schedule_runner", &a_warehouse_stays_open(alloc))?;
     tell(rt, "showing", a_row_is_shown(alloc, &pair(alloc)?.to))?;
+    tell(rt, "command_line", words_that_are_no_text_are_told(alloc))?;
     tell(rt, "programs", a_schedule_is_run(alloc))
 }
 
