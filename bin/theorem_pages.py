@@ -467,7 +467,7 @@ PROGRAM = {
         ("A schedule is run as its text says",
          ["The program's one public call, and the run of a text that it ends in: what is printed are the lines of the outcomes of its"
           " events."],
-         [("programs", "command_line", "run_schedule"), ("programs", "schedule", "run_text")]),
+         [("programs", "words", "run_schedule"), ("programs", "schedule", "run_text")]),
         ("What shows print", ["The lines that tell what the store of a service holds, between two worlds, before and after."],
          OF_SHOWS[:-1]),
         ("Whether all partners agree",

@@ -1,6 +1,6 @@
 //! A dialogue, cut at every place.
 
-use crate::fault::LineFault;
+use crate::fault::CallFault;
 use crate::parts::{push_all_accepted, push_octets_part, push_part};
 use base::limits::MAX_QUEUED;
 use broker_core::{Broker, SessionId};
@@ -12,7 +12,7 @@ fn outcome(
     broker: &mut Broker<MAX_QUEUED>,
     session: SessionId,
     frames: usize,
-) -> Result<String, LineFault> {
+) -> Result<String, CallFault> {
     let mut text = format!(in alloc; "frames {frames}")?;
     let state = if broker.is_closed(session) {
         "closed"
@@ -26,7 +26,7 @@ fn outcome(
 }
 
 /// What comes of a dialogue that a session of a new broker is fed in these pieces.
-fn hold(alloc: Global, pieces: &[&[u8]]) -> Result<String, LineFault> {
+fn hold(alloc: Global, pieces: &[&[u8]]) -> Result<String, CallFault> {
     let mut broker = Broker::new(alloc);
     let session = broker.open()?;
     let mut frames: usize = 0;
@@ -37,7 +37,7 @@ fn hold(alloc: Global, pieces: &[&[u8]]) -> Result<String, LineFault> {
 }
 
 /// Where a cut in two changes what comes of a dialogue, and to what.
-fn differing_cut(alloc: Global, octets: &[u8], whole: &str) -> Result<Option<String>, LineFault> {
+fn differing_cut(alloc: Global, octets: &[u8], whole: &str) -> Result<Option<String>, CallFault> {
     for at in 0..octets.len() {
         let (first, second) = octets.split_at(at);
         let cut = hold(alloc, &[first, second])?;
@@ -49,7 +49,7 @@ fn differing_cut(alloc: Global, octets: &[u8], whole: &str) -> Result<Option<Str
 }
 
 /// What comes of a dialogue that is fed at once; or where a cut changes it, and to what.
-pub fn hold_cut(alloc: Global, octets: &[u8]) -> Result<String, LineFault> {
+pub fn hold_cut(alloc: Global, octets: &[u8]) -> Result<String, CallFault> {
     let whole = hold(alloc, &[octets])?;
     if let Some(text) = differing_cut(alloc, octets, whole.as_str())? {
         return Ok(text);

@@ -1,12 +1,12 @@
 //! What stands between two lines, and what a line asks of it.
 
 use crate::cuts::hold_cut;
-use crate::fault::LineFault;
+use crate::fault::CallFault;
 use crate::kept::Kept;
 use crate::parts::push_all_accepted;
 use base::limits::MAX_QUEUED;
 use broker_core::{Broker, SessionId};
-use line_script::{Script, first_word, natural, read_octets, size};
+use line_script::{LineFault, Script, first_word, natural, read_octets, size};
 use std::alloc::Global;
 use std::fmt::Write as _;
 use std::io::Write;
@@ -21,12 +21,12 @@ pub struct Lines {
 }
 
 /// The session of a number.
-fn session(number: &str) -> Result<SessionId, LineFault> {
+fn session(number: &str) -> Result<SessionId, CallFault> {
     Ok(SessionId::new(natural(number)?))
 }
 
 /// A text, or `none` in place of an empty one.
-fn or_none(alloc: Global, text: String) -> Result<String, LineFault> {
+fn or_none(alloc: Global, text: String) -> Result<String, CallFault> {
     if text.is_empty() {
         Ok(String::from_str(alloc, "none")?)
     } else {
@@ -35,7 +35,7 @@ fn or_none(alloc: Global, text: String) -> Result<String, LineFault> {
 }
 
 /// Numbers with a space between them.
-fn numbers_text(alloc: Global, numbers: &[u64]) -> Result<String, LineFault> {
+fn numbers_text(alloc: Global, numbers: &[u64]) -> Result<String, CallFault> {
     let mut text = String::new(alloc);
     for number in numbers {
         if !text.is_empty() {
@@ -56,7 +56,7 @@ impl Lines {
     }
 
     /// A session is fed a piece so many times: the frames that were handled in all.
-    fn feed(&mut self, alloc: Global, times: usize, line: &str) -> Result<String, LineFault> {
+    fn feed(&mut self, alloc: Global, times: usize, line: &str) -> Result<String, CallFault> {
         let (number, text) = first_word(line);
         let session = session(number)?;
         let octets = read_octets(alloc, text)?;
@@ -68,7 +68,7 @@ impl Lines {
     }
 
     /// The octets for a session, which are taken.
-    fn out(&mut self, alloc: Global, session: SessionId) -> Result<String, LineFault> {
+    fn out(&mut self, alloc: Global, session: SessionId) -> Result<String, CallFault> {
         let octets = self.broker.out(session);
         let count = octets.len();
         let mut text = String::new(alloc);
@@ -78,14 +78,14 @@ impl Lines {
     }
 
     /// The SENDs that were accepted, which are taken.
-    fn accepted(&mut self, alloc: Global) -> Result<String, LineFault> {
+    fn accepted(&mut self, alloc: Global) -> Result<String, CallFault> {
         let mut text = String::new(alloc);
         push_all_accepted(alloc, &mut text, &self.broker.take_accepted())?;
         or_none(alloc, text)
     }
 
     /// The sessions that have octets to be written, lowest number first.
-    fn fresh(&mut self, alloc: Global) -> Result<String, LineFault> {
+    fn fresh(&mut self, alloc: Global) -> Result<String, CallFault> {
         let mut numbers = Vec::new(alloc);
         for _ in 0..u64::MAX {
             match self.broker.take_fresh() {
@@ -98,14 +98,14 @@ impl Lines {
     }
 
     /// The answer to a line of one word.
-    fn answer_word(&mut self, alloc: Global, word: &str) -> Result<String, LineFault> {
+    fn answer_word(&mut self, alloc: Global, word: &str) -> Result<String, CallFault> {
         match word {
             "new" => self.broker = Broker::new(alloc),
             "open" => return Ok(format!(in alloc; "{}", self.broker.open()?.number())?),
             "dispatch" => self.broker.dispatch()?,
             "accepted" => return self.accepted(alloc),
             "fresh" => return self.fresh(alloc),
-            _ => return Err(LineFault::Unknown),
+            _ => return Err(LineFault::Unknown.into()),
         }
         Ok(String::from_str(alloc, "done")?)
     }
@@ -116,7 +116,7 @@ impl Lines {
         alloc: Global,
         word: &str,
         session: SessionId,
-    ) -> Result<String, LineFault> {
+    ) -> Result<String, CallFault> {
         let text = match word {
             "out" => return self.out(alloc, session),
             "drop" => {
@@ -125,7 +125,7 @@ impl Lines {
             }
             "closed" if self.broker.is_closed(session) => "yes",
             "closed" => "no",
-            _ => return Err(LineFault::Unknown),
+            _ => return Err(LineFault::Unknown.into()),
         };
         Ok(String::from_str(alloc, text)?)
     }
@@ -133,16 +133,16 @@ impl Lines {
 
 impl Lines {
     /// Keeps a line.
-    fn keep(&mut self, alloc: Global, line: &str) -> Result<String, LineFault> {
+    fn keep(&mut self, alloc: Global, line: &str) -> Result<String, CallFault> {
         let kept = Kept::new(alloc, line)?;
         self.kept.push(kept)?;
         Ok(String::from_str(alloc, "done")?)
     }
 
     /// Keeps the answer of the line that was kept last.
-    fn keep_answer(&mut self, alloc: Global, answer: &str) -> Result<String, LineFault> {
+    fn keep_answer(&mut self, alloc: Global, answer: &str) -> Result<String, CallFault> {
         let Some(kept) = self.kept.last_mut() else {
-            return Err(LineFault::Unknown);
+            return Err(LineFault::Unknown.into());
         };
         kept.gives(alloc, answer)?;
         Ok(String::from_str(alloc, "done")?)
@@ -154,7 +154,7 @@ impl Lines {
         alloc: Global,
         kept: &[Kept],
         number: &str,
-    ) -> Result<Option<String>, LineFault> {
+    ) -> Result<Option<String>, CallFault> {
         for one in kept {
             let line = one.line(alloc, number)?;
             let given = self.ask(alloc, line.as_str())?;
@@ -166,7 +166,7 @@ impl Lines {
     }
 
     /// Runs the lines that are kept, with each of these numbers. They are kept no more.
-    fn run(&mut self, alloc: Global, first: u64, last: u64) -> Result<String, LineFault> {
+    fn run(&mut self, alloc: Global, first: u64, last: u64) -> Result<String, CallFault> {
         let kept = mem::replace(&mut self.kept, Vec::new(alloc));
         for number in first..=last {
             let number = format!(in alloc; "{number}")?;
@@ -178,7 +178,7 @@ impl Lines {
     }
 
     /// The answer to a line that keeps nothing and runs nothing that is kept.
-    fn ask(&mut self, alloc: Global, line: &str) -> Result<String, LineFault> {
+    fn ask(&mut self, alloc: Global, line: &str) -> Result<String, CallFault> {
         match first_word(line) {
             ("cuts", text) => hold_cut(alloc, &read_octets(alloc, text)?),
             ("feed", rest) => self.feed(alloc, 1, rest),
@@ -195,9 +195,9 @@ impl Lines {
 impl Script for Lines {
     type Answer = String;
 
-    type Fault = LineFault;
+    type Fault = CallFault;
 
-    fn answer(&mut self, alloc: Global, line: &str) -> Result<String, LineFault> {
+    fn answer(&mut self, alloc: Global, line: &str) -> Result<String, CallFault> {
         match first_word(line) {
             ("|", text) => self.keep(alloc, text),
             ("=", text) => self.keep_answer(alloc, text),

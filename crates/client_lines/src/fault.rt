@@ -1,18 +1,18 @@
-//! Why a line wasn't done.
+//! Why a line has no answer.
 
-use line_script::{Fault, WordFault};
+use line_script::{Fault, LineFault};
 use receipts::ReceiptFault;
-use std::alloc::{AllocError, AllocFailed};
+use std::alloc::AllocError;
 use stomp_client::ClientFault;
 use stomp_frame::FrameFault;
 use thiserror::Error;
 
-/// Why a line wasn't done.
+/// Why a line has no answer.
 #[derive(Debug, Drop, Error)]
-pub enum LineFault {
-    /// No line is so, or a number of it isn't one.
-    #[error("no such line")]
-    Unknown,
+pub enum CallFault {
+    /// No line is so, or a word of it isn't one.
+    #[error(transparent)]
+    Line(#[from] LineFault),
     /// A text is no whole frame, or not one that the line is for.
     #[error("no such frame")]
     NoFrame,
@@ -20,48 +20,28 @@ pub enum LineFault {
     #[error("no message")]
     NoMessage,
     /// The decoder's fault.
-    #[error("{0}")]
+    #[error(transparent)]
     Frame(#[from] FrameFault),
     /// The receipts' fault.
-    #[error("{0}")]
+    #[error(transparent)]
     Receipt(#[from] ReceiptFault),
     /// The client's fault.
-    #[error("{0}")]
+    #[error(transparent)]
     Client(#[from] ClientFault),
     /// A growth was refused.
     #[error("out of memory")]
-    Memory,
+    Memory(#[from(alloc)] AllocError),
 }
 
-impl Fault for LineFault {
+impl Fault for CallFault {
     fn is_memory(&self) -> bool {
         matches!(
             self,
-            LineFault::Memory
-                | LineFault::Frame(FrameFault::Memory)
-                | LineFault::Receipt(ReceiptFault::Memory)
-                | LineFault::Client(ClientFault::Memory)
+            CallFault::Line(LineFault::Memory)
+                | CallFault::Memory(_)
+                | CallFault::Frame(FrameFault::Memory)
+                | CallFault::Receipt(ReceiptFault::Memory)
+                | CallFault::Client(ClientFault::Memory)
         )
-    }
-}
-
-impl From<WordFault> for LineFault {
-    fn from(fault: WordFault) -> LineFault {
-        match fault {
-            WordFault::Unknown => LineFault::Unknown,
-            WordFault::Memory => LineFault::Memory,
-        }
-    }
-}
-
-impl From<AllocError> for LineFault {
-    fn from(_: AllocError) -> LineFault {
-        LineFault::Memory
-    }
-}
-
-impl<T: Drop> From<AllocFailed<T>> for LineFault {
-    fn from(_: AllocFailed<T>) -> LineFault {
-        LineFault::Memory
     }
 }

@@ -6,24 +6,24 @@ ghost use Rattle.stomp_client.specs.Frames.{IsShort, IsPlain};
 ghost use Rattle.stomp_client.specs.Delivered.{IsDelivered};
 ghost use Rattle.stomp_client.specs.Written.{AreWhole};
 
-use crate::fault::LineFault;
+use crate::fault::CallFault;
 use base::limits::MAX_BODY;
-use line_script::read_octets;
+use line_script::{LineFault, read_octets};
 use std::alloc::Global;
 use stomp_frame::{Command, Decoder, Frame, encode};
 
 /// The frame of a text.
-pub fn frame(alloc: Global, text: &str) -> Result<Frame<MAX_BODY>, LineFault> {
+pub fn frame(alloc: Global, text: &str) -> Result<Frame<MAX_BODY>, CallFault> {
     let mut decoder = Decoder::new(alloc);
     decoder.feed(&read_octets(alloc, text)?)?;
     match decoder.next()? {
         Some(frame) => Ok(frame),
-        None => Err(LineFault::NoFrame),
+        None => Err(CallFault::NoFrame),
     }
 }
 
 /// The canonical text of a text's frame.
-pub fn whole_text(alloc: Global, text: &str) -> Result<Vec<u8>, LineFault>
+pub fn whole_text(alloc: Global, text: &str) -> Result<Vec<u8>, CallFault>
     ensures { IfOk result (λ octets. AreWhole octets.items) }
 {
     let frame = frame(alloc, text)?;
@@ -34,19 +34,19 @@ pub fn whole_text(alloc: Global, text: &str) -> Result<Vec<u8>, LineFault>
 }
 
 /// A SEND to which a receipt or a transaction can be added.
-pub fn plain_send(alloc: Global, text: &str) -> Result<Frame<MAX_BODY>, LineFault>
+pub fn plain_send(alloc: Global, text: &str) -> Result<Frame<MAX_BODY>, CallFault>
     ensures { IfOk result (λ f. IsPlain f) }
 {
     let frame = frame(alloc, text)?;
     match frame.command() {
         Command::Send => (),
-        _ => return Err(LineFault::NoFrame),
+        _ => return Err(CallFault::NoFrame),
     }
     if frame.headers().len() >= 32 {
-        return Err(LineFault::NoFrame);
+        return Err(CallFault::NoFrame);
     }
     if frame.get("receipt").is_some() || frame.get("transaction").is_some() {
-        return Err(LineFault::NoFrame);
+        return Err(CallFault::NoFrame);
     }
     Ok(frame)
 }
@@ -72,15 +72,15 @@ pub fn short(text: &str) -> Result<&str, LineFault>
 }
 
 /// The MESSAGE that was accepted last.
-pub fn delivered(message: &Option<Frame<MAX_BODY>>) -> Result<&Frame<MAX_BODY>, LineFault>
+pub fn delivered(message: &Option<Frame<MAX_BODY>>) -> Result<&Frame<MAX_BODY>, CallFault>
     ensures { IfOk result (λ frame. IsDelivered frame.now) }
 {
     let Some(frame) = message else {
-        return Err(LineFault::NoMessage);
+        return Err(CallFault::NoMessage);
     };
     match frame.command() {
         Command::Message => (),
-        _ => return Err(LineFault::NoMessage),
+        _ => return Err(CallFault::NoMessage),
     }
     let is_whole = frame.get("destination").is_some()
         && frame.get("message-id").is_some()
@@ -89,6 +89,6 @@ pub fn delivered(message: &Option<Frame<MAX_BODY>>) -> Result<&Frame<MAX_BODY>, 
     if is_whole {
         Ok(frame)
     } else {
-        Err(LineFault::NoMessage)
+        Err(CallFault::NoMessage)
     }
 }

@@ -3,13 +3,13 @@
 ghost use Rattle.std.specs.Prelude.{◌≤◌, length};
 
 use crate::decoding::{Reading, Step, steps_text};
-use crate::fault::LineFault;
+use crate::fault::CallFault;
 use crate::octets::octets;
-use line_script::size;
+use line_script::{LineFault, size};
 use std::alloc::Global;
 
 /// What is given of a text that is fed octet by octet.
-fn by_octets(alloc: Global, text: &[u8]) -> Result<Vec<Step>, LineFault> {
+fn by_octets(alloc: Global, text: &[u8]) -> Result<Vec<Step>, CallFault> {
     let mut reading = Reading::new(alloc);
     for octet in text.chunks(1) {
         reading.read(alloc, octet)?;
@@ -18,7 +18,7 @@ fn by_octets(alloc: Global, text: &[u8]) -> Result<Vec<Step>, LineFault> {
 }
 
 /// What is given of a text that is fed in two pieces.
-fn by_two(alloc: Global, front: &[u8], back: &[u8]) -> Result<Vec<Step>, LineFault> {
+fn by_two(alloc: Global, front: &[u8], back: &[u8]) -> Result<Vec<Step>, CallFault> {
     let mut reading = Reading::new(alloc);
     reading.read(alloc, front)?;
     reading.read(alloc, back)?;
@@ -46,7 +46,7 @@ fn difference(
     steps: &[Step],
     text: &[u8],
     cut: usize,
-) -> Result<Option<String>, LineFault>
+) -> Result<Option<String>, CallFault>
     requires { cut ≤ length text.now }
 {
     let (front, back) = text.split_at(cut);
@@ -59,7 +59,7 @@ fn difference(
 
 /// What is given of a text: octet by octet, in one piece, and in two that are cut behind each `every`-th octet and before the last one.
 /// Where a cut makes a difference, the first that does is told.
-fn decode(alloc: Global, every: usize, word: &str) -> Result<String, LineFault> {
+fn decode(alloc: Global, every: usize, word: &str) -> Result<String, CallFault> {
     let text = octets(alloc, word)?;
     let steps = by_octets(alloc, &text)?;
     decode_cut(alloc, &steps, &text, every)
@@ -71,7 +71,7 @@ fn decode_cut(
     steps: &[Step],
     text: &[u8],
     every: usize,
-) -> Result<String, LineFault> {
+) -> Result<String, CallFault> {
     for cut in 0..=text.len() {
         if cut.is_multiple_of(every) || cut.saturating_add(1) >= text.len() {
             if let Some(found) = difference(alloc, steps, text, cut)? {
@@ -83,13 +83,13 @@ fn decode_cut(
 }
 
 /// The same by words: `N TEXT`.
-fn decode_every(alloc: Global, every: &str, word: &str) -> Result<String, LineFault> {
+fn decode_every(alloc: Global, every: &str, word: &str) -> Result<String, CallFault> {
     let every = size(every)?;
     decode(alloc, every, word)
 }
 
 /// What a decoder gives of some pieces.
-fn round(alloc: Global, reading: &mut Reading, words: &[&str]) -> Result<String, LineFault> {
+fn round(alloc: Global, reading: &mut Reading, words: &[&str]) -> Result<String, CallFault> {
     for word in words {
         reading.read(alloc, &octets(alloc, word)?)?;
     }
@@ -98,7 +98,7 @@ fn round(alloc: Global, reading: &mut Reading, words: &[&str]) -> Result<String,
 }
 
 /// One decoder is fed the same pieces again and again: what it gives each time, or the first time that is otherwise.
-fn rounds(alloc: Global, count: &str, words: &[&str]) -> Result<String, LineFault> {
+fn rounds(alloc: Global, count: &str, words: &[&str]) -> Result<String, CallFault> {
     let count = size(count)?;
     let mut reading = Reading::new(alloc);
     go_round(alloc, &mut reading, count, words)
@@ -110,7 +110,7 @@ fn go_round(
     reading: &mut Reading,
     count: usize,
     words: &[&str],
-) -> Result<String, LineFault> {
+) -> Result<String, CallFault> {
     let first = round(alloc, reading, words)?;
     for number in 1..count {
         let text = round(alloc, reading, words)?;
@@ -122,11 +122,11 @@ fn go_round(
 }
 
 /// The answer to a line that begins with `decode`.
-pub fn answer_decode(alloc: Global, words: &[&str]) -> Result<String, LineFault> {
+pub fn answer_decode(alloc: Global, words: &[&str]) -> Result<String, CallFault> {
     match words {
         [word] => decode(alloc, 1, word),
         ["every", every, word] => decode_every(alloc, every, word),
         ["rounds", count, words @ ..] => rounds(alloc, count, words),
-        _ => Err(LineFault::Unknown),
+        _ => Err(LineFault::Unknown.into()),
     }
 }

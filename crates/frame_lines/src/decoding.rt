@@ -1,8 +1,9 @@
 //! A decoder, and what it gave. What wants memory is done again: nothing has changed then.
 
-use crate::fault::LineFault;
+use crate::fault::CallFault;
 use crate::frame_texts::frame_text;
 use base::limits::MAX_BODY;
+use line_script::LineFault;
 use std::alloc::{AllocError, Global};
 use std::mem;
 use stomp_frame::{Decoder, Frame, FrameFault};
@@ -70,9 +71,9 @@ impl Reading {
     }
 
     /// Notes a fault. A decoder that doesn't stay failed is told too.
-    fn note_fault(&mut self, alloc: Global, fault: FrameFault) -> Result<(), LineFault> {
+    fn note_fault(&mut self, alloc: Global, fault: FrameFault) -> Result<(), CallFault> {
         if fault == FrameFault::Memory {
-            return Err(LineFault::Memory);
+            return Err(LineFault::Memory.into());
         }
         self.has_failed = true;
         let text = if has_failed(&mut self.decoder) {
@@ -84,7 +85,7 @@ impl Reading {
     }
 
     /// Takes all that the decoder gives, up to where it waits or fails.
-    fn take(&mut self, alloc: Global) -> Result<(), LineFault> {
+    fn take(&mut self, alloc: Global) -> Result<(), CallFault> {
         for _ in 0..u64::MAX {
             match next(&mut self.decoder) {
                 Ok(Some(frame)) => self.note(frame_text(alloc, &frame)?)?,
@@ -96,7 +97,7 @@ impl Reading {
     }
 
     /// Feeds a piece, and takes what the decoder gives then. Where it has failed, nothing is done.
-    pub fn read(&mut self, alloc: Global, piece: &[u8]) -> Result<(), LineFault> {
+    pub fn read(&mut self, alloc: Global, piece: &[u8]) -> Result<(), CallFault> {
         if self.has_failed {
             return Ok(());
         }

@@ -1,86 +1,66 @@
-//! Why a line wasn't done.
+//! Why a line has no answer.
 
 use activities::HandlerFault;
 use base::EntityFault;
 use envelope::EnvelopeFault;
-use line_script::{Fault, WordFault};
-use std::alloc::{AllocError, AllocFailed};
+use line_script::{Fault, LineFault};
+use std::alloc::AllocError;
 use std::io;
 use std::io::ErrorKind;
 use stomp_frame::FrameFault;
 use stomp_wire::LinkFault;
 use thiserror::Error;
 
-/// Why a line wasn't done.
+/// Why a line has no answer.
 #[derive(Debug, Drop, Error)]
-pub enum LineFault {
-    /// No line is so, or a number or a text of it isn't one.
-    #[error("no such line")]
-    Unknown,
+pub enum CallFault {
+    /// No line is so, or a word of it isn't one.
+    #[error(transparent)]
+    Line(#[from] LineFault),
     /// A file failed.
     #[error("a file failed")]
     File,
     /// A text names no entity and no key.
-    #[error("{0}")]
+    #[error(transparent)]
     Entity(#[from] EntityFault),
     /// A link's fault.
-    #[error("{0}")]
+    #[error(transparent)]
     Link(#[from] LinkFault),
     /// A frame's fault.
-    #[error("{0}")]
+    #[error(transparent)]
     Frame(#[from] FrameFault),
     /// An envelope's fault.
-    #[error("{0}")]
+    #[error(transparent)]
     Envelope(#[from] EnvelopeFault),
     /// A handler's fault.
-    #[error("{0}")]
+    #[error(transparent)]
     Handler(#[from] HandlerFault),
     /// A growth was refused.
     #[error("out of memory")]
-    Memory,
+    Memory(#[from(alloc)] AllocError),
 }
 
-impl Fault for LineFault {
+impl Fault for CallFault {
     fn is_memory(&self) -> bool {
         matches!(
             self,
-            LineFault::Memory
-                | LineFault::Entity(EntityFault::Memory)
-                | LineFault::Link(LinkFault::Memory)
-                | LineFault::Frame(FrameFault::Memory)
-                | LineFault::Envelope(EnvelopeFault::Memory)
-                | LineFault::Handler(HandlerFault::Memory)
+            CallFault::Line(LineFault::Memory)
+                | CallFault::Memory(_)
+                | CallFault::Entity(EntityFault::Memory)
+                | CallFault::Link(LinkFault::Memory)
+                | CallFault::Frame(FrameFault::Memory)
+                | CallFault::Envelope(EnvelopeFault::Memory)
+                | CallFault::Handler(HandlerFault::Memory)
         )
     }
 }
 
-impl From<WordFault> for LineFault {
-    fn from(fault: WordFault) -> LineFault {
-        match fault {
-            WordFault::Unknown => LineFault::Unknown,
-            WordFault::Memory => LineFault::Memory,
-        }
-    }
-}
-
-impl From<AllocError> for LineFault {
-    fn from(_: AllocError) -> LineFault {
-        LineFault::Memory
-    }
-}
-
-impl<T: Drop> From<AllocFailed<T>> for LineFault {
-    fn from(_: AllocFailed<T>) -> LineFault {
-        LineFault::Memory
-    }
-}
-
-impl From<io::Error> for LineFault {
-    fn from(error: io::Error) -> LineFault {
+impl From<io::Error> for CallFault {
+    fn from(error: io::Error) -> CallFault {
         if error.kind() == ErrorKind::OutOfMemory {
-            LineFault::Memory
+            CallFault::Memory(AllocError)
         } else {
-            LineFault::File
+            CallFault::File
         }
     }
 }

@@ -1,10 +1,11 @@
 //! Frames and their builder. What wants memory is done again: nothing has changed then.
 
-use crate::fault::LineFault;
+use crate::fault::CallFault;
 use crate::frame_texts::{frame_text, header_text, refused_text};
 use crate::octets::{octets, shown, text};
 use crate::words::command;
 use base::limits::MAX_BODY;
+use line_script::LineFault;
 use std::alloc::Global;
 use std::mem;
 use stomp_frame::{Command, Frame, FrameFault, Header, encode};
@@ -42,7 +43,7 @@ fn push_frame(frame: &Frame<MAX_BODY>, out: &mut Vec<u8>) -> Result<(), FrameFau
 }
 
 /// The spelling of a frame behind a text.
-pub fn spelled(alloc: Global, frame: &Frame<MAX_BODY>, before: &str) -> Result<String, LineFault> {
+pub fn spelled(alloc: Global, frame: &Frame<MAX_BODY>, before: &str) -> Result<String, CallFault> {
     let mut out = octets(alloc, before)?;
     push_frame(frame, &mut out)?;
     Ok(shown(alloc, &out)?)
@@ -53,11 +54,11 @@ fn told(
     alloc: Global,
     answer: Result<(), FrameFault>,
     frame: &Frame<MAX_BODY>,
-) -> Result<String, LineFault> {
+) -> Result<String, CallFault> {
     let text = frame_text(alloc, frame)?;
     match answer {
         Ok(()) => Ok(text),
-        Err(FrameFault::Memory) => Err(LineFault::Memory),
+        Err(FrameFault::Memory) => Err(LineFault::Memory.into()),
         Err(fault) => Ok(format!(in alloc; "{fault}; {text}")?),
     }
 }
@@ -68,7 +69,7 @@ fn header(
     frame: &mut Frame<MAX_BODY>,
     name: &str,
     value: &str,
-) -> Result<String, LineFault> {
+) -> Result<String, CallFault> {
     let name = text(alloc, name)?;
     let value = text(alloc, value)?;
     let answer = push_header(frame, &name, &value);
@@ -76,14 +77,14 @@ fn header(
 }
 
 /// A body is set.
-fn body(alloc: Global, frame: &mut Frame<MAX_BODY>, word: &str) -> Result<String, LineFault> {
+fn body(alloc: Global, frame: &mut Frame<MAX_BODY>, word: &str) -> Result<String, CallFault> {
     let body = octets(alloc, word)?;
     let answer = set_body(frame, &body);
     told(alloc, answer, frame)
 }
 
 /// The first value of a name.
-fn value(alloc: Global, frame: &Frame<MAX_BODY>, word: &str) -> Result<String, LineFault> {
+fn value(alloc: Global, frame: &Frame<MAX_BODY>, word: &str) -> Result<String, CallFault> {
     let name = text(alloc, word)?;
     match frame.get(&name) {
         Some(value) => Ok(shown(alloc, value.as_bytes())?),
@@ -98,7 +99,7 @@ fn make(
     command: Command,
     headers: Vec<Header>,
     body: Vec<u8>,
-) -> Result<String, LineFault> {
+) -> Result<String, CallFault> {
     match Frame::from_parts(alloc, command, headers, body) {
         Ok(made) => {
             *frame = made;
@@ -109,14 +110,14 @@ fn make(
 }
 
 /// A new frame of a command stands in this one's place.
-fn start_anew(alloc: Global, frame: &mut Frame<MAX_BODY>, word: &str) -> Result<String, LineFault> {
+fn start_anew(alloc: Global, frame: &mut Frame<MAX_BODY>, word: &str) -> Result<String, CallFault> {
     let command = command(word)?;
     *frame = Frame::new(alloc, command);
     Ok(frame_text(alloc, frame)?)
 }
 
 /// The frame is looked at, and shown.
-fn show(alloc: Global, frame: &Frame<MAX_BODY>) -> Result<String, LineFault> {
+fn show(alloc: Global, frame: &Frame<MAX_BODY>) -> Result<String, CallFault> {
     frame.holds();
     Ok(frame_text(alloc, frame)?)
 }
@@ -126,7 +127,7 @@ fn change_command(
     alloc: Global,
     frame: &mut Frame<MAX_BODY>,
     word: &str,
-) -> Result<String, LineFault> {
+) -> Result<String, CallFault> {
     let command = command(word)?;
     let old = mem::replace(frame, Frame::new(alloc, Command::Send));
     let (_, headers, body) = old.into_parts();
@@ -134,11 +135,11 @@ fn change_command(
 }
 
 /// Headers: `NAME VALUE` each.
-fn headers(alloc: Global, words: &[&str]) -> Result<Vec<Header>, LineFault> {
+fn headers(alloc: Global, words: &[&str]) -> Result<Vec<Header>, CallFault> {
     let mut headers = Vec::new(alloc);
     for words in words.chunks(2) {
         let [name, value] = words else {
-            return Err(LineFault::Unknown);
+            return Err(LineFault::Unknown.into());
         };
         let name = text(alloc, name)?;
         let value = text(alloc, value)?;
@@ -154,7 +155,7 @@ fn make_of(
     word: &str,
     body: &str,
     words: &[&str],
-) -> Result<String, LineFault> {
+) -> Result<String, CallFault> {
     let command = command(word)?;
     let body = octets(alloc, body)?;
     let headers = headers(alloc, words)?;
@@ -162,7 +163,7 @@ fn make_of(
 }
 
 /// A frame's copy.
-fn copy_text(alloc: Global, frame: &Frame<MAX_BODY>) -> Result<String, LineFault> {
+fn copy_text(alloc: Global, frame: &Frame<MAX_BODY>) -> Result<String, CallFault> {
     let copy = copy(frame)?;
     Ok(frame_text(alloc, &copy)?)
 }
@@ -172,7 +173,7 @@ pub fn answer_frame(
     alloc: Global,
     frame: &mut Frame<MAX_BODY>,
     words: &[&str],
-) -> Result<String, LineFault> {
+) -> Result<String, CallFault> {
     match words {
         ["new", word] => start_anew(alloc, frame, word),
         ["header", name, value] => header(alloc, frame, name, value),
@@ -183,19 +184,19 @@ pub fn answer_frame(
         ["under", word] => change_command(alloc, frame, word),
         ["of", word, body, words @ ..] => make_of(alloc, frame, word, body, words),
         ["show"] => show(alloc, frame),
-        _ => Err(LineFault::Unknown),
+        _ => Err(LineFault::Unknown.into()),
     }
 }
 
 /// The answer to a line of a command: its word, whether it may have a body, whether nothing is escaped.
-pub fn answer_command(alloc: Global, word: &str) -> Result<String, LineFault> {
+pub fn answer_command(alloc: Global, word: &str) -> Result<String, CallFault> {
     let command = command(word)?;
     let (body, exempt) = (command.may_have_body(), command.is_exempt());
     Ok(format!(in alloc; "{} {body} {exempt}", command.word())?)
 }
 
 /// The answer to a line of a header alone.
-pub fn answer_header(alloc: Global, name: &str, value: &str) -> Result<String, LineFault> {
+pub fn answer_header(alloc: Global, name: &str, value: &str) -> Result<String, CallFault> {
     let name = text(alloc, name)?;
     let value = text(alloc, value)?;
     let header = Header::new(alloc, &name, &value)?;

@@ -1,6 +1,6 @@
 //! The laws of the libraries: each is a call with nothing to do, and what it says is in its contract.
 
-use crate::fault::LineFault;
+use crate::fault::CallFault;
 use std::alloc::Global;
 
 /// Of entities and pairs.
@@ -68,7 +68,7 @@ fn of_services() {
 }
 
 /// The answer to a line of the laws: they were called.
-pub fn answer_laws(alloc: Global) -> Result<String, LineFault> {
+pub fn answer_laws(alloc: Global) -> Result<String, CallFault> {
     of_entities();
     stomp_wire::what_is_taken_begins_what_was_put();
     of_spellings();

@@ -1,11 +1,11 @@
 //! Links over a reader and a writer: over some that fail where they are told to, and over a file.
 
-use crate::fault::LineFault;
+use crate::fault::CallFault;
 use crate::octets::{octets, push_octets};
 use crate::puts::{ask_link, gone_text, pump, take_many};
 use crate::trickle::Trickle;
 use crate::words::failure;
-use line_script::{natural, size};
+use line_script::{LineFault, natural, size};
 use std::alloc::Global;
 use std::fs;
 use stomp_wire::{Link, StreamLink};
@@ -17,7 +17,7 @@ pub type FailingLink = StreamLink<Trickle, Trickle>;
 const PATH: &str = "frame_lines_file";
 
 /// A reader or a writer over octets: `TEXT MOST`, or `TEXT MOST CALL FAILURE`.
-fn trickle(alloc: Global, text: &str, most: &str, fails: &[&str]) -> Result<Trickle, LineFault> {
+fn trickle(alloc: Global, text: &str, most: &str, fails: &[&str]) -> Result<Trickle, CallFault> {
     let octets = octets(alloc, text)?;
     let mut trickle = Trickle::new(alloc, &octets, size(most)?)?;
     match fails {
@@ -26,12 +26,12 @@ fn trickle(alloc: Global, text: &str, most: &str, fails: &[&str]) -> Result<Tric
             trickle.fail_at(natural(call)?, failure(word)?);
             Ok(trickle)
         }
-        _ => Err(LineFault::Unknown),
+        _ => Err(LineFault::Unknown.into()),
     }
 }
 
 /// A link over nothing that never fails.
-fn start_anew(alloc: Global, link: &mut FailingLink) -> Result<bool, LineFault> {
+fn start_anew(alloc: Global, link: &mut FailingLink) -> Result<bool, CallFault> {
     *link = StreamLink::new(Trickle::empty(alloc), Trickle::empty(alloc));
     Ok(true)
 }
@@ -43,7 +43,7 @@ fn set_reader(
     text: &str,
     most: &str,
     fails: &[&str],
-) -> Result<bool, LineFault> {
+) -> Result<bool, CallFault> {
     link.reader = trickle(alloc, text, most, fails)?;
     Ok(true)
 }
@@ -54,19 +54,19 @@ fn set_writer(
     link: &mut FailingLink,
     most: &str,
     fails: &[&str],
-) -> Result<bool, LineFault> {
+) -> Result<bool, CallFault> {
     link.writer = trickle(alloc, "|", most, fails)?;
     Ok(true)
 }
 
 /// So many failures.
-fn set_failures(link: &mut FailingLink, count: &str) -> Result<bool, LineFault> {
+fn set_failures(link: &mut FailingLink, count: &str) -> Result<bool, CallFault> {
     link.failures = natural(count)?;
     Ok(true)
 }
 
 /// Changes the link, where a line asks for it.
-fn prepare(alloc: Global, link: &mut FailingLink, words: &[&str]) -> Result<bool, LineFault> {
+fn prepare(alloc: Global, link: &mut FailingLink, words: &[&str]) -> Result<bool, CallFault> {
     match words {
         ["new"] => start_anew(alloc, link),
         ["reader", text, most, fails @ ..] => set_reader(alloc, link, text, most, fails),
@@ -77,7 +77,7 @@ fn prepare(alloc: Global, link: &mut FailingLink, words: &[&str]) -> Result<bool
 }
 
 /// How often a reader or a writer was called, and its octets.
-fn trickle_text(alloc: Global, trickle: &Trickle) -> Result<String, LineFault> {
+fn trickle_text(alloc: Global, trickle: &Trickle) -> Result<String, CallFault> {
     let mut text = format!(in alloc; "{} ", trickle.calls())?;
     push_octets(&mut text, trickle.octets())?;
     Ok(text)
@@ -88,7 +88,7 @@ pub fn answer_link(
     alloc: Global,
     link: &mut FailingLink,
     words: &[&str],
-) -> Result<String, LineFault> {
+) -> Result<String, CallFault> {
     if prepare(alloc, link, words)? {
         return Ok(String::from_str(alloc, "done")?);
     }
@@ -99,7 +99,7 @@ pub fn answer_link(
 }
 
 /// Octets are written into a file by a link and read back by it: what went out, what came at each of so many takes, and the failures.
-fn over_file(rt: &HostRuntime, octets: &[u8], times: usize) -> Result<String, LineFault> {
+fn over_file(rt: &HostRuntime, octets: &[u8], times: usize) -> Result<String, CallFault> {
     let alloc = rt.alloc();
     let writer = fs::create(rt, PATH)?;
     let mut link = StreamLink::new(fs::open(rt, PATH)?, writer);
@@ -110,7 +110,7 @@ fn over_file(rt: &HostRuntime, octets: &[u8], times: usize) -> Result<String, Li
 }
 
 /// The answer to a line of a file. The file is gone then.
-pub fn answer_file(rt: &HostRuntime, times: &str, text: &str) -> Result<String, LineFault> {
+pub fn answer_file(rt: &HostRuntime, times: &str, text: &str) -> Result<String, CallFault> {
     let octets = octets(rt.alloc(), text)?;
     let answer = over_file(rt, &octets, size(times)?);
     fs::remove_file(rt, PATH)?;

@@ -1,6 +1,7 @@
 //! Octets as a line writes them, and as an answer does.
 
-use crate::fault::LineFault;
+use crate::fault::CallFault;
+use line_script::LineFault;
 use std::alloc::{AllocError, Global};
 
 /// How many equal octets an answer writes as one part.
@@ -40,7 +41,7 @@ fn meant(letter: u8) -> Result<u8, LineFault> {
 }
 
 /// Reads one octet of a text, and appends what it stands for.
-fn step(out: &mut Vec<u8>, escape: Escape, octet: u8) -> Result<Escape, LineFault> {
+fn step(out: &mut Vec<u8>, escape: Escape, octet: u8) -> Result<Escape, CallFault> {
     match (escape, octet) {
         (Escape::None, b'\\') => return Ok(Escape::Backslash),
         (Escape::None, _) => out.push(octet)?,
@@ -53,24 +54,24 @@ fn step(out: &mut Vec<u8>, escape: Escape, octet: u8) -> Result<Escape, LineFaul
 }
 
 /// Appends what a text stands for.
-fn push_meant(out: &mut Vec<u8>, text: &str) -> Result<(), LineFault> {
+fn push_meant(out: &mut Vec<u8>, text: &str) -> Result<(), CallFault> {
     let mut escape = Escape::None;
     for octet in text.as_bytes() {
         escape = step(out, escape, *octet)?;
     }
     match escape {
         Escape::None => Ok(()),
-        _ => Err(LineFault::Unknown),
+        _ => Err(LineFault::Unknown.into()),
     }
 }
 
 /// Appends what a part stands for.
-fn push_part(out: &mut Vec<u8>, part: &str) -> Result<(), LineFault> {
+fn push_part(out: &mut Vec<u8>, part: &str) -> Result<(), CallFault> {
     let Some((count, text)) = part.split_once('*') else {
         return push_meant(out, part);
     };
     let Ok(count) = count.parse::<usize>() else {
-        return Err(LineFault::Unknown);
+        return Err(LineFault::Unknown.into());
     };
     for _ in 0..count {
         push_meant(out, text)?;
@@ -79,7 +80,7 @@ fn push_part(out: &mut Vec<u8>, part: &str) -> Result<(), LineFault> {
 }
 
 /// The octets of a word.
-pub fn octets(alloc: Global, word: &str) -> Result<Vec<u8>, LineFault> {
+pub fn octets(alloc: Global, word: &str) -> Result<Vec<u8>, CallFault> {
     let mut out = Vec::new(alloc);
     for part in word.split('|') {
         push_part(&mut out, part)?;
@@ -88,10 +89,10 @@ pub fn octets(alloc: Global, word: &str) -> Result<Vec<u8>, LineFault> {
 }
 
 /// The text of a word.
-pub fn text(alloc: Global, word: &str) -> Result<String, LineFault> {
+pub fn text(alloc: Global, word: &str) -> Result<String, CallFault> {
     match String::from_utf8(octets(alloc, word)?) {
         Ok(text) => Ok(text),
-        Err(_) => Err(LineFault::Unknown),
+        Err(_) => Err(LineFault::Unknown.into()),
     }
 }
 

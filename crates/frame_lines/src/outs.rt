@@ -1,10 +1,10 @@
 //! Messages that go out, and a handler that is called through its trait.
 
-use crate::fault::LineFault;
+use crate::fault::CallFault;
 use crate::switch::Switch;
-use crate::words::{entity, message, number};
+use crate::words::{entity, message};
 use activities::{Handler, HandlerFault, Input, Out, Outs};
-use line_script::size;
+use line_script::{LineFault, number, size};
 use std::alloc::{AllocError, Global};
 
 /// A message and its receiver.
@@ -29,36 +29,36 @@ fn outs_text(alloc: Global, outs: &Outs) -> Result<String, AllocError> {
 }
 
 /// No messages.
-fn start_anew(alloc: Global, outs: &mut Outs) -> Result<(), LineFault> {
+fn start_anew(alloc: Global, outs: &mut Outs) -> Result<(), CallFault> {
     *outs = Outs::new(alloc);
     Ok(())
 }
 
 /// A message is sent.
-fn send(alloc: Global, outs: &mut Outs, receiver: &str, said: &[&str]) -> Result<(), LineFault> {
+fn send(alloc: Global, outs: &mut Outs, receiver: &str, said: &[&str]) -> Result<(), CallFault> {
     let message = message(said)?;
     let receiver = entity(alloc, receiver)?;
     Ok(outs.send(receiver, message)?)
 }
 
 /// All but the first messages are gone.
-fn truncate(outs: &mut Outs, count: &str) -> Result<(), LineFault> {
+fn truncate(outs: &mut Outs, count: &str) -> Result<(), CallFault> {
     outs.truncate(size(count)?);
     Ok(())
 }
 
 /// What a line asks of messages.
-fn ask_outs(alloc: Global, outs: &mut Outs, words: &[&str]) -> Result<(), LineFault> {
+fn ask_outs(alloc: Global, outs: &mut Outs, words: &[&str]) -> Result<(), CallFault> {
     match words {
         ["new"] => start_anew(alloc, outs),
         ["send", receiver, said @ ..] => send(alloc, outs, receiver, said),
         ["truncate", count] => truncate(outs, count),
-        _ => Err(LineFault::Unknown),
+        _ => Err(LineFault::Unknown.into()),
     }
 }
 
 /// The answer to a line that begins with `outs`.
-pub fn answer_outs(alloc: Global, outs: &mut Outs, words: &[&str]) -> Result<String, LineFault> {
+pub fn answer_outs(alloc: Global, outs: &mut Outs, words: &[&str]) -> Result<String, CallFault> {
     ask_outs(alloc, outs, words)?;
     Ok(outs_text(alloc, outs)?)
 }
@@ -83,18 +83,18 @@ fn state_text<H: Handler>(alloc: Global, state: &H::State) -> Result<String, All
 }
 
 /// Whether a switch is turned on: `on` or `off`.
-fn is_on(word: &str) -> Result<bool, LineFault> {
+fn is_on(word: &str) -> Result<bool, CallFault> {
     match word {
         "on" => Ok(true),
         "off" => Ok(false),
-        _ => Err(LineFault::Unknown),
+        _ => Err(LineFault::Unknown.into()),
     }
 }
 
 /// A switch takes a message in.
-fn take(alloc: Global, state: &mut bool, outs: &mut Outs, words: &[&str]) -> Result<(), LineFault> {
+fn take(alloc: Global, state: &mut bool, outs: &mut Outs, words: &[&str]) -> Result<(), CallFault> {
     let [sender, text, said @ ..] = words else {
-        return Err(LineFault::Unknown);
+        return Err(LineFault::Unknown.into());
     };
     let number = number(text)?;
     let message = message(said)?;
@@ -103,7 +103,7 @@ fn take(alloc: Global, state: &mut bool, outs: &mut Outs, words: &[&str]) -> Res
 }
 
 /// A switch as it is at first.
-fn open(alloc: Global, state: &mut bool) -> Result<(), LineFault> {
+fn open(alloc: Global, state: &mut bool) -> Result<(), CallFault> {
     *state = Switch::opening(alloc)?;
     Ok(())
 }
@@ -115,9 +115,9 @@ fn command(
     outs: &mut Outs,
     seat: &str,
     word: &str,
-) -> Result<(), LineFault> {
+) -> Result<(), CallFault> {
     let Ok(seat) = seat.parse::<u8>() else {
-        return Err(LineFault::Unknown);
+        return Err(LineFault::Unknown.into());
     };
     *state = applied::<Switch>(alloc, seat, &is_on(word)?, outs)?;
     Ok(())
@@ -129,12 +129,12 @@ fn ask_switch(
     state: &mut bool,
     outs: &mut Outs,
     words: &[&str],
-) -> Result<(), LineFault> {
+) -> Result<(), CallFault> {
     match words {
         ["opening"] => open(alloc, state),
         ["seat", seat, word] => command(alloc, state, outs, seat, word),
         ["from", words @ ..] => take(alloc, state, outs, words),
-        _ => Err(LineFault::Unknown),
+        _ => Err(LineFault::Unknown.into()),
     }
 }
 
@@ -144,7 +144,7 @@ pub fn answer_switch(
     state: &mut bool,
     outs: &mut Outs,
     words: &[&str],
-) -> Result<String, LineFault> {
+) -> Result<String, CallFault> {
     ask_switch(alloc, state, outs, words)?;
     let text = state_text::<Switch>(alloc, state)?;
     let outs = outs_text(alloc, outs)?;

@@ -3,11 +3,12 @@
 ghost use Rattle.envelope.specs.Reading.{read_message, IsAnswer, IsReading};
 
 use crate::decoding::{feed, next};
-use crate::fault::LineFault;
+use crate::fault::CallFault;
 use crate::octets::{octets, shown};
 use base::Pair;
 use base::limits::MAX_BODY;
 use envelope::{Envelope, EnvelopeFault, Message, from_message};
+use line_script::LineFault;
 use std::alloc::{AllocError, Global};
 use stomp_frame::{Decoder, Frame};
 
@@ -62,7 +63,7 @@ fn envelope_text(alloc: Global, envelope: &Envelope) -> Result<String, AllocErro
 }
 
 /// The envelope that the first frame of a text carries.
-fn receive(alloc: Global, word: &str) -> Result<String, LineFault> {
+fn receive(alloc: Global, word: &str) -> Result<String, CallFault> {
     let octets = octets(alloc, word)?;
     let mut decoder = Decoder::new(alloc);
     receive_first(alloc, &mut decoder, &octets)
@@ -73,7 +74,7 @@ fn receive_first(
     alloc: Global,
     decoder: &mut Decoder<MAX_BODY>,
     octets: &[u8],
-) -> Result<String, LineFault> {
+) -> Result<String, CallFault> {
     feed(decoder, octets)?;
     match next(decoder)? {
         Some(frame) => received(alloc, &frame),
@@ -82,22 +83,22 @@ fn receive_first(
 }
 
 /// The envelope that a frame carries, as a text.
-fn received(alloc: Global, frame: &Frame<MAX_BODY>) -> Result<String, LineFault> {
+fn received(alloc: Global, frame: &Frame<MAX_BODY>) -> Result<String, CallFault> {
     let envelope = carried(alloc, frame)?;
     Ok(envelope_text(alloc, &envelope)?)
 }
 
 /// The message whose body a text is.
-fn read_body(alloc: Global, word: &str) -> Result<String, LineFault> {
+fn read_body(alloc: Global, word: &str) -> Result<String, CallFault> {
     let message = message_of(alloc, &octets(alloc, word)?)?;
     Ok(message_text(alloc, message)?)
 }
 
 /// The answer to a line that begins with `envelope`.
-pub fn answer_received(alloc: Global, words: &[&str]) -> Result<String, LineFault> {
+pub fn answer_received(alloc: Global, words: &[&str]) -> Result<String, CallFault> {
     match words {
         ["receive", word] => receive(alloc, word),
         ["body", word] => read_body(alloc, word),
-        _ => Err(LineFault::Unknown),
+        _ => Err(LineFault::Unknown.into()),
     }
 }

@@ -4,7 +4,7 @@ use crate::cuts::answer_decode;
 use crate::decoders::answer_decoder;
 use crate::entities::{answer_entity, answer_key, answer_kind, answer_number, answer_pair};
 use crate::envelopes::answer_envelope;
-use crate::fault::LineFault;
+use crate::fault::CallFault;
 use crate::fault_texts::answer_fault;
 use crate::frames::{answer_command, answer_frame, answer_header};
 use crate::laws::answer_laws;
@@ -15,7 +15,7 @@ use crate::trickle::Trickle;
 use crate::wires::answer_wire;
 use activities::Outs;
 use base::limits::MAX_BODY;
-use line_script::Script;
+use line_script::{LineFault, Script};
 use std::alloc::Global;
 use std::io;
 use std::io::Write;
@@ -52,7 +52,7 @@ impl Session {
         alloc: Global,
         first: &str,
         words: &[&str],
-    ) -> Result<String, LineFault> {
+    ) -> Result<String, CallFault> {
         match first {
             "frame" => answer_frame(alloc, &mut self.frame, words),
             "decoder" => answer_decoder(alloc, &mut self.decoder, words),
@@ -60,14 +60,14 @@ impl Session {
             "link" => answer_link(alloc, &mut self.link, words),
             "outs" => answer_outs(alloc, &mut self.outs, words),
             "switch" => answer_switch(alloc, &mut self.switch, &mut self.outs, words),
-            _ => Err(LineFault::Unknown),
+            _ => Err(LineFault::Unknown.into()),
         }
     }
 
     /// The answer to the words of a line.
-    fn answer_words(&mut self, rt: &HostRuntime, words: &[&str]) -> Result<String, LineFault> {
+    fn answer_words(&mut self, rt: &HostRuntime, words: &[&str]) -> Result<String, CallFault> {
         let [first, rest @ ..] = words else {
-            return Err(LineFault::Unknown);
+            return Err(LineFault::Unknown.into());
         };
         match *first {
             "body" | "letter" | "letter-copy" | "settle" => answer_envelope(rt.alloc(), words),
@@ -82,7 +82,7 @@ impl Session {
         alloc: Global,
         first: &str,
         words: &[&str],
-    ) -> Result<String, LineFault> {
+    ) -> Result<String, CallFault> {
         match first {
             "entity" => answer_entity(alloc, words),
             "key" => answer_key(alloc, words),
@@ -116,9 +116,9 @@ impl<'a> Lines<'a> {
 impl Script for Lines<'_> {
     type Answer = String;
 
-    type Fault = LineFault;
+    type Fault = CallFault;
 
-    fn answer(&mut self, alloc: Global, line: &str) -> Result<String, LineFault> {
+    fn answer(&mut self, alloc: Global, line: &str) -> Result<String, CallFault> {
         let words: Vec<&str> = line.split_whitespace().collect(alloc)?;
         self.session.answer_words(self.rt, words.as_slice())
     }
@@ -129,7 +129,7 @@ impl Script for Lines<'_> {
 }
 
 /// The answer to a line that has one form.
-fn answer_short(rt: &HostRuntime, words: &[&str]) -> Result<String, LineFault> {
+fn answer_short(rt: &HostRuntime, words: &[&str]) -> Result<String, CallFault> {
     let alloc = rt.alloc();
     match words {
         ["kind", word] => answer_kind(alloc, word),
@@ -137,6 +137,6 @@ fn answer_short(rt: &HostRuntime, words: &[&str]) -> Result<String, LineFault> {
         ["header", name, value] => answer_header(alloc, name, value),
         ["file", times, text] => answer_file(rt, times, text),
         ["laws"] => answer_laws(alloc),
-        _ => Err(LineFault::Unknown),
+        _ => Err(LineFault::Unknown.into()),
     }
 }

@@ -1,10 +1,10 @@
 //! A wire in memory.
 
-use crate::fault::LineFault;
+use crate::fault::CallFault;
 use crate::octets::{octets, push_octets, shown};
 use crate::puts::{ask_link, count_text, put, take};
 use crate::words::way;
-use line_script::size;
+use line_script::{LineFault, size};
 use std::alloc::Global;
 use stomp_wire::{Link, LinkFault, MemoryLink, MemoryWire, Way};
 
@@ -17,27 +17,27 @@ fn carry(wire: &mut MemoryWire, way: Way, most: usize) -> Result<usize, LinkFaul
 }
 
 /// Takes octets away that were looked at in place.
-fn taken(alloc: Global, link: &mut MemoryLink, word: &str) -> Result<String, LineFault> {
+fn taken(alloc: Global, link: &mut MemoryLink, word: &str) -> Result<String, CallFault> {
     let count = size(word)?;
     if count > link.carried().len() {
-        return Err(LineFault::Unknown);
+        return Err(LineFault::Unknown.into());
     }
     link.taken(count);
     count_text(alloc, Ok(count))
 }
 
 /// Takes octets away that went out from where they stood.
-fn sent(alloc: Global, link: &mut MemoryLink, word: &str) -> Result<String, LineFault> {
+fn sent(alloc: Global, link: &mut MemoryLink, word: &str) -> Result<String, CallFault> {
     let count = size(word)?;
     if count > link.waiting().len() {
-        return Err(LineFault::Unknown);
+        return Err(LineFault::Unknown.into());
     }
     link.sent(count);
     count_text(alloc, Ok(count))
 }
 
 /// What a line asks of an end.
-fn ask_end(alloc: Global, link: &mut MemoryLink, words: &[&str]) -> Result<String, LineFault> {
+fn ask_end(alloc: Global, link: &mut MemoryLink, words: &[&str]) -> Result<String, CallFault> {
     match words {
         ["taken", count] => taken(alloc, link, count),
         ["sent", count] => sent(alloc, link, count),
@@ -86,7 +86,7 @@ fn travel(
     way: Way,
     pace: Pace,
     octets: &[u8],
-) -> Result<String, LineFault> {
+) -> Result<String, CallFault> {
     let mut came = Vec::new(alloc);
     let mut text = String::new(alloc);
     for piece in octets.chunks(pace.putting.max(1)) {
@@ -100,9 +100,9 @@ fn travel(
 }
 
 /// The same by words: `WAY PUTTING CARRYING TAKING TEXT`.
-fn travel_by(alloc: Global, wire: &mut MemoryWire, words: &[&str]) -> Result<String, LineFault> {
+fn travel_by(alloc: Global, wire: &mut MemoryWire, words: &[&str]) -> Result<String, CallFault> {
     let [word, putting, carrying, taking, text] = words else {
-        return Err(LineFault::Unknown);
+        return Err(LineFault::Unknown.into());
     };
     let pace = Pace {
         putting: size(putting)?,
@@ -118,32 +118,32 @@ fn carried(
     wire: &mut MemoryWire,
     word: &str,
     most: &str,
-) -> Result<String, LineFault> {
+) -> Result<String, CallFault> {
     let way = way(word)?;
     let most = size(most)?;
     count_text(alloc, carry(wire, way, most))
 }
 
 /// Carries octets from the near end to the far one: how many.
-fn handed_over(alloc: Global, wire: &mut MemoryWire, most: &str) -> Result<String, LineFault> {
+fn handed_over(alloc: Global, wire: &mut MemoryWire, most: &str) -> Result<String, CallFault> {
     let most = size(most)?;
     count_text(alloc, wire.near.carry_to(&mut wire.far, most))
 }
 
 /// What a line asks of a wire.
-fn ask(alloc: Global, wire: &mut MemoryWire, words: &[&str]) -> Result<String, LineFault> {
+fn ask(alloc: Global, wire: &mut MemoryWire, words: &[&str]) -> Result<String, CallFault> {
     match words {
         ["near", words @ ..] => ask_end(alloc, &mut wire.near, words),
         ["far", words @ ..] => ask_end(alloc, &mut wire.far, words),
         ["carry", word, most] => carried(alloc, wire, word, most),
         ["hand-over", most] => handed_over(alloc, wire, most),
         ["travel", words @ ..] => travel_by(alloc, wire, words),
-        _ => Err(LineFault::Unknown),
+        _ => Err(LineFault::Unknown.into()),
     }
 }
 
 /// What waits at an end and was carried there, and its failures.
-fn end_text(alloc: Global, link: &MemoryLink) -> Result<String, LineFault> {
+fn end_text(alloc: Global, link: &MemoryLink) -> Result<String, CallFault> {
     let waiting = shown(alloc, link.waiting())?;
     let carried = shown(alloc, link.carried())?;
     Ok(format!(in alloc; "{waiting} {carried} {}", link.failures())?)
@@ -154,7 +154,7 @@ pub fn answer_wire(
     alloc: Global,
     wire: &mut MemoryWire,
     words: &[&str],
-) -> Result<String, LineFault> {
+) -> Result<String, CallFault> {
     if words == ["new"].as_slice() {
         *wire = MemoryWire::new(alloc);
         return Ok(String::from_str(alloc, "done")?);

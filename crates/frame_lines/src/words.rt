@@ -1,22 +1,14 @@
 //! What the words of a line name.
 
-use crate::fault::LineFault;
+use crate::fault::CallFault;
 use crate::octets::text;
-use base::{Entity, Kind, Number, Pair};
+use base::{Entity, Kind, Pair};
 use envelope::Message;
-use line_script::natural;
+use line_script::{LineFault, number};
 use std::alloc::Global;
 use std::io::ErrorKind;
 use stomp_frame::Command;
 use stomp_wire::Way;
-
-/// A number from 1 to 2^40.
-pub fn number(word: &str) -> Result<Number, LineFault> {
-    match Number::new(natural(word)?) {
-        Some(number) => Ok(number),
-        None => Err(LineFault::Unknown),
-    }
-}
 
 /// A kind of entities.
 pub fn kind(word: &str) -> Result<Kind, LineFault> {
@@ -29,12 +21,12 @@ pub fn kind(word: &str) -> Result<Kind, LineFault> {
 }
 
 /// An entity.
-pub fn entity(alloc: Global, word: &str) -> Result<Entity, LineFault> {
+pub fn entity(alloc: Global, word: &str) -> Result<Entity, CallFault> {
     Ok(Entity::read(alloc, &text(alloc, word)?)?)
 }
 
 /// A sender and a receiver.
-pub fn pair(alloc: Global, from: &str, to: &str) -> Result<Pair, LineFault> {
+pub fn pair(alloc: Global, from: &str, to: &str) -> Result<Pair, CallFault> {
     let from = entity(alloc, from)?;
     let to = entity(alloc, to)?;
     Ok(Pair { from, to })

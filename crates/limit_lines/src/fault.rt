@@ -1,66 +1,46 @@
-//! Why a line wasn't done.
+//! Why a line has no answer.
 
 use base::EntityFault;
 use broker_core::BrokerFault;
 use endpoint::EndFault;
-use line_script::{Fault, WordFault};
-use std::alloc::{AllocError, AllocFailed};
+use line_script::{Fault, LineFault};
+use std::alloc::AllocError;
 use stomp_frame::FrameFault;
 use thiserror::Error;
 
-/// Why a line wasn't done.
+/// Why a line has no answer.
 #[derive(Debug, Drop, Error)]
-pub enum LineFault {
-    /// No line is so, or a number of it isn't one.
-    #[error("no such line")]
-    Unknown,
+pub enum CallFault {
+    /// No line is so, or a word of it isn't one.
+    #[error(transparent)]
+    Line(#[from] LineFault),
     /// A text names no entity.
-    #[error("{0}")]
+    #[error(transparent)]
     Entity(#[from] EntityFault),
     /// The frame's fault, or the decoder's.
-    #[error("{0}")]
+    #[error(transparent)]
     Frame(#[from] FrameFault),
     /// The endpoint's fault.
-    #[error("{0}")]
+    #[error(transparent)]
     End(#[from] EndFault),
     /// The broker's fault.
-    #[error("{0}")]
+    #[error(transparent)]
     Broker(#[from] BrokerFault),
     /// A growth was refused.
     #[error("out of memory")]
-    Memory,
+    Memory(#[from(alloc)] AllocError),
 }
 
-impl Fault for LineFault {
+impl Fault for CallFault {
     fn is_memory(&self) -> bool {
         matches!(
             self,
-            LineFault::Memory
-                | LineFault::Entity(EntityFault::Memory)
-                | LineFault::Frame(FrameFault::Memory)
-                | LineFault::End(EndFault::Memory)
-                | LineFault::Broker(BrokerFault::Memory { took: _ })
+            CallFault::Line(LineFault::Memory)
+                | CallFault::Memory(_)
+                | CallFault::Entity(EntityFault::Memory)
+                | CallFault::Frame(FrameFault::Memory)
+                | CallFault::End(EndFault::Memory)
+                | CallFault::Broker(BrokerFault::Memory { took: _ })
         )
-    }
-}
-
-impl From<WordFault> for LineFault {
-    fn from(fault: WordFault) -> LineFault {
-        match fault {
-            WordFault::Unknown => LineFault::Unknown,
-            WordFault::Memory => LineFault::Memory,
-        }
-    }
-}
-
-impl From<AllocError> for LineFault {
-    fn from(_: AllocError) -> LineFault {
-        LineFault::Memory
-    }
-}
-
-impl<T: Drop> From<AllocFailed<T>> for LineFault {
-    fn from(_: AllocFailed<T>) -> LineFault {
-        LineFault::Memory
     }
 }

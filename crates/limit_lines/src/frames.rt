@@ -1,7 +1,7 @@
 //! Frames whose bodies have at most `BODY` octets.
 
-use crate::fault::LineFault;
-use line_script::size;
+use crate::fault::CallFault;
+use line_script::{LineFault, size};
 use std::alloc::Global;
 use stomp_frame::{Command, Decoder, Frame};
 
@@ -9,7 +9,7 @@ use stomp_frame::{Command, Decoder, Frame};
 const PIECE: usize = 8_192;
 
 /// A frame is given a body.
-fn set_body<const BODY: usize>(alloc: Global, len: usize) -> Result<String, LineFault> {
+fn set_body<const BODY: usize>(alloc: Global, len: usize) -> Result<String, CallFault> {
     let body = vec![in alloc; b'x'; len]?;
     let mut frame: Frame<BODY> = Frame::new(alloc, Command::Send);
     frame.set_body(&body)?;
@@ -17,12 +17,12 @@ fn set_body<const BODY: usize>(alloc: Global, len: usize) -> Result<String, Line
 }
 
 /// The head of a frame that tells a length.
-fn head(alloc: Global, length: &str) -> Result<String, LineFault> {
+fn head(alloc: Global, length: &str) -> Result<String, CallFault> {
     Ok(format!(in alloc; "SEND\ncontent-length:{length}\n\n")?)
 }
 
 /// A decoder reads a text in pieces: the length of the frame's body, or `waits`.
-fn read<const BODY: usize>(alloc: Global, text: &[u8]) -> Result<String, LineFault> {
+fn read<const BODY: usize>(alloc: Global, text: &[u8]) -> Result<String, CallFault> {
     let mut decoder: Decoder<BODY> = Decoder::new(alloc);
     for piece in text.chunks(PIECE) {
         decoder.feed(piece)?;
@@ -38,7 +38,7 @@ fn read_whole<const BODY: usize>(
     alloc: Global,
     head: &str,
     len: usize,
-) -> Result<String, LineFault> {
+) -> Result<String, CallFault> {
     let body = vec![in alloc; b'x'; len]?;
     let mut text = Vec::new(alloc);
     text.extend_from_slice(head.as_bytes())?;
@@ -52,12 +52,12 @@ pub fn answer_frame<const BODY: usize>(
     alloc: Global,
     word: &str,
     number: &str,
-) -> Result<String, LineFault> {
+) -> Result<String, CallFault> {
     match word {
         "body" => set_body::<BODY>(alloc, size(number)?),
         "length" => read::<BODY>(alloc, head(alloc, number)?.as_bytes()),
         "told" => read_whole::<BODY>(alloc, head(alloc, number)?.as_str(), size(number)?),
         "open" => read_whole::<BODY>(alloc, "SEND\n\n", size(number)?),
-        _ => Err(LineFault::Unknown),
+        _ => Err(LineFault::Unknown.into()),
     }
 }

@@ -1,12 +1,12 @@
 //! Letters to a stock, which are held up to `AHEAD` above the last that was handled.
 
-use crate::fault::LineFault;
-use base::{Entity, Key, Kind, Number, Pair};
+use crate::fault::CallFault;
+use base::{Entity, Key, Kind, Pair};
 use endpoint::{Ingested, WindowedEndpoint};
 use envelope::{Letter, Message};
 use inbox::Ahead;
 use keep_plain::PlainKeep;
-use line_script::natural;
+use line_script::{LineFault, natural, number};
 use std::alloc::Global;
 use trade::StockCommand;
 use warehouse::Stocks;
@@ -14,18 +14,13 @@ use warehouse::Stocks;
 /// A stock's endpoint, over tables in memory.
 pub type Warehouse<const AHEAD: u64> = WindowedEndpoint<Stocks, PlainKeep<Stocks>, Ahead<AHEAD>>;
 
-/// A number from 1 to 2^40.
-fn number(word: &str) -> Result<Number, LineFault> {
-    Number::new(natural(word)?).ok_or(LineFault::Unknown)
-}
-
 /// The stock.
-fn bolt(alloc: Global) -> Result<Entity, LineFault> {
+fn bolt(alloc: Global) -> Result<Entity, CallFault> {
     Ok(Entity::read(alloc, "stock/bolt")?)
 }
 
 /// The order of a key, and the stock.
-fn pair(alloc: Global, order: &str) -> Result<Pair, LineFault> {
+fn pair(alloc: Global, order: &str) -> Result<Pair, CallFault> {
     let from = Entity::new(alloc, Kind::Order, &Key::read(alloc, order)?)?;
     let to = bolt(alloc)?;
     Ok(Pair { from, to })
@@ -36,7 +31,7 @@ fn receive<const AHEAD: u64>(
     warehouse: &mut Warehouse<AHEAD>,
     alloc: Global,
     count: &str,
-) -> Result<String, LineFault> {
+) -> Result<String, CallFault> {
     let command = StockCommand::Receive(natural(count)?);
     let committed = warehouse.commit(alloc, 0, &bolt(alloc)?, command)?;
     Ok(format!(in alloc; "committed {}", committed.pos)?)
@@ -47,7 +42,7 @@ fn ingest<const AHEAD: u64>(
     warehouse: &mut Warehouse<AHEAD>,
     alloc: Global,
     letter: &Letter,
-) -> Result<String, LineFault> {
+) -> Result<String, CallFault> {
     match warehouse.ingest(alloc, letter)? {
         Ingested::Handled(pos) => Ok(format!(in alloc; "handled {pos}")?),
         Ingested::Repeated => Ok(String::from_str(alloc, "repeated")?),
@@ -56,7 +51,7 @@ fn ingest<const AHEAD: u64>(
 }
 
 /// A letter that requests 3.
-fn request(alloc: Global, order: &str, numbered: &str) -> Result<Letter, LineFault> {
+fn request(alloc: Global, order: &str, numbered: &str) -> Result<Letter, CallFault> {
     let message = Message::Request(number("3")?);
     Ok(Letter {
         pair: pair(alloc, order)?,
@@ -66,7 +61,7 @@ fn request(alloc: Global, order: &str, numbered: &str) -> Result<Letter, LineFau
 }
 
 /// A letter that confirms.
-fn confirm(alloc: Global, order: &str, numbered: &str) -> Result<Letter, LineFault> {
+fn confirm(alloc: Global, order: &str, numbered: &str) -> Result<Letter, CallFault> {
     Ok(Letter {
         pair: pair(alloc, order)?,
         number: number(numbered)?,
@@ -79,7 +74,7 @@ fn drain<const AHEAD: u64>(
     warehouse: &mut Warehouse<AHEAD>,
     alloc: Global,
     order: &str,
-) -> Result<String, LineFault> {
+) -> Result<String, CallFault> {
     match warehouse.drain_held(alloc, &pair(alloc, order)?)? {
         Some(number) => Ok(format!(in alloc; "drained {number}")?),
         None => Ok(String::from_str(alloc, "none")?),
@@ -91,7 +86,7 @@ pub fn answer_letter<const AHEAD: u64>(
     warehouse: &mut Warehouse<AHEAD>,
     alloc: Global,
     words: &[&str],
-) -> Result<String, LineFault> {
+) -> Result<String, CallFault> {
     match words {
         ["new"] => {
             *warehouse = WindowedEndpoint::new(PlainKeep::new(alloc));
@@ -101,6 +96,6 @@ pub fn answer_letter<const AHEAD: u64>(
         ["request", order, number] => ingest(warehouse, alloc, &request(alloc, order, number)?),
         ["confirm", order, number] => ingest(warehouse, alloc, &confirm(alloc, order, number)?),
         ["drain", order] => drain(warehouse, alloc, order),
-        _ => Err(LineFault::Unknown),
+        _ => Err(LineFault::Unknown.into()),
     }
 }

@@ -1,6 +1,6 @@
 //! Queues that hold at most `FULL` messages.
 
-use crate::fault::LineFault;
+use crate::fault::CallFault;
 use broker_core::{Broker, SessionId};
 use line_script::{push_octets, size};
 use std::alloc::Global;
@@ -17,7 +17,7 @@ fn take_out<const FULL: usize>(broker: &mut Broker<FULL>, session: SessionId) {
 }
 
 /// A session that is connected.
-fn connect<const FULL: usize>(broker: &mut Broker<FULL>) -> Result<SessionId, LineFault> {
+fn connect<const FULL: usize>(broker: &mut Broker<FULL>) -> Result<SessionId, CallFault> {
     let session = broker.open()?;
     broker.feed(session, b"CONNECT\naccept-version:1.2\nhost:a\n\n\0")?;
     take_out(broker, session);
@@ -29,7 +29,7 @@ fn send<const FULL: usize>(
     broker: &mut Broker<FULL>,
     session: SessionId,
     count: usize,
-) -> Result<(), LineFault> {
+) -> Result<(), CallFault> {
     for _ in 0..count {
         if !broker.is_closed(session) {
             broker.feed(session, SEND)?;
@@ -39,7 +39,7 @@ fn send<const FULL: usize>(
 }
 
 /// So many messages are sent: how many were accepted, and what was answered.
-pub fn fill<const FULL: usize>(alloc: Global, count: &str) -> Result<String, LineFault> {
+pub fn fill<const FULL: usize>(alloc: Global, count: &str) -> Result<String, CallFault> {
     let mut broker: Broker<FULL> = Broker::new(alloc);
     let session = connect(&mut broker)?;
     send(&mut broker, session, size(count)?)?;
@@ -58,7 +58,7 @@ fn take<const FULL: usize>(
     broker: &mut Broker<FULL>,
     session: SessionId,
     count: usize,
-) -> Result<(), LineFault> {
+) -> Result<(), CallFault> {
     broker.feed(session, SUBSCRIBE)?;
     let mut ack = String::new(alloc);
     for delivery in 1..=count {
@@ -71,7 +71,7 @@ fn take<const FULL: usize>(
 }
 
 /// So many messages are sent, and then taken one by one: how many, or `closed` where one wasn't taken in or wasn't out.
-pub fn empty<const FULL: usize>(alloc: Global, count: &str) -> Result<String, LineFault> {
+pub fn empty<const FULL: usize>(alloc: Global, count: &str) -> Result<String, CallFault> {
     let mut broker: Broker<FULL> = Broker::new(alloc);
     let session = connect(&mut broker)?;
     let count = size(count)?;

@@ -1,13 +1,13 @@
 //! What stands between two lines, and under which limits a line asks.
 
-use crate::fault::LineFault;
+use crate::fault::CallFault;
 use crate::frames::answer_frame;
 use crate::letters::{Warehouse, answer_letter};
 use crate::queues::{empty, fill};
 use base::limits::{HELD_WINDOW, MAX_BODY, MAX_QUEUED};
 use endpoint::WindowedEndpoint;
 use keep_plain::PlainKeep;
-use line_script::Script;
+use line_script::{LineFault, Script};
 use std::alloc::Global;
 use std::io;
 use std::io::Write;
@@ -25,7 +25,7 @@ fn answer<const BODY: usize, const AHEAD: u64, const FULL: usize>(
     warehouse: &mut Warehouse<AHEAD>,
     alloc: Global,
     words: &[&str],
-) -> Result<String, LineFault> {
+) -> Result<String, CallFault> {
     match words {
         ["queue", count] => fill::<FULL>(alloc, count),
         ["take", count] => empty::<FULL>(alloc, count),
@@ -50,9 +50,9 @@ impl Session {
 impl Script for Session {
     type Answer = String;
 
-    type Fault = LineFault;
+    type Fault = CallFault;
 
-    fn answer(&mut self, alloc: Global, line: &str) -> Result<String, LineFault> {
+    fn answer(&mut self, alloc: Global, line: &str) -> Result<String, CallFault> {
         let words: Vec<&str> = line.split_whitespace().collect(alloc)?;
         match words.as_slice() {
             ["product", words @ ..] => answer::<MAX_BODY, HELD_WINDOW, MAX_QUEUED>(
@@ -62,7 +62,7 @@ impl Script for Session {
             ),
             ["earlier", words @ ..] => answer::<65_536, 64, 4_096>(&mut self.earlier, alloc, words),
             ["least", words @ ..] => answer::<1, 1, 1>(&mut self.least, alloc, words),
-            _ => Err(LineFault::Unknown),
+            _ => Err(LineFault::Unknown.into()),
         }
     }
 

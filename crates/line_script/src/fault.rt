@@ -1,14 +1,14 @@
-//! Why a word wasn't read.
+//! Why a line wasn't read.
 
 ghost use Rattle.std.specs.Prelude.{◌≡◌};
 
 use std::alloc::{AllocError, AllocFailed};
 use thiserror::Error;
 
-/// Why a word wasn't read.
+/// Why a line wasn't read, in any program. A program's own fault holds it beside those of the calls that its lines name.
 #[derive(Clone, Copy, Debug, PartialEq, Eq, Error)]
-pub enum WordFault {
-    /// It is none of those that the call reads.
+pub enum LineFault {
+    /// No line is so, or a word of it is none of those that stand there.
     #[error("no such line")]
     Unknown,
     /// A growth was refused.
@@ -16,22 +16,22 @@ pub enum WordFault {
     Memory,
 }
 
-impl From<AllocError> for WordFault {
-    ghost use Rattle.line_script.specs.declared.fault.WordFault.TheVariants.{Memory};
+impl From<AllocError> for LineFault {
+    ghost use Rattle.line_script.specs.declared.fault.LineFault.TheVariants.{Memory};
 
     ghost from_gives = { λ _ fault. fault ≡ Memory };
 
-    fn from(_: AllocError) -> WordFault {
-        WordFault::Memory
+    fn from(_: AllocError) -> LineFault {
+        LineFault::Memory
     }
 }
 
-impl<T: Drop> From<AllocFailed<T>> for WordFault {
-    ghost use Rattle.line_script.specs.declared.fault.WordFault.TheVariants.{Memory};
+impl<T: Drop> From<AllocFailed<T>> for LineFault {
+    ghost use Rattle.line_script.specs.declared.fault.LineFault.TheVariants.{Memory};
 
     ghost from_gives = { λ _ fault. fault ≡ Memory };
 
-    fn from(_: AllocFailed<T>) -> WordFault {
-        WordFault::Memory
+    fn from(_: AllocFailed<T>) -> LineFault {
+        LineFault::Memory
     }
 }

@@ -8,13 +8,15 @@
 //! written with the escapes of `text`, and what is printed of octets is read back as they were:
 //!
 //! ```rust
-//! pub fn printed_octets_are_read(alloc: Global) -> Result<bool, WordFault> {
+//! pub fn printed_octets_are_read(alloc: Global) -> Result<bool, LineFault> {
 //!     let octets = read_octets(alloc, "two\\swords\\x00")?;
 //!     let mut text = String::new(alloc);
 //!     push_octets(&mut text, &octets)?;
 //!     Ok(text.as_str() == "two words\\x00")
 //! }
 //! ```
+//!
+//! `LineFault` is why a line isn't read, whatever the program. A program's own fault holds it beside those of the calls that its lines name.
 #![tactic(auto)]
 
 mod fault;
@@ -22,7 +24,7 @@ mod octets;
 mod script;
 mod words;
 
-pub use fault::WordFault;
+pub use fault::LineFault;
 pub use octets::{read_octets, read_text};
-pub use script::{Fault, Script, answer_line, run};
-pub use words::{first_word, natural, size};
+pub use script::{Fault, Script, answer_line, or_done, run};
+pub use words::{first_word, natural, number, pair, seat, size};

@@ -1,10 +1,10 @@
 //! The loop over a script's lines.
 
-ghost use Rattle.std.specs.Prelude.{◌≡◌, ◌++◌, ◌∷◌, [], true, IfOk};
+ghost use Rattle.std.specs.Prelude.{◌≡◌, ◌++◌, ◌∷◌, [], true, IfOk, string_bytes};
 ghost use Rattle.std.specs.Io.KnownBytes.{Appends};
-ghost use Rattle.line_script.specs.Lines.{is_quiet};
+ghost use Rattle.line_script.specs.Lines.{is_quiet, or_done};
 
-use std::alloc::Global;
+use std::alloc::{AllocError, Global};
 use std::fmt::Display;
 use std::io;
 use std::io::{BufWriter, ErrorKind, Write};
@@ -80,6 +80,20 @@ pub fn answer_line<S: Script, W: Write>(
         }
         Err(fault) if fault.is_memory() => Err(io::Error::from(ErrorKind::OutOfMemory)),
         Err(fault) => writeln!(out, "{fault}"),
+    }
+}
+
+/// What a line answers whose call gave this text: the text, or `done` where it's empty.
+///
+/// # Errors
+/// `AllocError`: a growth was refused.
+pub fn or_done(alloc: Global, text: String) -> Result<String, AllocError>
+    ensures { IfOk result (λ answer. string_bytes answer ≡ or_done (string_bytes text)) }
+{
+    if text.is_empty() {
+        String::from_str(alloc, "done")
+    } else {
+        Ok(text)
     }
 }
 

@@ -2,10 +2,10 @@
 
 use crate::answer::Answer;
 use crate::client::ClientCalls;
-use crate::fault::LineFault;
+use crate::fault::CallFault;
 use crate::queues::QueueCalls;
 use crate::server::BrokerCalls;
-use line_script::{Script, first_word, size};
+use line_script::{LineFault, Script, first_word, size};
 use std::alloc::Global;
 use std::io;
 use std::io::Write;
@@ -29,9 +29,9 @@ impl Calls {
     }
 
     /// Makes all anew.
-    fn prepare(&mut self, alloc: Global, count: usize) -> Result<Answer, LineFault> {
+    fn prepare(&mut self, alloc: Global, count: usize) -> Result<Answer, CallFault> {
         if count == 0 || count > 9 {
-            return Err(LineFault::Unknown);
+            return Err(LineFault::Unknown.into());
         }
         self.queues = QueueCalls::prepared(alloc, count)?;
         self.broker = BrokerCalls::prepared(alloc, count)?;
@@ -43,9 +43,9 @@ impl Calls {
 impl Script for Calls {
     type Answer = Answer;
 
-    type Fault = LineFault;
+    type Fault = CallFault;
 
-    fn answer(&mut self, alloc: Global, line: &str) -> Result<Answer, LineFault> {
+    fn answer(&mut self, alloc: Global, line: &str) -> Result<Answer, CallFault> {
         let (whose, rest) = first_word(line);
         let (word, rest) = first_word(rest);
         match whose {
@@ -57,7 +57,7 @@ impl Script for Calls {
             "client" => self.client.answer(word),
             "relay" => self.client.answer_relay(word),
             "frame" => self.client.answer_frame(alloc, word, rest),
-            _ => Err(LineFault::Unknown),
+            _ => Err(LineFault::Unknown.into()),
         }
     }
 

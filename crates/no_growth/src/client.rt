@@ -1,11 +1,12 @@
 //! A client's session, the relay that sends letters on it, and a frame.
 
 use crate::answer::Answer;
-use crate::fault::LineFault;
+use crate::fault::CallFault;
 use base::limits::MAX_BODY;
 use base::{Entity, Key};
 use endpoint::Endpoint;
 use keep_plain::PlainKeep;
+use line_script::LineFault;
 use purchasing::Orders;
 use relay::Relay;
 use std::alloc::Global;
@@ -28,7 +29,7 @@ fn place_all(
     alloc: Global,
     service: &mut Endpoint<Orders, PlainKeep<Orders>>,
     count: usize,
-) -> Result<(), LineFault> {
+) -> Result<(), CallFault> {
     for number in 0..count {
         let name = format!(in alloc; "order/o{number}")?;
         let order = Entity::read(alloc, name.as_str())?;
@@ -49,14 +50,14 @@ fn frame(
     command: Command,
     name: &str,
     value: &str,
-) -> Result<Frame<MAX_BODY>, LineFault> {
+) -> Result<Frame<MAX_BODY>, CallFault> {
     let mut frame = Frame::new(alloc, command);
     frame.push_header(name, value)?;
     Ok(frame)
 }
 
 /// A SEND with so many headers of its own.
-fn send(alloc: Global, count: usize) -> Result<Frame<MAX_BODY>, LineFault> {
+fn send(alloc: Global, count: usize) -> Result<Frame<MAX_BODY>, CallFault> {
     let mut send = frame(alloc, Command::Send, "destination", "/queue/a")?;
     for _ in 0..count {
         send.push_header("h", "value")?;
@@ -77,7 +78,7 @@ impl ClientCalls {
     }
 
     /// All that `prepare` says of them.
-    pub fn prepared(alloc: Global, count: usize) -> Result<ClientCalls, LineFault> {
+    pub fn prepared(alloc: Global, count: usize) -> Result<ClientCalls, CallFault> {
         let mut service = Endpoint::new(PlainKeep::new(alloc));
         place_all(alloc, &mut service, count)?;
         let mut calls = ClientCalls::new(alloc);
@@ -93,32 +94,32 @@ impl ClientCalls {
 
     /// The text of a DISCONNECT is appended.
     #[tactic(auto, using(crate::proofs::Texts::disconnect_is_whole))]
-    fn append(&mut self) -> Result<(), LineFault> {
+    fn append(&mut self) -> Result<(), CallFault> {
         Ok(self.client.append(b"DISCONNECT\n\n\0")?)
     }
 
     /// What the RECEIPT told.
-    fn accept(&mut self) -> Result<Answer, LineFault> {
+    fn accept(&mut self) -> Result<Answer, CallFault> {
         let Some(receipt) = self.receipt.take() else {
             return Ok(Answer::None);
         };
         match self.client.accept(receipt)? {
             ClientEvent::Receipt(_, tag) => Ok(Answer::Number(tag)),
-            _ => Err(LineFault::Unknown),
+            _ => Err(LineFault::Unknown.into()),
         }
     }
 
     /// The number of the next transaction.
-    fn count(&mut self) -> Result<Answer, LineFault> {
+    fn count(&mut self) -> Result<Answer, CallFault> {
         if self.client.transactions() == u64::MAX {
-            return Err(LineFault::Unknown);
+            return Err(LineFault::Unknown.into());
         }
         self.client.count_transaction();
         Ok(Answer::Number(self.client.transactions()))
     }
 
     /// The answer of the client's session.
-    pub fn answer(&mut self, word: &str) -> Result<Answer, LineFault> {
+    pub fn answer(&mut self, word: &str) -> Result<Answer, CallFault> {
         match word {
             "out" => return Ok(Answer::count(self.client.out().len())),
             "append" => self.append()?,
@@ -128,42 +129,42 @@ impl ClientCalls {
             }
             "count" => return self.count(),
             "accept" => return self.accept(),
-            _ => return Err(LineFault::Unknown),
+            _ => return Err(LineFault::Unknown.into()),
         }
         Ok(Answer::Done)
     }
 
     /// The answer of the relay.
-    pub fn answer_relay(&mut self, word: &str) -> Result<Answer, LineFault> {
+    pub fn answer_relay(&mut self, word: &str) -> Result<Answer, CallFault> {
         match word {
             "forget" => self.relay.forget(),
             "anew" => self.relay.look_anew(),
-            _ => return Err(LineFault::Unknown),
+            _ => return Err(LineFault::Unknown.into()),
         }
         Ok(Answer::Done)
     }
 
     /// The SEND gives its parts, and takes them back.
-    fn parts(&mut self, alloc: Global) -> Result<Answer, LineFault> {
+    fn parts(&mut self, alloc: Global) -> Result<Answer, CallFault> {
         let Some(frame) = self.send.take() else {
             return Ok(Answer::None);
         };
         let (command, headers, body) = frame.into_parts();
         match Frame::from_parts(alloc, command, headers, body) {
             Ok(frame) => self.send = Some(frame),
-            Err(refused) => return Err(LineFault::Frame(refused.fault)),
+            Err(refused) => return Err(CallFault::Frame(refused.fault)),
         }
         Ok(Answer::Done)
     }
 
     /// A server's session takes the SEND.
-    fn taken_by_server(&mut self) -> Result<Answer, LineFault> {
+    fn taken_by_server(&mut self) -> Result<Answer, CallFault> {
         let Some(frame) = self.send.take() else {
             return Ok(Answer::None);
         };
         match ServerSession::connected().accept(frame) {
             Ok(_) => Ok(Answer::Done),
-            Err(refused) => Err(LineFault::Session(refused.fault)),
+            Err(refused) => Err(CallFault::Session(refused.fault)),
         }
     }
 
@@ -173,7 +174,7 @@ impl ClientCalls {
         alloc: Global,
         word: &str,
         rest: &str,
-    ) -> Result<Answer, LineFault> {
+    ) -> Result<Answer, CallFault> {
         match (word, &self.send) {
             ("get", Some(frame)) => Ok(match frame.get(rest) {
                 Some(value) => Answer::count(value.len()),
@@ -182,7 +183,7 @@ impl ClientCalls {
             ("get", None) => Ok(Answer::None),
             ("parts", _) => self.parts(alloc),
             ("accept", _) => self.taken_by_server(),
-            _ => Err(LineFault::Unknown),
+            _ => Err(LineFault::Unknown.into()),
         }
     }
 }

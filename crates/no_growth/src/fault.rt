@@ -1,95 +1,75 @@
-//! Why a line wasn't done.
+//! Why a line has no answer.
 
 use base::EntityFault;
 use broker_book::QueueFault;
 use broker_core::BrokerFault;
 use broker_tx::TransactionFault;
 use endpoint::EndFault;
-use line_script::{Fault, WordFault};
+use line_script::{Fault, LineFault};
 use receipts::ReceiptFault;
 use relay::RelayFault;
-use std::alloc::{AllocError, AllocFailed};
+use std::alloc::AllocError;
 use stomp_client::ClientFault;
 use stomp_frame::FrameFault;
 use stomp_session::SessionFault;
 use thiserror::Error;
 
-/// Why a line wasn't done.
+/// Why a line has no answer.
 #[derive(Debug, Drop, Error)]
-pub enum LineFault {
-    /// No line is so, or a number of it isn't one.
-    #[error("no such line")]
-    Unknown,
+pub enum CallFault {
+    /// No line is so, or a word of it isn't one.
+    #[error(transparent)]
+    Line(#[from] LineFault),
     /// That of an entity's text.
-    #[error("{0}")]
+    #[error(transparent)]
     Entity(#[from] EntityFault),
     /// That of receipts.
-    #[error("{0}")]
+    #[error(transparent)]
     Receipt(#[from] ReceiptFault),
     /// That of transactions.
-    #[error("{0}")]
+    #[error(transparent)]
     Transaction(#[from] TransactionFault),
     /// That of queues.
-    #[error("{0}")]
+    #[error(transparent)]
     Queue(#[from] QueueFault),
     /// The broker's.
-    #[error("{0}")]
+    #[error(transparent)]
     Broker(#[from] BrokerFault),
     /// That of a frame.
-    #[error("{0}")]
+    #[error(transparent)]
     Frame(#[from] FrameFault),
     /// That of a server's session.
-    #[error("{0}")]
+    #[error(transparent)]
     Session(#[from] SessionFault),
     /// The client's.
-    #[error("{0}")]
+    #[error(transparent)]
     Client(#[from] ClientFault),
     /// The relay's.
-    #[error("{0}")]
+    #[error(transparent)]
     Relay(#[from] RelayFault),
     /// The endpoint's.
-    #[error("{0}")]
+    #[error(transparent)]
     End(#[from] EndFault),
     /// A growth was refused.
     #[error("out of memory")]
-    Memory,
+    Memory(#[from(alloc)] AllocError),
 }
 
-impl Fault for LineFault {
+impl Fault for CallFault {
     fn is_memory(&self) -> bool {
         match self {
-            LineFault::Memory => true,
-            LineFault::Entity(fault) => matches!(fault, EntityFault::Memory),
-            LineFault::Receipt(fault) => matches!(fault, ReceiptFault::Memory),
-            LineFault::Transaction(fault) => matches!(fault, TransactionFault::Memory),
-            LineFault::Queue(fault) => matches!(fault, QueueFault::Memory),
-            LineFault::Broker(fault) => matches!(fault, BrokerFault::Memory { took: _ }),
-            LineFault::Frame(fault) => matches!(fault, FrameFault::Memory),
-            LineFault::Client(fault) => matches!(fault, ClientFault::Memory),
-            LineFault::Relay(fault) => matches!(fault.number(), 44 | 51 | 64),
-            LineFault::End(fault) => fault.number() == 64,
-            LineFault::Unknown | LineFault::Session(_) => false,
+            CallFault::Line(fault) => matches!(fault, LineFault::Memory),
+            CallFault::Entity(fault) => matches!(fault, EntityFault::Memory),
+            CallFault::Receipt(fault) => matches!(fault, ReceiptFault::Memory),
+            CallFault::Transaction(fault) => matches!(fault, TransactionFault::Memory),
+            CallFault::Queue(fault) => matches!(fault, QueueFault::Memory),
+            CallFault::Broker(fault) => matches!(fault, BrokerFault::Memory { took: _ }),
+            CallFault::Frame(fault) => matches!(fault, FrameFault::Memory),
+            CallFault::Session(_) => false,
+            CallFault::Client(fault) => matches!(fault, ClientFault::Memory),
+            CallFault::Relay(fault) => matches!(fault.number(), 44 | 51 | 64),
+            CallFault::End(fault) => fault.number() == 64,
+            CallFault::Memory(_) => true,
         }
-    }
-}
-
-impl From<WordFault> for LineFault {
-    fn from(fault: WordFault) -> LineFault {
-        match fault {
-            WordFault::Unknown => LineFault::Unknown,
-            WordFault::Memory => LineFault::Memory,
-        }
-    }
-}
-
-impl From<AllocError> for LineFault {
-    fn from(_: AllocError) -> LineFault {
-        LineFault::Memory
-    }
-}
-
-impl<T: Drop> From<AllocFailed<T>> for LineFault {
-    fn from(_: AllocFailed<T>) -> LineFault {
-        LineFault::Memory
     }
 }

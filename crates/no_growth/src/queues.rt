@@ -1,12 +1,12 @@
 //! Receipts, transactions and queues.
 
 use crate::answer::Answer;
-use crate::fault::LineFault;
+use crate::fault::CallFault;
 use base::limits::MAX_QUEUED;
 use broker_book::{Action, Mode, Sent, Shared, Subscription};
 use broker_queues::{Queues, Sink};
 use broker_tx::Transactions;
-use line_script::{first_word, natural};
+use line_script::{LineFault, first_word, natural};
 use receipts::Receipts;
 use std::alloc::{AllocError, Global};
 use stomp_session::{Headers, Octets, Text};
@@ -41,22 +41,22 @@ impl Sink for Nobody {
 }
 
 /// A text.
-fn text(alloc: Global, text: &str) -> Result<Text, LineFault> {
+fn text(alloc: Global, text: &str) -> Result<Text, CallFault> {
     Ok(Text::new(String::from_str(alloc, text)?))
 }
 
 /// The text that is this word.
-fn named<'a>(names: &'a [Text], word: &str) -> Result<&'a Text, LineFault> {
+fn named<'a>(names: &'a [Text], word: &str) -> Result<&'a Text, CallFault> {
     for name in names {
         if name.as_str() == word {
             return Ok(name);
         }
     }
-    Err(LineFault::Unknown)
+    Err(LineFault::Unknown.into())
 }
 
 /// A SEND to a queue.
-fn sent(alloc: Global, queue: &str) -> Result<Shared<Sent>, LineFault> {
+fn sent(alloc: Global, queue: &str) -> Result<Shared<Sent>, CallFault> {
     let sent = Sent {
         destination: text(alloc, queue)?,
         headers: Headers::new(Vec::new(alloc)),
@@ -66,7 +66,7 @@ fn sent(alloc: Global, queue: &str) -> Result<Shared<Sent>, LineFault> {
 }
 
 /// So many receipts.
-fn open_receipts(receipts: &mut Receipts<u64>, count: usize) -> Result<(), LineFault> {
+fn open_receipts(receipts: &mut Receipts<u64>, count: usize) -> Result<(), CallFault> {
     for number in 1..=count as u64 {
         receipts.open(number.saturating_mul(10))?;
     }
@@ -79,7 +79,7 @@ fn begin(
     transactions: &mut Transactions,
     name: &Text,
     count: usize,
-) -> Result<(), LineFault> {
+) -> Result<(), CallFault> {
     transactions.begin(alloc, name)?;
     for _ in 0..count {
         transactions.add(name, Action::Put(sent(alloc, "/queue/a")?))?;
@@ -93,7 +93,7 @@ fn begin_all(
     transactions: &mut Transactions,
     names: &[Text],
     count: usize,
-) -> Result<(), LineFault> {
+) -> Result<(), CallFault> {
     for name in names {
         begin(alloc, transactions, name, count)?;
     }
@@ -107,10 +107,10 @@ fn fill(
     queue: &str,
     to: (u64, Mode),
     count: usize,
-) -> Result<(), LineFault> {
+) -> Result<(), CallFault> {
     let id = text(alloc, "a")?;
     if queues.has_named(to.0, &id) {
-        return Err(LineFault::Unknown);
+        return Err(LineFault::Unknown.into());
     }
     queues.subscribe(&Subscription {
         session: to.0,
@@ -136,7 +136,7 @@ impl QueueCalls {
     }
 
     /// All that `prepare` says of them.
-    pub fn prepared(alloc: Global, count: usize) -> Result<QueueCalls, LineFault> {
+    pub fn prepared(alloc: Global, count: usize) -> Result<QueueCalls, CallFault> {
         let mut calls = QueueCalls::new(alloc);
         open_receipts(&mut calls.receipts, count)?;
         calls.names = vec![in alloc; text(alloc, "a")?, text(alloc, "b")?, text(alloc, "c")?]?;
@@ -160,27 +160,27 @@ impl QueueCalls {
     }
 
     /// The answer of receipts.
-    pub fn answer_receipts(&mut self, word: &str, rest: &str) -> Result<Answer, LineFault> {
+    pub fn answer_receipts(&mut self, word: &str, rest: &str) -> Result<Answer, CallFault> {
         match word {
             "close" => Ok(Answer::of(self.receipts.close(natural(rest)?))),
-            _ => Err(LineFault::Unknown),
+            _ => Err(LineFault::Unknown.into()),
         }
     }
 
     /// The answer of transactions.
-    pub fn answer_transactions(&mut self, word: &str, rest: &str) -> Result<Answer, LineFault> {
+    pub fn answer_transactions(&mut self, word: &str, rest: &str) -> Result<Answer, CallFault> {
         match word {
             "commit" => self.transactions.commit(named(&self.names, rest)?)?,
             "abort" => self.transactions.abort(named(&self.names, rest)?)?,
             "clear" => self.transactions.clear(),
             "count" => return Ok(Answer::count(self.transactions.len())),
-            _ => return Err(LineFault::Unknown),
+            _ => return Err(LineFault::Unknown.into()),
         }
         Ok(Answer::Done)
     }
 
     /// The answer of queues.
-    pub fn answer_queues(&mut self, word: &str, rest: &str) -> Result<Answer, LineFault> {
+    pub fn answer_queues(&mut self, word: &str, rest: &str) -> Result<Answer, CallFault> {
         if word == "accepted" {
             return Ok(Answer::count(self.queues.take_accepted().len()));
         }
@@ -194,7 +194,7 @@ impl QueueCalls {
                 self.queues.release(session, name);
             }
             "end" => self.queues.end(session),
-            _ => return Err(LineFault::Unknown),
+            _ => return Err(LineFault::Unknown.into()),
         }
         Ok(Answer::Done)
     }

@@ -1,10 +1,10 @@
 //! A broker.
 
 use crate::answer::Answer;
-use crate::fault::LineFault;
+use crate::fault::CallFault;
 use base::limits::MAX_QUEUED;
 use broker_core::{Broker, SessionId};
-use line_script::natural;
+use line_script::{LineFault, natural};
 use std::alloc::Global;
 
 /// A broker.
@@ -19,7 +19,7 @@ fn feed_all(
     session: SessionId,
     frame: &[u8],
     count: usize,
-) -> Result<(), LineFault> {
+) -> Result<(), CallFault> {
     for _ in 0..count {
         broker.feed(session, frame)?;
     }
@@ -27,7 +27,7 @@ fn feed_all(
 }
 
 /// A session that is connected.
-fn connect(broker: &mut Broker<MAX_QUEUED>) -> Result<SessionId, LineFault> {
+fn connect(broker: &mut Broker<MAX_QUEUED>) -> Result<SessionId, CallFault> {
     let session = broker.open()?;
     broker.feed(session, b"CONNECT\naccept-version:1.2\nhost:h\n\n\0")?;
     Ok(session)
@@ -42,7 +42,7 @@ impl BrokerCalls {
     }
 
     /// All that `prepare` says of it.
-    pub fn prepared(alloc: Global, count: usize) -> Result<BrokerCalls, LineFault> {
+    pub fn prepared(alloc: Global, count: usize) -> Result<BrokerCalls, CallFault> {
         let mut broker = Broker::new(alloc);
         let sender = connect(&mut broker)?;
         let taker = connect(&mut broker)?;
@@ -74,7 +74,7 @@ impl BrokerCalls {
     }
 
     /// The answer of a session.
-    fn answer_session(&mut self, word: &str, session: SessionId) -> Result<Answer, LineFault> {
+    fn answer_session(&mut self, word: &str, session: SessionId) -> Result<Answer, CallFault> {
         match word {
             "out" => Ok(Answer::count(self.broker.out(session).len())),
             "taken" => {
@@ -86,12 +86,12 @@ impl BrokerCalls {
                 self.broker.drop_session(session);
                 Ok(Answer::Done)
             }
-            _ => Err(LineFault::Unknown),
+            _ => Err(LineFault::Unknown.into()),
         }
     }
 
     /// The answer of the broker.
-    pub fn answer(&mut self, word: &str, rest: &str) -> Result<Answer, LineFault> {
+    pub fn answer(&mut self, word: &str, rest: &str) -> Result<Answer, CallFault> {
         match word {
             "accepted" => Ok(Answer::count(self.broker.take_accepted().len())),
             "fresh" => Ok(Answer::whether(self.broker.take_fresh().is_some())),

@@ -3,13 +3,13 @@
 //! It prints `listening PORT` once clients can connect, and serves them until it is killed.
 #![tactic(auto)]
 
-mod command_line;
+mod words;
 
 use base::limits::MAX_QUEUED;
 use broker_core::Broker;
 use broker_server::{ServeFault, Stop, serve};
 use clap::error::ErrorKind as WordFault;
-use command_line::{read_port, tell_bad_words, tell_words};
+use command_line::{tell_bad_words, tell_words};
 use mio::net::TcpListener;
 use std::io::{ErrorKind, Write};
 use std::net::{Ipv4Addr, Net, SocketAddr};
@@ -17,6 +17,7 @@ use std::process::ExitCode;
 use std::sync::Wait;
 use std::time::Clock;
 use std::{env, io};
+use words::{USAGE, read_port};
 
 /// Tells on standard error why the program ends with status 1.
 fn tell_fault(rt: &impl Eprint, fault: ServeFault) -> io::Result<u8> {
@@ -51,10 +52,7 @@ fn run_broker<R: Net + Wait + Clock + Print + Eprint + AllocGlobal>(
 
 /// The port that the words of the command line ask for; or the status, where they ask for something else, which is told then.
 fn read_words(rt: &HostRuntime) -> io::Result<Result<u16, u8>> {
-    let mut words = Vec::new(rt.alloc());
-    for word in env::args(rt)? {
-        words.push(word)?;
-    }
+    let words: Vec<String> = env::args(rt)?.collect(rt.alloc())?;
     match read_port(rt.alloc(), words.as_slice()) {
         Ok(port) => Ok(Ok(port)),
         Err(error) if error.kind() == WordFault::OutOfMemory => {
@@ -73,7 +71,7 @@ fn main(rt: HostRuntime) -> io::Result<ExitCode> {
         }
         // Words that aren't UTF-8, which nothing else here is.
         Err(error) if error.kind() == ErrorKind::InvalidData => {
-            tell_bad_words(&mut rt.stderr())?
+            tell_bad_words(&mut rt.stderr(), USAGE)?
         }
         Err(error) => return Err(error),
     };

@@ -9,10 +9,7 @@ use std::{env, io};
 /// Runs the program over the words of its command line and the standard streams. The answer is the status. Words that aren't UTF-8 are
 /// `InvalidData`, which nothing else here is.
 fn run<E: Write>(rt: &HostRuntime, err: &mut E) -> io::Result<u8> {
-    let mut words = Vec::new(rt.alloc());
-    for word in env::args(rt)? {
-        words.push(word)?;
-    }
+    let words: Vec<String> = env::args(rt)?.collect(rt.alloc())?;
     let mut input = BufReader::new(rt.alloc(), rt.reader())?;
     let mut out = BufWriter::new(rt.alloc(), io::writer(rt))?;
     Ok(run_schedule(rt.alloc(), words.as_slice(), &mut input, &mut out, err))

@@ -12,9 +12,11 @@ use broker_laws::{each_message_was_sent, no_message_is_lost};
 use broker_queues::Queues;
 use broker_server::Stop;
 use broker_tx::{TransactionFault, Transactions};
-use line_script::{WordFault, read_octets};
+use command_line::tell_bad_words;
+use line_script::{LineFault, read_octets};
 use receipts::{ReceiptFault, Receipts};
 use std::alloc::Global;
+use std::io;
 use stomp_client::{ClientFault, ClientSession};
 use stomp_frame::{Command, Decoder, Frame, FrameFault};
 use stomp_session::{Headers, Octets, ServerSession, Text};
@@ -45,7 +47,7 @@ pub fn what_was_put_is_taken(alloc: Global) -> Result<Vec<u8>, LinkFault> {
     Ok(taken)
 }
 
-pub fn printed_octets_are_read(alloc: Global) -> Result<bool, WordFault> {
+pub fn printed_octets_are_read(alloc: Global) -> Result<bool, LineFault> {
     let octets = read_octets(alloc, "two\\swords\\x00")?;
     let mut text = String::new(alloc);
     push_octets(&mut text, &octets)?;
@@ -138,4 +140,9 @@ pub fn a_client_asks_to_connect(alloc: Global) -> Result<bool, ClientFault> {
     let mut client: ClientSession<u64> = ClientSession::new(alloc);
     client.connect()?;
     Ok(client.out() == b"CONNECT\naccept-version:1.2\nhost:outbox\n\n\0".as_slice())
+}
+
+pub fn words_that_are_no_text_are_told(alloc: Global) -> io::Result<u8> {
+    let mut err = Vec::new(alloc);
+    tell_bad_words(&mut err, "hi NAME")
 }

@@ -10,7 +10,7 @@ use examples::{
     a_receipt_is_closed_once, a_server_is_asked_to_end, a_transaction_keeps_its_actions,
     an_entity_is_named_again, an_idle_destination_is_closed, answers_reach_back_in_mode_client,
     printed_octets_are_read, what_a_client_reads_was_sent, what_wants_an_ack_stays_until_it_comes,
-    what_was_put_is_taken,
+    what_was_put_is_taken, words_that_are_no_text_are_told,
 };
 use std::alloc::Global;
 use std::error::Error;
@@ -38,6 +38,7 @@ fn print_frames(rt: &impl Print, alloc: Global) -> Result<()> {
     tell(rt, "text", a_line_is_read_again(alloc))?;
     tell(rt, "stomp_wire", what_was_put_is_taken(alloc))?;
     tell(rt, "line_script", printed_octets_are_read(alloc))?;
+    tell(rt, "command_line", words_that_are_no_text_are_told(alloc))?;
     tell(rt, "stomp_frame", a_frame_is_read_from_pieces(alloc))
 }
 

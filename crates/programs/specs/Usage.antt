@@ -2,14 +2,10 @@
 use Rattle.std.specs.Prelude.{◌≡◌, ◌⊎◌, ℕ, Bool, true, false, List, [], codes, Option}
 use Rattle.clap.specs.Words.{App, Kinds, IsAmong, new_app}
 use Rattle.clap.specs.declared.error.kind.ErrorKind.{ErrorKind}
-use Rattle.clap.specs.declared.error.kind.ErrorKind.TheVariants.{DisplayHelp, DisplayVersion}
+use Rattle.command_line.specs.Usage.{with_version, is_request}
 use Rattle.programs.specs.declared.fault.RunFault.TheVariants.{Memory}
 use Rattle.programs.specs.Ends.{Writers, IsEndOf, IsUntold, fault_line}
-use Rattle.programs.specs.Written.{AppendsPart}
-
--- a command with a version
-abbrev pub with_version : App → App
-with_version app = record app { top = record app.top { has_version = true } }
+use Rattle.command_line.specs.Written.{AppendsPart}
 
 -- the command line takes the program's name and no options but `--help` and `--version`
 abbrev pub command_line : App
@@ -23,12 +19,6 @@ pub record Streams : Type 0 where
 -- the status of a run: that of its end, or 1 where `err` failed while a fault was told
 abbrev pub IsStatusOf : Option (List ℕ) → Writers → Writers → ℕ → Type 0
 IsStatusOf input old new status = IsEndOf input old new status ⊎ ((status ≡ 1) × IsUntold input old new)
-
--- help or the version was asked for, which is no fault
-abbrev pub is_request : ErrorKind → Bool
-is_request DisplayHelp = true
-is_request DisplayVersion = true
-is_request _ = false
 
 -- what was asked for is told on `out`, with status 0, and a fault of usage on `err`, with status 2; the other stream is as it was
 abbrev pub IsUsage : ErrorKind → Writers → Writers → ℕ → Type 0

@@ -14,13 +14,13 @@
 //! The answer is true.
 #![tactic(auto)]
 
-mod command_line;
 mod fault;
 mod running;
 mod schedule;
+mod words;
 mod writing;
 
-pub use command_line::{run_schedule, tell_bad_words};
 pub use fault::RunFault;
 pub use running::{PlainWorld, open_world};
 pub use schedule::{run_input, run_text, tell_fault};
+pub use words::{run_schedule, tell_bad_words};

@@ -6,7 +6,8 @@ ghost use Rattle.std.specs.Io.{WritesAtMost};
 ghost use Rattle.std.specs.Io.KnownBytes.{Appends, WriteAppends};
 ghost use Rattle.schedules.specs.Outcomes.{outcome_lines, told_lines, shown_entity, shown_pair};
 ghost use Rattle.schedules.specs.Words.{escaped};
-ghost use Rattle.programs.specs.Written.{AppendsPart, of_pair};
+ghost use Rattle.command_line.specs.Written.{AppendsPart};
+ghost use Rattle.programs.specs.Written.{of_pair};
 
 use base::{Entity, Pair};
 use itoa::Buffer;

@@ -1,76 +1,55 @@
-//! Why a line wasn't done.
+//! Why a line has no answer.
 
 use base::EntityFault;
 use endpoint::EndFault;
-use line_script::{Fault, WordFault};
+use line_script::{Fault, LineFault};
 use reception::ReceptionFault;
 use relay::RelayFault;
-use std::alloc::{AllocError, AllocFailed};
+use std::alloc::AllocError;
 use stomp_client::ClientFault;
 use stomp_frame::FrameFault;
 use thiserror::Error;
 
-/// Why a line wasn't done.
+/// Why a line has no answer.
 #[derive(Debug, Drop, Error)]
-pub enum LineFault {
-    /// No line is so, or a number of it isn't one.
-    #[error("no such line")]
-    Unknown,
+pub enum CallFault {
+    /// No line is so, or a word of it isn't one.
+    #[error(transparent)]
+    Line(#[from] LineFault),
     /// A text names no entity.
-    #[error("{0}")]
+    #[error(transparent)]
     Entity(#[from] EntityFault),
     /// The decoder's fault.
-    #[error("{0}")]
+    #[error(transparent)]
     Frame(#[from] FrameFault),
     /// The client's fault.
-    #[error("{0}")]
+    #[error(transparent)]
     Client(#[from] ClientFault),
     /// The endpoint's fault.
-    #[error("{0}")]
+    #[error(transparent)]
     End(#[from] EndFault),
     /// The relay's fault.
-    #[error("{0}")]
+    #[error(transparent)]
     Relay(#[from] RelayFault),
     /// The reception's fault.
-    #[error("{0}")]
+    #[error(transparent)]
     Reception(#[from] ReceptionFault),
     /// A growth was refused.
     #[error("out of memory")]
-    Memory,
+    Memory(#[from(alloc)] AllocError),
 }
 
-impl Fault for LineFault {
+impl Fault for CallFault {
     fn is_memory(&self) -> bool {
         match self {
-            LineFault::Memory => true,
-            LineFault::Entity(fault) => matches!(fault, EntityFault::Memory),
-            LineFault::Frame(fault) => matches!(fault, FrameFault::Memory),
-            LineFault::Client(fault) => fault.number() == 44,
-            LineFault::End(fault) => fault.number() == 64,
-            LineFault::Relay(fault) => matches!(fault.number(), 44 | 51 | 64),
-            LineFault::Reception(fault) => matches!(fault.number(), 44 | 51 | 64),
-            LineFault::Unknown => false,
+            CallFault::Line(fault) => matches!(fault, LineFault::Memory),
+            CallFault::Entity(fault) => matches!(fault, EntityFault::Memory),
+            CallFault::Frame(fault) => matches!(fault, FrameFault::Memory),
+            CallFault::Client(fault) => fault.number() == 44,
+            CallFault::End(fault) => fault.number() == 64,
+            CallFault::Relay(fault) => matches!(fault.number(), 44 | 51 | 64),
+            CallFault::Reception(fault) => matches!(fault.number(), 44 | 51 | 64),
+            CallFault::Memory(_) => true,
         }
-    }
-}
-
-impl From<WordFault> for LineFault {
-    fn from(fault: WordFault) -> LineFault {
-        match fault {
-            WordFault::Unknown => LineFault::Unknown,
-            WordFault::Memory => LineFault::Memory,
-        }
-    }
-}
-
-impl From<AllocError> for LineFault {
-    fn from(_: AllocError) -> LineFault {
-        LineFault::Memory
-    }
-}
-
-impl<T: Drop> From<AllocFailed<T>> for LineFault {
-    fn from(_: AllocFailed<T>) -> LineFault {
-        LineFault::Memory
     }
 }

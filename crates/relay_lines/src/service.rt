@@ -1,13 +1,13 @@
 //! The calls of a service of counting orders.
 
 use crate::counting::{Counting, Sending};
-use crate::fault::LineFault;
-use base::{Entity, Number, Pair};
+use crate::fault::CallFault;
+use base::{Number, Pair};
 use endpoint::{Committed, EndFault, Endpoint, Ingested};
 use envelope::{Letter, Message};
 use keep::{Faulty, Leaves};
 use keep_plain::PlainKeep;
-use line_script::{first_word, natural, size};
+use line_script::{LineFault, first_word, natural, pair, size};
 use std::alloc::{AllocError, Global};
 
 /// A service of counting orders, over tables in memory that fail where they are told to.
@@ -18,18 +18,11 @@ pub fn new_service(alloc: Global) -> Service {
     Endpoint::new(Faulty::new(PlainKeep::new(alloc)))
 }
 
-/// The pair of two entities.
-fn pair_of(alloc: Global, from: &str, to: &str) -> Result<Pair, LineFault> {
-    let from = Entity::read(alloc, from)?;
-    let to = Entity::read(alloc, to)?;
-    Ok(Pair { from, to })
-}
-
 /// A pair and a number: `FROM TO N`.
-fn numbered(alloc: Global, text: &str) -> Result<(Pair, u64), LineFault> {
+fn numbered(alloc: Global, text: &str) -> Result<(Pair, u64), CallFault> {
     let (from, rest) = first_word(text);
     let (to, number) = first_word(rest);
-    let pair = pair_of(alloc, from, to)?;
+    let pair = pair(alloc, from, to)?;
     Ok((pair, natural(number)?))
 }
 
@@ -37,9 +30,9 @@ fn numbered(alloc: Global, text: &str) -> Result<(Pair, u64), LineFault> {
 fn push_committed(
     out: &mut String,
     committed: Result<Committed, EndFault>,
-) -> Result<(), LineFault> {
+) -> Result<(), CallFault> {
     let pos = committed?.pos;
-    write!(out, "committed {pos}").map_err(LineFault::from)
+    write!(out, "committed {pos}").map_err(CallFault::from)
 }
 
 /// An order sends an entity letters.
@@ -48,7 +41,7 @@ fn commit(
     alloc: Global,
     out: &mut String,
     text: &str,
-) -> Result<(), LineFault> {
+) -> Result<(), CallFault> {
     let (pair, count) = numbered(alloc, text)?;
     let sending = Sending {
         receiver: pair.to,
@@ -58,7 +51,7 @@ fn commit(
 }
 
 /// A letter of a pair and a number.
-fn letter(alloc: Global, text: &str) -> Result<Letter, LineFault> {
+fn letter(alloc: Global, text: &str) -> Result<Letter, CallFault> {
     let (pair, number) = numbered(alloc, text)?;
     let number = Number::new(number).ok_or(LineFault::Unknown)?;
     Ok(Letter {
@@ -69,11 +62,11 @@ fn letter(alloc: Global, text: &str) -> Result<Letter, LineFault> {
 }
 
 /// Appends what became of a letter.
-fn push_ingested(out: &mut String, ingested: Result<Ingested, EndFault>) -> Result<(), LineFault> {
+fn push_ingested(out: &mut String, ingested: Result<Ingested, EndFault>) -> Result<(), CallFault> {
     match ingested? {
-        Ingested::Handled(pos) => write!(out, "handled {pos}").map_err(LineFault::from),
-        Ingested::Repeated => out.push_str("repeated").map_err(LineFault::from),
-        Ingested::Held => out.push_str("held").map_err(LineFault::from),
+        Ingested::Handled(pos) => write!(out, "handled {pos}").map_err(CallFault::from),
+        Ingested::Repeated => out.push_str("repeated").map_err(CallFault::from),
+        Ingested::Held => out.push_str("held").map_err(CallFault::from),
     }
 }
 
@@ -83,15 +76,15 @@ fn ingest(
     alloc: Global,
     out: &mut String,
     text: &str,
-) -> Result<(), LineFault> {
+) -> Result<(), CallFault> {
     let letter = letter(alloc, text)?;
     push_ingested(out, service.ingest(alloc, &letter))
 }
 
 /// Appends up to which number letters are settled.
-fn push_settled(out: &mut String, settled: Result<u64, EndFault>) -> Result<(), LineFault> {
+fn push_settled(out: &mut String, settled: Result<u64, EndFault>) -> Result<(), CallFault> {
     let mark = settled?;
-    write!(out, "settled {mark}").map_err(LineFault::from)
+    write!(out, "settled {mark}").map_err(CallFault::from)
 }
 
 /// Letters are settled.
@@ -100,7 +93,7 @@ fn settle(
     alloc: Global,
     out: &mut String,
     text: &str,
-) -> Result<(), LineFault> {
+) -> Result<(), CallFault> {
     let (pair, number) = numbered(alloc, text)?;
     push_settled(out, service.settle(alloc, &pair, number))
 }
@@ -113,14 +106,14 @@ fn push_pair(out: &mut String, pair: &Pair) -> Result<(), AllocError> {
 }
 
 /// Appends who sent a letter, to whom, and its number.
-fn push_place(out: &mut String, letter: &Letter) -> Result<(), LineFault> {
+fn push_place(out: &mut String, letter: &Letter) -> Result<(), CallFault> {
     let number = letter.number.get();
     push_pair(out, &letter.pair)?;
-    write!(out, " {number}; ").map_err(LineFault::from)
+    write!(out, " {number}; ").map_err(CallFault::from)
 }
 
 /// Appends the places of letters.
-fn push_places(out: &mut String, letters: &[Letter]) -> Result<(), LineFault> {
+fn push_places(out: &mut String, letters: &[Letter]) -> Result<(), CallFault> {
     for letter in letters {
         push_place(out, letter)?;
     }
@@ -133,21 +126,21 @@ fn outbox(
     alloc: Global,
     out: &mut String,
     text: &str,
-) -> Result<(), LineFault> {
+) -> Result<(), CallFault> {
     let letters = service.unsettled(alloc, &None, size(text)?)?;
     push_places(out, &letters)
 }
 
 /// The first pair of which the next letter is held.
-fn drainable(service: &mut Service, alloc: Global, out: &mut String) -> Result<(), LineFault> {
+fn drainable(service: &mut Service, alloc: Global, out: &mut String) -> Result<(), CallFault> {
     match service.drainable(alloc)? {
-        Some(pair) => push_pair(out, &pair).map_err(LineFault::from),
-        None => out.push_str("none").map_err(LineFault::from),
+        Some(pair) => push_pair(out, &pair).map_err(CallFault::from),
+        None => out.push_str("none").map_err(CallFault::from),
     }
 }
 
 /// A call of the store is to fail.
-fn arm(service: &mut Service, text: &str) -> Result<(), LineFault> {
+fn arm(service: &mut Service, text: &str) -> Result<(), CallFault> {
     service.arm(natural(text)?, Leaves::Old);
     Ok(())
 }
@@ -159,7 +152,7 @@ pub fn call_service(
     out: &mut String,
     word: &str,
     rest: &str,
-) -> Result<(), LineFault> {
+) -> Result<(), CallFault> {
     match word {
         "commit" => commit(service, alloc, out, rest),
         "ingest" => ingest(service, alloc, out, rest),
@@ -168,7 +161,7 @@ pub fn call_service(
         "drainable" => drainable(service, alloc, out),
         "arm" => arm(service, rest),
         "disarm" => Ok(service.disarm()),
-        "reopen" => service.reopen(alloc).map_err(LineFault::from),
-        _ => Err(LineFault::Unknown),
+        "reopen" => service.reopen(alloc).map_err(CallFault::from),
+        _ => Err(LineFault::Unknown.into()),
     }
 }

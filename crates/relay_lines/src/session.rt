@@ -1,10 +1,10 @@
 //! What stands between two lines, and whom a line asks.
 
-use crate::fault::LineFault;
+use crate::fault::CallFault;
 use crate::service::{Service, call_service, new_service};
 use crate::show::{fault_named, push_drained, push_event, push_sent, push_taken};
 use base::limits::MAX_BODY;
-use line_script::{Script, first_word, read_octets, size};
+use line_script::{LineFault, Script, first_word, or_done, read_octets, size};
 use reception::{drain, take_frame};
 use relay::Relay;
 use std::alloc::Global;
@@ -26,13 +26,13 @@ pub struct Session {
 fn next_frame(
     decoder: &mut Decoder<MAX_BODY>,
     octets: &[u8],
-) -> Result<Frame<MAX_BODY>, LineFault> {
+) -> Result<Frame<MAX_BODY>, CallFault> {
     decoder.feed(octets)?;
-    decoder.next()?.ok_or(LineFault::Unknown)
+    Ok(decoder.next()?.ok_or(LineFault::Unknown)?)
 }
 
 /// The frame that a text spells.
-fn read_frame(alloc: Global, text: &str) -> Result<Frame<MAX_BODY>, LineFault> {
+fn read_frame(alloc: Global, text: &str) -> Result<Frame<MAX_BODY>, CallFault> {
     let octets = read_octets(alloc, text)?;
     let mut decoder = Decoder::new(alloc);
     next_frame(&mut decoder, &octets)
@@ -49,44 +49,44 @@ impl Session {
     }
 
     /// A new client asks to be connected.
-    fn connect(&mut self, alloc: Global) -> Result<(), LineFault> {
+    fn connect(&mut self, alloc: Global) -> Result<(), CallFault> {
         self.client = ClientSession::new(alloc);
-        self.client.connect().map_err(LineFault::from)
+        self.client.connect().map_err(CallFault::from)
     }
 
     /// What a server's frame tells.
-    fn accept(&mut self, alloc: Global, out: &mut String, text: &str) -> Result<(), LineFault> {
+    fn accept(&mut self, alloc: Global, out: &mut String, text: &str) -> Result<(), CallFault> {
         let event = self.client.accept(read_frame(alloc, text)?)?;
         push_event(out, &event)
     }
 
     /// What the service does with a server's frame.
-    fn take(&mut self, alloc: Global, out: &mut String, text: &str) -> Result<(), LineFault> {
+    fn take(&mut self, alloc: Global, out: &mut String, text: &str) -> Result<(), CallFault> {
         let frame = read_frame(alloc, text)?;
         match take_frame(alloc, &mut self.service, &mut self.client, frame) {
             Ok(taken) => push_taken(out, &taken),
-            Err(untaken) => Err(LineFault::Reception(untaken.fault)),
+            Err(untaken) => Err(CallFault::Reception(untaken.fault)),
         }
     }
 
     /// The service handles the first held letter whose turn has come.
-    fn drain(&mut self, alloc: Global, out: &mut String) -> Result<(), LineFault> {
+    fn drain(&mut self, alloc: Global, out: &mut String) -> Result<(), CallFault> {
         let drained = drain(alloc, &mut self.service, &mut self.client)?;
         push_drained(out, &drained)
     }
 
     /// The octets to be sent, which are taken away.
-    fn wrote(&mut self, out: &mut String) -> Result<(), LineFault> {
+    fn wrote(&mut self, out: &mut String) -> Result<(), CallFault> {
         push_octets(out, self.client.out())?;
         self.client.taken(self.client.out().len());
         Ok(())
     }
 
     /// Letters of the outbox are sent.
-    fn fill(&mut self, out: &mut String, text: &str) -> Result<(), LineFault> {
+    fn fill(&mut self, out: &mut String, text: &str) -> Result<(), CallFault> {
         let limit = size(text)?;
         let count = self.relay.fill(&mut self.client, &mut self.service, limit)?;
-        write!(out, "{count}").map_err(LineFault::from)
+        write!(out, "{count}").map_err(CallFault::from)
     }
 
     /// Appends the answer to a line, or nothing where the call gives nothing.
@@ -95,7 +95,7 @@ impl Session {
         alloc: Global,
         out: &mut String,
         line: &str,
-    ) -> Result<(), LineFault> {
+    ) -> Result<(), CallFault> {
         let (word, rest) = first_word(line);
         match word {
             "connect" => self.connect(alloc),
@@ -105,7 +105,7 @@ impl Session {
             "wrote" => self.wrote(out),
             "fill" => self.fill(out, rest),
             "forget" => Ok(self.relay.forget()),
-            "out" => push_octets(out, self.client.out()).map_err(LineFault::from),
+            "out" => push_octets(out, self.client.out()).map_err(CallFault::from),
             "sent" => push_sent(alloc, out, &mut self.client),
             "fault" => Err(fault_named(rest)),
             _ => call_service(&mut self.service, alloc, out, word, rest),
@@ -116,15 +116,12 @@ impl Session {
 impl Script for Session {
     type Answer = String;
 
-    type Fault = LineFault;
+    type Fault = CallFault;
 
-    fn answer(&mut self, alloc: Global, line: &str) -> Result<String, LineFault> {
+    fn answer(&mut self, alloc: Global, line: &str) -> Result<String, CallFault> {
         let mut out = String::new(alloc);
         self.answer_line(alloc, &mut out, line)?;
-        if out.is_empty() {
-            out.push_str("done")?;
-        }
-        Ok(out)
+        Ok(or_done(alloc, out)?)
     }
 
     fn show<W: Write>(&self, answer: String, out: &mut W) -> io::Result<()> {

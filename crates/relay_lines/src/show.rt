@@ -1,9 +1,9 @@
 //! What is printed of frames and events, and the texts of faults that no line meets.
 
-use crate::fault::LineFault;
+use crate::fault::CallFault;
 use base::limits::MAX_BODY;
 use endpoint::EndFault;
-use line_script::{first_word, natural};
+use line_script::{LineFault, first_word, natural};
 use reception::{Drained, Taken};
 use relay::RelayFault;
 use std::alloc::{AllocError, Global};
@@ -29,7 +29,7 @@ fn push_letter(out: &mut String, frame: &Frame<MAX_BODY>) -> Result<(), AllocErr
 }
 
 /// Appends the letters of the frames that a decoder has.
-fn push_letters(out: &mut String, decoder: &mut Decoder<MAX_BODY>) -> Result<(), LineFault> {
+fn push_letters(out: &mut String, decoder: &mut Decoder<MAX_BODY>) -> Result<(), CallFault> {
     for _frame in 0..u64::MAX {
         match decoder.next()? {
             Some(frame) => push_letter(out, &frame)?,
@@ -40,7 +40,7 @@ fn push_letters(out: &mut String, decoder: &mut Decoder<MAX_BODY>) -> Result<(),
 }
 
 /// Appends the letters of octets.
-fn push_decoded(alloc: Global, out: &mut String, octets: &[u8]) -> Result<(), LineFault> {
+fn push_decoded(alloc: Global, out: &mut String, octets: &[u8]) -> Result<(), CallFault> {
     let mut decoder = Decoder::new(alloc);
     decoder.feed(octets)?;
     push_letters(out, &mut decoder)
@@ -51,26 +51,26 @@ pub fn push_sent(
     alloc: Global,
     out: &mut String,
     client: &mut ClientSession<u64>,
-) -> Result<(), LineFault> {
+) -> Result<(), CallFault> {
     push_decoded(alloc, out, client.out())?;
     client.taken(client.out().len());
     Ok(())
 }
 
 /// Appends what a server's frame told.
-pub fn push_event(out: &mut String, event: &ClientEvent<u64>) -> Result<(), LineFault> {
+pub fn push_event(out: &mut String, event: &ClientEvent<u64>) -> Result<(), CallFault> {
     match event {
-        ClientEvent::Connected => write!(out, "connected").map_err(LineFault::from),
-        ClientEvent::Message(_) => write!(out, "message").map_err(LineFault::from),
+        ClientEvent::Connected => write!(out, "connected").map_err(CallFault::from),
+        ClientEvent::Message(_) => write!(out, "message").map_err(CallFault::from),
         ClientEvent::Receipt(number, tag) => {
-            write!(out, "receipt {number} of {tag}").map_err(LineFault::from)
+            write!(out, "receipt {number} of {tag}").map_err(CallFault::from)
         }
-        ClientEvent::Error(text) => write!(out, "error {text}").map_err(LineFault::from),
+        ClientEvent::Error(text) => write!(out, "error {text}").map_err(CallFault::from),
     }
 }
 
 /// Appends what became of a frame.
-pub fn push_taken(out: &mut String, taken: &Taken) -> Result<(), LineFault> {
+pub fn push_taken(out: &mut String, taken: &Taken) -> Result<(), CallFault> {
     let text = match taken {
         Taken::Connected => out.push_str("connected"),
         Taken::Receipt(number) => write!(out, "receipt {number}"),
@@ -80,11 +80,11 @@ pub fn push_taken(out: &mut String, taken: &Taken) -> Result<(), LineFault> {
         Taken::Settled(mark) => write!(out, "settled {mark}"),
         Taken::Error(text) => write!(out, "error {text}"),
     };
-    text.map_err(LineFault::from)
+    text.map_err(CallFault::from)
 }
 
 /// Appends the held letter that was handled.
-pub fn push_drained(out: &mut String, drained: &Option<Drained>) -> Result<(), LineFault> {
+pub fn push_drained(out: &mut String, drained: &Option<Drained>) -> Result<(), CallFault> {
     let text = match drained {
         Some(Drained { pair, number }) => {
             write!(
@@ -96,23 +96,23 @@ pub fn push_drained(out: &mut String, drained: &Option<Drained>) -> Result<(), L
         }
         None => out.push_str("idle"),
     };
-    text.map_err(LineFault::from)
+    text.map_err(CallFault::from)
 }
 
 /// The fault of a client, or of an endpoint, with this number, as a relay tells it.
-fn fault_of(whose: &str, number: u64) -> LineFault {
+fn fault_of(whose: &str, number: u64) -> CallFault {
     match (whose, number) {
-        ("client", 45) => LineFault::Relay(RelayFault::Client(ClientFault::NumbersUsed)),
-        ("end", 64) => LineFault::Relay(RelayFault::Endpoint(EndFault::Memory)),
-        _ => LineFault::Unknown,
+        ("client", 45) => CallFault::Relay(RelayFault::Client(ClientFault::NumbersUsed)),
+        ("end", 64) => CallFault::Relay(RelayFault::Endpoint(EndFault::Memory)),
+        _ => LineFault::Unknown.into(),
     }
 }
 
 /// The fault that a text names: whose it is, and its number.
-pub fn fault_named(text: &str) -> LineFault {
+pub fn fault_named(text: &str) -> CallFault {
     let (whose, number) = first_word(text);
     match natural(number) {
         Ok(number) => fault_of(whose, number),
-        Err(fault) => LineFault::from(fault),
+        Err(fault) => CallFault::from(fault),
     }
 }

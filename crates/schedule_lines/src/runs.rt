@@ -1,8 +1,8 @@
 //! Runs of a schedule over devices, and what they told as text.
 
 use crate::devices::{Limits, Sink, Source};
-use crate::fault::LineFault;
-use line_script::{first_word, size};
+use crate::fault::CallFault;
+use line_script::{LineFault, first_word, size};
 use programs::{RunFault, run_input, run_schedule, run_text, tell_bad_words, tell_fault};
 use schedules::{ScheduleFault, read_schedule};
 use std::alloc::Global;
@@ -101,7 +101,7 @@ impl Told {
     }
 
     /// Appends all of it.
-    fn push_text(&self, text: &mut String) -> Result<(), LineFault> {
+    fn push_text(&self, text: &mut String) -> Result<(), CallFault> {
         push_lines(text, '>', self.out.taken.as_slice())?;
         push_lines(text, '!', self.err.taken.as_slice())?;
         write!(text, "{}", self.end)?;
@@ -112,9 +112,9 @@ impl Told {
     }
 
     /// Appends its sizes.
-    fn push_sizes(&self, text: &mut String) -> Result<(), LineFault> {
+    fn push_sizes(&self, text: &mut String) -> Result<(), CallFault> {
         let (out, err) = (self.out.taken.len(), self.err.taken.len());
-        write!(text, "{out} octets on out, {err} on err, {}", self.end).map_err(LineFault::from)
+        write!(text, "{out} octets on out, {err} on err, {}", self.end).map_err(CallFault::from)
     }
 }
 
@@ -132,9 +132,9 @@ fn has_refusal_of_memory(out: &[u8]) -> bool {
 }
 
 /// Adds the lines of what was written, each behind a mark, and `-` behind the mark of one that lacks its LF.
-fn push_lines(text: &mut String, mark: char, octets: &[u8]) -> Result<(), LineFault> {
+fn push_lines(text: &mut String, mark: char, octets: &[u8]) -> Result<(), CallFault> {
     let Ok(written) = str::from_utf8(octets) else {
-        return Err(LineFault::NotText);
+        return Err(CallFault::NotText);
     };
     for line in written.split_inclusive('\n') {
         match line.strip_suffix('\n') {
@@ -146,11 +146,11 @@ fn push_lines(text: &mut String, mark: char, octets: &[u8]) -> Result<(), LineFa
 }
 
 /// Appends how many events `read_schedule` answers, or why none.
-pub fn push_read(alloc: Global, out: &mut String, schedule: &[u8]) -> Result<(), LineFault> {
+pub fn push_read(alloc: Global, out: &mut String, schedule: &[u8]) -> Result<(), CallFault> {
     match read_schedule(alloc, schedule) {
-        Ok(events) => write!(out, "events: {}", events.len()).map_err(LineFault::from),
-        Err(ScheduleFault::Memory) => Err(LineFault::Memory),
-        Err(fault) => write!(out, "{fault}").map_err(LineFault::from),
+        Ok(events) => write!(out, "events: {}", events.len()).map_err(CallFault::from),
+        Err(ScheduleFault::Memory) => Err(LineFault::Memory.into()),
+        Err(fault) => write!(out, "{fault}").map_err(CallFault::from),
     }
 }
 
@@ -172,7 +172,7 @@ fn run(
     input: &mut Source<'_>,
     out: &mut Sink,
     err: &mut Sink,
-) -> Result<End, LineFault> {
+) -> Result<End, CallFault> {
     let words: Vec<&str> = line.split_whitespace().collect(alloc)?;
     Ok(End::Status(run_schedule(alloc, words.as_slice(), input, out, err)))
 }
@@ -184,19 +184,19 @@ fn end_of(
     input: &mut Source<'_>,
     out: &mut Sink,
     err: &mut Sink,
-) -> Result<End, LineFault> {
+) -> Result<End, CallFault> {
     match first_word(line) {
         ("run", _) => run(alloc, line, input, out, err),
         ("run-text", "") => Ok(End::of_run(run_text(alloc, input.left, out))),
         ("run-input", "") => Ok(End::of_status(run_input(alloc, input, out, err))),
         ("tell", "not-utf8") => Ok(End::of_status(tell_bad_words(err))),
         ("tell", word) => Ok(End::of_status(tell_fault(err, fault(word)?))),
-        _ => Err(LineFault::Unknown),
+        _ => Err(LineFault::Unknown.into()),
     }
 }
 
 /// What a call tells over a schedule.
-fn call(alloc: Global, devices: Devices, schedule: &[u8], line: &str) -> Result<Told, LineFault> {
+fn call(alloc: Global, devices: Devices, schedule: &[u8], line: &str) -> Result<Told, CallFault> {
     let mut input = Source {
         left: schedule,
         at_once: devices.reader_gives,
@@ -211,7 +211,7 @@ fn call(alloc: Global, devices: Devices, schedule: &[u8], line: &str) -> Result<
     told.end = end_of(alloc, line, &mut input, &mut told.out, &mut told.err)?;
     told.left = input.left.len();
     if told.wants_memory() {
-        return Err(LineFault::Memory);
+        return Err(LineFault::Memory.into());
     }
     Ok(told)
 }
@@ -223,7 +223,7 @@ pub fn push_call(
     devices: Devices,
     schedule: &[u8],
     line: &str,
-) -> Result<(), LineFault> {
+) -> Result<(), CallFault> {
     let told = call(alloc, devices, schedule, line)?;
     told.push_text(out)
 }
@@ -235,7 +235,7 @@ pub fn push_sizes(
     devices: Devices,
     schedule: &[u8],
     line: &str,
-) -> Result<(), LineFault> {
+) -> Result<(), CallFault> {
     let told = call(alloc, devices, schedule, line)?;
     told.push_sizes(out)
 }
@@ -245,7 +245,7 @@ fn numbered(
     alloc: Global,
     (schedule, place): (&[u8], usize),
     number: usize,
-) -> Result<Vec<u8>, LineFault> {
+) -> Result<Vec<u8>, CallFault> {
     let mut text = String::new(alloc);
     write!(text, "{number}")?;
     let mut whole = Vec::new(alloc);
@@ -262,7 +262,7 @@ fn told_with(
     devices: Devices,
     counted: (&[u8], usize),
     number: usize,
-) -> Result<String, LineFault> {
+) -> Result<String, CallFault> {
     let schedule = numbered(alloc, counted, number)?;
     let told = call(alloc, devices, schedule.as_slice(), "run")?;
     let mut text = String::new(alloc);
@@ -276,7 +276,7 @@ fn push_differences(
     number: usize,
     first: &str,
     other: &str,
-) -> Result<(), LineFault> {
+) -> Result<(), CallFault> {
     let mut wanted = first.split('\n');
     let mut at: usize = 0;
     for line in other.split('\n') {
@@ -299,7 +299,7 @@ pub fn push_each(
     devices: Devices,
     counted: (&[u8], usize),
     numbers: &str,
-) -> Result<(), LineFault> {
+) -> Result<(), CallFault> {
     let (first, last) = first_word(numbers);
     let (first, last) = (size(first)?, size(last)?);
     let told = told_with(alloc, devices, counted, first)?;
@@ -310,5 +310,5 @@ pub fn push_each(
         push_differences(out, number, told.as_str(), other.as_str())?;
         runs = runs.saturating_add(1);
     }
-    write!(out, "\n{runs} runs").map_err(LineFault::from)
+    write!(out, "\n{runs} runs").map_err(CallFault::from)
 }

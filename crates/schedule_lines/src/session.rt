@@ -1,9 +1,9 @@
 //! What stands between two lines, and what a line asks.
 
 use crate::devices::Limits;
-use crate::fault::LineFault;
+use crate::fault::CallFault;
 use crate::runs::{Devices, push_call, push_each, push_read, push_sizes};
-use line_script::{Script, first_word, size};
+use line_script::{LineFault, Script, first_word, or_done, size};
 use std::alloc::{AllocError, Global};
 use std::io;
 use std::io::Write;
@@ -40,17 +40,17 @@ impl Session {
     }
 
     /// Adds a line in which a number is to stand where `#` stands.
-    fn add_numbered(&mut self, text: &str) -> Result<(), LineFault> {
+    fn add_numbered(&mut self, text: &str) -> Result<(), CallFault> {
         let Some((before, behind)) = text.split_once('#') else {
-            return Err(LineFault::Unknown);
+            return Err(LineFault::Unknown.into());
         };
         self.schedule.extend_from_slice(before.as_bytes())?;
         self.place = self.schedule.len();
-        self.add(behind).map_err(LineFault::from)
+        self.add(behind).map_err(CallFault::from)
     }
 
     /// Adds equal octets: `N OCTET`.
-    fn add_octets(&mut self, text: &str) -> Result<(), LineFault> {
+    fn add_octets(&mut self, text: &str) -> Result<(), CallFault> {
         let (count, octet) = first_word(text);
         let octet = octet_of(octet)?;
         for _ in 0..size(count)? {
@@ -60,9 +60,9 @@ impl Session {
     }
 
     /// Adds equal lines: `N LINE`.
-    fn repeat(&mut self, text: &str) -> Result<(), LineFault> {
+    fn repeat(&mut self, text: &str) -> Result<(), CallFault> {
         let Some((count, line)) = text.split_once(' ') else {
-            return Err(LineFault::Unknown);
+            return Err(LineFault::Unknown.into());
         };
         for _ in 0..size(count)? {
             self.add(line)?;
@@ -71,17 +71,17 @@ impl Session {
     }
 
     /// Changes the reader.
-    fn set_reader(&mut self, text: &str) -> Result<(), LineFault> {
+    fn set_reader(&mut self, text: &str) -> Result<(), CallFault> {
         match first_word(text) {
             ("fails", "") => self.devices.reader_fails = true,
             ("gives", count) => self.devices.reader_gives = size(count)?,
-            _ => return Err(LineFault::Unknown),
+            _ => return Err(LineFault::Unknown.into()),
         }
         Ok(())
     }
 
     /// Adds what stands behind the mark of a line of a schedule: behind `-` without an LF, behind `#` with the place of a number.
-    fn add_marked(&mut self, text: &str) -> Result<(), LineFault> {
+    fn add_marked(&mut self, text: &str) -> Result<(), CallFault> {
         if let Some(numbered) = text.strip_prefix('#') {
             return self.add_numbered(without_space(numbered));
         }
@@ -92,7 +92,7 @@ impl Session {
                 .map_err(AllocError::from),
             None => self.add(without_space(text)),
         };
-        added.map_err(LineFault::from)
+        added.map_err(CallFault::from)
     }
 
     /// Appends the answer to a line, or nothing where it changes the schedule or the devices alone.
@@ -101,7 +101,7 @@ impl Session {
         alloc: Global,
         out: &mut String,
         line: &str,
-    ) -> Result<(), LineFault> {
+    ) -> Result<(), CallFault> {
         let schedule = self.schedule.as_slice();
         let (word, rest) = first_word(line);
         match word {
@@ -122,27 +122,24 @@ impl Session {
     }
 
     /// The same of a line of a schedule too, which is appended as it is.
-    fn answer_to(&mut self, alloc: Global, out: &mut String, line: &str) -> Result<(), LineFault> {
+    fn answer_to(&mut self, alloc: Global, out: &mut String, line: &str) -> Result<(), CallFault> {
         let Some(text) = line.strip_prefix('|') else {
             return self.answer_line(alloc, out, line);
         };
         self.add_marked(text)?;
-        out.push_str(line).map_err(LineFault::from)
+        out.push_str(line).map_err(CallFault::from)
     }
 }
 
 impl Script for Session {
     type Answer = String;
 
-    type Fault = LineFault;
+    type Fault = CallFault;
 
-    fn answer(&mut self, alloc: Global, line: &str) -> Result<String, LineFault> {
+    fn answer(&mut self, alloc: Global, line: &str) -> Result<String, CallFault> {
         let mut out = String::new(alloc);
         self.answer_to(alloc, &mut out, line)?;
-        if out.is_empty() {
-            out.push_str("done")?;
-        }
-        Ok(out)
+        Ok(or_done(alloc, out)?)
     }
 
     fn show<W: Write>(&self, answer: String, out: &mut W) -> io::Result<()> {
@@ -156,20 +153,20 @@ fn without_space(text: &str) -> &str {
 }
 
 /// An octet, in decimal.
-fn octet_of(text: &str) -> Result<u8, LineFault> {
+fn octet_of(text: &str) -> Result<u8, CallFault> {
     match text.parse::<u8>() {
         Ok(octet) => Ok(octet),
-        Err(_) => Err(LineFault::Unknown),
+        Err(_) => Err(LineFault::Unknown.into()),
     }
 }
 
 /// Sets one of a writer's limits.
-fn limit(limits: &mut Limits, text: &str) -> Result<(), LineFault> {
+fn limit(limits: &mut Limits, text: &str) -> Result<(), CallFault> {
     match first_word(text) {
         ("takes", count) => limits.room = size(count)?,
         ("takes-at-once", count) => limits.at_once = size(count)?,
         ("is-interrupted", "") => limits.is_interrupted = true,
-        _ => return Err(LineFault::Unknown),
+        _ => return Err(LineFault::Unknown.into()),
     }
     Ok(())
 }

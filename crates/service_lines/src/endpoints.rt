@@ -1,15 +1,15 @@
 //! Endpoints over tables in memory that fail where they are told to.
 
-use crate::fault::LineFault;
+use crate::fault::CallFault;
 use crate::shown::Shown;
 use crate::states::push_message;
-use crate::words::{message, number, pair, seat};
+use crate::words::message;
 use base::Entity;
 use endpoint::{Endpoint, Ingested};
 use envelope::Letter;
 use keep::Faulty;
 use keep_plain::PlainKeep;
-use line_script::natural;
+use line_script::{LineFault, natural, number, pair, seat};
 use std::alloc::Global;
 
 /// An endpoint of a service.
@@ -21,7 +21,7 @@ fn commit<S: Shown>(
     alloc: Global,
     out: &mut String,
     words: [&str; 3],
-) -> Result<(), LineFault> {
+) -> Result<(), CallFault> {
     let [by, entity, asked] = words;
     let seat = seat(by)?;
     let entity = Entity::read(alloc, entity)?;
@@ -36,7 +36,7 @@ fn view<S: Shown>(
     alloc: Global,
     out: &mut String,
     entity: &str,
-) -> Result<(), LineFault> {
+) -> Result<(), CallFault> {
     let entity = Entity::read(alloc, entity)?;
     match service.view(alloc, &entity)? {
         Some(state) => S::push_state(out, &state),
@@ -50,7 +50,7 @@ fn ingest<S: Shown>(
     alloc: Global,
     out: &mut String,
     said: &[&str],
-) -> Result<(), LineFault> {
+) -> Result<(), CallFault> {
     let letter = letter(alloc, said)?;
     match service.ingest(alloc, &letter)? {
         Ingested::Handled(pos) => write!(out, "handled {pos}")?,
@@ -67,7 +67,7 @@ fn drain<S: Shown>(
     out: &mut String,
     from: &str,
     to: &str,
-) -> Result<(), LineFault> {
+) -> Result<(), CallFault> {
     let pair = pair(alloc, from, to)?;
     match service.drain_held(alloc, &pair)? {
         Some(number) => write!(out, "drained {number}")?,
@@ -82,7 +82,7 @@ fn settle<S: Shown>(
     alloc: Global,
     out: &mut String,
     words: [&str; 3],
-) -> Result<(), LineFault> {
+) -> Result<(), CallFault> {
     let [from, to, number] = words;
     let pair = pair(alloc, from, to)?;
     let mark = service.settle(alloc, &pair, natural(number)?)?;
@@ -94,7 +94,7 @@ fn outbox<S: Shown>(
     service: &mut Service<S>,
     alloc: Global,
     out: &mut String,
-) -> Result<(), LineFault> {
+) -> Result<(), CallFault> {
     for letter in &service.unsettled(alloc, &None, 64)? {
         let (from, to) = (letter.pair.from.text(), letter.pair.to.text());
         write!(out, "{from} {to} {} ", letter.number.get())?;
@@ -105,9 +105,9 @@ fn outbox<S: Shown>(
 }
 
 /// A letter: `FROM TO N MESSAGE`.
-fn letter(alloc: Global, words: &[&str]) -> Result<Letter, LineFault> {
+fn letter(alloc: Global, words: &[&str]) -> Result<Letter, CallFault> {
     let [from, to, numbered, said @ ..] = words else {
-        return Err(LineFault::Unknown);
+        return Err(LineFault::Unknown.into());
     };
     Ok(Letter {
         pair: pair(alloc, from, to)?,
@@ -117,7 +117,7 @@ fn letter(alloc: Global, words: &[&str]) -> Result<Letter, LineFault> {
 }
 
 /// The store is opened again.
-fn reopen<S: Shown>(service: &mut Service<S>, alloc: Global) -> Result<(), LineFault> {
+fn reopen<S: Shown>(service: &mut Service<S>, alloc: Global) -> Result<(), CallFault> {
     Ok(service.reopen(alloc)?)
 }
 
@@ -127,7 +127,7 @@ pub fn call<S: Shown>(
     alloc: Global,
     out: &mut String,
     words: &[&str],
-) -> Result<(), LineFault> {
+) -> Result<(), CallFault> {
     match words {
         ["commit", by, entity, asked] => commit(service, alloc, out, [by, entity, asked]),
         ["view", entity] => view(service, alloc, out, entity),
@@ -136,6 +136,6 @@ pub fn call<S: Shown>(
         ["settle", from, to, number] => settle(service, alloc, out, [from, to, number]),
         ["outbox"] => outbox(service, alloc, out),
         ["reopen"] => reopen(service, alloc),
-        _ => Err(LineFault::Unknown),
+        _ => Err(LineFault::Unknown.into()),
     }
 }

@@ -1,7 +1,7 @@
 //! What stands between two lines, and whom a line asks.
 
 use crate::endpoints::{Service, call};
-use crate::fault::LineFault;
+use crate::fault::CallFault;
 use crate::shown::Shown;
 use crate::states::take;
 use crate::words::leaves;
@@ -9,7 +9,7 @@ use billing::{Account, Accounts};
 use endpoint::Endpoint;
 use keep::Faulty;
 use keep_plain::PlainKeep;
-use line_script::{Script, natural};
+use line_script::{LineFault, Script, natural, or_done};
 use std::alloc::Global;
 use std::io;
 use std::io::Write;
@@ -30,13 +30,13 @@ fn empty<S: Shown>(alloc: Global) -> Service<S> {
 }
 
 /// The state is as it is at first.
-fn open<S: Shown>(alloc: Global, state: &mut S::State) -> Result<(), LineFault> {
+fn open<S: Shown>(alloc: Global, state: &mut S::State) -> Result<(), CallFault> {
     *state = S::opening(alloc)?;
     Ok(())
 }
 
 /// The state is another.
-fn set<S: Shown>(alloc: Global, state: &mut S::State, words: &[&str]) -> Result<(), LineFault> {
+fn set<S: Shown>(alloc: Global, state: &mut S::State, words: &[&str]) -> Result<(), CallFault> {
     *state = S::state(alloc, words)?;
     Ok(())
 }
@@ -47,19 +47,19 @@ fn take_copy<S: Shown>(
     out: &mut String,
     state: &S::State,
     words: &[&str],
-) -> Result<(), LineFault> {
+) -> Result<(), CallFault> {
     let mut copy = S::copy_state(alloc, state)?;
     take::<S>(alloc, out, &mut copy, words)
 }
 
 /// The endpoint has empty tables.
-fn clear<S: Shown>(alloc: Global, service: &mut Service<S>) -> Result<(), LineFault> {
+fn clear<S: Shown>(alloc: Global, service: &mut Service<S>) -> Result<(), CallFault> {
     *service = empty(alloc);
     Ok(())
 }
 
 /// A call of the endpoint's store is to fail.
-fn arm<S: Shown>(service: &mut Service<S>, calls: &str, word: &str) -> Result<(), LineFault> {
+fn arm<S: Shown>(service: &mut Service<S>, calls: &str, word: &str) -> Result<(), CallFault> {
     service.arm(natural(calls)?, leaves(word)?);
     Ok(())
 }
@@ -71,7 +71,7 @@ fn answer<S: Shown>(
     state: &mut S::State,
     service: &mut Service<S>,
     words: &[&str],
-) -> Result<(), LineFault> {
+) -> Result<(), CallFault> {
     match words {
         ["opening"] => open::<S>(alloc, state),
         ["is", words @ ..] => set::<S>(alloc, state, words),
@@ -100,7 +100,7 @@ impl Session {
         alloc: Global,
         out: &mut String,
         words: &[&str],
-    ) -> Result<(), LineFault> {
+    ) -> Result<(), CallFault> {
         match words {
             ["stock", words @ ..] => {
                 answer::<Stocks>(alloc, out, &mut self.stock, &mut self.warehouse, words)
@@ -108,7 +108,7 @@ impl Session {
             ["account", words @ ..] => {
                 answer::<Accounts>(alloc, out, &mut self.account, &mut self.billing, words)
             }
-            _ => Err(LineFault::Unknown),
+            _ => Err(LineFault::Unknown.into()),
         }
     }
 }
@@ -116,16 +116,13 @@ impl Session {
 impl Script for Session {
     type Answer = String;
 
-    type Fault = LineFault;
+    type Fault = CallFault;
 
-    fn answer(&mut self, alloc: Global, line: &str) -> Result<String, LineFault> {
+    fn answer(&mut self, alloc: Global, line: &str) -> Result<String, CallFault> {
         let words: Vec<&str> = line.split_whitespace().collect(alloc)?;
         let mut out = String::new(alloc);
         self.answer_words(alloc, &mut out, words.as_slice())?;
-        if out.is_empty() {
-            out.push_str("done")?;
-        }
-        Ok(out)
+        Ok(or_done(alloc, out)?)
     }
 
     fn show<W: Write>(&self, answer: String, out: &mut W) -> io::Result<()> {

@@ -1,11 +1,10 @@
 //! Both services in the words of lines.
 
-use crate::fault::LineFault;
-use crate::words::number;
+use crate::fault::CallFault;
 use activities::Handler;
 use base::{Entity, Kind};
 use billing::{Account, Accounts};
-use line_script::natural;
+use line_script::{LineFault, natural, number};
 use std::alloc::Global;
 use trade::{AccountCommand, Holder, LinePhase, Lines, StockCommand};
 use warehouse::{Stock, Stocks};
@@ -16,10 +15,10 @@ pub trait Shown: Handler {
     fn command(number: u64) -> Self::Command;
 
     /// The state of these words.
-    fn state(alloc: Global, words: &[&str]) -> Result<Self::State, LineFault>;
+    fn state(alloc: Global, words: &[&str]) -> Result<Self::State, CallFault>;
 
     /// Appends a state, in these words.
-    fn push_state(out: &mut String, state: &Self::State) -> Result<(), LineFault>;
+    fn push_state(out: &mut String, state: &Self::State) -> Result<(), CallFault>;
 }
 
 impl Shown for Stocks {
@@ -27,20 +26,20 @@ impl Shown for Stocks {
         StockCommand::Receive(number)
     }
 
-    fn state(alloc: Global, words: &[&str]) -> Result<Stock, LineFault> {
+    fn state(alloc: Global, words: &[&str]) -> Result<Stock, CallFault> {
         let [on_hand, held, shipped, received, lines @ ..] = words else {
-            return Err(LineFault::Unknown);
+            return Err(LineFault::Unknown.into());
         };
         let (on_hand, held) = (natural(on_hand)?, natural(held)?);
         let (shipped, received) = (natural(shipped)?, natural(received)?);
         let lines = read_lines(alloc, Kind::Stock, lines)?;
         match Stock::from_parts(on_hand, held, shipped, received, lines) {
             Some(stock) => Ok(stock),
-            None => Err(LineFault::Unsound),
+            None => Err(CallFault::Unsound),
         }
     }
 
-    fn push_state(out: &mut String, stock: &Stock) -> Result<(), LineFault> {
+    fn push_state(out: &mut String, stock: &Stock) -> Result<(), CallFault> {
         let (on_hand, held) = (stock.on_hand(), stock.held());
         let (shipped, received) = (stock.shipped(), stock.received());
         write!(out, "{on_hand} {held} {shipped} {received}")?;
@@ -53,19 +52,19 @@ impl Shown for Accounts {
         AccountCommand::SetLimit(number)
     }
 
-    fn state(alloc: Global, words: &[&str]) -> Result<Account, LineFault> {
+    fn state(alloc: Global, words: &[&str]) -> Result<Account, CallFault> {
         let [limit, billed, held, lines @ ..] = words else {
-            return Err(LineFault::Unknown);
+            return Err(LineFault::Unknown.into());
         };
         let (limit, billed, held) = (natural(limit)?, natural(billed)?, natural(held)?);
         let lines = read_lines(alloc, Kind::Account, lines)?;
         match Account::from_parts(limit, billed, held, lines) {
             Some(account) => Ok(account),
-            None => Err(LineFault::Unsound),
+            None => Err(CallFault::Unsound),
         }
     }
 
-    fn push_state(out: &mut String, account: &Account) -> Result<(), LineFault> {
+    fn push_state(out: &mut String, account: &Account) -> Result<(), CallFault> {
         let (limit, billed, held) = (account.limit(), account.billed(), account.held());
         write!(out, "{limit} {billed} {held}")?;
         push_lines(out, Kind::Account, account.lines())
@@ -90,20 +89,20 @@ fn add_line(
     order: Entity,
     asked: &str,
     phase: LinePhase,
-) -> Result<(), LineFault> {
+) -> Result<(), CallFault> {
     if order.kind() != Kind::Order || lines.find(&order).is_some() {
-        return Err(LineFault::Unsound);
+        return Err(CallFault::Unsound);
     }
     let number = number(asked)?;
     Ok(lines.insert(order, number, phase)?)
 }
 
 /// Lines: an order, a number and a phase each.
-fn read_lines(alloc: Global, kind: Kind, words: &[&str]) -> Result<Lines, LineFault> {
+fn read_lines(alloc: Global, kind: Kind, words: &[&str]) -> Result<Lines, CallFault> {
     let mut lines = Lines::new(alloc);
     for line in words.chunks(3) {
         let [order, asked, far] = line else {
-            return Err(LineFault::Unknown);
+            return Err(LineFault::Unknown.into());
         };
         let phase = phase(kind, far)?;
         add_line(&mut lines, Entity::read(alloc, order)?, asked, phase)?;
@@ -112,7 +111,7 @@ fn read_lines(alloc: Global, kind: Kind, words: &[&str]) -> Result<Lines, LineFa
 }
 
 /// Appends lines.
-fn push_lines(out: &mut String, kind: Kind, lines: &Lines) -> Result<(), LineFault> {
+fn push_lines(out: &mut String, kind: Kind, lines: &Lines) -> Result<(), CallFault> {
     for line in lines.as_slice() {
         let phase = match kind {
             Kind::Stock => line.phase().stock_word(),

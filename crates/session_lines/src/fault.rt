@@ -1,60 +1,40 @@
-//! Why a line wasn't done.
+//! Why a line has no answer.
 
-use line_script::{Fault, WordFault};
-use std::alloc::{AllocError, AllocFailed};
+use line_script::{Fault, LineFault};
+use std::alloc::AllocError;
 use stomp_frame::FrameFault;
 use stomp_session::SessionFault;
 use thiserror::Error;
 
-/// Why a line wasn't done.
+/// Why a line has no answer.
 #[derive(Debug, Drop, Error)]
-pub enum LineFault {
-    /// No line is so, or a number of it isn't one.
-    #[error("no such line")]
-    Unknown,
+pub enum CallFault {
+    /// No line is so, or a word of it isn't one.
+    #[error(transparent)]
+    Line(#[from] LineFault),
     /// A text isn't the spelling of one frame.
     #[error("not one frame")]
     NoFrame,
     /// A text has a fault.
-    #[error("{0}")]
+    #[error(transparent)]
     Frame(#[from] FrameFault),
     /// The session's fault.
-    #[error("{0}")]
+    #[error(transparent)]
     Session(#[from] SessionFault),
     /// A growth was refused.
     #[error("out of memory")]
-    Memory,
+    Memory(#[from(alloc)] AllocError),
 }
 
-impl Fault for LineFault {
+impl Fault for CallFault {
     fn is_memory(&self) -> bool {
         matches!(
             self,
-            LineFault::Memory
-                | LineFault::Frame(FrameFault::Memory)
-                | LineFault::Session(SessionFault::Memory)
+            CallFault::Line(LineFault::Memory)
+                | CallFault::Memory(_)
+                | CallFault::Frame(FrameFault::Memory)
+                | CallFault::Session(SessionFault::Memory)
         )
-    }
-}
-
-impl From<WordFault> for LineFault {
-    fn from(fault: WordFault) -> LineFault {
-        match fault {
-            WordFault::Unknown => LineFault::Unknown,
-            WordFault::Memory => LineFault::Memory,
-        }
-    }
-}
-
-impl From<AllocError> for LineFault {
-    fn from(_: AllocError) -> LineFault {
-        LineFault::Memory
-    }
-}
-
-impl<T: Drop> From<AllocFailed<T>> for LineFault {
-    fn from(_: AllocFailed<T>) -> LineFault {
-        LineFault::Memory
     }
 }
 

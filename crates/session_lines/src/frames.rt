@@ -1,6 +1,6 @@
 //! The frame that a text spells.
 
-use crate::fault::LineFault;
+use crate::fault::CallFault;
 use base::limits::MAX_BODY;
 use line_script::read_octets;
 use std::alloc::Global;
@@ -16,16 +16,16 @@ fn is_at_end(decoder: &mut Decoder<MAX_BODY>) -> Result<bool, FrameFault> {
 }
 
 /// The one frame of octets.
-fn one_frame(decoder: &mut Decoder<MAX_BODY>, octets: &[u8]) -> Result<Frame<MAX_BODY>, LineFault> {
+fn one_frame(decoder: &mut Decoder<MAX_BODY>, octets: &[u8]) -> Result<Frame<MAX_BODY>, CallFault> {
     decoder.feed(octets)?;
     match (decoder.next()?, is_at_end(decoder)?) {
         (Some(frame), true) => Ok(frame),
-        _ => Err(LineFault::NoFrame),
+        _ => Err(CallFault::NoFrame),
     }
 }
 
 /// The one frame that a text spells.
-pub fn read_frame(alloc: Global, text: &str) -> Result<Frame<MAX_BODY>, LineFault> {
+pub fn read_frame(alloc: Global, text: &str) -> Result<Frame<MAX_BODY>, CallFault> {
     let octets = read_octets(alloc, text)?;
     let mut decoder = Decoder::new(alloc);
     one_frame(&mut decoder, &octets)

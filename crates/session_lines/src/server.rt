@@ -1,9 +1,10 @@
 //! The session of a server.
 
-use crate::fault::LineFault;
+use crate::fault::CallFault;
 use crate::frames::read_frame;
 use crate::requests::{push_part, push_request};
 use base::limits::MAX_BODY;
+use line_script::LineFault;
 use std::alloc::{AllocError, Global};
 use stomp_frame::Frame;
 use stomp_session::{Refused, ServerSession, receipt_told};
@@ -63,29 +64,29 @@ impl Server {
         alloc: Global,
         text: &str,
         out: &mut String,
-    ) -> Result<(), LineFault> {
+    ) -> Result<(), CallFault> {
         let frame = read_frame(alloc, text)?;
-        self.accept(frame, out).map_err(LineFault::from)
+        self.accept(frame, out).map_err(CallFault::from)
     }
 
     /// It is given the frame that it refused last.
-    fn accept_again(&mut self, out: &mut String) -> Result<(), LineFault> {
+    fn accept_again(&mut self, out: &mut String) -> Result<(), CallFault> {
         match self.refused.take() {
-            Some(frame) => self.accept(frame, out).map_err(LineFault::from),
-            None => Err(LineFault::NoFrame),
+            Some(frame) => self.accept(frame, out).map_err(CallFault::from),
+            None => Err(CallFault::NoFrame),
         }
     }
 
     /// Appends the answer to a line that begins with `server`.
-    pub fn answer(&mut self, alloc: Global, line: &str, out: &mut String) -> Result<(), LineFault> {
+    pub fn answer(&mut self, alloc: Global, line: &str, out: &mut String) -> Result<(), CallFault> {
         match line.split_once(' ') {
             Some(("accept", text)) => self.accept_text(alloc, text, out),
             None if line == "again" => self.accept_again(out),
             None if line == "new" => {
                 *self = Server::new();
-                out.push_str("done").map_err(LineFault::from)
+                out.push_str("done").map_err(CallFault::from)
             }
-            _ => Err(LineFault::Unknown),
+            _ => Err(LineFault::Unknown.into()),
         }
     }
 }

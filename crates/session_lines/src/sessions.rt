@@ -1,9 +1,9 @@
 //! What stands between two lines, and whom a line asks.
 
-use crate::fault::{LineFault, session_fault};
+use crate::fault::{CallFault, session_fault};
 use crate::replies::answer_reply;
 use crate::server::Server;
-use line_script::Script;
+use line_script::{LineFault, Script};
 use std::alloc::Global;
 use std::io;
 use std::io::Write;
@@ -23,14 +23,14 @@ impl Sessions {
     }
 
     /// Appends the answer to a line.
-    fn answer_to(&mut self, alloc: Global, line: &str, out: &mut String) -> Result<(), LineFault> {
+    fn answer_to(&mut self, alloc: Global, line: &str, out: &mut String) -> Result<(), CallFault> {
         match line.split_once(' ') {
             Some(("server", line)) => self.server.answer(alloc, line, out),
             Some(("reply", line)) => answer_reply(alloc, line, out),
             Some(("fault", number)) => write!(out, "{}", session_fault(number)?).map_err(
-                LineFault::from,
+                CallFault::from,
             ),
-            _ => Err(LineFault::Unknown),
+            _ => Err(LineFault::Unknown.into()),
         }
     }
 }
@@ -38,9 +38,9 @@ impl Sessions {
 impl Script for Sessions {
     type Answer = String;
 
-    type Fault = LineFault;
+    type Fault = CallFault;
 
-    fn answer(&mut self, alloc: Global, line: &str) -> Result<String, LineFault> {
+    fn answer(&mut self, alloc: Global, line: &str) -> Result<String, CallFault> {
         let mut out = String::new(alloc);
         self.answer_to(alloc, line, &mut out)?;
         Ok(out)

@@ -1,11 +1,11 @@
 //! Letters and settles that arrive at an endpoint of orders.
 
-use crate::fault::LineFault;
+use crate::fault::CallFault;
 use crate::texts::PairText;
-use crate::words::{letter, pair};
+use crate::words::letter;
 use endpoint::{Endpoint, Ingested};
 use keep::Keep;
-use line_script::{first_word, natural};
+use line_script::{first_word, natural, pair};
 use purchasing::{Order, Orders};
 use std::alloc::Global;
 use trade::OrderCommand;
@@ -16,16 +16,16 @@ pub fn ingest<K>(
     alloc: Global,
     out: &mut String,
     text: &str,
-) -> Result<(), LineFault>
+) -> Result<(), CallFault>
 where
     K: Keep<State = Option<Order>, Command = OrderCommand> + Drop,
 {
     let letter = letter(alloc, text)?;
     let ingested = endpoint.ingest(alloc, &letter)?;
     match ingested {
-        Ingested::Handled(pos) => write!(out, "handled {pos}").map_err(LineFault::from),
-        Ingested::Repeated => write!(out, "repeated").map_err(LineFault::from),
-        Ingested::Held => write!(out, "held").map_err(LineFault::from),
+        Ingested::Handled(pos) => write!(out, "handled {pos}").map_err(CallFault::from),
+        Ingested::Repeated => write!(out, "repeated").map_err(CallFault::from),
+        Ingested::Held => write!(out, "held").map_err(CallFault::from),
     }
 }
 
@@ -35,7 +35,7 @@ pub fn drain<K>(
     alloc: Global,
     out: &mut String,
     text: &str,
-) -> Result<(), LineFault>
+) -> Result<(), CallFault>
 where
     K: Keep<State = Option<Order>, Command = OrderCommand> + Drop,
 {
@@ -43,8 +43,8 @@ where
     let pair = pair(alloc, from, to)?;
     let drained = endpoint.drain_held(alloc, &pair)?;
     match drained {
-        Some(number) => write!(out, "drained {number}").map_err(LineFault::from),
-        None => write!(out, "none").map_err(LineFault::from),
+        Some(number) => write!(out, "drained {number}").map_err(CallFault::from),
+        None => write!(out, "none").map_err(CallFault::from),
     }
 }
 
@@ -54,7 +54,7 @@ pub fn settle<K>(
     alloc: Global,
     out: &mut String,
     text: &str,
-) -> Result<(), LineFault>
+) -> Result<(), CallFault>
 where
     K: Keep<State = Option<Order>, Command = OrderCommand> + Drop,
 {
@@ -63,7 +63,7 @@ where
     let number = natural(number)?;
     let pair = pair(alloc, from, to)?;
     let mark = endpoint.settle(alloc, &pair, number)?;
-    write!(out, "{mark}").map_err(LineFault::from)
+    write!(out, "{mark}").map_err(CallFault::from)
 }
 
 /// The first pair that can be drained.
@@ -71,10 +71,10 @@ pub fn drainable<K>(
     endpoint: &mut Endpoint<Orders, K>,
     alloc: Global,
     out: &mut String,
-) -> Result<(), LineFault>
+) -> Result<(), CallFault>
 where
     K: Keep<State = Option<Order>, Command = OrderCommand> + Drop,
 {
     let pair = endpoint.drainable(alloc)?;
-    write!(out, "{}", PairText(&pair)).map_err(LineFault::from)
+    write!(out, "{}", PairText(&pair)).map_err(CallFault::from)
 }

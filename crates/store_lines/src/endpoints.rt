@@ -1,14 +1,14 @@
 //! The calls of an endpoint of orders.
 
 use crate::arrivals::{drain, drainable, ingest, settle};
-use crate::fault::LineFault;
+use crate::fault::CallFault;
 use crate::tables::place;
 use crate::texts::{LettersText, RowsText, StateText};
-use crate::words::{command, pair, seat};
+use crate::words::command;
 use base::{Entity, Pair};
 use endpoint::{EndFault, Endpoint};
 use keep::{Keep, Place};
-use line_script::{first_word, natural, size};
+use line_script::{LineFault, first_word, natural, pair, seat, size};
 use purchasing::{Order, Orders};
 use std::alloc::Global;
 use trade::OrderCommand;
@@ -19,7 +19,7 @@ fn commit<K>(
     alloc: Global,
     out: &mut String,
     text: &str,
-) -> Result<(), LineFault>
+) -> Result<(), CallFault>
 where
     K: Keep<State = Option<Order>, Command = OrderCommand> + Drop,
 {
@@ -29,7 +29,7 @@ where
     let entity = Entity::read(alloc, order)?;
     let command = command(alloc, asked)?;
     let committed = endpoint.commit(alloc, seat, &entity, command)?;
-    write!(out, "committed {}", committed.pos).map_err(LineFault::from)
+    write!(out, "committed {}", committed.pos).map_err(CallFault::from)
 }
 
 /// The row of an entity.
@@ -38,13 +38,13 @@ fn view<K>(
     alloc: Global,
     out: &mut String,
     text: &str,
-) -> Result<(), LineFault>
+) -> Result<(), CallFault>
 where
     K: Keep<State = Option<Order>, Command = OrderCommand> + Drop,
 {
     let entity = Entity::read(alloc, text)?;
     let row = endpoint.view(alloc, &entity)?;
-    write!(out, "{}", StateText(&row)).map_err(LineFault::from)
+    write!(out, "{}", StateText(&row)).map_err(CallFault::from)
 }
 
 /// A mark of a pair.
@@ -71,14 +71,14 @@ fn push_mark<K>(
     out: &mut String,
     which: &str,
     text: &str,
-) -> Result<(), LineFault>
+) -> Result<(), CallFault>
 where
     K: Keep<State = Option<Order>, Command = OrderCommand> + Drop,
 {
     let (from, to) = first_word(text);
     let pair = pair(alloc, from, to)?;
     let mark = mark(endpoint, alloc, which, &pair)?;
-    write!(out, "{mark}").map_err(LineFault::from)
+    write!(out, "{mark}").map_err(CallFault::from)
 }
 
 /// The first letters of the outbox after a place.
@@ -88,12 +88,12 @@ fn outbox_after<K>(
     out: &mut String,
     limit: usize,
     after: &Option<Place>,
-) -> Result<(), LineFault>
+) -> Result<(), CallFault>
 where
     K: Keep<State = Option<Order>, Command = OrderCommand> + Drop,
 {
     let letters = endpoint.unsettled(alloc, after, limit)?;
-    write!(out, "{}", LettersText(&letters)).map_err(LineFault::from)
+    write!(out, "{}", LettersText(&letters)).map_err(CallFault::from)
 }
 
 /// The same by `LIMIT [FROM TO N]`.
@@ -102,7 +102,7 @@ fn outbox<K>(
     alloc: Global,
     out: &mut String,
     text: &str,
-) -> Result<(), LineFault>
+) -> Result<(), CallFault>
 where
     K: Keep<State = Option<Order>, Command = OrderCommand> + Drop,
 {
@@ -118,7 +118,7 @@ fn journal<K>(
     alloc: Global,
     out: &mut String,
     text: &str,
-) -> Result<(), LineFault>
+) -> Result<(), CallFault>
 where
     K: Keep<State = Option<Order>, Command = OrderCommand> + Drop,
 {
@@ -126,16 +126,16 @@ where
     let from = natural(from)?;
     let limit = size(limit)?;
     let rows = endpoint.journal(alloc, from, limit)?;
-    write!(out, "{}", RowsText(&rows)).map_err(LineFault::from)
+    write!(out, "{}", RowsText(&rows)).map_err(CallFault::from)
 }
 
 /// How many rows the journal has.
-fn length<K>(endpoint: &Endpoint<Orders, K>, out: &mut String) -> Result<(), LineFault>
+fn length<K>(endpoint: &Endpoint<Orders, K>, out: &mut String) -> Result<(), CallFault>
 where
     K: Keep<State = Option<Order>, Command = OrderCommand> + Drop,
 {
     let length = endpoint.length()?;
-    write!(out, "{length}").map_err(LineFault::from)
+    write!(out, "{length}").map_err(CallFault::from)
 }
 
 /// The answer to a call of an endpoint.
@@ -145,7 +145,7 @@ pub fn call_endpoint<K>(
     out: &mut String,
     word: &str,
     rest: &str,
-) -> Result<(), LineFault>
+) -> Result<(), CallFault>
 where
     K: Keep<State = Option<Order>, Command = OrderCommand> + Drop,
 {
@@ -160,7 +160,7 @@ where
         "drain" => drain(endpoint, alloc, out, rest),
         "settle" => settle(endpoint, alloc, out, rest),
         "drainable" => drainable(endpoint, alloc, out),
-        "usable" => write!(out, "{}", endpoint.usable()).map_err(LineFault::from),
-        _ => Err(LineFault::Unknown),
+        "usable" => write!(out, "{}", endpoint.usable()).map_err(CallFault::from),
+        _ => Err(LineFault::Unknown.into()),
     }
 }

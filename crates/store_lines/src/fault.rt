@@ -1,64 +1,44 @@
-//! Why a line wasn't done.
+//! Why a line has no answer.
 
 use base::EntityFault;
 use endpoint::EndFault;
 use keep::KeepFault;
-use line_script::{Fault, WordFault};
-use std::alloc::{AllocError, AllocFailed};
+use line_script::{Fault, LineFault};
+use std::alloc::AllocError;
 use thiserror::Error;
 
-/// Why a line wasn't done.
+/// Why a line has no answer.
 #[derive(Debug, Drop, Error)]
-pub enum LineFault {
-    /// No line is so, or a number of it isn't one.
-    #[error("no such line")]
-    Unknown,
+pub enum CallFault {
+    /// No line is so, or a word of it isn't one.
+    #[error(transparent)]
+    Line(#[from] LineFault),
     /// The store failed, and a line other than a reopening calls it.
     #[error("the store isn't usable")]
     NotUsable,
     /// A text names no entity and no key.
-    #[error("{0}")]
+    #[error(transparent)]
     Entity(#[from] EntityFault),
     /// The store's fault.
-    #[error("{0}")]
+    #[error(transparent)]
     Keep(#[from] KeepFault),
     /// The endpoint's fault.
-    #[error("{0}")]
+    #[error(transparent)]
     End(#[from] EndFault),
     /// A growth was refused.
     #[error("out of memory")]
-    Memory,
+    Memory(#[from(alloc)] AllocError),
 }
 
-impl Fault for LineFault {
+impl Fault for CallFault {
     fn is_memory(&self) -> bool {
         matches!(
             self,
-            LineFault::Memory
-                | LineFault::Entity(EntityFault::Memory)
-                | LineFault::Keep(KeepFault::Memory)
-                | LineFault::End(EndFault::Memory)
+            CallFault::Line(LineFault::Memory)
+                | CallFault::Memory(_)
+                | CallFault::Entity(EntityFault::Memory)
+                | CallFault::Keep(KeepFault::Memory)
+                | CallFault::End(EndFault::Memory)
         )
-    }
-}
-
-impl From<WordFault> for LineFault {
-    fn from(fault: WordFault) -> LineFault {
-        match fault {
-            WordFault::Unknown => LineFault::Unknown,
-            WordFault::Memory => LineFault::Memory,
-        }
-    }
-}
-
-impl From<AllocError> for LineFault {
-    fn from(_: AllocError) -> LineFault {
-        LineFault::Memory
-    }
-}
-
-impl<T: Drop> From<AllocFailed<T>> for LineFault {
-    fn from(_: AllocFailed<T>) -> LineFault {
-        LineFault::Memory
     }
 }

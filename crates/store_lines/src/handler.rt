@@ -1,10 +1,10 @@
 //! The handler of orders.
 
-use crate::fault::LineFault;
+use crate::fault::CallFault;
 use crate::texts::{OrderText, OutsText};
 use crate::words::{input, order};
 use activities::{Handler, HandlerFault, Outs};
-use line_script::first_word;
+use line_script::{LineFault, first_word};
 use purchasing::{Order, Orders};
 use std::alloc::Global;
 
@@ -14,13 +14,13 @@ fn push_told(
     answer: Result<(), HandlerFault>,
     order: &Option<Order>,
     outs: &Outs,
-) -> Result<(), LineFault> {
+) -> Result<(), CallFault> {
     match answer {
         Ok(()) => {}
-        Err(HandlerFault::Memory) => return Err(LineFault::Memory),
+        Err(HandlerFault::Memory) => return Err(LineFault::Memory.into()),
         Err(refused) => write!(out, "{refused}; ")?,
     }
-    write!(out, "{}{}", OrderText(order), OutsText(outs.as_slice())).map_err(LineFault::from)
+    write!(out, "{}{}", OrderText(order), OutsText(outs.as_slice())).map_err(CallFault::from)
 }
 
 /// An order takes an input in.
@@ -29,7 +29,7 @@ fn take(
     out: &mut String,
     order: &mut Option<Order>,
     text: &str,
-) -> Result<(), LineFault> {
+) -> Result<(), CallFault> {
     let input = input(alloc, text)?;
     let mut outs = Outs::new(alloc);
     let answer = Orders::apply(alloc, order, &input, &mut outs);
@@ -42,15 +42,15 @@ fn try_take(
     out: &mut String,
     order: &Option<Order>,
     text: &str,
-) -> Result<(), LineFault> {
+) -> Result<(), CallFault> {
     let mut copy = Orders::copy_state(alloc, order)?;
     take(alloc, out, &mut copy, text)
 }
 
 /// An order is another one from now on, which is told.
-fn set(out: &mut String, held: &mut Option<Order>, order: Option<Order>) -> Result<(), LineFault> {
+fn set(out: &mut String, held: &mut Option<Order>, order: Option<Order>) -> Result<(), CallFault> {
     *held = order;
-    write!(out, "{}", OrderText(held)).map_err(LineFault::from)
+    write!(out, "{}", OrderText(held)).map_err(CallFault::from)
 }
 
 /// The answer to a line that begins with `order`.
@@ -59,14 +59,14 @@ pub fn answer_order(
     out: &mut String,
     held: &mut Option<Order>,
     text: &str,
-) -> Result<(), LineFault> {
+) -> Result<(), CallFault> {
     let (word, rest) = first_word(text);
     match word {
         "opening" => set(out, held, Orders::opening(alloc)?),
         "is" => set(out, held, order(alloc, rest)?),
         "take" => take(alloc, out, held, rest),
         "try" => try_take(alloc, out, held, rest),
-        "is-none" => write!(out, "{}", Orders::is_none(held)).map_err(LineFault::from),
-        _ => Err(LineFault::Unknown),
+        "is-none" => write!(out, "{}", Orders::is_none(held)).map_err(CallFault::from),
+        _ => Err(LineFault::Unknown.into()),
     }
 }

@@ -2,26 +2,25 @@
 
 ghost use Rattle.std.specs.Prelude.{◌≡◌, true};
 
-use crate::fault::LineFault;
+use crate::fault::CallFault;
 use crate::tables::place;
 use crate::texts::{LettersText, MessageText, PairText, RowsText, StateText};
-use crate::words::{number, pair};
 use base::{Entity, Pair};
 use keep::{Keep, KeepFault, Place};
-use line_script::{first_word, natural, size};
+use line_script::{LineFault, first_word, natural, number, pair, size};
 use purchasing::Order;
 use std::alloc::Global;
 use trade::OrderCommand;
 
 /// The row of an entity.
-fn entity<K>(store: &mut K, alloc: Global, out: &mut String, text: &str) -> Result<(), LineFault>
+fn entity<K>(store: &mut K, alloc: Global, out: &mut String, text: &str) -> Result<(), CallFault>
 where
     K: Keep<State = Option<Order>, Command = OrderCommand>,
     requires { (K.seen store.old).usable ≡ true }
 {
     let entity = Entity::read(alloc, text)?;
     let row = store.entity(alloc, &entity)?;
-    write!(out, "{}", StateText(&row)).map_err(LineFault::from)
+    write!(out, "{}", StateText(&row)).map_err(CallFault::from)
 }
 
 /// A mark of a pair.
@@ -42,13 +41,13 @@ fn push_mark<K: Keep>(
     out: &mut String,
     which: &str,
     text: &str,
-) -> Result<(), LineFault>
+) -> Result<(), CallFault>
     requires { (K.seen store.old).usable ≡ true }
 {
     let (from, to) = first_word(text);
     let pair = pair(alloc, from, to)?;
     let mark = mark(store, alloc, which, &pair)?;
-    write!(out, "{mark}").map_err(LineFault::from)
+    write!(out, "{mark}").map_err(CallFault::from)
 }
 
 /// What is held of a pair and number: `FROM TO N`.
@@ -57,7 +56,7 @@ fn held<K: Keep>(
     alloc: Global,
     out: &mut String,
     text: &str,
-) -> Result<(), LineFault>
+) -> Result<(), CallFault>
     requires { (K.seen store.old).usable ≡ true }
 {
     let (from, rest) = first_word(text);
@@ -65,17 +64,17 @@ fn held<K: Keep>(
     let number = number(asked)?;
     let pair = pair(alloc, from, to)?;
     match store.held(alloc, &pair, number)? {
-        Some(message) => write!(out, "{}", MessageText(message)).map_err(LineFault::from),
-        None => out.push_str("none").map_err(LineFault::from),
+        Some(message) => write!(out, "{}", MessageText(message)).map_err(CallFault::from),
+        None => out.push_str("none").map_err(CallFault::from),
     }
 }
 
 /// Who can be drained first.
-fn drainable<K: Keep>(store: &mut K, alloc: Global, out: &mut String) -> Result<(), LineFault>
+fn drainable<K: Keep>(store: &mut K, alloc: Global, out: &mut String) -> Result<(), CallFault>
     requires { (K.seen store.old).usable ≡ true }
 {
     let pair = store.drainable(alloc)?;
-    write!(out, "{}", PairText(&pair)).map_err(LineFault::from)
+    write!(out, "{}", PairText(&pair)).map_err(CallFault::from)
 }
 
 /// The first letters of the outbox after a place.
@@ -85,11 +84,11 @@ fn outbox_after<K: Keep>(
     out: &mut String,
     limit: usize,
     after: &Option<Place>,
-) -> Result<(), LineFault>
+) -> Result<(), CallFault>
     requires { (K.seen store.old).usable ≡ true }
 {
     let letters = store.unsettled(alloc, after, limit)?;
-    write!(out, "{}", LettersText(&letters)).map_err(LineFault::from)
+    write!(out, "{}", LettersText(&letters)).map_err(CallFault::from)
 }
 
 /// The same by `LIMIT [FROM TO N]`.
@@ -98,7 +97,7 @@ fn outbox<K: Keep>(
     alloc: Global,
     out: &mut String,
     text: &str,
-) -> Result<(), LineFault>
+) -> Result<(), CallFault>
     requires { (K.seen store.old).usable ≡ true }
 {
     let (limit, after) = first_word(text);
@@ -108,7 +107,7 @@ fn outbox<K: Keep>(
 }
 
 /// The rows of the journal from a position on: `N LIMIT`.
-fn journal<K>(store: &mut K, alloc: Global, out: &mut String, text: &str) -> Result<(), LineFault>
+fn journal<K>(store: &mut K, alloc: Global, out: &mut String, text: &str) -> Result<(), CallFault>
 where
     K: Keep<State = Option<Order>, Command = OrderCommand>,
     requires { (K.seen store.old).usable ≡ true }
@@ -117,7 +116,7 @@ where
     let from = natural(from)?;
     let limit = size(limit)?;
     let rows = store.journal(alloc, from, limit)?;
-    write!(out, "{}", RowsText(&rows)).map_err(LineFault::from)
+    write!(out, "{}", RowsText(&rows)).map_err(CallFault::from)
 }
 
 /// The answer to a read of a store.
@@ -127,7 +126,7 @@ pub fn read_store<K>(
     out: &mut String,
     word: &str,
     rest: &str,
-) -> Result<(), LineFault>
+) -> Result<(), CallFault>
 where
     K: Keep<State = Option<Order>, Command = OrderCommand>,
     requires { (K.seen store.old).usable ≡ true }
@@ -139,7 +138,7 @@ where
         "drainable" => drainable(store, alloc, out),
         "outbox" => outbox(store, alloc, out, rest),
         "journal" => journal(store, alloc, out, rest),
-        "length" => write!(out, "{}", store.length()).map_err(LineFault::from),
-        _ => Err(LineFault::Unknown),
+        "length" => write!(out, "{}", store.length()).map_err(CallFault::from),
+        _ => Err(LineFault::Unknown.into()),
     }
 }

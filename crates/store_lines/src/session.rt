@@ -1,7 +1,7 @@
 //! What stands between two lines, and whom a line asks.
 
 use crate::endpoints::call_endpoint;
-use crate::fault::LineFault;
+use crate::fault::CallFault;
 use crate::fault_texts::answer_fault;
 use crate::handler::answer_order;
 use crate::store::{Empty, answer_store, empty_tables, read_disarmed};
@@ -10,7 +10,7 @@ use crate::words::leaves;
 use endpoint::Endpoint;
 use keep::{Faulty, Keep};
 use keep_plain::PlainKeep;
-use line_script::{Script, first_word, natural};
+use line_script::{LineFault, Script, first_word, natural, or_done};
 use purchasing::{Order, Orders};
 use std::alloc::Global;
 use std::io::Write;
@@ -51,7 +51,7 @@ where
     }
 
     /// Tells the endpoint's store when to fail: `N LEAVES`.
-    fn arm(&mut self, text: &str) -> Result<(), LineFault> {
+    fn arm(&mut self, text: &str) -> Result<(), CallFault> {
         let (calls, word) = first_word(text);
         self.endpoint.arm(natural(calls)?, leaves(word)?);
         Ok(())
@@ -63,14 +63,14 @@ where
         alloc: Global,
         out: &mut String,
         text: &str,
-    ) -> Result<(), LineFault> {
+    ) -> Result<(), CallFault> {
         let (word, rest) = first_word(text);
         match word {
             "new" => self.endpoint = Endpoint::new(empty_tables(alloc)),
             "over-store" => self.move_store(alloc),
             "arm" => return self.arm(rest),
             "disarm" => self.endpoint.disarm(),
-            "reopen" => return self.endpoint.reopen(alloc).map_err(LineFault::from),
+            "reopen" => return self.endpoint.reopen(alloc).map_err(CallFault::from),
             _ => return call_endpoint(&mut self.endpoint, alloc, out, word, rest),
         }
         Ok(())
@@ -82,14 +82,14 @@ where
         alloc: Global,
         out: &mut String,
         line: &str,
-    ) -> Result<(), LineFault> {
+    ) -> Result<(), CallFault> {
         let (whom, text) = first_word(line);
         match whom {
             "order" => answer_order(alloc, out, &mut self.order, text),
             "store" => answer_store(&mut self.store, &mut self.noted, alloc, out, text),
             "endpoint" => self.answer_endpoint(alloc, out, text),
             "fault" => answer_fault(out, text),
-            _ => Err(LineFault::Unknown),
+            _ => Err(LineFault::Unknown.into()),
         }
     }
 }
@@ -100,7 +100,7 @@ fn answer_plain(
     alloc: Global,
     out: &mut String,
     line: &str,
-) -> Result<(), LineFault> {
+) -> Result<(), CallFault> {
     match line.strip_prefix("store sent-disarmed ") {
         Some(text) => read_disarmed(&mut session.store, alloc, out, text),
         None => session.answer_line(alloc, out, line),
@@ -110,15 +110,12 @@ fn answer_plain(
 impl Script for Session<PlainKeep<Orders>> {
     type Answer = String;
 
-    type Fault = LineFault;
+    type Fault = CallFault;
 
-    fn answer(&mut self, alloc: Global, line: &str) -> Result<String, LineFault> {
+    fn answer(&mut self, alloc: Global, line: &str) -> Result<String, CallFault> {
         let mut out = String::new(alloc);
         answer_plain(self, alloc, &mut out, line)?;
-        if out.is_empty() {
-            out.push_str("done")?;
-        }
-        Ok(out)
+        Ok(or_done(alloc, out)?)
     }
 
     fn show<W: Write>(&self, answer: String, out: &mut W) -> io::Result<()> {

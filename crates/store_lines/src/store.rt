@@ -1,13 +1,13 @@
 //! A store of orders, which fails where it is told to.
 
 use crate::failing::{apply_armed, sent_disarmed};
-use crate::fault::LineFault;
+use crate::fault::CallFault;
 use crate::reads::read_store;
 use crate::tables::{OrderChange, add_change};
-use crate::words::{leaves, pair};
+use crate::words::leaves;
 use keep::{Faulty, Keep};
 use keep_plain::PlainKeep;
-use line_script::{first_word, natural};
+use line_script::{first_word, natural, pair};
 use purchasing::{Order, Orders};
 use std::alloc::Global;
 use std::mem;
@@ -37,29 +37,29 @@ fn read<K>(
     out: &mut String,
     word: &str,
     rest: &str,
-) -> Result<(), LineFault>
+) -> Result<(), CallFault>
 where
     K: Keep<State = Option<Order>, Command = OrderCommand>,
 {
     if !store.usable() {
-        return Err(LineFault::NotUsable);
+        return Err(CallFault::NotUsable);
     }
     read_store(store, alloc, out, word, rest)
 }
 
 /// Makes changes in one transaction.
-fn apply<K>(store: &mut K, alloc: Global, changes: Vec<OrderChange>) -> Result<(), LineFault>
+fn apply<K>(store: &mut K, alloc: Global, changes: Vec<OrderChange>) -> Result<(), CallFault>
 where
     K: Keep<State = Option<Order>, Command = OrderCommand>,
 {
     if !store.usable() {
-        return Err(LineFault::NotUsable);
+        return Err(CallFault::NotUsable);
     }
-    store.apply(alloc, changes).map_err(LineFault::from)
+    store.apply(alloc, changes).map_err(CallFault::from)
 }
 
 /// Makes a change alone.
-fn make<K>(store: &mut K, alloc: Global, text: &str) -> Result<(), LineFault>
+fn make<K>(store: &mut K, alloc: Global, text: &str) -> Result<(), CallFault>
 where
     K: Keep<State = Option<Order>, Command = OrderCommand>,
 {
@@ -74,15 +74,15 @@ fn apply_and_fail<K>(
     alloc: Global,
     changes: Vec<OrderChange>,
     word: &str,
-) -> Result<(), LineFault>
+) -> Result<(), CallFault>
 where
     K: Keep<State = Option<Order>, Command = OrderCommand> + Drop,
 {
     let leaves = leaves(word)?;
     if !store.usable() {
-        return Err(LineFault::NotUsable);
+        return Err(CallFault::NotUsable);
     }
-    apply_armed(store, alloc, changes, leaves).map_err(LineFault::from)
+    apply_armed(store, alloc, changes, leaves).map_err(CallFault::from)
 }
 
 /// Appends the last number sent, by a read that isn't armed: `FROM TO`.
@@ -91,18 +91,18 @@ pub fn read_disarmed(
     alloc: Global,
     out: &mut String,
     text: &str,
-) -> Result<(), LineFault> {
+) -> Result<(), CallFault> {
     let (from, to) = first_word(text);
     let pair = pair(alloc, from, to)?;
     if !store.usable() {
-        return Err(LineFault::NotUsable);
+        return Err(CallFault::NotUsable);
     }
     let sent = sent_disarmed(store, alloc, &pair)?;
-    write!(out, "{sent}").map_err(LineFault::from)
+    write!(out, "{sent}").map_err(CallFault::from)
 }
 
 /// Tells a store when to fail: `N LEAVES`.
-fn arm<K: Keep + Drop>(store: &mut Faulty<K>, text: &str) -> Result<(), LineFault> {
+fn arm<K: Keep + Drop>(store: &mut Faulty<K>, text: &str) -> Result<(), CallFault> {
     let (calls, word) = first_word(text);
     store.arm(natural(calls)?, leaves(word)?);
     Ok(())
@@ -115,7 +115,7 @@ fn answer_other<K>(
     out: &mut String,
     word: &str,
     rest: &str,
-) -> Result<(), LineFault>
+) -> Result<(), CallFault>
 where
     K: Keep<State = Option<Order>, Command = OrderCommand> + Drop,
 {
@@ -125,8 +125,8 @@ where
             store.disarm();
             Ok(())
         }
-        "reopen" => store.reopen(alloc).map_err(LineFault::from),
-        "usable" => write!(out, "{}", store.usable()).map_err(LineFault::from),
+        "reopen" => store.reopen(alloc).map_err(CallFault::from),
+        "usable" => write!(out, "{}", store.usable()).map_err(CallFault::from),
         _ => read(store, alloc, out, word, rest),
     }
 }
@@ -138,7 +138,7 @@ pub fn answer_store<K>(
     alloc: Global,
     out: &mut String,
     text: &str,
-) -> Result<(), LineFault>
+) -> Result<(), CallFault>
 where
     K: Keep<State = Option<Order>, Command = OrderCommand> + Empty + Drop,
 {

@@ -1,11 +1,11 @@
 //! Changes of the tables, and places in the outbox.
 
-use crate::fault::LineFault;
-use crate::words::{input, letter, number, order, pair};
+use crate::fault::CallFault;
+use crate::words::{input, letter, order};
 use activities::JournalRow;
 use base::Entity;
 use keep::{Change, Place};
-use line_script::first_word;
+use line_script::{LineFault, first_word, number, pair};
 use purchasing::Order;
 use std::alloc::Global;
 use trade::OrderCommand;
@@ -14,12 +14,12 @@ use trade::OrderCommand;
 pub type OrderChange = Change<Option<Order>, OrderCommand>;
 
 /// Appends a change.
-fn add(changes: &mut Vec<OrderChange>, change: OrderChange) -> Result<(), LineFault> {
-    changes.push(change).map_err(LineFault::from)
+fn add(changes: &mut Vec<OrderChange>, change: OrderChange) -> Result<(), CallFault> {
+    changes.push(change).map_err(CallFault::from)
 }
 
 /// One more row of the journal: `N ENTITY INPUT`.
-fn add_row(alloc: Global, changes: &mut Vec<OrderChange>, text: &str) -> Result<(), LineFault> {
+fn add_row(alloc: Global, changes: &mut Vec<OrderChange>, text: &str) -> Result<(), CallFault> {
     let (position, rest) = first_word(text);
     let (order, rest) = first_word(rest);
     let position = number(position)?;
@@ -32,7 +32,7 @@ fn add_row(alloc: Global, changes: &mut Vec<OrderChange>, text: &str) -> Result<
 }
 
 /// A row set: `ENTITY ORDER`.
-fn add_state(alloc: Global, changes: &mut Vec<OrderChange>, text: &str) -> Result<(), LineFault> {
+fn add_state(alloc: Global, changes: &mut Vec<OrderChange>, text: &str) -> Result<(), CallFault> {
     let (entity, rest) = first_word(text);
     let entity = Entity::read(alloc, entity)?;
     let order = order(alloc, rest)?;
@@ -44,19 +44,19 @@ fn add_no_state(
     alloc: Global,
     changes: &mut Vec<OrderChange>,
     text: &str,
-) -> Result<(), LineFault> {
+) -> Result<(), CallFault> {
     let entity = Entity::read(alloc, text)?;
     add(changes, Change::State(entity, None))
 }
 
 /// A letter sent.
-fn add_sent(alloc: Global, changes: &mut Vec<OrderChange>, text: &str) -> Result<(), LineFault> {
+fn add_sent(alloc: Global, changes: &mut Vec<OrderChange>, text: &str) -> Result<(), CallFault> {
     let letter = letter(alloc, text)?;
     add(changes, Change::Sent(letter))
 }
 
 /// A letter held.
-fn add_held(alloc: Global, changes: &mut Vec<OrderChange>, text: &str) -> Result<(), LineFault> {
+fn add_held(alloc: Global, changes: &mut Vec<OrderChange>, text: &str) -> Result<(), CallFault> {
     let letter = letter(alloc, text)?;
     add(changes, Change::Held(letter))
 }
@@ -67,7 +67,7 @@ fn add_mark(
     changes: &mut Vec<OrderChange>,
     word: &str,
     text: &str,
-) -> Result<(), LineFault> {
+) -> Result<(), CallFault> {
     let (from, rest) = first_word(text);
     let (to, asked) = first_word(rest);
     let number = number(asked)?;
@@ -87,7 +87,7 @@ pub fn add_change(
     alloc: Global,
     changes: &mut Vec<OrderChange>,
     text: &str,
-) -> Result<(), LineFault> {
+) -> Result<(), CallFault> {
     let (word, rest) = first_word(text);
     match word {
         "journal" => add_row(alloc, changes, rest),
@@ -96,12 +96,12 @@ pub fn add_change(
         "sent" => add_sent(alloc, changes, rest),
         "held" => add_held(alloc, changes, rest),
         "settled" | "handled" | "not-held" => add_mark(alloc, changes, word, rest),
-        _ => Err(LineFault::Unknown),
+        _ => Err(LineFault::Unknown.into()),
     }
 }
 
 /// The place of a letter: `FROM TO N`, or none.
-pub fn place(alloc: Global, text: &str) -> Result<Option<Place>, LineFault> {
+pub fn place(alloc: Global, text: &str) -> Result<Option<Place>, CallFault> {
     if text.is_empty() {
         return Ok(None);
     }

@@ -1,42 +1,14 @@
 //! What the words of a line name.
 
-ghost use Rattle.std.specs.Prelude.{◌<◌, IfOk};
-
-use crate::fault::LineFault;
+use crate::fault::CallFault;
 use activities::{Input, Phase};
-use base::limits::SEATS;
-use base::{Entity, Key, Number, Pair};
+use base::{Entity, Key};
 use envelope::{Letter, Message};
 use keep::Leaves;
-use line_script::{first_word, natural};
+use line_script::{LineFault, first_word, natural, number, pair, seat};
 use purchasing::{Order, Partner};
 use std::alloc::Global;
 use trade::{Item, Items, OrderCommand, Status};
-
-/// A number from 1 to 2^40.
-pub fn number(text: &str) -> Result<Number, LineFault> {
-    match Number::new(natural(text)?) {
-        Some(number) => Ok(number),
-        None => Err(LineFault::Unknown),
-    }
-}
-
-/// A seat, 0 to 15.
-pub fn seat(text: &str) -> Result<u8, LineFault>
-    ensures { IfOk result (λ seat. seat < SEATS) }
-{
-    match text.parse::<u8>() {
-        Ok(seat) if seat < SEATS => Ok(seat),
-        _ => Err(LineFault::Unknown),
-    }
-}
-
-/// A sender and a receiver.
-pub fn pair(alloc: Global, from: &str, to: &str) -> Result<Pair, LineFault> {
-    let from = Entity::read(alloc, from)?;
-    let to = Entity::read(alloc, to)?;
-    Ok(Pair { from, to })
-}
 
 /// A message: `Request N`, `Tentative`, `Refused`, `Confirm` or `Cancel`.
 pub fn message(text: &str) -> Result<Message, LineFault> {
@@ -53,7 +25,7 @@ pub fn message(text: &str) -> Result<Message, LineFault> {
 }
 
 /// A letter: `FROM TO N MESSAGE`.
-pub fn letter(alloc: Global, text: &str) -> Result<Letter, LineFault> {
+pub fn letter(alloc: Global, text: &str) -> Result<Letter, CallFault> {
     let (from, rest) = first_word(text);
     let (to, rest) = first_word(rest);
     let (asked, said) = first_word(rest);
@@ -68,7 +40,7 @@ pub fn letter(alloc: Global, text: &str) -> Result<Letter, LineFault> {
 }
 
 /// A command that places an order: `STOCK N` for each line, and then `ACCOUNT N`.
-fn placing(alloc: Global, text: &str) -> Result<OrderCommand, LineFault> {
+fn placing(alloc: Global, text: &str) -> Result<OrderCommand, CallFault> {
     let mut pairs = Vec::new(alloc);
     let mut key = None;
     for word in text.split(' ') {
@@ -86,29 +58,29 @@ fn placing(alloc: Global, text: &str) -> Result<OrderCommand, LineFault> {
             account: last.stock,
             amount: last.quantity,
         }),
-        _ => Err(LineFault::Unknown),
+        _ => Err(LineFault::Unknown.into()),
     }
 }
 
 /// A command of a seat: `place STOCK N .. ACCOUNT N`, by their keys, or `cancel`.
-pub fn command(alloc: Global, text: &str) -> Result<OrderCommand, LineFault> {
+pub fn command(alloc: Global, text: &str) -> Result<OrderCommand, CallFault> {
     let (word, rest) = first_word(text);
     match word {
         "place" => placing(alloc, rest),
         "cancel" => Ok(OrderCommand::CancelOrder),
-        _ => Err(LineFault::Unknown),
+        _ => Err(LineFault::Unknown.into()),
     }
 }
 
 /// The input of a seat: `N COMMAND`.
-fn from_seat(alloc: Global, text: &str) -> Result<Input<OrderCommand>, LineFault> {
+fn from_seat(alloc: Global, text: &str) -> Result<Input<OrderCommand>, CallFault> {
     let (by, asked) = first_word(text);
     let seat = seat(by)?;
     Ok(Input::FromSeat(seat, command(alloc, asked)?))
 }
 
 /// The input of a letter: `ENTITY N MESSAGE`.
-fn from_entity(alloc: Global, text: &str) -> Result<Input<OrderCommand>, LineFault> {
+fn from_entity(alloc: Global, text: &str) -> Result<Input<OrderCommand>, CallFault> {
     let (sender, rest) = first_word(text);
     let (asked, said) = first_word(rest);
     let number = number(asked)?;
@@ -117,12 +89,12 @@ fn from_entity(alloc: Global, text: &str) -> Result<Input<OrderCommand>, LineFau
 }
 
 /// An input: `seat N COMMAND`, or `from ENTITY N MESSAGE`.
-pub fn input(alloc: Global, text: &str) -> Result<Input<OrderCommand>, LineFault> {
+pub fn input(alloc: Global, text: &str) -> Result<Input<OrderCommand>, CallFault> {
     let (word, rest) = first_word(text);
     match word {
         "seat" => from_seat(alloc, rest),
         "from" => from_entity(alloc, rest),
-        _ => Err(LineFault::Unknown),
+        _ => Err(LineFault::Unknown.into()),
     }
 }
 
@@ -149,9 +121,9 @@ fn phase(text: &str) -> Result<Phase, LineFault> {
 }
 
 /// A partner of an order: `ENTITY N PHASE`.
-fn partner(alloc: Global, words: &[&str]) -> Result<Partner, LineFault> {
+fn partner(alloc: Global, words: &[&str]) -> Result<Partner, CallFault> {
     let [entity, asked, far] = words else {
-        return Err(LineFault::Unknown);
+        return Err(LineFault::Unknown.into());
     };
     let number = number(asked)?;
     let phase = phase(far)?;
@@ -159,7 +131,7 @@ fn partner(alloc: Global, words: &[&str]) -> Result<Partner, LineFault> {
 }
 
 /// Partners of an order: `ENTITY N PHASE` of each.
-fn partners(alloc: Global, text: &str) -> Result<Vec<Partner>, LineFault> {
+fn partners(alloc: Global, text: &str) -> Result<Vec<Partner>, CallFault> {
     let mut words = Vec::new(alloc);
     for word in text.split(' ') {
         words.push(word)?;
@@ -172,14 +144,14 @@ fn partners(alloc: Global, text: &str) -> Result<Vec<Partner>, LineFault> {
 }
 
 /// An order: `none`, or `STATUS ENTITY N PHASE ..`. Its partners are one to eight stocks, each once, and then an account.
-pub fn order(alloc: Global, text: &str) -> Result<Option<Order>, LineFault> {
+pub fn order(alloc: Global, text: &str) -> Result<Option<Order>, CallFault> {
     if text == "none" {
         return Ok(None);
     }
     let (far, named) = first_word(text);
     let status = status(far)?;
     match Order::from_parts(status, partners(alloc, named)?) {
-        None => Err(LineFault::Unknown),
+        None => Err(LineFault::Unknown.into()),
         order => Ok(order),
     }
 }

@@ -1,5 +1,5 @@
 use Rattle.programs.proofs.Endings.{memory_status}
-use Rattle.programs.proofs.command_line.run_schedule.Goals as goal
+use Rattle.programs.proofs.words.run_schedule.Goals as goal
 
 pub returns-then-eq-clause-taken : goal.returns-then-eq-clause-taken
 returns-then-eq-clause-taken g c = λ taken.

@@ -1,15 +1,16 @@
 //! The words of the command line.
 
-ghost use Rattle.std.specs.Prelude.{◌≡◌, true, false, map, IfErr, IfOk};
+ghost use Rattle.std.specs.Prelude.{◌≡◌, true, map, IfErr, IfOk};
 ghost use Rattle.clap.specs.Words.{FailsBy, app_of, fault_of, kind_of, takes};
-ghost use Rattle.outbox_broker.specs.Usage.{command_line, is_request, status_of};
+ghost use Rattle.outbox_broker.specs.Usage.{command_line};
 
 use clap::error::ErrorKind;
 use clap::{Arg, ArgAction, Command, Error, value_parser};
 use std::alloc::{AllocError, Global};
 use std::convert::AsStr;
-use std::io;
-use std::io::Write;
+
+/// How the program is called.
+pub const USAGE: &str = "outbox-broker --port <PORT>";
 
 /// What `--version` tells behind the program's name.
 const VERSION: &str = "0.1.0";
@@ -41,15 +42,6 @@ Exit status:
      the time; `fault 34 Memory`: out of memory at the start
   2  the words of the command line are at fault";
 
-/// What is told where a word of the command line isn't UTF-8.
-const NOT_UTF8: &[u8] = b"\
-error: invalid UTF-8 was detected in one or more arguments
-
-Usage: outbox-broker --port <PORT>
-
-For more information, try '--help'.
-";
-
 /// The command line, as `clap` has it.
 fn make_command<'a>(alloc: Global) -> Result<Command<'a>, AllocError>
     ensures { IfOk result (λ command. app_of command ≡ command_line) }
@@ -64,7 +56,7 @@ fn make_command<'a>(alloc: Global) -> Result<Command<'a>, AllocError>
     let command = Command::new(alloc, "outbox-broker")
         .version(VERSION)
         .about("A message broker of STOMP 1.2, over TCP.")
-        .override_usage("outbox-broker --port <PORT>")
+        .override_usage(USAGE)
         .after_help(PROFILE)
         .arg(port)?;
     Ok(command)
@@ -81,43 +73,4 @@ pub fn read_port<'a, S: AsStr>(alloc: Global, words: &'a [S]) -> Result<u16, Err
         Ok(matches) => Ok(matches.get_one::<u16>("port").unwrap_or(0)),
         Err(error) => Err(error),
     }
-}
-
-/// Whether it was asked for, and is no fault.
-fn is_request(kind: ErrorKind) -> bool
-    ensures { result ≡ is_request kind }
-{
-    matches!(kind, ErrorKind::DisplayHelp | ErrorKind::DisplayVersion)
-}
-
-/// Writes what `clap` says of the words: help and the version to `out`, a fault of usage to `err`. Answers the status.
-///
-/// # Errors
-/// Where the stream failed on which it is told; the other is as it was.
-pub fn tell_words<W: Write, E: Write>(out: &mut W, err: &mut E, error: &Error) -> io::Result<u8>
-    ensures status { IfOk result (λ status. status ≡ status_of (kind_of error.now)) }
-    ensures request { is_request (kind_of error.now) ≡ true → err.new ≡ err.old }
-    ensures fault { is_request (kind_of error.now) ≡ false → out.new ≡ out.old }
-{
-    if is_request(error.kind()) {
-        write!(out, "{error}")?;
-        out.flush()?;
-        Ok(0)
-    } else {
-        write!(err, "{error}")?;
-        err.flush()?;
-        Ok(2)
-    }
-}
-
-/// Tells on `err` that a word of the command line isn't UTF-8. The status is 2 then.
-///
-/// # Errors
-/// Where `err` failed.
-pub fn tell_bad_words<E: Write>(err: &mut E) -> io::Result<u8>
-    ensures { IfOk result (λ status. status ≡ 2) }
-{
-    err.write_all(NOT_UTF8)?;
-    err.flush()?;
-    Ok(2)
 }

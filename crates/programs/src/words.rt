@@ -3,18 +3,22 @@
 ghost use Rattle.std.specs.Prelude.{◌≡◌, true, map, IfOk, IfErr, OnErr, MatchResult};
 ghost use Rattle.std.specs.Io.KnownBytes.{Appends};
 ghost use Rattle.clap.specs.Words.{FailsBy, fault_of, kind_of, takes};
-ghost use Rattle.programs.specs.Usage.{command_line, is_request, IsStatusOf, IsUsage, IsCutUsage, IsAnswered};
-ghost use Rattle.programs.specs.Written.{AppendsPart};
+ghost use Rattle.command_line.specs.Usage.{bad_words_text};
+ghost use Rattle.programs.specs.Usage.{command_line, IsStatusOf, IsAnswered};
+ghost use Rattle.command_line.specs.Written.{AppendsPart};
 
 use crate::fault::RunFault;
 use crate::schedule::{run_input, tell_fault};
-use crate::writing::write_octets;
 use clap::error::ErrorKind;
 use clap::{Command, Error};
+use command_line::tell_words;
 use std::alloc::Global;
 use std::convert::AsStr;
 use std::io;
 use std::io::{Read, Write};
+
+/// How the program is called.
+const USAGE: &str = "outbox-schedule < SCHEDULE";
 
 /// What `--version` tells behind the program's name.
 const VERSION: &str = "0.1.0";
@@ -81,15 +85,6 @@ Exit status:
      `fault 2 Device`: a stream failed
   2  the words of the command line are at fault";
 
-/// What is told where a word of the command line isn't UTF-8.
-const NOT_UTF8: &[u8] = b"\
-error: invalid UTF-8 was detected in one or more arguments
-
-Usage: outbox-schedule < SCHEDULE
-
-For more information, try '--help'.
-";
-
 /// Reads the words of the command line, the program's name first; there are no options but `--help` and
 /// `--version`.
 fn read_words<S: AsStr>(alloc: Global, words: &[S]) -> Result<(), Error>
@@ -101,36 +96,11 @@ fn read_words<S: AsStr>(alloc: Global, words: &[S]) -> Result<(), Error>
         .about(
             "Runs a schedule of events over three services and a broker, and prints the outcome of each line.",
         )
-        .override_usage("outbox-schedule < SCHEDULE")
+        .override_usage(USAGE)
         .after_help(LINES);
     match command.try_get_matches_from(words) {
         Ok(_) => Ok(()),
         Err(error) => Err(error),
-    }
-}
-
-/// Whether it was asked for, and is no fault.
-fn is_request(kind: ErrorKind) -> bool
-    ensures { result ≡ is_request kind }
-{
-    matches!(kind, ErrorKind::DisplayHelp | ErrorKind::DisplayVersion)
-}
-
-/// Writes what `clap` says of the words: help and the version to `out`, a fault of usage to `err`. Answers the status.
-fn write_usage<W: Write, E: Write>(out: &mut W, err: &mut E, error: &Error) -> io::Result<u8>
-    ensures told { IfOk result (IsUsage (kind_of error.now) (record { out = W.contents out.old; err = E.contents err.old })
-        (record { out = W.contents out.new; err = E.contents err.new })) }
-    ensures untold { OnErr result (IsCutUsage (kind_of error.now) (record { out = W.contents out.old; err = E.contents err.old })
-        (record { out = W.contents out.new; err = E.contents err.new })) }
-{
-    if is_request(error.kind()) {
-        write!(out, "{error}")?;
-        out.flush()?;
-        Ok(0)
-    } else {
-        write!(err, "{error}")?;
-        err.flush()?;
-        Ok(2)
     }
 }
 
@@ -139,12 +109,10 @@ fn write_usage<W: Write, E: Write>(out: &mut W, err: &mut E, error: &Error) -> i
 /// # Errors
 /// Where `err` failed: it took a beginning of that.
 pub fn tell_bad_words<E: Write>(err: &mut E) -> io::Result<u8>
-    ensures told { IfOk result (λ status. (status ≡ 2) × Appends (E.contents err.old) (E.contents err.new) NOT_UTF8.now) }
-    ensures untold { OnErr result (AppendsPart (E.contents err.old) (E.contents err.new) NOT_UTF8.now) }
+    ensures told { IfOk result (λ status. (status ≡ 2) × Appends (E.contents err.old) (E.contents err.new) (bad_words_text USAGE.now)) }
+    ensures untold { OnErr result (AppendsPart (E.contents err.old) (E.contents err.new) (bad_words_text USAGE.now)) }
 {
-    write_octets(err, NOT_UTF8)?;
-    err.flush()?;
-    Ok(2)
+    command_line::tell_bad_words(err, USAGE)
 }
 
 /// The status that an answer comes to: 1 where a writer failed.
@@ -180,5 +148,5 @@ pub fn run_schedule<S: AsStr, R: Read, W: Write, E: Write>(
     if error.kind() == ErrorKind::OutOfMemory {
         return status_of(tell_fault(err, RunFault::Memory));
     }
-    status_of(write_usage(out, err, &error))
+    status_of(tell_words(out, err, &error))
 }

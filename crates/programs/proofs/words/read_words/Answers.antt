@@ -3,8 +3,9 @@ use Rattle.std.proofs.Common.{◌≡◌, true, [], sym, subst, ap, ◌∙◌, re
 use Rattle.std.specs.Prelude.{map}
 use Rattle.clap.specs.Words.{App, HasKind, fault_of, is_simple_and_free, takes}
 use Rattle.clap.specs.Simple.{app_of_fields}
-use Rattle.programs.specs.Usage.{command_line, with_version}
-use Rattle.programs.proofs.command_line.read_words.Goals as goal
+use Rattle.command_line.specs.Usage.{with_version}
+use Rattle.programs.specs.Usage.{command_line}
+use Rattle.programs.proofs.words.read_words.Goals as goal
 
 -- the command is one of those whose faults are known
 is_known : is_simple_and_free command_line ≡ true

@@ -4,8 +4,9 @@ use Rattle.std.specs.Prelude.{pos}
 use Rattle.clap.specs.Words.{Rule, rule_of, with_rule}
 use Rattle.clap.specs.Simple.{app_of_fields}
 use Rattle.clap.specs.declared.builder.value_parser.ValueParser.TheVariants as parser
-use Rattle.outbox_broker.specs.Usage.{port, with_version}
-use Rattle.outbox_broker.proofs.command_line.make_command.Goals as goal
+use Rattle.command_line.specs.Usage.{with_version}
+use Rattle.outbox_broker.specs.Usage.{port}
+use Rattle.outbox_broker.proofs.words.make_command.Goals as goal
 
 pub returns : goal.returns
 returns c =
