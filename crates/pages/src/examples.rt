@@ -29,6 +29,7 @@ use broker_queues::Queues;
 use broker_server::Stop;
 use broker_texts::each_message_was_sent;
 use broker_tx::{TransactionFault, Transactions};
+use channel::Channel;
 use endpoint::{EndFault, Endpoint};
 use envelope::{Envelope, EnvelopeFault, Letter, Message, to_send};
 use exchange::{Delivery, Event, Network, Outcome, exchange};
@@ -337,12 +338,25 @@ where
     exchange(alloc, left, right, &mut network, &deliveries)
 }
 
+pub fn a_frame_that_was_put_back_is_the_next(alloc: Global) -> Result<bool, FrameFault> {
+    let mut channel = Channel::new(alloc);
+    channel.feed(b"RECEIPT\nreceipt-id:1\n\n\0RECEIPT\nreceipt-id:2\n\n\0")?;
+    let Some(first) = channel.next()? else {
+        return Ok(false);
+    };
+    channel.put_back(first);
+    let Some(again) = channel.next()? else {
+        return Ok(false);
+    };
+    Ok(again.get("receipt-id") == Some("1"))
+}
+
 pub fn octets_wait_where_they_were_written(alloc: Global) -> Result<bool, OpenFault> {
     let mut mail = Mail::new(alloc);
     let mut connection = Connection::open(alloc, &mut mail)?;
     let gone = connection.carry_up(&mut mail, 8)?;
     let left = b"accept-version:1.2\nhost:outbox\n\n\0".as_slice();
-    Ok(gone == 8 && connection.client.out() == left)
+    Ok(gone == 8 && connection.channel.out() == left)
 }
 
 pub fn nothing_is_sent_where_no_connection_is_open(alloc: Global) -> Result<bool, AllocError> {

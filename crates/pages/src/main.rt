@@ -13,17 +13,17 @@ use envelope::{Letter, Message};
 use examples::{
     a_broker_answers_connect, a_client_asks_to_connect, a_command_is_taken_in,
     a_connected_client_subscribes, a_frame_before_connect_is_refused, a_frame_is_read_from_pieces,
-    a_free_room_is_promised, a_letter_comes_again, a_mark_is_one_change, a_mark_is_read,
-    a_message_is_accepted, a_receipt_is_closed_once, a_row_is_shown, a_schedule_is_read,
-    a_schedule_is_run, a_server_is_asked_to_end, a_service_that_acts_makes_nothing_up,
-    a_settle_is_sent, a_transaction_keeps_its_actions, an_entity_is_named_again,
-    an_idle_destination_is_closed, an_open_connection_stays_open, an_order_is_refused,
-    answers_reach_back_in_mode_client, first_state_of, lawful_journals_stay_lawful,
-    no_mark_is_taken_back, nothing_goes_out_before_the_broker_answers, nothing_is_held_at_first,
-    nothing_is_sent_where_no_connection_is_open, octets_wait_where_they_were_written,
-    printed_octets_are_read, services_without_orders_agree, so_much_is_on_hand,
-    so_much_is_the_limit, tables_hold_nothing_at_first, what_a_client_reads_was_sent,
-    what_comes_early_waits, what_is_read_of_a_good_frame_passes,
+    a_frame_that_was_put_back_is_the_next, a_free_room_is_promised, a_letter_comes_again,
+    a_mark_is_one_change, a_mark_is_read, a_message_is_accepted, a_receipt_is_closed_once,
+    a_row_is_shown, a_schedule_is_read, a_schedule_is_run, a_server_is_asked_to_end,
+    a_service_that_acts_makes_nothing_up, a_settle_is_sent, a_transaction_keeps_its_actions,
+    an_entity_is_named_again, an_idle_destination_is_closed, an_open_connection_stays_open,
+    an_order_is_refused, answers_reach_back_in_mode_client, first_state_of,
+    lawful_journals_stay_lawful, no_mark_is_taken_back, nothing_goes_out_before_the_broker_answers,
+    nothing_is_held_at_first, nothing_is_sent_where_no_connection_is_open,
+    octets_wait_where_they_were_written, printed_octets_are_read, services_without_orders_agree,
+    so_much_is_on_hand, so_much_is_the_limit, tables_hold_nothing_at_first,
+    what_a_client_reads_was_sent, what_comes_early_waits, what_is_read_of_a_good_frame_passes,
     what_wants_an_ack_stays_until_it_comes, what_was_put_is_taken,
 };
 use exchange::{Delivery, Event, Network, Outcome, exchange};
@@ -101,6 +101,7 @@ fn print_sessions(rt: &impl Print, alloc: Global) -> Result<()> {
     what_a_client_reads_was_sent();
     tell(rt, "receipts", a_receipt_is_closed_once(alloc))?;
     tell(rt, "stomp_client", a_client_asks_to_connect(alloc))?;
+    tell(rt, "channel", a_frame_that_was_put_back_is_the_next(alloc))?;
     tell(rt, "mail", octets_wait_where_they_were_written(alloc))?;
     what_is_read_of_a_good_frame_passes();
     Ok(())
