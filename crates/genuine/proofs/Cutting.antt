@@ -11,19 +11,19 @@ use Rattle.schedules.specs.declared.event.ConnectionNumber.TheVariants.{Zero, On
 use Rattle.sites.specs.Channels.{channel_of, with_channel, MailAfterCut, Same, CutsBoth, After, AfterFault, Meets, MeetsAlone}
 use Rattle.sites.specs.declared.fate.ChannelFate.{ChannelFate}
 use Rattle.sites.specs.declared.fate.ChannelFate.TheVariants.{Stays, IsCut, BothAreCut}
-use Rattle.sites.specs.declared.channel.Channel.{Channel}
+use Rattle.sites.specs.declared.site_channel.SiteChannel.{SiteChannel}
 use Rattle.sites.specs.declared.site.Site.{Site}
 use Rattle.genuine.specs.Sitting.{Sits, Passes}
 use Rattle.genuine.proofs.Sitting.{again, closed, cut_off, stayed}
 
 module _ {H K S C : Type 0} where
   -- what was put at a number is found there
-  pub found_with : (number : ConnectionNumber) (l : Option Channel) (s : Site H K S C) → channel_of number (with_channel number l s) ≡ l
+  pub found_with : (number : ConnectionNumber) (l : Option SiteChannel) (s : Site H K S C) → channel_of number (with_channel number l s) ≡ l
   found_with Zero l s = refl
   found_with One l s = refl
 
   -- the last of two changes counts
-  pub with_again : (number : ConnectionNumber) (l k : Option Channel) (s : Site H K S C)
+  pub with_again : (number : ConnectionNumber) (l k : Option SiteChannel) (s : Site H K S C)
       → with_channel number l (with_channel number k s) ≡ with_channel number l s
   with_again Zero l k s = refl
   with_again One l k s = refl
@@ -37,7 +37,7 @@ module _ {H K S C : Type 0} (ok : Envelope → Type 0) where
         (subst (λ o. Passes ok up down s from s o) (sym same.1) (stayed ok up down s from h office))
 
     -- a connection is cut, where it is open
-    leaves_of : (number : ConnectionNumber) (s : Site H K S C) (from to : Office) (o : Option Channel) → channel_of number s ≡ o
+    leaves_of : (number : ConnectionNumber) (s : Site H K S C) (from to : Office) (o : Option SiteChannel) → channel_of number s ≡ o
         → MailAfterCut o from to → Sits ok up down s from → GoodOffice ok up down from
         → Passes ok up down s from (with_channel number None s) to
     leaves_of number s from to None is leaves h office = subst (λ o. Passes ok up down s from (with_channel number None s) o) (sym leaves)
@@ -79,7 +79,7 @@ module _ {H K S C : Type 0} (ok : Envelope → Type 0) where
 
   -- ---- the fate of an open connection, which changed before
 
-  pub meets_pass : (up down : ℕ → List ℕ) (fate : ChannelFate) (number : ConnectionNumber) (l : Channel) (s : Site H K S C)
+  pub meets_pass : (up down : ℕ → List ℕ) (fate : ChannelFate) (number : ConnectionNumber) (l : SiteChannel) (s : Site H K S C)
       (from between : Office) (t : Site H K S C) (to : Office) → Meets fate number l s between t to
       → Passes ok up down s from (with_channel number (Some l) s) between
       → Passes ok up down s from t to

@@ -37,32 +37,32 @@ use Rattle.sites.specs.Outcomes.{decoder_fate, drain_fate, fall_fate, fill_fate,
 use Rattle.sites.specs.SiteEvents.{SiteEvent}
 use Rattle.sites.specs.SiteEvents as event
 use Rattle.sites.specs.declared.fate.ChannelFate.TheVariants.{Stays}
-use Rattle.sites.specs.declared.channel.Channel.{Channel}
+use Rattle.sites.specs.declared.site_channel.SiteChannel.{SiteChannel}
 use Rattle.sites.specs.declared.site.Site.{Site}
 
 module _ {H K S C : Type 0} (ok : Envelope → Type 0) where
-  module _ (up down : ℕ → List ℕ) (number : ConnectionNumber) (s : Site H K S C) (l : Channel) (is : channel_of number s ≡ Some l) where
+  module _ (up down : ℕ → List ℕ) (number : ConnectionNumber) (s : Site H K S C) (l : SiteChannel) (is : channel_of number s ≡ Some l) where
     -- ---- octets that wait to be carried up
 
     -- a client wrote good frames, or none; what waits is good
-    pub written : (o : Office) (k : Channel) → k.connection.session ≡ l.connection.session → k.connection.decoder ≡ l.connection.decoder
-        → GoodNext ok k.connection.waiting → WritesGood ok l.connection.client.client k.connection.client.client → Sits ok up down s o
+    pub written : (o : Office) (k : SiteChannel) → k.connection.session ≡ l.connection.session → k.connection.channel.decoder ≡ l.connection.channel.decoder
+        → GoodNext ok k.connection.channel.waiting → WritesGood ok l.connection.channel.client.client k.connection.channel.client.client → Sits ok up down s o
         → GoodOffice ok up down o → Passes ok up down s o (with_channel number (Some k) s) o
     written o k session decoder waits wrote h office =
         let here = linked ok up down number s l is o h in
-        let was : HasWritten l.connection.client.client.out = here.good.wrote in
-        let more = more_written l.connection.client.client.out wrote.frames (all_fit ok wrote.frames wrote.each) was in
+        let was : HasWritten l.connection.channel.client.client.out = here.good.wrote in
+        let more = more_written l.connection.channel.client.client.out wrote.frames (all_fit ok wrote.frames wrote.each) was in
         let good : GoodConnection ok k.connection = record { waits = waits; wrote = subst HasWritten (sym wrote.out) more } in
         moved ok up down number s l is k o o session good refl h
         (client_written_good ok up down l.connection k.connection wrote.frames o here.opened session decoder wrote.out wrote.each
         here.texts office)
 
     -- nothing of the connection is another but what was sent on it
-    same_connection : (o : Office) (k : Channel) → k.connection ≡ l.connection → Sits ok up down s o → GoodOffice ok up down o
+    same_connection : (o : Office) (k : SiteChannel) → k.connection ≡ l.connection → Sits ok up down s o → GoodOffice ok up down o
         → Passes ok up down s o (with_channel number (Some k) s) o
-    same_connection o k same h office = written o k (ap (λ (c : Connection). c.session) same) (ap (λ (c : Connection). c.decoder) same)
-        (subst (λ (c : Connection). GoodNext ok c.waiting) (sym same) (linked ok up down number s l is o h).good.waits)
-        (writes_none ok l.connection.client.client k.connection.client.client (ap (λ (c : Connection). c.client.client.out) same)) h office
+    same_connection o k same h office = written o k (ap (λ (c : Connection). c.session) same) (ap (λ (c : Connection). c.channel.decoder) same)
+        (subst (λ (c : Connection). GoodNext ok c.channel.waiting) (sym same) (linked ok up down number s l is o h).good.waits)
+        (writes_none ok l.connection.channel.client.client k.connection.channel.client.client (ap (λ (c : Connection). c.channel.client.client.out) same)) h office
 
     module _ (most : ℕ) (outcome : Outcome) (from : Office) (t : Site H K S C) (to : Office) (h : Sits ok up down s from)
         (office : GoodOffice ok up down from) where
@@ -113,11 +113,11 @@ module _ {H K S C : Type 0} (ok : Envelope → Type 0) where
           (cut_off ok up down number s l is later from to meets.0.0 (next_session l.connection later (Err fault) next) meets.0.1 h office)
 
   -- a frame was taken, and a reply to it is written
-  replied : (up down : ℕ → List ℕ) (number : ConnectionNumber) (s : Site H K S C) (l : Channel) → channel_of number s ≡ Some l
-      → (later : Connection) (from : Office) → Sits ok up down s from → GoodOffice ok up down from → (k : Channel) → GoodConnection ok later
+  replied : (up down : ℕ → List ℕ) (number : ConnectionNumber) (s : Site H K S C) (l : SiteChannel) → channel_of number s ≡ Some l
+      → (later : Connection) (from : Office) → Sits ok up down s from → GoodOffice ok up down from → (k : SiteChannel) → GoodConnection ok later
       → later.session ≡ l.connection.session → GoodWith ok later up down from → k.connection.session ≡ later.session
-      → k.connection.decoder ≡ later.decoder → GoodNext ok k.connection.waiting
-      → WritesGood ok later.client.client k.connection.client.client → Passes ok up down s from (with_channel number (Some k) s) from
+      → k.connection.channel.decoder ≡ later.channel.decoder → GoodNext ok k.connection.channel.waiting
+      → WritesGood ok later.channel.client.client k.connection.channel.client.client → Passes ok up down s from (with_channel number (Some k) s) from
   replied up down number s l is later from h office k good session texts same decoder waits wrote =
       let first = taken up down number s l is later from h office good session texts in
       let mid : Site H K S C = with_channel number (Some (over l later)) s in
@@ -128,10 +128,10 @@ module _ {H K S C : Type 0} (ok : Envelope → Type 0) where
 
   -- an event of a connection that isn't open does nothing
   if_open : (up down : ℕ → List ℕ) (outcome : Outcome) (s : Site H K S C) (from : Office) (t : Site H K S C) (to : Office)
-      (number : ConnectionNumber) (Does : Channel → Type 0) (o : Option Channel) → channel_of number s ≡ o
+      (number : ConnectionNumber) (Does : SiteChannel → Type 0) (o : Option SiteChannel) → channel_of number s ≡ o
       → IfOpen o outcome s from t to Does
       → Sits ok up down s from → GoodOffice ok up down from
-      → ((l : Channel) → channel_of number s ≡ Some l → Does l → Passes ok up down s from t to) → Passes ok up down s from t to
+      → ((l : SiteChannel) → channel_of number s ≡ Some l → Does l → Passes ok up down s from t to) → Passes ok up down s from t to
   if_open up down outcome s from t to number Does None is does h office each = same_passes ok up down s from t to does.1 h office
   if_open up down outcome s from t to number Does (Some l) is does h office each = each l is does
 
@@ -145,18 +145,18 @@ module _ {H K S C : Type 0} (ok : Envelope → Type 0) where
     new_channel number (Err fault) opens adds =
         same_passes ok up down s from t to (adds, unopened_same from to fault opens) h office
 
-    opens_pass : (number : ConnectionNumber) (o : Option Channel) → OpensChannel number o outcome s from t to
+    opens_pass : (number : ConnectionNumber) (o : Option SiteChannel) → OpensChannel number o outcome s from t to
         → Passes ok up down s from t to
     opens_pass number (Some l) opens = same_passes ok up down s from t to opens.1 h office
     opens_pass number None opens = new_channel number opens.0 opens.1 opens.3
 
-    cuts_channel : (number : ConnectionNumber) (l : Channel) → channel_of number s ≡ Some l → MailAfterCut (Some l) from to
+    cuts_channel : (number : ConnectionNumber) (l : SiteChannel) → channel_of number s ≡ Some l → MailAfterCut (Some l) from to
         → t ≡ with_channel number None s
         → Passes ok up down s from t to
     cuts_channel number l is leaves site = subst (λ x. Passes ok up down s from x to) (sym site)
         (cut_off ok up down number s l is l.connection from to leaves.0 refl leaves.1 h office)
 
-    resends_pass : (number : ConnectionNumber) (l : Channel) → channel_of number s ≡ Some l → (k : Channel) → k.connection ≡ l.connection
+    resends_pass : (number : ConnectionNumber) (l : SiteChannel) → channel_of number s ≡ Some l → (k : SiteChannel) → k.connection ≡ l.connection
         → Same (with_channel number (Some k) s) from t to → Passes ok up down s from t to
     resends_pass number l is k same meets = meets_pass ok up down Stays number k s from from t to meets
         (same_connection up down number s l is from k same h office)
@@ -175,7 +175,7 @@ module _ {H K S C : Type 0} (ok : Envelope → Type 0) where
     sits_then : Sits ok up down stored from
     sits_then = sits_any_store ok up down t.endpoint s from h
 
-    module _ (number : ConnectionNumber) (l : Channel) (is : channel_of number s ≡ Some l) where
+    module _ (number : ConnectionNumber) (l : SiteChannel) (is : channel_of number s ≡ Some l) where
       fills_pass : (limit : ℕ) → SendsRows seen service number limit l outcome s from t to → Passes ok up down s from t to
       fills_pass limit r =
           let here = linked ok up down number s l is from h in
@@ -183,8 +183,8 @@ module _ {H K S C : Type 0} (ok : Envelope → Type 0) where
           here.good.wrote in
           let p : Passes ok up down stored from (with_channel number (Some r.later) stored) from =
           written up down number stored l is from r.later
-          (ap (λ (c : Connection). c.session) r.rest) (ap (λ (c : Connection). c.decoder) r.rest)
-          (subst (λ (c : Connection). GoodNext ok c.waiting) (sym r.rest) here.good.waits) wrote sits_then office in
+          (ap (λ (c : Connection). c.session) r.rest) (ap (λ (c : Connection). c.channel.decoder) r.rest)
+          (subst (λ (c : Connection). GoodNext ok c.channel.waiting) (sym r.rest) here.good.waits) wrote sits_then office in
           passes_any_store ok up down t.endpoint s t from to
           (meets_pass ok up down (fill_fate r.result) number r.later stored from from t to r.meets p)
 
@@ -192,8 +192,8 @@ module _ {H K S C : Type 0} (ok : Envelope → Type 0) where
           → GoodWith ok later up down from → TakesFrame seen service number (over l later) f outcome s from t to
           → Passes ok up down s from t to
       frame_passes later f frame good session texts r =
-          let k : Channel = over (over l later) (record later { client = r.client; waiting = waiting_of r.result f }) in
-          let wrote = answers_good ok service.kind f later.client.client r.client.client r.result r.answers
+          let k : SiteChannel = over (over l later) (record later { channel = record later.channel { client = r.client; waiting = waiting_of r.result f } }) in
+          let wrote = answers_good ok service.kind f later.channel.client.client r.client.client r.result r.answers
           (settles_ok ok seen sound service s.endpoint t.endpoint clean match true_ok f r.result r.comes r.used) in
           let p : Passes ok up down stored from (with_channel number (Some k) stored) from =
           replied up down number stored l is later from sits_then office k good session texts refl refl
@@ -219,15 +219,15 @@ module _ {H K S C : Type 0} (ok : Envelope → Type 0) where
 
       drains_over : DrainsOver seen service number l outcome s from t to → Passes ok up down s from t to
       drains_over r =
-          let k : Channel = over l (record l.connection { client = r.client }) in
-          let wrote = drains_good ok seen sound service s.endpoint t.endpoint clean match true_ok r.result l.connection.client.client
+          let k : SiteChannel = over l (record l.connection { channel = record l.connection.channel { client = r.client } }) in
+          let wrote = drains_good ok seen sound service s.endpoint t.endpoint clean match true_ok r.result l.connection.channel.client.client
           r.client.client r.wrote r.comes r.used in
           let p : Passes ok up down stored from (with_channel number (Some k) stored) from =
           written up down number stored l is from k refl refl (linked ok up down number s l is from h).good.waits wrote sits_then office in
           passes_any_store ok up down t.endpoint s t from to
           (meets_pass ok up down (drain_fate r.result) number k stored from from t to r.meets p)
 
-    drains_pass : (number : ConnectionNumber) (o : Option Channel) → channel_of number s ≡ o
+    drains_pass : (number : ConnectionNumber) (o : Option SiteChannel) → channel_of number s ≡ o
         → DrainsOne seen service number o outcome s from t to
         → Passes ok up down s from t to
     drains_pass number None is r = passes_any_store ok up down t.endpoint s t from to

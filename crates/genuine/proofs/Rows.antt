@@ -40,7 +40,7 @@ use Rattle.sites.proofs.Cursors.{channel_has}
 use Rattle.sites.specs.Happenings.{SendsRows}
 use Rattle.sites.specs.Cursors.{AreRight, KnowsEach}
 use Rattle.sites.specs.Channels.{channel_of, sending}
-use Rattle.sites.specs.declared.channel.Channel.{Channel}
+use Rattle.sites.specs.declared.site_channel.SiteChannel.{SiteChannel}
 use Rattle.sites.specs.declared.site.Site.{Site}
 
 -- ---- what stands in an outbox
@@ -110,10 +110,10 @@ module _ (ok : Envelope → Type 0) where
       (s : Site H K S C) (from : Office) (t : Site H K S C) (to : Office) (clean : (seen t.endpoint.keep).doubt ≡ 0)
       (match : AllMatch service (seen s.endpoint.keep).may_leave) (right : AreRight seen service s)
       (true_ok : (e : Envelope) → IsTrue service (seen t.endpoint.keep).may_leave e → ok e) where
-    module _ (number : ConnectionNumber) (limit : ℕ) (l : Channel) (is : channel_of number s ≡ Some l) (outcome : Outcome)
+    module _ (number : ConnectionNumber) (limit : ℕ) (l : SiteChannel) (is : channel_of number s ≡ Some l) (outcome : Outcome)
         (sends : SendsRows seen service number limit l outcome s from t to) where
       -- a row that stands is true of each content
-      row_ok : l.connection.client.client.stage ≡ stage.Connected → (through seen s.endpoint).usable ≡ true → (row : Letter)
+      row_ok : l.connection.channel.client.client.stage ≡ stage.Connected → (through seen s.endpoint).usable ≡ true → (row : Letter)
           → (seen s.endpoint.keep).tables.unsettled row.pair row.number ≡ Some row.message → ok (envelope.Letter row)
       row_ok up usable row stands = true_ok (envelope.Letter row) (λ u may.
           let least = (sends.reads up).doubt in
@@ -125,14 +125,14 @@ module _ (ok : Envelope → Type 0) where
           (subst (λ (x : Tables S C). x.unsettled row.pair row.number ≡ Some row.message) (sym same) stands))
 
       -- whatever is sent of an outbox is good
-      pub rows_good : HasWritten l.connection.client.client.out
-          → WritesGood ok l.connection.client.client sends.later.connection.client.client
-      rows_good written = idle_good l.connection.client.client.stage (sending l) (sending sends.later) sends.result
+      pub rows_good : HasWritten l.connection.channel.client.client.out
+          → WritesGood ok l.connection.channel.client.client sends.later.connection.channel.client.client
+      rows_good written = idle_good l.connection.channel.client.client.stage (sending l) (sending sends.later) sends.result
           (t.endpoint ≡ s.endpoint) sends.idle
           (λ up. either (cases_Bool (through seen s.endpoint).usable)
           (λ usable. filled_good (((seen t.endpoint.keep).doubt ≡ 0) × KnowsAll service l.relay (seen s.endpoint.keep).may_leave)
           (seen s.endpoint.keep).tables.unsettled limit (sending l) (sending sends.later) sends.result (sends.fills up)
           (clean, (match, channel_has (KnowsEach service (seen s.endpoint.keep).may_leave) number s l is right))
           (row_ok up usable) written)
-          (λ down. writes_none ok l.connection.client.client sends.later.connection.client.client
+          (λ down. writes_none ok l.connection.channel.client.client sends.later.connection.channel.client.client
           (ap (λ (x : SendState). x.client.out) (sends.unused down))))

@@ -17,7 +17,7 @@ use Rattle.schedules.specs.declared.event.ConnectionNumber.TheVariants.{Zero, On
 use Rattle.genuine.specs.Sitting.{IsOf, HasSession, IsLinked, ChannelSits, Sits, Passes}
 use Rattle.sites.specs.Happenings.{with_store}
 use Rattle.sites.specs.Channels.{channel_of, with_channel}
-use Rattle.sites.specs.declared.channel.Channel.{Channel}
+use Rattle.sites.specs.declared.site_channel.SiteChannel.{SiteChannel}
 use Rattle.sites.specs.declared.site.Site.{Site}
 
 -- ---- the text at one number
@@ -32,7 +32,7 @@ at_other n m text on h = ap (λ b. if b then text else on m) (ne_eqb n m h)
 
 module _ (ok : Envelope → Type 0) (up down up' down' : ℕ → List ℕ) (from to : Office) (rise : from.broker.opened ≤ to.broker.opened) where
   -- a connection whose texts are the same
-  pub channel_stays : (l : Option Channel) → ((m : ℕ) → IsOf m l → (up' m ≡ up m) × (down' m ≡ down m)) → ChannelSits ok up down l from
+  pub channel_stays : (l : Option SiteChannel) → ((m : ℕ) → IsOf m l → (up' m ≡ up m) × (down' m ≡ down m)) → ChannelSits ok up down l from
       → ChannelSits ok up' down' l to
   channel_stays None same h = tt
   channel_stays (Some l) same h =
@@ -52,14 +52,14 @@ module _ (ok : Envelope → Type 0) (up down up' down' : ℕ → List ℕ) (from
 -- ---- one connection changes
 
 -- the connection of the other number
-abbrev pub other_channel : {H K S C : Type 0} → ConnectionNumber → Site H K S C → Option Channel
+abbrev pub other_channel : {H K S C : Type 0} → ConnectionNumber → Site H K S C → Option SiteChannel
 other_channel Zero s = s.one
 other_channel One s = s.zero
 
 module _ {H K S C : Type 0} (ok : Envelope → Type 0) (up down : ℕ → List ℕ) (s : Site H K S C) (from to : Office) (n : ℕ)
-    (going coming : List ℕ) (o : Option Channel) (only : (m : ℕ) → IsOf m o → m ≡ n)
+    (going coming : List ℕ) (o : Option SiteChannel) (only : (m : ℕ) → IsOf m o → m ≡ n)
     (new : ChannelSits ok (at n going up) (at n coming down) o to) (rise : from.broker.opened ≤ to.broker.opened) where
-  stays_beside : (l : Option Channel) → (IsOf n l → ⊥) → ChannelSits ok up down l from
+  stays_beside : (l : Option SiteChannel) → (IsOf n l → ⊥) → ChannelSits ok up down l from
       → ChannelSits ok (at n going up) (at n coming down) l to
   stays_beside l beside h = channel_stays ok up down (at n going up) (at n coming down) from to rise l
       (λ m is. let no : n ≡ m → ⊥ = λ e. beside (subst (λ i. IsOf i l) (sym e) is) in
@@ -100,7 +100,7 @@ module _ {H K S C : Type 0} (ok : Envelope → Type 0) (up down : ℕ → List �
     own = replaced_own number mine;
   }
 
-module _ {H K S C : Type 0} (ok : Envelope → Type 0) (up down : ℕ → List ℕ) (number : ConnectionNumber) (s : Site H K S C) (l : Channel)
+module _ {H K S C : Type 0} (ok : Envelope → Type 0) (up down : ℕ → List ℕ) (number : ConnectionNumber) (s : Site H K S C) (l : SiteChannel)
     (is : channel_of number s ≡ Some l) where
   -- an open connection's session is its own
   open_apart : (number : ConnectionNumber) → channel_of number s ≡ Some l → (from : Office) → Sits ok up down s from → (n : ℕ)
@@ -122,7 +122,7 @@ module _ {H K S C : Type 0} (ok : Envelope → Type 0) (up down : ℕ → List �
   linked from h = linked_at number is from h
 
   -- an open connection has other texts, and its session is the same
-  pub moved : (k : Channel) (from to : Office) → k.connection.session ≡ l.connection.session → GoodConnection ok k.connection
+  pub moved : (k : SiteChannel) (from to : Office) → k.connection.session ≡ l.connection.session → GoodConnection ok k.connection
       → to.broker.opened ≡ from.broker.opened → Sits ok up down s from → GoodWith ok k.connection up down to
       → Passes ok up down s from (with_channel number (Some k) s) to
   moved k from to same good rise h office =
@@ -145,7 +145,7 @@ module _ {H K S C : Type 0} (ok : Envelope → Type 0) (up down : ℕ → List �
       (open_apart number is from h c.session same) (inl (open_own number is c.session same)) h (cut_good ok up down c from to r cuts office)
 
 module _ {H K S C : Type 0} (ok : Envelope → Type 0) (up down : ℕ → List ℕ) (s : Site H K S C) (from to : Office) where
-  old_session : (l : Option Channel) (n : ℕ) → ChannelSits ok up down l from → from.broker.opened < n → IsOf n l → ⊥
+  old_session : (l : Option SiteChannel) (n : ℕ) → ChannelSits ok up down l from → from.broker.opened < n → IsOf n l → ⊥
   old_session None n h more is = is
   old_session (Some l) n h more is = let known = h.opened in omega (arith, known, more, is)
 

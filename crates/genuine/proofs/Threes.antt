@@ -32,14 +32,14 @@ use Rattle.sites.specs.Deeds.{CameOn, channels_of}
 use Rattle.sites.specs.Happenings.{Happens, with_store}
 use Rattle.sites.specs.Channels.{After, CutsBoth, channel_of}
 use Rattle.sites.specs.SiteEvents.{SiteEvent}
-use Rattle.sites.specs.declared.channel.Channel.{Channel}
+use Rattle.sites.specs.declared.site_channel.SiteChannel.{SiteChannel}
 use Rattle.sites.specs.declared.site.Site.{Site}
 
 -- ---- one service beside others
 
 module _ {H K S C H' K' S' C' : Type 0} (ok : Envelope → Type 0) (up down : ℕ → List ℕ) (s t : Site H K S C) (x : Site H' K' S' C')
     (from to : Office) (p : Passes ok up down s from t to) (sits : Sits ok up down x from) where
-  channel_known : (l : Option Channel) (n : ℕ) → ChannelSits ok up down l from → IsOf n l → n ≤ from.broker.opened
+  channel_known : (l : Option SiteChannel) (n : ℕ) → ChannelSits ok up down l from → IsOf n l → n ≤ from.broker.opened
   channel_known None n h is = absurd is
   channel_known (Some l) n h is = let known = h.opened in omega (arith, known, is)
 
@@ -61,7 +61,7 @@ apart_turned : {H K S C H' K' S' C' : Type 0} (s : Site H K S C) (x : Site H' K'
 apart_turned s x apart n a b = apart n b a
 
 -- a service of which both connections are closed
-closed_channel : (l : Option Channel) (n : ℕ) → l ≡ None → IsOf n l → ⊥
+closed_channel : (l : Option SiteChannel) (n : ℕ) → l ≡ None → IsOf n l → ⊥
 closed_channel l n none is = subst (IsOf n) none is
 
 module _ {H K S C : Type 0} (s : Site H K S C) (zero : s.zero ≡ None) (one : s.one ≡ None) where
@@ -76,7 +76,7 @@ module _ {H K S C : Type 0} (s : Site H K S C) (zero : s.zero ≡ None) (one : s
   }
 
 module _ (ok more : Envelope → Type 0) (grows : (e : Envelope) → ok e → more e) where
-  channel_more : (up down : ℕ → List ℕ) (l : Option Channel) (o : Office) → ChannelSits ok up down l o → ChannelSits more up down l o
+  channel_more : (up down : ℕ → List ℕ) (l : Option SiteChannel) (o : Office) → ChannelSits ok up down l o → ChannelSits more up down l o
   channel_more up down None o h = tt
   channel_more up down (Some l) o h = record {
     texts = h.texts;
@@ -95,7 +95,7 @@ module _ (ok more : Envelope → Type 0) (grows : (e : Envelope) → ok e → mo
 
 -- what comes on a connection of a service is good
 came_good : {H K S C : Type 0} (ok : Envelope → Type 0) (up down : ℕ → List ℕ) (a : Site H K S C) (o : Office) → Sits ok up down a o
-    → GoodOffice ok up down o → (number : ConnectionNumber) (f : Content) (l : Option Channel) → channel_of number a ≡ l → CameOn l f
+    → GoodOffice ok up down o → (number : ConnectionNumber) (f : Content) (l : Option SiteChannel) → channel_of number a ≡ l → CameOn l f
     → GoodFrame ok f
 came_good ok up down a o h office number f None is came = absurd came
 came_good ok up down a o h office number f (Some l) is came =

@@ -4,13 +4,13 @@ use Rattle.envelope.specs.declared.message.Envelope.{Envelope}
 use Rattle.mail.specs.Offices.{Office}
 use Rattle.mail.specs.declared.connection.Connection.{Connection}
 use Rattle.passage.specs.Passing.{AreOf, GoodConnection, GoodOffice}
-use Rattle.sites.specs.declared.channel.Channel.{Channel}
+use Rattle.sites.specs.declared.site_channel.SiteChannel.{SiteChannel}
 use Rattle.sites.specs.declared.site.Site.{Site}
 
 -- ---- sessions
 
 -- the session of an open connection
-abbrev pub IsOf : ℕ → Option Channel → Type 0
+abbrev pub IsOf : ℕ → Option SiteChannel → Type 0
 IsOf n None = ⊥
 IsOf n (Some l) = l.connection.session ≡ n
 
@@ -32,7 +32,7 @@ module _ (ok : Envelope → Type 0) (up down : ℕ → List ℕ) where
     pub opened : c.session ≤ o.broker.opened
 
   -- the same of a connection where it is open
-  abbrev pub ChannelSits : Option Channel → Office → Type 0
+  abbrev pub ChannelSits : Option SiteChannel → Office → Type 0
   ChannelSits None o = ⊤
   ChannelSits (Some l) o = IsLinked l.connection o
 

@@ -3,11 +3,11 @@ use Rattle.std.specs.Prelude.{◌≡◌, ℕ, ◌≤◌, min, true, false, List,
 use Rattle.base.specs.declared.limits.TheConstants.{MAX_BODY, MAX_QUEUED}
 use Rattle.stomp_frame.specs.declared.fault.FrameFault.{FrameFault}
 use Rattle.stomp_frame.specs.Frames.{Content, IsFrame}
-use Rattle.stomp_frame.specs.Decoding.{FeedsDecoder, Nexts}
 use Rattle.stomp_frame.specs.Calls.{nothing_held}
-use Rattle.stomp_client.specs.Clients.{Client, new_client, connecting, without_first as client_without_first}
+use Rattle.stomp_client.specs.Clients.{new_client, connecting}
 use Rattle.stomp_client.specs.Frames.{connect_frame}
 use Rattle.stomp_client.specs.declared.fault.ClientFault.TheVariants.{Memory as NoMemory}
+use Rattle.channel.specs.Calls.{ChannelFeeds, ChannelSends, GivesNext, outgoing}
 use Rattle.broker_core.specs.Calls.{OpenAnswer, OpensSession, dropped, out_in, without_first}
 use Rattle.broker_core.specs.Feeding.{DispatchAnswer, FeedAnswer, Feeds, FeedsPart}
 use Rattle.broker_core.specs.Serving.{changing, session_of}
@@ -25,9 +25,9 @@ pub record Opened (from : Office) (c : Connection) (to : Office) : Type 0 where
   pub session : OpensSession from.broker c.session to.broker
   pub earlier : to.earlier ≡ from.earlier
   pub is_frame : IsFrame MAX_BODY connect_frame
-  pub client : c.client.client ≡ connecting new_client
-  pub decoder : c.decoder ≡ nothing_held
-  pub waiting : c.waiting ≡ None
+  pub client : c.channel.client.client ≡ connecting new_client
+  pub decoder : c.channel.decoder ≡ nothing_held
+  pub waiting : c.channel.waiting ≡ None
 
 -- What `open` answers: a new connection; or why there is none, and nothing has changed.
 abbrev pub Opens : Office → Office → Result Connection OpenFault → Type 0
@@ -39,7 +39,7 @@ Opens from to (Err (OfBroker fault)) = OpenAnswer from.broker from.broker (Err f
 
 -- the octets that wait to be carried up
 abbrev pub rising : Connection → List ℕ
-rising c = c.client.client.out
+rising c = outgoing c.channel
 
 -- how many of those that wait are carried, where at most so many may be
 abbrev pub carried : ℕ → List ℕ → ℕ
@@ -52,10 +52,7 @@ piece_of most waiting = take (carried most waiting) waiting
 -- so many octets left the client, and nothing else of the connection changed
 pub record SendsOctets (count : ℕ) (old new : Connection) : Type 0 where
   pub session : new.session ≡ old.session
-  pub client : new.client.client ≡ client_without_first count old.client.client
-  pub room : old.client.room ≤ new.client.room
-  pub decoder : new.decoder ≡ old.decoder
-  pub waiting : new.waiting ≡ old.waiting
+  pub channel : ChannelSends count old.channel new.channel
 
 -- the octets went up whole, so many, and this many frames were handled
 pub record CarriedUp (most : ℕ) (old : Connection) (from : Office) (new : Connection) (to : Office) (count : ℕ) : Type 0 where
@@ -87,26 +84,21 @@ falling c o = out_in (session_of c.session o.broker)
 -- the octets went down, so many
 pub record CarriedDown (most : ℕ) (old : Connection) (from : Office) (new : Connection) (to : Office) (count : ℕ) : Type 0 where
   pub counted : count ≡ carried most (falling old from)
-  pub feeds : FeedsDecoder old.decoder new.decoder (piece_of most (falling old from)) (Ok tt)
-  pub same : new ≡ record old { decoder = new.decoder }
+  pub feeds : ChannelFeeds old.channel new.channel (piece_of most (falling old from)) (Ok tt)
+  pub same : new ≡ record old { channel = new.channel }
   pub left : to ≡ record from { broker = changing old.session (without_first count) from.broker }
 
 -- What `carry_down` answers: how many octets went over; or the decoder's refusal, and nothing has changed.
 abbrev pub CarriesDown : ℕ → Connection → Office → Connection → Office → Result ℕ FrameFault → Type 0
 CarriesDown most old from new to (Ok count) = CarriedDown most old from new to count
 CarriesDown most old from new to (Err fault) =
-    FeedsDecoder old.decoder old.decoder (piece_of most (falling old from)) (Err fault) × (to ≡ from) × (new ≡ old)
+    ChannelFeeds old.channel old.channel (piece_of most (falling old from)) (Err fault) × (to ≡ from) × (new ≡ old)
 
--- ---- next
+-- ---- the next frame
 
--- the frame that waits is given; where none does, the decoder's answer is
-abbrev pub TakesNextOf : Option Content → Connection → Connection → Result (Option Content) FrameFault → Type 0
-TakesNextOf (Some f) old new r = (r ≡ Ok (Some f)) × (new ≡ record old { waiting = None })
-TakesNextOf None old new r = Nexts MAX_BODY old.decoder new.decoder r × (new ≡ record old { decoder = new.decoder })
-
--- What `next` answers: the frame that waits, else what the decoder answers.
+-- What `next` of a connection's channel answers, and nothing else of the connection changes.
 abbrev pub TakesNext : Connection → Connection → Result (Option Content) FrameFault → Type 0
-TakesNext old new r = TakesNextOf old.waiting old new r
+TakesNext old new r = GivesNext old.channel new.channel r × (new ≡ record old { channel = new.channel })
 
 -- ---- cut
 

@@ -1,29 +1,23 @@
 //! A client's connection with the broker.
 
-ghost use Rattle.std.specs.Prelude.{◌≡◌, ◌≢◌, None, Some, length, min, true, false, IfOk, IfErr};
+ghost use Rattle.std.specs.Prelude.{◌≡◌, ◌≢◌, length, min, true, false, IfOk, IfErr};
 ghost use Rattle.broker_core.specs.declared.fault.BrokerFault.TheVariants.{NoSession};
-ghost use Rattle.mail.specs.Connecting.{Opens, CarriesUp, CarriesDown, TakesNext, Cuts};
+ghost use Rattle.mail.specs.Connecting.{Opens, CarriesUp, CarriesDown, Cuts};
 ghost use Rattle.mail.specs.Sessions.{KeepsOthers, KeepsSessions, has_session};
 
 use crate::{Mail, OpenFault};
-use base::limits::MAX_BODY;
 use broker_core::{BrokerFault, SessionId};
+use channel::Channel;
 use std::alloc::{AllocError, Global};
-use stomp_client::ClientSession;
-use stomp_frame::{Decoder, Frame, FrameFault};
+use stomp_frame::FrameFault;
 
-/// A client's connection with the broker: its session there, the client, and the decoder of what came down, with the frame that was taken
-/// from it and waits.
+/// A client's connection with the broker: its session there, and the client's side.
 #[derive(Drop)]
 pub struct Connection {
     /// The broker's session.
     pub session: SessionId,
-    /// The client.
-    pub client: ClientSession<u64>,
-    /// The octets that came down and belong to no frame that was given.
-    pub decoder: Decoder<MAX_BODY>,
-    /// The frame that was given and waits.
-    pub waiting: Option<Frame<MAX_BODY>>,
+    /// The client's side.
+    pub channel: Channel,
 }
 
 /// How many of the octets that wait are carried, where at most so many may be.
@@ -48,17 +42,12 @@ impl Connection {
         ensures opens { Opens mail.old mail.new result }
         ensures sessions { IfOk result (λ c. KeepsOthers c.session mail.old.broker mail.new.broker) }
     {
-        let mut client = ClientSession::new(alloc);
-        if let Err(fault) = client.connect() {
+        let mut channel = Channel::new(alloc);
+        if let Err(fault) = channel.client.connect() {
             return Err(OpenFault::Client(fault));
         }
         match mail.open_session() {
-            Ok(session) => Ok(Connection {
-                session,
-                client,
-                decoder: Decoder::new(alloc),
-                waiting: None,
-            }),
+            Ok(session) => Ok(Connection { session, channel }),
             Err(fault) => Err(OpenFault::Broker(fault)),
         }
     }
@@ -74,15 +63,15 @@ impl Connection {
         ensures sessions { KeepsSessions mail.old.broker mail.new.broker }
         ensures there { has_session self.old.session mail.old.broker ≡ true → IfErr result (λ fault. fault ≢ NoSession) }
     {
-        let count = count_of(most, self.client.out());
-        let (piece, _) = self.client.out().split_at(count);
+        let count = count_of(most, self.channel.out());
+        let (piece, _) = self.channel.out().split_at(count);
         match mail.feed(self.session, piece) {
             Ok(_) => {
-                self.client.taken(count);
+                self.channel.taken(count);
                 Ok(count as u64)
             }
             Err(BrokerFault::Memory { took: true }) => {
-                self.client.taken(count);
+                self.channel.taken(count);
                 Err(BrokerFault::Memory { took: true })
             }
             Err(fault) => Err(fault),
@@ -101,34 +90,13 @@ impl Connection {
     {
         let count = count_of(most, mail.out(self.session));
         let (piece, _) = mail.out(self.session).split_at(count);
-        match self.decoder.feed(piece) {
+        match self.channel.feed(piece) {
             Ok(()) => {
                 mail.taken(self.session, count);
                 Ok(count as u64)
             }
             Err(fault) => Err(fault),
         }
-    }
-
-    /// The frame that waits, else the next one that came down; none where no whole frame came.
-    ///
-    /// # Errors
-    /// Those of the decoder; no frame waits then.
-    pub fn next(&mut self) -> Result<Option<Frame<MAX_BODY>>, FrameFault>
-        ensures { TakesNext self.old self.new result }
-    {
-        match self.waiting.take() {
-            Some(frame) => Ok(Some(frame)),
-            None => self.decoder.next(),
-        }
-    }
-
-    /// Puts a frame back: it is the next one again.
-    pub fn put_back(&mut self, frame: Frame<MAX_BODY>)
-        requires { self.old.waiting ≡ None }
-        ensures { self.new ≡ record self.old { waiting = Some frame } }
-    {
-        self.waiting = Some(frame);
     }
 
     /// Cuts the connection: all octets on the way are lost, the broker drops the session, and deals what was out to it to others.

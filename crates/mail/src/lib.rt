@@ -13,7 +13,7 @@
 //!     let mut connection = Connection::open(alloc, &mut mail)?;
 //!     let gone = connection.carry_up(&mut mail, 8)?;
 //!     let left = b"accept-version:1.2\nhost:outbox\n\n\0".as_slice();
-//!     Ok(gone == 8 && connection.client.out() == left)
+//!     Ok(gone == 8 && connection.channel.out() == left)
 //! }
 //! ```
 //!

@@ -12,6 +12,7 @@ use broker_laws::{each_message_was_sent, no_message_is_lost};
 use broker_queues::Queues;
 use broker_server::Stop;
 use broker_tx::{TransactionFault, Transactions};
+use channel::Channel;
 use command_line::tell_bad_words;
 use line_script::{LineFault, read_octets};
 use receipts::{ReceiptFault, Receipts};
@@ -145,4 +146,17 @@ pub fn a_client_asks_to_connect(alloc: Global) -> Result<bool, ClientFault> {
 pub fn words_that_are_no_text_are_told(alloc: Global) -> io::Result<u8> {
     let mut err = Vec::new(alloc);
     tell_bad_words(&mut err, "hi NAME")
+}
+
+pub fn a_frame_that_was_put_back_is_the_next(alloc: Global) -> Result<bool, FrameFault> {
+    let mut channel = Channel::new(alloc);
+    channel.feed(b"RECEIPT\nreceipt-id:1\n\n\0RECEIPT\nreceipt-id:2\n\n\0")?;
+    let Some(first) = channel.next()? else {
+        return Ok(false);
+    };
+    channel.put_back(first);
+    let Some(again) = channel.next()? else {
+        return Ok(false);
+    };
+    Ok(again.get("receipt-id") == Some("1"))
 }

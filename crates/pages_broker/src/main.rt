@@ -6,11 +6,11 @@ mod examples;
 use anyhow::Result;
 use examples::{
     a_broker_answers_connect, a_client_asks_to_connect, a_frame_before_connect_is_refused,
-    a_frame_is_read_from_pieces, a_line_is_read_again, a_message_is_accepted,
-    a_receipt_is_closed_once, a_server_is_asked_to_end, a_transaction_keeps_its_actions,
-    an_entity_is_named_again, an_idle_destination_is_closed, answers_reach_back_in_mode_client,
-    printed_octets_are_read, what_a_client_reads_was_sent, what_wants_an_ack_stays_until_it_comes,
-    what_was_put_is_taken, words_that_are_no_text_are_told,
+    a_frame_is_read_from_pieces, a_frame_that_was_put_back_is_the_next, a_line_is_read_again,
+    a_message_is_accepted, a_receipt_is_closed_once, a_server_is_asked_to_end,
+    a_transaction_keeps_its_actions, an_entity_is_named_again, an_idle_destination_is_closed,
+    answers_reach_back_in_mode_client, printed_octets_are_read, what_a_client_reads_was_sent,
+    what_wants_an_ack_stays_until_it_comes, what_was_put_is_taken, words_that_are_no_text_are_told,
 };
 use std::alloc::Global;
 use std::error::Error;
@@ -62,7 +62,8 @@ fn print_client(rt: &impl Print, alloc: Global) -> Result<()> {
     what_wants_an_ack_stays_until_it_comes();
     what_a_client_reads_was_sent();
     tell(rt, "receipts", a_receipt_is_closed_once(alloc))?;
-    tell(rt, "stomp_client", a_client_asks_to_connect(alloc))
+    tell(rt, "stomp_client", a_client_asks_to_connect(alloc))?;
+    tell(rt, "channel", a_frame_that_was_put_back_is_the_next(alloc))
 }
 
 fn main(rt: HostRuntime) -> Result<()> {

@@ -35,7 +35,7 @@ pub fn octets_wait_where_they_were_written(alloc: Global) -> Result<bool, OpenFa
     let mut connection = Connection::open(alloc, &mut mail)?;
     let gone = connection.carry_up(&mut mail, 8)?;
     let left = b"accept-version:1.2\nhost:outbox\n\n\0".as_slice();
-    Ok(gone == 8 && connection.client.out() == left)
+    Ok(gone == 8 && connection.channel.out() == left)
 }
 
 pub fn what_is_read_of_a_good_frame_passes()

@@ -105,4 +105,4 @@ module _ (ok more : Envelope → Type 0) (k : (e : Envelope) → ok e → more e
   next_more (Some f) h = frame_more f h
 
   pub connection_more : (c : Connection) → GoodConnection ok c → GoodConnection more c
-  connection_more c h = record { waits = next_more c.waiting h.waits; wrote = h.wrote }
+  connection_more c h = record { waits = next_more c.channel.waiting h.waits; wrote = h.wrote }

@@ -16,7 +16,9 @@ use Rattle.broker_core.specs.Serving.{Server, session_of}
 use Rattle.broker_core.specs.declared.fault.BrokerFault.{BrokerFault}
 use Rattle.broker_core.specs.declared.fault.BrokerFault.TheVariants.{Memory, NoSession, TooMany}
 use Rattle.envelope.specs.declared.message.Envelope.{Envelope}
-use Rattle.mail.specs.Connecting.{CarriesDown, CarriesUp, Cuts, Opens, TakesNext, TakesNextOf, carried, falling, piece_of, without_session}
+use Rattle.mail.specs.Connecting.{CarriesDown, CarriesUp, Cuts, Opens, TakesNext, carried, falling, piece_of, without_session}
+use Rattle.channel.specs.Calls.{GivesNextOf}
+use Rattle.channel.specs.declared.channel.Channel.{Channel}
 use Rattle.mail.specs.Connecting.{SendsOctets}
 use Rattle.mail.specs.Offices.{Office, new_office, restarted}
 use Rattle.mail.specs.declared.connection.Connection.{Connection}
@@ -47,6 +49,11 @@ given_empty f old new (was, sound, front, s, e) none = rest_empty front new.octe
 
 awaited_empty : (old new : Held) → Nexts MAX_BODY old new (Ok None) → old.octets ≡ [] → new.octets ≡ []
 awaited_empty old new (was, sound, unseen, fine, few, gap, is, e) none = rest_empty gap new.octets (sym e ∙ none)
+
+-- octets that came down changed the decoder alone
+fed_same : (most : ℕ) (old : Connection) (from : Office) (new : Connection) (to : Office) (count : ℕ)
+    → CarriesDown most old from new to (Ok count) → new ≡ record old { channel = record old.channel { decoder = new.channel.decoder } }
+fed_same most old from new to count h = h.same ∙ ap (λ (k : Channel). record old { channel = k }) h.feeds.1
 
 module _ (ok : Envelope → Type 0) where
   -- ---- the first one, and one that is started again
@@ -137,7 +144,7 @@ module _ (ok : Envelope → Type 0) (up down : ℕ → List ℕ) where
   sent_good old from new to count piece split sends are last g earlier server =
       let rest = drop count (going old) in
       office_with ok up down old.session rest (coming old) new to sends.session
-      (ap (λ (k : Client ℕ). k.out) sends.client) (ap (λ (k : Held). k.octets) sends.decoder) (record {
+      (ap (λ (k : Client ℕ). k.out) sends.channel.client) (ap (λ (k : Held). k.octets) sends.channel.decoder) (record {
         server = retold ok (at old.session rest up) (at old.session rest up) down (at old.session (coming old) down) to.broker
             (λ m held k. k)
             (at_each (λ m text. (out : List ℕ) → Spelled ok (down m ++ out) → Spelled ok (text ++ out)) old.session (coming old) down
@@ -193,17 +200,17 @@ module _ (ok : Envelope → Type 0) (up down : ℕ → List ℕ) where
       → GoodWith ok new up down to
   carried_down_good most old from new to (Ok count) h there are g =
       let low = down old.session ++ take count (falling old from) in
-      let octets : coming new ≡ low = h.feeds.2 ∙ ap (λ k. coming old ++ take k (falling old from)) (sym h.counted)
+      let octets : coming new ≡ low = h.feeds.0.2 ∙ ap (λ k. coming old ++ take k (falling old from)) (sym h.counted)
       ∙ ap (λ l. l ++ take count (falling old from)) (sym are.1) in
       office_with ok up down old.session (going old) low new to (ap (λ (c : Connection). c.session) h.same)
-      (ap (λ (c : Connection). going c) h.same) octets (falls_good most old from new to count there h are g)
+      (ap (λ (c : Connection). going c) (fed_same most old from new to count h)) octets (falls_good most old from new to count there h are g)
   carried_down_good most old from new to (Err fault) h there are g = stays_good old from new to h.1 h.2 are g
 
   -- ---- next
 
   module _ (old new : Connection) (o : Office) (are : AreOf old up down) (c : GoodConnection ok old) (g : GoodOffice ok up down o) where
     -- the frame that waited is given
-    waited_good : (f : Content) → old.waiting ≡ Some f → new ≡ record old { waiting = None }
+    waited_good : (f : Content) → old.channel.waiting ≡ Some f → new ≡ record old { channel = record old.channel { waiting = None } }
         → GoodFrame ok f × (GoodConnection ok new × GoodWith ok new up down o)
     waited_good f e k = (
       subst (GoodNext ok) e c.waits,
@@ -215,10 +222,10 @@ module _ (ok : Envelope → Type 0) (up down : ℕ → List ℕ) where
     )
 
     -- the decoder was asked
-    decoded : old.waiting ≡ None → new ≡ record old { decoder = new.decoder } → GoodConnection ok new
+    decoded : old.channel.waiting ≡ None → new ≡ record old { channel = record old.channel { decoder = new.channel.decoder } } → GoodConnection ok new
     decoded e k = subst (GoodConnection ok) (sym k) (record { waits = c.waits; wrote = c.wrote })
 
-    rest_office : (r : Result (Option Content) FrameFault) → new ≡ record old { decoder = new.decoder }
+    rest_office : (r : Result (Option Content) FrameFault) → new ≡ record old { channel = record old.channel { decoder = new.channel.decoder } }
         → (down old.session ≡ [] → coming new ≡ [])
         → GoodServer ok (at old.session (up old.session) up) (at old.session (coming new) down) o.broker
         → GoodWith ok new up down o
@@ -231,34 +238,35 @@ module _ (ok : Envelope → Type 0) (up down : ℕ → List ℕ) where
               (λ lt. (g.above old.session lt).0) (λ lt. none (g.above old.session lt).1);
         })
 
-    decoder_good : (r : Result (Option Content) FrameFault) → old.waiting ≡ None → Nexts MAX_BODY old.decoder new.decoder r
-        → new ≡ record old { decoder = new.decoder } → TakenGood ok up down old new o r
+    decoder_good : (r : Result (Option Content) FrameFault) → old.channel.waiting ≡ None → Nexts MAX_BODY old.channel.decoder new.channel.decoder r
+        → new ≡ record old { channel = record old.channel { decoder = new.channel.decoder } } → TakenGood ok up down old new o r
     decoder_good (Ok (Some f)) e h k =
-        let x = given_good ok up down old.session f old.decoder new.decoder o.broker are.1 h g.server in (
+        let x = given_good ok up down old.session f old.channel.decoder new.channel.decoder o.broker are.1 h g.server in (
           x.0,
           (
             decoded e k,
             rest_office (Ok (Some f)) k
-                (λ none. given_empty f old.decoder new.decoder h (sym are.1 ∙ none)) x.1,
+                (λ none. given_empty f old.channel.decoder new.channel.decoder h (sym are.1 ∙ none)) x.1,
           ),
         )
     decoder_good (Ok None) e h k =
-        let x = awaited_good ok up down old.session old.decoder new.decoder o.broker are.1 h g.server in (
+        let x = awaited_good ok up down old.session old.channel.decoder new.channel.decoder o.broker are.1 h g.server in (
           decoded e k,
           rest_office (Ok None) k
-              (λ none. awaited_empty old.decoder new.decoder h (sym are.1 ∙ none)) x,
+              (λ none. awaited_empty old.channel.decoder new.channel.decoder h (sym are.1 ∙ none)) x,
         )
-    decoder_good (Err NoMemory) e h k = k ∙ ap (λ (d : Held). record old { decoder = d }) h.1
+    decoder_good (Err NoMemory) e h k = k ∙ ap (λ (d : Held). record old { channel = record old.channel { decoder = d } }) h.1
     decoder_good (Err _) e h k = tt
 
-    next_by : (w : Option Content) (r : Result (Option Content) FrameFault) → old.waiting ≡ w → TakesNextOf w old new r
-        → TakenGood ok up down old new o r
-    next_by (Some f) r e h = subst (TakenGood ok up down old new o) (sym h.0) (waited_good f e h.1)
-    next_by None r e h = decoder_good r e h.0 h.1
+    next_by : (w : Option Content) (r : Result (Option Content) FrameFault) → old.channel.waiting ≡ w
+        → GivesNextOf w old.channel new.channel r → new ≡ record old { channel = new.channel } → TakenGood ok up down old new o r
+    next_by (Some f) r e h k =
+        subst (TakenGood ok up down old new o) (sym h.0) (waited_good f e (k ∙ ap (λ (x : Channel). record old { channel = x }) h.1))
+    next_by None r e h k = decoder_good r e h.0 (k ∙ ap (λ (x : Channel). record old { channel = x }) h.1)
 
   pub next_good : (old new : Connection) (o : Office) (r : Result (Option Content) FrameFault) → TakesNext old new r → AreOf old up down
       → GoodConnection ok old → GoodOffice ok up down o → TakenGood ok up down old new o r
-  next_good old new o r h are c g = next_by old new o are c g old.waiting r refl h
+  next_good old new o r h are c g = next_by old new o are c g old.channel.waiting r refl h.0 h.1
 
 -- ---- what else holds of a connection
 
@@ -279,17 +287,8 @@ pub carried_down_session : (most : ℕ) (old : Connection) (from : Office) (new 
 carried_down_session most old from new to (Ok count) h = ap (λ (c : Connection). c.session) h.same
 carried_down_session most old from new to (Err fault) h = ap (λ (c : Connection). c.session) h.2
 
-next_same : {A : Type 0} (part : Connection → A) (old new : Connection) (w : Option Content) (r : Result (Option Content) FrameFault)
-    → TakesNextOf w old new r
-    → ((d : Held) → part (record old { decoder = d }) ≡ part old) → part (record old { waiting = None }) ≡ part old → part new ≡ part old
-next_same part old new (Some f) r h d w = ap part h.1 ∙ w
-next_same part old new None r h d w = ap part h.1 ∙ d new.decoder
-
 pub next_session : (old new : Connection) (r : Result (Option Content) FrameFault) → TakesNext old new r → new.session ≡ old.session
-next_session old new r h = next_same (λ c. c.session) old new old.waiting r h (λ d. refl) refl
-
-pub next_client : (old new : Connection) (r : Result (Option Content) FrameFault) → TakesNext old new r → new.client ≡ old.client
-next_client old new r h = next_same (λ c. c.client) old new old.waiting r h (λ d. refl) refl
+next_session old new r h = ap (λ (c : Connection). c.session) h.1
 
 module _ (ok : Envelope → Type 0) where
   pub opened_connection : (from : Office) (c : Connection) (to : Office) → Opens from to (Ok c) → GoodConnection ok c
@@ -307,8 +306,8 @@ module _ (ok : Envelope → Type 0) where
 
   sent_connection : (count : ℕ) (old new : Connection) → SendsOctets count old new → GoodConnection ok old → GoodConnection ok new
   sent_connection count old new sends c = record {
-    waits = subst (GoodNext ok) (sym sends.waiting) c.waits;
-    wrote = subst HasWritten (sym (ap (λ (k : Client ℕ). k.out) sends.client)) (less_written (going old) count c.wrote);
+    waits = subst (GoodNext ok) (sym sends.channel.waiting) c.waits;
+    wrote = subst HasWritten (sym (ap (λ (k : Client ℕ). k.out) sends.channel.client)) (less_written (going old) count c.wrote);
   }
 
   pub carried_up_connection : (most : ℕ) (old : Connection) (from : Office) (new : Connection) (to : Office) (r : Result ℕ BrokerFault)
@@ -322,9 +321,9 @@ module _ (ok : Envelope → Type 0) where
   pub carried_down_connection : (most : ℕ) (old : Connection) (from : Office) (new : Connection) (to : Office) (r : Result ℕ FrameFault)
       → CarriesDown most old from new to r → GoodConnection ok old → GoodConnection ok new
   carried_down_connection most old from new to (Ok count) h c =
-      subst (GoodConnection ok) (sym h.same) (record { waits = c.waits; wrote = c.wrote })
+      subst (GoodConnection ok) (sym (fed_same most old from new to count h)) (record { waits = c.waits; wrote = c.wrote })
   carried_down_connection most old from new to (Err fault) h c = subst (GoodConnection ok) (sym h.2) c
 
   pub put_back_good : (c : Connection) (f : Content) → GoodFrame ok f → GoodConnection ok c
-      → GoodConnection ok (record c { waiting = Some f })
+      → GoodConnection ok (record c { channel = record c.channel { waiting = Some f } })
   put_back_good c f g h = record { waits = g; wrote = h.wrote }

@@ -80,8 +80,8 @@ module _ (ok : Envelope → Type 0) (up down : ℕ → List ℕ) where
 
   -- a client wrote them
   pub client_written_good : (old new : Connection) (frames : List Content) (o : Office) → old.session ≤ o.broker.opened
-      → new.session ≡ old.session → new.decoder ≡ old.decoder
-      → new.client.client.out ≡ old.client.client.out ++ canonical_texts frames → AllByRecursion (GoodFrame ok) frames → AreOf old up down
+      → new.session ≡ old.session → new.channel.decoder ≡ old.channel.decoder
+      → new.channel.client.client.out ≡ old.channel.client.client.out ++ canonical_texts frames → AllByRecursion (GoodFrame ok) frames → AreOf old up down
       → GoodOffice ok up down o → GoodWith ok new up down o
   client_written_good old new frames o there session decoder out all are h =
       office_with ok up down old.session (up old.session ++ canonical_texts frames) (coming old) new o session
@@ -89,8 +89,8 @@ module _ (ok : Envelope → Type 0) (up down : ℕ → List ℕ) where
       (more_at old.session (coming old) frames o there are.1 all h)
 
   -- it wrote nothing
-  pub client_same_good : (old new : Connection) (o : Office) → new.session ≡ old.session → new.decoder ≡ old.decoder
-      → new.client.client.out ≡ old.client.client.out → AreOf old up down → GoodOffice ok up down o → GoodWith ok new up down o
+  pub client_same_good : (old new : Connection) (o : Office) → new.session ≡ old.session → new.channel.decoder ≡ old.channel.decoder
+      → new.channel.client.client.out ≡ old.channel.client.client.out → AreOf old up down → GoodOffice ok up down o → GoodWith ok new up down o
   client_same_good old new o session decoder out are h =
       office_with ok up down old.session (going old) (coming old) new o session out (ap (λ (d : Held). d.octets) decoder)
       (unchanged ok up down old.session (going old) (coming old) o are.0 are.1 h)

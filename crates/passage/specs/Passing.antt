@@ -114,18 +114,18 @@ pub record HasWritten (out : List ℕ) : Type 0 where
 
 -- a connection alone: the frame that waits, and what its client wrote
 pub record GoodConnection (ok : Envelope → Type 0) (c : Connection) : Type 0 where
-  pub waits : GoodNext ok c.waiting
-  pub wrote : HasWritten c.client.client.out
+  pub waits : GoodNext ok c.channel.waiting
+  pub wrote : HasWritten c.channel.client.client.out
 
 -- ---- what is on its way
 
 -- the octets on their way up: those that the client wrote and that weren't carried
 abbrev pub going : Connection → List ℕ
-going c = c.client.client.out
+going c = c.channel.client.client.out
 
 -- the octets on their way down: those that were carried and are no frame yet
 abbrev pub coming : Connection → List ℕ
-coming c = c.decoder.octets
+coming c = c.channel.decoder.octets
 
 -- the same texts but at one number, where it is this one
 abbrev pub at : ℕ → List ℕ → (ℕ → List ℕ) → ℕ → List ℕ

@@ -16,7 +16,7 @@ use Rattle.accord.specs.Good.{IsGenuine}
 use Rattle.accord.specs.Sight.{OrderTables, StockTables, AllTables, MayLeave, all_empty}
 use Rattle.accord.proofs.Keeping.{good_later}
 use Rattle.mail.specs.Offices.{Office}
-use Rattle.sites.specs.declared.channel.Channel.{Channel}
+use Rattle.sites.specs.declared.site_channel.SiteChannel.{SiteChannel}
 use Rattle.schedule_runner.specs.Good.{AllRight, IsGoodWorld, MailIs, StaysGood, Agrees}
 use Rattle.schedule_runner.specs.Sight.{sight}
 use Rattle.schedule_runner.proofs.PathExamples.{seen, TheWorld, world, tables, only, matches}
@@ -103,8 +103,8 @@ module _ (any : TheWorld) where
         forged_mail h = let all = subst (AllByRecursion _) accepted h.office.earlier in is_forged (all.0.brought _ reads)
 
   -- a relay whose cursor stands behind more rows than the journal has
-  module _ (l : Channel) where
-    abbrev channel : ℕ → Channel
+  module _ (l : SiteChannel) where
+    abbrev channel : ℕ → SiteChannel
     channel count = record l { relay = record l.relay { behind = None; rows = count } }
 
     abbrev with_channel : ℕ → TheWorld

@@ -13,7 +13,7 @@ use Rattle.sites.specs.Channels.{ChannelsHave, TakesChannel}
 use Rattle.sites.specs.Channels.{Same}
 use Rattle.sites.specs.Channels.{CutsBoth, AfterFault, After, Meets, MeetsAlone}
 use Rattle.sites.specs.declared.fate.ChannelFate.TheVariants.{Stays, IsCut, BothAreCut}
-use Rattle.sites.specs.declared.channel.Channel.{Channel}
+use Rattle.sites.specs.declared.site_channel.SiteChannel.{SiteChannel}
 use Rattle.sites.specs.declared.site.Site.{Site}
 
 -- ---- by number
@@ -28,26 +28,30 @@ numbers_are_told_apart = (refl, refl, refl, refl, refl, refl, λ h. omega (arith
 -- ---- channels
 
 -- a connection on which nothing was sent, and a mail that accepted a SEND
-module _ (l : Channel) (nothing : (p : Pair) → marks_of l.relay p ≡ 0) (later : Office) (more : later.earlier ≡ [] → ⊥) where
+module _ (l : SiteChannel) (nothing : (p : Pair) → marks_of l.relay p ≡ 0) (later : Office) (more : later.earlier ≡ [] → ⊥) where
   -- its relay with a cursor of so many rows, and its client with octets to be sent
-  abbrev with_rows : ℕ → Channel
+  abbrev with_rows : ℕ → SiteChannel
   with_rows rows = record l { relay = record l.relay { behind = None; rows = rows } }
 
-  abbrev with_octet : Channel
+  abbrev with_octet : SiteChannel
   with_octet = record l {
     connection = record l.connection {
-      client = record l.connection.client { client = record l.connection.client.client { out = 65 ∷ l.connection.client.client.out } };
+      channel = record l.connection.channel {
+        client = record l.connection.channel.client {
+          client = record l.connection.channel.client.client { out = 65 ∷ l.connection.channel.client.client.out };
+        };
+      };
     };
   }
 
   -- what was sent on a channel is what its relay marked and its client wrote
-  channels_are_sent_on : ((sending l).marks ≡ marks_of l.relay) × ((sending l).client ≡ l.connection.client.client)
+  channels_are_sent_on : ((sending l).marks ≡ marks_of l.relay) × ((sending l).client ≡ l.connection.channel.client.client)
       × (sending (with_rows 3) ≡ sending l) × (sending with_octet ≡ sending l → ⊥)
   channels_are_sent_on = (
     refl,
     refl,
     refl,
-    λ h. let longer : length (65 ∷ l.connection.client.client.out) ≡ length l.connection.client.client.out =
+    λ h. let longer : length (65 ∷ l.connection.channel.client.client.out) ≡ length l.connection.channel.client.client.out =
         ap (λ (c : Client ℕ). length c.out) (ap (λ (c : SendState). c.client) h) in omega (arith, longer),
   )
 
@@ -80,11 +84,11 @@ module _ (l : Channel) (nothing : (p : Pair) → marks_of l.relay p ≡ 0) (late
 
   module _ (store : Failing ℕ) where
     -- with these connections
-    abbrev site : Option Channel → Option Channel → Site ℕ ℕ ℕ ℕ
+    abbrev site : Option SiteChannel → Option SiteChannel → Site ℕ ℕ ℕ ℕ
     site zero one = record { endpoint = store; zero = zero; one = one }
 
     -- how many connections are open
-    abbrev is_open : Option Channel → ℕ
+    abbrev is_open : Option SiteChannel → ℕ
     is_open None = 0
     is_open (Some l) = 1
 

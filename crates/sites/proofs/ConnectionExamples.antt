@@ -22,7 +22,7 @@ use Rattle.sites.specs.SiteEvents as event
 use Rattle.sites.specs.Happenings.{over, IfOpen, Adds, OpensChannel, CutsChannel, Resends, Rises, Falls, CarriesOn, SendsRows, TakesFrame}
 use Rattle.sites.specs.Happenings.{TakesWhat, TakesOne, DrainsOver, DrainsOne, Happens}
 use Rattle.sites.specs.Channels.{IsAllDue}
-use Rattle.sites.specs.declared.channel.Channel.{Channel}
+use Rattle.sites.specs.declared.site_channel.SiteChannel.{SiteChannel}
 use Rattle.sites.proofs.HappeningExamples.{seen, site, opened, not_fall, not_filling, not_rise, not_drain, not_taken}
 
 -- a connection, on which nothing was sent, and a frame
@@ -35,20 +35,26 @@ module _ (c : Connection) (relay : Relay) (nothing : (p : Pair) → marks_of rel
 
   -- it was just made, nothing came down and no frame waits
   abbrev fresh : Connection
-  fresh = record c { client = record c.client { client = new_client }; decoder = nothing_held; waiting = None }
+  fresh = record c {
+    channel = record c.channel {
+      client = record c.channel.client { client = new_client };
+      decoder = nothing_held;
+      waiting = None;
+    };
+  }
 
-  abbrev channel : Channel
+  abbrev channel : SiteChannel
   channel = record { connection = fresh; relay = due }
 
-  abbrev waits : Channel
-  waits = over channel (record fresh { waiting = Some f })
+  abbrev waits : SiteChannel
+  waits = over channel (record fresh { channel = record fresh.channel { waiting = Some f } })
 
   -- with another connection a channel has the same relay, and not the connection that it had
   channels_go_over : ((over channel c).relay ≡ due) × ((over channel c).connection ≡ c) × (waits ≡ channel → ⊥)
-  channels_go_over = (refl, refl, λ h. let none : Some f ≡ None = ap (λ (l : Channel). l.connection.waiting) h in absurd (cc))
+  channels_go_over = (refl, refl, λ h. let none : Some f ≡ None = ap (λ (l : SiteChannel). l.connection.channel.waiting) h in absurd (cc))
 
   -- an event of a connection that isn't open does nothing, and tells that
-  abbrev Never : Channel → Type 0
+  abbrev Never : SiteChannel → Type 0
   Never l = ⊥
 
   events_ask_for_a_channel : IfOpen None told.Closed (site true None) new_office (site true None) new_office Never
@@ -121,7 +127,7 @@ module _ (c : Connection) (relay : Relay) (nothing : (p : Pair) → marks_of rel
         result = Ok 0;
         later = fresh;
         between = new_office;
-        carries = record { counted = refl; feeds = (refl, refl, refl); same = refl; left = refl };
+        carries = record { counted = refl; feeds = ((refl, refl, refl), refl); same = refl; left = refl };
         tells = refl;
         meets = (refl, refl);
       }
@@ -154,7 +160,7 @@ module _ (c : Connection) (relay : Relay) (nothing : (p : Pair) → marks_of rel
   frames_are_taken = (
     record {
       result = Err (fault.Client client.Memory);
-      client = fresh.client;
+      client = fresh.channel.client;
       answers = refl;
       comes = λ clean good t left. record { before = t; deed = Nothing; was = left; may = refl; did = refl };
       used = inl refl;
@@ -176,7 +182,7 @@ module _ (c : Connection) (relay : Relay) (nothing : (p : Pair) → marks_of rel
   frames_come = (
     (refl, (refl, refl)),
     (refl, (refl, refl)),
-    (Ok (Some f), fresh, (refl, refl), taken_again),
+    (Ok (Some f), fresh, ((refl, refl), refl), taken_again),
     λ h. let told = h.0 in absurd (cc),
     no_opened,
   )
@@ -185,7 +191,7 @@ module _ (c : Connection) (relay : Relay) (nothing : (p : Pair) → marks_of rel
           (site true (Some waits)) new_office
       taken_again = record {
         result = Err (fault.Client client.Memory);
-        client = fresh.client;
+        client = fresh.channel.client;
         answers = refl;
         comes = λ clean good t left. record { before = t; deed = Nothing; was = left; may = refl; did = refl };
         used = inl refl;
@@ -194,8 +200,8 @@ module _ (c : Connection) (relay : Relay) (nothing : (p : Pair) → marks_of rel
       }
 
       no_opened : TakesOne seen orders Zero waits told.Opened (site true (Some waits)) new_office (site true (Some waits)) new_office → ⊥
-      no_opened (Ok None, later, next, what) = let none = next.0 in absurd (cc)
-      no_opened (Err cause, later, next, what) = let none = next.0 in absurd (cc)
+      no_opened (Ok None, later, next, what) = let none = next.0.0 in absurd (cc)
+      no_opened (Err cause, later, next, what) = let none = next.0.0 in absurd (cc)
       no_opened (Ok (Some g), later, next, what) = not_taken what.result what.tells
 
   -- a held letter isn't handled for want of memory; where the connection isn't open it is asked for alone
@@ -211,7 +217,7 @@ module _ (c : Connection) (relay : Relay) (nothing : (p : Pair) → marks_of rel
           (site true (Some channel)) new_office
       drained = record {
         result = Err (fault.Client client.Memory);
-        client = fresh.client;
+        client = fresh.channel.client;
         wrote = (tt, refl);
         comes = λ clean good t left. record { before = t; deed = Nothing; was = left; may = refl; did = refl };
         used = (refl, refl, refl, refl);

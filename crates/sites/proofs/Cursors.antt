@@ -33,12 +33,12 @@ use Rattle.sites.specs.SiteEvents.{SiteEvent}
 use Rattle.sites.specs.SiteEvents as event
 use Rattle.sites.specs.declared.fate.ChannelFate.{ChannelFate}
 use Rattle.sites.specs.declared.fate.ChannelFate.TheVariants.{Stays, IsCut, BothAreCut}
-use Rattle.sites.specs.declared.channel.Channel.{Channel}
+use Rattle.sites.specs.declared.site_channel.SiteChannel.{SiteChannel}
 use Rattle.sites.specs.declared.site.Site.{Site}
 
 -- ---- connections that come and go
 
-channel_more : (Was Is : Relay → Type 0) → ((r : Relay) → Was r → Is r) → (l : Option Channel) → ChannelHas Was l → ChannelHas Is l
+channel_more : (Was Is : Relay → Type 0) → ((r : Relay) → Was r → Is r) → (l : Option SiteChannel) → ChannelHas Was l → ChannelHas Is l
 channel_more Was Is more None h = tt
 channel_more Was Is more (Some l) h = more l.relay h
 
@@ -46,12 +46,12 @@ module _ {H K S C : Type 0} (Is : Relay → Type 0) where
   pub channels_more : (Was : Relay → Type 0) → ((r : Relay) → Was r → Is r) → (s : Site H K S C) → ChannelsHave Was s → ChannelsHave Is s
   channels_more Was more s h = (channel_more Was Is more s.zero h.0, channel_more Was Is more s.one h.1)
 
-  pub channel_has : (number : ConnectionNumber) (s : Site H K S C) (l : Channel) → channel_of number s ≡ Some l → ChannelsHave Is s
+  pub channel_has : (number : ConnectionNumber) (s : Site H K S C) (l : SiteChannel) → channel_of number s ≡ Some l → ChannelsHave Is s
       → Is l.relay
   channel_has Zero s l is h = subst (ChannelHas Is) is h.0
   channel_has One s l is h = subst (ChannelHas Is) is h.1
 
-  put_has : (number : ConnectionNumber) (l : Option Channel) (s : Site H K S C) → ChannelHas Is l → ChannelsHave Is s
+  put_has : (number : ConnectionNumber) (l : Option SiteChannel) (s : Site H K S C) → ChannelHas Is l → ChannelsHave Is s
       → ChannelsHave Is (with_channel number l s)
   put_has Zero l s own h = (own, h.1)
   put_has One l s own h = (h.0, own)
@@ -82,7 +82,7 @@ module _ {H K S C : Type 0} (Is : Relay → Type 0) where
     alone_has IsCut meets h = same_has meets h
     alone_has BothAreCut meets h = cut_has meets
 
-  meets_has : (fate : ChannelFate) (number : ConnectionNumber) (l : Channel) (s : Site H K S C) (from : Office) (t : Site H K S C)
+  meets_has : (fate : ChannelFate) (number : ConnectionNumber) (l : SiteChannel) (s : Site H K S C) (from : Office) (t : Site H K S C)
       (to : Office) → Meets fate number l s from t to → Is l.relay → ChannelsHave Is s → ChannelsHave Is t
   meets_has Stays number l s from t to meets own h =
       same_has (with_channel number (Some l) s) from t to meets (put_has number (Some l) s own h)
@@ -91,8 +91,8 @@ module _ {H K S C : Type 0} (Is : Relay → Type 0) where
 
   -- an event of a connection that isn't open does nothing
   if_open : (outcome : Outcome) (s : Site H K S C) (from : Office) (t : Site H K S C) (to : Office) (number : ConnectionNumber)
-      (Does : Channel → Type 0) (o : Option Channel) → channel_of number s ≡ o → IfOpen o outcome s from t to Does → ChannelsHave Is s
-      → ((l : Channel) → channel_of number s ≡ Some l → Does l → ChannelsHave Is t) → ChannelsHave Is t
+      (Does : SiteChannel → Type 0) (o : Option SiteChannel) → channel_of number s ≡ o → IfOpen o outcome s from t to Does → ChannelsHave Is s
+      → ((l : SiteChannel) → channel_of number s ≡ Some l → Does l → ChannelsHave Is t) → ChannelsHave Is t
   if_open outcome s from t to number Does None is does h each = same_has s from t to does.1 h
   if_open outcome s from t to number Does (Some l) is does h each = each l is does
 
@@ -105,11 +105,11 @@ module _ {H K S C : Type 0} (Is : Relay → Type 0) (due : (r : Relay) → IsAll
       (put_has Is number (Some (record { connection = c; relay = adds.0 })) s (due adds.0 adds.1) h)
   adds_has number (Err fault) adds = subst (ChannelsHave Is) (sym adds) h
 
-  opens_has : (number : ConnectionNumber) (o : Option Channel) → OpensChannel number o outcome s from t to → ChannelsHave Is t
+  opens_has : (number : ConnectionNumber) (o : Option SiteChannel) → OpensChannel number o outcome s from t to → ChannelsHave Is t
   opens_has number (Some l) opens = same_has Is s from t to opens.1 h
   opens_has number None opens = adds_has number opens.0 opens.3
 
-  module _ (number : ConnectionNumber) (l : Channel) (is : channel_of number s ≡ Some l) where
+  module _ (number : ConnectionNumber) (l : SiteChannel) (is : channel_of number s ≡ Some l) where
     own : Is l.relay
     own = channel_has Is number s l is h
 
@@ -126,7 +126,7 @@ module _ {H K S C : Type 0} (Is : Relay → Type 0) (due : (r : Relay) → IsAll
     what_has seen service later (Err fault) what =
         meets_has Is (decoder_fate fault) number (over l later) s from t to what.1 own h
 
-  drains_has : (seen : K → Seen (Tables S C)) (service : Service S C) (number : ConnectionNumber) (o : Option Channel)
+  drains_has : (seen : K → Seen (Tables S C)) (service : Service S C) (number : ConnectionNumber) (o : Option SiteChannel)
       → channel_of number s ≡ o
       → DrainsOne seen service number o outcome s from t to → ChannelsHave Is t
   drains_has seen service number None is r = alone_has Is (with_store t.endpoint s) from t to (drain_fate r.result) r.meets h
@@ -147,7 +147,7 @@ module _ {H K S C : Type 0} (seen : K → Seen (Tables S C)) (service : Service 
   due_known r all u may = all.knows (length (kept u).journal)
       (unsettled_of service.reactions (take r.rows (kept u).journal) (kept u).settled)
 
-  fills_has : (number : ConnectionNumber) (l : Channel) → channel_of number s ≡ Some l → (limit : ℕ)
+  fills_has : (number : ConnectionNumber) (l : SiteChannel) → channel_of number s ≡ Some l → (limit : ℕ)
       → SendsRows seen service number limit l outcome s from t to → ChannelsHave Is s → ChannelsHave Is t
   fills_has number l is limit r h = meets_has Is (fill_fate r.result) number r.later (with_store t.endpoint s) from t to r.meets
       (r.knows clean (match, channel_has Was number s l is right)).1 h

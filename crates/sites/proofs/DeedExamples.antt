@@ -30,7 +30,7 @@ use Rattle.sites.specs.Cursors.{KnowsEach, AreRight, KeepsRight}
 use Rattle.sites.specs.Deeds.{channels_of, CameOn, CommandMay, FrameMay, HeldMay, SiteMay, DoubtStays, Matches, Goes}
 use Rattle.sites.specs.SiteEvents as event
 use Rattle.sites.specs.SiteEvents.{SiteEvent}
-use Rattle.sites.specs.declared.channel.Channel.{Channel}
+use Rattle.sites.specs.declared.site_channel.SiteChannel.{SiteChannel}
 use Rattle.sites.specs.declared.site.Site.{Site}
 use Rattle.sites.proofs.HappeningExamples.{asked}
 
@@ -136,15 +136,15 @@ module _ (c : Connection) (relay : Relay) (f : Content) where
   cursor rows = record relay { behind = None; rows = rows }
 
   abbrev waiting : Option Content → Connection
-  waiting frame = record c { waiting = frame }
+  waiting frame = record c { channel = record c.channel { waiting = frame } }
 
-  abbrev channel : ℕ → Channel
+  abbrev channel : ℕ → SiteChannel
   channel rows = record { connection = waiting (Some f); relay = cursor rows }
 
   abbrev Service : Type 0
   Service = Site ℕ Store (Option Asked) Asked
 
-  abbrev site : Failing Store → Option Channel → Service
+  abbrev site : Failing Store → Option SiteChannel → Service
   site e l = record { endpoint = e; zero = l; one = None }
 
   -- each number has its own channel
@@ -155,14 +155,14 @@ module _ (c : Connection) (relay : Relay) (f : Content) where
 
   -- the frame that waits came, and no longer one; on no connection none did
   frames_came : CameOn (Some (channel 0)) f × (CameOn None f → ⊥) × (CameOn (Some (channel 0)) (record f { body = 65 ∷ f.body }) → ⊥)
-  frames_came = ((waiting None, (refl, refl)), λ h. h, longer)
+  frames_came = ((waiting None, ((refl, refl), refl)), λ h. h, longer)
     where
       body_of : Option Content → ℕ
       body_of None = 0
       body_of (Some g) = length g.body
 
       longer : CameOn (Some (channel 0)) (record f { body = 65 ∷ f.body }) → ⊥
-      longer h = let same : Some (record f { body = 65 ∷ f.body }) ≡ Some f = let frame = h.1.0 in cc in
+      longer h = let same : Some (record f { body = 65 ∷ f.body }) ≡ Some f = let frame = h.1.0.0 in cc in
           let more : suc (length f.body) ≡ length f.body = ap body_of same in omega (arith, more)
 
   -- doubt may rise and never falls

@@ -11,11 +11,11 @@ use Rattle.schedules.specs.declared.outcome.Outcome.{Outcome}
 use Rattle.sites.specs.Happenings.{Falls, SendsRows, TakesFrame, TakesWhat, TakesOne, DrainsOver, DrainsOne, over, with_store, waiting_of}
 use Rattle.sites.specs.Channels.{channel_of, with_channel, TakesChannel}
 use Rattle.sites.specs.Outcomes.{decoder_fate, fall_fate, fill_fate, taken_fate, drain_fate}
-use Rattle.sites.specs.declared.channel.Channel.{Channel}
+use Rattle.sites.specs.declared.site_channel.SiteChannel.{SiteChannel}
 use Rattle.sites.specs.declared.site.Site.{Site}
 use Rattle.sites.proofs.Fates.{with_again, meets_again, took_open}
 
-module _ {H K S C : Type 0} (number : ConnectionNumber) (k : Option Channel) (l : Channel) (outcome : Outcome) (s : Site H K S C)
+module _ {H K S C : Type 0} (number : ConnectionNumber) (k : Option SiteChannel) (l : SiteChannel) (outcome : Outcome) (s : Site H K S C)
     (from : Office)
     (t : Site H K S C) (to : Office) where
   pub falls_again : (most : ℕ) → Falls number most l outcome (with_channel number k s) from t to → Falls number most l outcome s from t to
@@ -55,7 +55,7 @@ module _ {H K S C : Type 0} (number : ConnectionNumber) (k : Option Channel) (l 
       used = h.used;
       tells = h.tells;
       meets = meets_again (taken_fate h.result) number
-          (over l (record l.connection { client = h.client; waiting = waiting_of h.result f })) k (with_store t.endpoint s)
+          (over l (record l.connection { channel = record l.connection.channel { client = h.client; waiting = waiting_of h.result f } })) k (with_store t.endpoint s)
           from t to h.meets;
     }
 
@@ -68,7 +68,7 @@ module _ {H K S C : Type 0} (number : ConnectionNumber) (k : Option Channel) (l 
       comes = h.comes;
       used = h.used;
       tells = h.tells;
-      meets = meets_again (drain_fate h.result) number (over l (record l.connection { client = h.client })) k (with_store t.endpoint s)
+      meets = meets_again (drain_fate h.result) number (over l (record l.connection { channel = record l.connection.channel { client = h.client } })) k (with_store t.endpoint s)
           from t to h.meets;
     }
 
@@ -79,17 +79,17 @@ module _ {H K S C : Type 0} (number : ConnectionNumber) (k : Option Channel) (l 
     what_again (Ok (Some f)) h = frame_again f h
     what_again (Err fault) h = (h.0, meets_again (decoder_fate fault) number l k s from t to h.1)
 
-module _ {H K S C : Type 0} (seen : K → Seen (Tables S C)) (service : Service S C) (number : ConnectionNumber) (k : Option Channel)
-    (l : Channel)
+module _ {H K S C : Type 0} (seen : K → Seen (Tables S C)) (service : Service S C) (number : ConnectionNumber) (k : Option SiteChannel)
+    (l : SiteChannel)
     (outcome : Outcome) (s : Site H K S C) (from : Office) (t : Site H K S C) (to : Office) where
   pub takes_again : TakesOne seen service number l outcome (with_channel number k s) from t to
       → TakesOne seen service number l outcome s from t to
   takes_again h = (h.0, h.1, h.2, what_again number k (over l h.1) outcome s from t to seen service h.0 h.3)
 
-module _ {H K S C : Type 0} (seen : K → Seen (Tables S C)) (service : Service S C) (number : ConnectionNumber) (l : Channel)
+module _ {H K S C : Type 0} (seen : K → Seen (Tables S C)) (service : Service S C) (number : ConnectionNumber) (l : SiteChannel)
     (outcome : Outcome) (s : Site H K S C) (from : Office) (t : Site H K S C) (to : Office) where
   -- a held letter was handled over a connection that was open
-  pub drains_open : (between : Site H K S C) (r : Option Channel) → r ≡ Some l → TakesChannel number s between r
+  pub drains_open : (between : Site H K S C) (r : Option SiteChannel) → r ≡ Some l → TakesChannel number s between r
       → DrainsOver seen service number l outcome between from t to
       → DrainsOne seen service number (channel_of number s) outcome s from t to
   drains_open between r is takes d =

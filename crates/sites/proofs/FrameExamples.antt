@@ -39,7 +39,7 @@ use Rattle.sites.specs.Channels.{Meets}
 use Rattle.sites.specs.Happenings.{over, waiting_of, with_store, TakesFrame, TakesOne, Happens}
 use Rattle.sites.specs.Outcomes.{reception_told, taken_told, taken_fate, decoder_told}
 use Rattle.sites.specs.SiteEvents as event
-use Rattle.sites.specs.declared.channel.Channel.{Channel}
+use Rattle.sites.specs.declared.site_channel.SiteChannel.{SiteChannel}
 use Rattle.sites.proofs.Framing.{framed}
 use Rattle.sites.proofs.WorkExamples.{is_refusal, fault_is_refusal, no_refusal, seen, store, Service, site, served, left, is_open}
 use Rattle.sites.proofs.WorkExamples.{cut_leaves}
@@ -63,8 +63,11 @@ abbrev pub client : Stage → List ℕ → ClientWithRoom ℕ
 client stage out = record { client = record new_client { stage = stage; out = out }; room = 0 }
 
 module _ (relay : Relay) where
-  abbrev pub channel : ClientWithRoom ℕ → List ℕ → Channel
-  channel k octets = record { connection = record { session = 1; client = k; decoder = held octets; waiting = None }; relay = relay }
+  abbrev pub channel : ClientWithRoom ℕ → List ℕ → SiteChannel
+  channel k octets = record {
+    connection = record { session = 1; channel = record { client = k; decoder = held octets; waiting = None } };
+    relay = relay;
+  }
 
   -- ---- CONNECTED
 
@@ -91,7 +94,7 @@ module _ (relay : Relay) where
   abbrev begun : Service
   begun = site (store true before) (Some (channel (client stage.Connecting []) text))
 
-  abbrev Begins : Channel → Type 0
+  abbrev Begins : SiteChannel → Type 0
   Begins l = TakesOne seen orders Zero (channel (client stage.Connecting []) text) told.Connected begun new_office
       (site (store true before) (Some l)) new_office
 
@@ -99,8 +102,8 @@ module _ (relay : Relay) where
   unfolding canonical line_of escape
   it_is_taken = (
     Ok (Some opening),
-    record { session = 1; client = client stage.Connecting []; decoder = held []; waiting = None },
-    (it_comes, refl),
+    record { session = 1; channel = record { client = client stage.Connecting []; decoder = held []; waiting = None } },
+    ((it_comes, refl), refl),
     record {
       result = Ok taken.Connected;
       client = subscribed;
@@ -113,17 +116,17 @@ module _ (relay : Relay) where
   )
 
   -- where CONNECTED is told the client is connected, and the connection stays with it
-  abbrev Stands : Channel → Option Channel → Type 0
+  abbrev Stands : SiteChannel → Option SiteChannel → Type 0
   Stands l now = (k : ClientWithRoom ℕ) × (k.client.stage ≡ stage.Connected)
-      × (now ≡ Some (over l (record l.connection { client = k; waiting = None })))
+      × (now ≡ Some (over l (record l.connection { channel = record l.connection.channel { client = k; waiting = None } })))
 
-  it_stands : (l : Channel) (f : Content) (s t : Service) (from to : Office) → TakesFrame seen orders Zero l f told.Connected s from t to
+  it_stands : (l : SiteChannel) (f : Content) (s t : Service) (from to : Office) → TakesFrame seen orders Zero l f told.Connected s from t to
       → Stands l t.zero
   it_stands l f s t from to h = by_result h.result h.tells h.answers h.meets
     where
       by_result : (r : Result Taken ReceptionFault) → told.Connected ≡ taken_told r
-          → Answers Order f l.connection.client.client h.client.client r
-          → Meets (taken_fate r) Zero (over l (record l.connection { client = h.client; waiting = waiting_of r f }))
+          → Answers Order f l.connection.channel.client.client h.client.client r
+          → Meets (taken_fate r) Zero (over l (record l.connection { channel = record l.connection.channel { client = h.client; waiting = waiting_of r f } }))
           (with_store t.endpoint s) from t to → Stands l t.zero
       by_result (Ok taken.Connected) tells answers meets =
           (h.client, ap (λ (c : Client ℕ). c.stage) answers.2.all, ap (λ (x : Service). x.zero) meets.0)
@@ -131,25 +134,25 @@ module _ (relay : Relay) where
       by_result (Err e) tells answers meets = absurd (no_refusal told.Connected (reception_told e) refl (reception_is_refusal e) tells)
 
   -- so behind what is begun a frame came, and the connection stands without it
-  came_as : (l : Channel) → Begins l → (f : Content) × (later : Connection) × Nexts MAX_BODY (held text) later.decoder (Ok (Some f))
+  came_as : (l : SiteChannel) → Begins l → (f : Content) × (later : Connection) × Nexts MAX_BODY (held text) later.channel.decoder (Ok (Some f))
       × Stands (over (channel (client stage.Connecting []) text) later) (Some l)
   came_as l (Ok None, later, next, what) = let told = what.0 in absurd (cc)
   came_as l (Err e, later, next, what) = absurd (no_refusal told.Connected (decoder_told e) refl (decoder_is_refusal e) what.0)
   came_as l (Ok (Some f), later, next, what) = (
     f,
     later,
-    next.0,
+    next.0.0,
     it_stands (over (channel (client stage.Connecting []) text) later) f begun (site (store true before) (Some l)) new_office new_office
         what,
   )
 
-  abbrev stage_of : Option Channel → Stage
+  abbrev stage_of : Option SiteChannel → Stage
   stage_of None = stage.Fresh
-  stage_of (Some l) = l.connection.client.client.stage
+  stage_of (Some l) = l.connection.channel.client.client.stage
 
-  abbrev octets_of : Option Channel → List ℕ
+  abbrev octets_of : Option SiteChannel → List ℕ
   octets_of None = []
-  octets_of (Some l) = l.connection.decoder.octets
+  octets_of (Some l) = l.connection.channel.decoder.octets
 
   -- a frame has octets
   no_empty : (f : Content) (front rest : List ℕ) → SpellsAfterGap MAX_BODY f front → text ≡ front ++ rest → text ≡ rest → ⊥
@@ -172,10 +175,10 @@ module _ (relay : Relay) where
     λ h. let came = came_as (channel (client stage.Connecting []) []) h in
         connecting (over (channel (client stage.Connecting []) text) came.1) came.3,
     λ h. let came = came_as (channel subscribed text) h in
-        no_empty came.0 came.2.2 came.1.decoder.octets came.2.3 came.2.4 (ap octets_of came.3.2),
+        no_empty came.0 came.2.2 came.1.channel.decoder.octets came.2.3 came.2.4 (ap octets_of came.3.2),
   )
     where
-      connecting : (l : Channel) → Stands l (Some (channel (client stage.Connecting []) [])) → ⊥
+      connecting : (l : SiteChannel) → Stands l (Some (channel (client stage.Connecting []) [])) → ⊥
       connecting l (k, connected, now) = let same : stage.Connecting ≡ k.client.stage = ap stage_of now in absurd (cc)
 
   -- ---- ERROR
@@ -183,7 +186,7 @@ module _ (relay : Relay) where
   abbrev refusing : Content
   refusing = frame command.Error (header (codes "message") (codes "bad frame") ∷ []) []
 
-  abbrev connected : Channel
+  abbrev connected : SiteChannel
   connected = channel (client stage.Connected []) []
 
   -- its text is told, and the connection is cut with its session; it doesn't stay open, closed as its client is
@@ -206,7 +209,7 @@ module _ (relay : Relay) where
   )
     where
       stays_open : (r : Result Taken ReceptionFault) (k : ClientWithRoom ℕ) → told.Error message ≡ taken_told r
-          → Meets (taken_fate r) Zero (over connected (record connected.connection { client = k; waiting = waiting_of r refusing }))
+          → Meets (taken_fate r) Zero (over connected (record connected.connection { channel = record connected.connection.channel { client = k; waiting = waiting_of r refusing } }))
           (site (store true before) (Some connected)) (served octets)
           (site (store true before) (Some (channel (client stage.Closed []) []))) left → ⊥
       stays_open (Ok (taken.Error text)) k tells meets = let still : 1 ≡ 0 = ap is_open meets.1 in omega (arith, still)

@@ -34,7 +34,7 @@ use Rattle.sites.specs.Happenings.{command_row, leaves_of, waiting_of, with_stor
 use Rattle.sites.specs.Happenings.{ArmsStore, TakesCommand, DrainsAlone}
 use Rattle.sites.specs.Happenings.{ReopensStore, StopsSite}
 use Rattle.sites.specs.Outcomes.{fault_told, commit_told, end_told, fill_told, rise_told, fall_told, reception_told, taken_told, drain_told}
-use Rattle.sites.specs.declared.channel.Channel.{Channel}
+use Rattle.sites.specs.declared.site_channel.SiteChannel.{SiteChannel}
 use Rattle.sites.specs.declared.site.Site.{Site}
 
 -- ---- plain parts
@@ -137,10 +137,10 @@ store usable = record { keep = usable; armed = None; is_down = false; failures =
 abbrev pub Service : Type 0
 Service = Site ℕ Bool (Option Asked) Asked
 
-abbrev pub site : Bool → Option Channel → Service
+abbrev pub site : Bool → Option SiteChannel → Service
 site usable zero = record { endpoint = store usable; zero = zero; one = None }
 
-abbrev pub is_open : Option Channel → ℕ
+abbrev pub is_open : Option SiteChannel → ℕ
 is_open None = 0
 is_open (Some l) = 1
 

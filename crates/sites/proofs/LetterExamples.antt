@@ -43,7 +43,7 @@ use Rattle.schedules.specs.declared.event.ConnectionNumber.TheVariants.{Zero}
 use Rattle.schedules.specs.declared.outcome.Outcome.TheVariants as told
 use Rattle.sites.specs.Happenings.{TakesFrame}
 use Rattle.sites.specs.Outcomes.{reception_told, taken_told}
-use Rattle.sites.specs.declared.channel.Channel.{Channel}
+use Rattle.sites.specs.declared.site_channel.SiteChannel.{SiteChannel}
 use Rattle.sites.proofs.FrameExamples.{reception_is_refusal, client, channel}
 use Rattle.sites.proofs.Framing.{framed}
 use Rattle.sites.proofs.WorkExamples.{no_refusal, seen, store, site, only}
@@ -54,7 +54,7 @@ kind_of (Some e) = e.kind
 kind_of None = Order
 
 module _ (relay : Relay) where
-  abbrev connected : Channel
+  abbrev connected : SiteChannel
   connected = channel relay (client stage.Connected []) []
 
   -- ---- a settle

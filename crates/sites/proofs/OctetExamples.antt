@@ -29,31 +29,31 @@ use Rattle.schedules.specs.declared.outcome.Outcome.TheVariants as told
 use Rattle.sites.specs.Channels.{IsAllDue, Meets, with_channel}
 use Rattle.sites.specs.Happenings.{over, Falls, Rises, OpensChannel}
 use Rattle.sites.specs.Outcomes.{fall_told, fall_fate, rise_told}
-use Rattle.sites.specs.declared.channel.Channel.{Channel}
+use Rattle.sites.specs.declared.site_channel.SiteChannel.{SiteChannel}
 use Rattle.sites.proofs.FrameExamples.{decoder_is_refusal, held, client, channel}
 use Rattle.sites.proofs.Framing.{framed}
 use Rattle.sites.proofs.WorkExamples.{no_refusal, store, Service, site, served}
 
 module _ (relay : Relay) where
   -- a service of this connection
-  abbrev serving : Channel → Service
+  abbrev serving : SiteChannel → Service
   serving l = site (store true before) (Some l)
 
   -- ---- down
 
   -- a connection to which nothing came down, and what its broker has for it
-  abbrev empty : Channel
+  abbrev empty : SiteChannel
   empty = channel relay (client stage.Connecting []) []
 
   abbrev text : List ℕ
   text = codes "CONNECTED\nversion:1.2\n\n\0"
 
-  abbrev Goes : Channel → Office → Type 0
+  abbrev Goes : SiteChannel → Office → Type 0
   Goes l to = Falls Zero 5 empty (told.Carried 5) (serving empty) (served text) (serving l) to
 
-  abbrev decoded : Option Channel → List ℕ
+  abbrev decoded : Option SiteChannel → List ℕ
   decoded None = []
-  decoded (Some l) = l.connection.decoder.octets
+  decoded (Some l) = l.connection.channel.decoder.octets
 
   -- the first five octets go to the client, and the broker has the others; they don't stay, and none stands at both
   five_go_down : Goes (channel relay (client stage.Connecting []) (codes "CONNE")) (served (codes "CTED\nversion:1.2\n\n\0"))
@@ -65,7 +65,7 @@ module _ (relay : Relay) where
       result = Ok 5;
       later = (channel relay (client stage.Connecting []) (codes "CONNE")).connection;
       between = served (codes "CTED\nversion:1.2\n\n\0");
-      carries = record { counted = refl; feeds = (refl, refl, refl); same = refl; left = refl };
+      carries = record { counted = refl; feeds = ((refl, refl, refl), refl); same = refl; left = refl };
       tells = refl;
       meets = (refl, refl);
     },
@@ -74,15 +74,15 @@ module _ (relay : Relay) where
     λ h. still_there h.result h.later h.between h.tells h.carries h.meets,
   )
     where
-      not_fed : (l : Channel) (to : Office) → l.connection.decoder.octets ≡ [] → Goes l to → ⊥
+      not_fed : (l : SiteChannel) (to : Office) → l.connection.channel.decoder.octets ≡ [] → Goes l to → ⊥
       not_fed l to none h = by_result h.result h.tells h.carries h.meets
         where
           by_result : (r : Result ℕ FrameFault) → told.Carried 5 ≡ fall_told r
               → CarriesDown 5 empty.connection (served text) h.later h.between r
               → Meets (fall_fate r) Zero (over empty h.later) (serving empty) h.between (serving l) to → ⊥
           by_result (Ok n) tells carries meets =
-              let same : l.connection.decoder.octets ≡ h.later.decoder.octets = ap (λ (x : Service). decoded x.zero) meets.0 in
-              let five : h.later.decoder.octets ≡ codes "CONNE" = carries.feeds.2 in
+              let same : l.connection.channel.decoder.octets ≡ h.later.channel.decoder.octets = ap (λ (x : Service). decoded x.zero) meets.0 in
+              let five : h.later.channel.decoder.octets ≡ codes "CONNE" = carries.feeds.0.2 in
               let lengths : 0 ≡ 5 = ap length (sym none ∙ same ∙ five) in omega (arith, lengths)
           by_result (Err f) tells carries meets = no_refusal (told.Carried 5) (fall_told (Err f)) refl (decoder_is_refusal f) tells
 
@@ -109,7 +109,7 @@ module _ (relay : Relay) where
     earlier = [];
   }
 
-  abbrev saying : List ℕ → Channel
+  abbrev saying : List ℕ → SiteChannel
   saying out = channel relay (client stage.Connecting out) []
 
   no_frame : NoFrame MAX_BODY (codes "CONNECT")
@@ -125,12 +125,12 @@ module _ (relay : Relay) where
   abbrev connect : List ℕ
   connect = codes "CONNECT\naccept-version:1.2\nhost:outbox\n\n\0"
 
-  abbrev GoesUp : Channel → Office → Type 0
+  abbrev GoesUp : SiteChannel → Office → Type 0
   GoesUp l to = Rises Zero 7 (saying connect) (told.Carried 7) (serving (saying connect)) (fed []) (serving l) to
 
-  abbrev waiting : Option Channel → ℕ
+  abbrev waiting : Option SiteChannel → ℕ
   waiting None = 0
-  waiting (Some l) = length l.connection.client.client.out
+  waiting (Some l) = length l.connection.channel.client.client.out
 
   -- the first seven octets go to the broker, which waits for more of the frame; they don't stay with the client
   seven_go_up : GoesUp (saying (codes "\naccept-version:1.2\nhost:outbox\n\n\0")) (fed (codes "CONNECT"))
@@ -166,7 +166,10 @@ module _ (relay : Relay) where
           settles = (record { handed = []; deals = refl; taken = refl }, refl);
         };
         earlier = refl;
-        sends = record { session = refl; client = refl; room = omega arith; decoder = refl; waiting = refl };
+        sends = record {
+          session = refl;
+          channel = record { client = refl; room = omega arith; decoder = refl; waiting = refl };
+        };
       };
       tells = refl;
       site = refl;
@@ -180,8 +183,8 @@ module _ (relay : Relay) where
           → serving (saying connect) ≡ with_channel Zero (Some (over (saying connect) later)) (serving (saying connect)) → ⊥
       stays to (Ok n) later tells carries same =
           let count : n ≡ 7 = carries.counted in
-          let now : length connect ≡ length later.client.client.out = ap (λ (x : Service). waiting x.zero) same in
-          let less = ap (λ (k : Client ℕ). length k.out) carries.sends.client in
+          let now : length connect ≡ length later.channel.client.client.out = ap (λ (x : Service). waiting x.zero) same in
+          let less = ap (λ (k : Client ℕ). length k.out) carries.sends.channel.client in
           let fewer : length connect ≡ 34 = subst (λ k. length connect ≡ length (drop k connect)) count (now ∙ less) in omega (arith, fewer)
       stays to (Err f) later tells carries same = absurd (cc)
 
@@ -193,7 +196,7 @@ module _ (relay : Relay) where
 
   -- a relay on which nothing counts as sent
   module _ (due : IsAllDue relay) where
-    abbrev Opened : Channel → Office → Type 0
+    abbrev Opened : SiteChannel → Office → Type 0
     Opened l to = OpensChannel Zero None told.Opened (site (store true before) None) new_office (serving l) to
 
     -- CONNECT waits to go up, and the broker has a session; it doesn't open without the one or the other
@@ -219,8 +222,8 @@ module _ (relay : Relay) where
       where
         nothing_waits : Opened (saying []) (served []) → ⊥
         nothing_waits (Ok d, opens, tells, adds) =
-            let waits : length d.client.client.out ≡ 41 = ap (λ (k : Client ℕ). length k.out) opens.client in
-            let none : 0 ≡ length d.client.client.out = ap (λ (x : Service). waiting x.zero) adds.2 in omega (arith, waits, none)
+            let waits : length d.channel.client.client.out ≡ 41 = ap (λ (k : Client ℕ). length k.out) opens.client in
+            let none : 0 ≡ length d.channel.client.client.out = ap (λ (x : Service). waiting x.zero) adds.2 in omega (arith, waits, none)
         nothing_waits (Err f, opens, tells, adds) = absurd (cc)
 
         no_session_there : Opened (saying connect) new_office → ⊥

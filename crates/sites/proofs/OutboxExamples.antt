@@ -38,7 +38,7 @@ use Rattle.schedules.specs.declared.outcome.Outcome.TheVariants as told
 use Rattle.sites.specs.Channels.{sending, Meets}
 use Rattle.sites.specs.Happenings.{SendsRows}
 use Rattle.sites.specs.Outcomes.{fill_told, fill_fate}
-use Rattle.sites.specs.declared.channel.Channel.{Channel}
+use Rattle.sites.specs.declared.site_channel.SiteChannel.{SiteChannel}
 use Rattle.sites.proofs.FrameExamples.{client, channel}
 use Rattle.sites.proofs.Framing.{framed}
 use Rattle.sites.proofs.WorkExamples.{no_fault, seen, store, Service, site, only}
@@ -112,10 +112,10 @@ module _ (before sent : Relay) (nothing : (p : Pair) → marks_of before p ≡ 0
   abbrev busy : ClientWithRoom ℕ
   busy = record idle { client = receipted (send_of (envelope.Letter letter)) 1 idle.client }
 
-  abbrev on : Relay → ClientWithRoom ℕ → Channel
+  abbrev on : Relay → ClientWithRoom ℕ → SiteChannel
   on r k = channel (from_start r) k []
 
-  abbrev Sends : ℕ → Channel → Type 0
+  abbrev Sends : ℕ → SiteChannel → Type 0
   Sends n l = SendsRows seen orders Zero 1 (on before idle) (told.Sent n) (site (store true after) (Some (on before idle))) new_office
       (site (store true after) (Some l)) new_office
 
@@ -153,11 +153,11 @@ module _ (before sent : Relay) (nothing : (p : Pair) → marks_of before p ≡ 0
     meets = (refl, refl);
   }
 
-  abbrev receipts_of : Option Channel → ℕ
+  abbrev receipts_of : Option SiteChannel → ℕ
   receipts_of None = 0
-  receipts_of (Some l) = l.connection.client.client.receipts.last
+  receipts_of (Some l) = l.connection.channel.client.client.receipts.last
 
-  abbrev Filled : Channel → Result ℕ RelayFault → Type 0
+  abbrev Filled : SiteChannel → Result ℕ RelayFault → Type 0
   Filled later r = Fills (((seen (true, after)).doubt ≡ 0) × KnowsAll orders (from_start before) (λ t. t ≡ after)) after.unsettled 1
       (sending (on before idle)) (sending later) r
 
@@ -178,20 +178,20 @@ module _ (before sent : Relay) (nothing : (p : Pair) → marks_of before p ≡ 0
       no_letters [] zero first = let some : Some (Request 500) ≡ None = sym it_is_first.stands ∙ first (place_of letter) tt in absurd (cc)
       no_letters (l ∷ ls) zero first = omega (arith, zero)
 
-      none_sent : (r : Result ℕ RelayFault) (later : Channel) → told.Sent 0 ≡ fill_told r → Filled later r → ⊥
+      none_sent : (r : Result ℕ RelayFault) (later : SiteChannel) → told.Sent 0 ≡ fill_told r → Filled later r → ⊥
       none_sent (Ok n) later tells fills =
           let none : 0 ≡ n = cc in no_letters fills.letters (none ∙ fills.gives.0) (fills.gives.1 (refl, knows before))
       none_sent (Err (relay_fault.Endpoint f)) later tells fills = no_fault (told.Sent 0) refl f tells
       none_sent (Err _) later tells fills = absurd (cc)
 
-      one_receipt : (letters : List Letter) (later : Channel) → 1 ≡ length letters
-          → SendsLetters letters (sending (on before idle)) (sending later) → 0 ≡ later.connection.client.client.receipts.last → ⊥
+      one_receipt : (letters : List Letter) (later : SiteChannel) → 1 ≡ length letters
+          → SendsLetters letters (sending (on before idle)) (sending later) → 0 ≡ later.connection.channel.client.client.receipts.last → ⊥
       one_receipt [] later one sends same = omega (arith, one)
       one_receipt (x ∷ []) later one sends same =
           let next = ap (λ (c : SendState). c.client.receipts.last) sends.all in omega (arith, same, next)
       one_receipt (x ∷ y ∷ ls) later one sends same = omega (arith, one)
 
-      unwritten : (r : Result ℕ RelayFault) (later : Channel) → told.Sent 1 ≡ fill_told r → Filled later r
+      unwritten : (r : Result ℕ RelayFault) (later : SiteChannel) → told.Sent 1 ≡ fill_told r → Filled later r
           → Meets (fill_fate r) Zero later (site (store true after) (Some (on before idle))) new_office
           (site (store true after) (Some (on sent idle))) new_office → ⊥
       unwritten (Ok n) later tells fills meets = let one : 1 ≡ n = cc in

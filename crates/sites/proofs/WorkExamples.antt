@@ -26,7 +26,7 @@ use Rattle.sites.specs.Channels.{MailAfterCut}
 use Rattle.sites.specs.Happenings.{command_row, TakesCommand, ReopensStore, StopsSite, Happens}
 use Rattle.sites.specs.Outcomes.{fault_told, commit_told, end_told}
 use Rattle.sites.specs.SiteEvents as event
-use Rattle.sites.specs.declared.channel.Channel.{Channel}
+use Rattle.sites.specs.declared.site_channel.SiteChannel.{SiteChannel}
 use Rattle.sites.specs.declared.site.Site.{Site}
 use Rattle.sites.proofs.HappeningExamples.{asked}
 
@@ -76,7 +76,7 @@ store usable tables = record { keep = (usable, tables); armed = None; is_down = 
 abbrev pub Service : Type 0
 Service = Site ℕ Store (Option Asked) Asked
 
-abbrev pub site : Failing Store → Option Channel → Service
+abbrev pub site : Failing Store → Option SiteChannel → Service
 site e zero = record { endpoint = e; zero = zero; one = None }
 
 -- tables that match and that alone are left all match
@@ -175,7 +175,7 @@ served octets = record { broker = record no_session { sessions = record (new_ses
 abbrev pub left : Office
 left = record { broker = record no_session { opened = 1 }; earlier = [] }
 
-abbrev opened : Option Channel → ℕ
+abbrev opened : Option SiteChannel → ℕ
 opened None = 0
 opened (Some l) = 1
 
@@ -188,7 +188,7 @@ pub cut_leaves : (c : Connection) (relay : Relay) (octets : List ℕ)
 cut_leaves c relay octets = (Ok tt, record { deals = (record { handed = []; deals = refl; taken = refl }, refl); earlier = refl })
 
 module _ (c : Connection) (relay : Relay) (octets : List ℕ) where
-  abbrev l : Channel
+  abbrev l : SiteChannel
   l = record { connection = record c { session = 1 }; relay = relay }
 
   -- a store that is told to fail at its second call

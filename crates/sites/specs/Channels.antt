@@ -14,12 +14,12 @@ use Rattle.schedules.specs.declared.event.ConnectionNumber.{ConnectionNumber}
 use Rattle.schedules.specs.declared.event.ConnectionNumber.TheVariants.{Zero, One}
 use Rattle.sites.specs.declared.fate.ChannelFate.{ChannelFate}
 use Rattle.sites.specs.declared.fate.ChannelFate.TheVariants.{Stays, IsCut, BothAreCut}
-use Rattle.sites.specs.declared.channel.Channel.{Channel}
+use Rattle.sites.specs.declared.site_channel.SiteChannel.{SiteChannel}
 use Rattle.sites.specs.declared.site.Site.{Site}
 
 -- what was sent on a channel, and its client
-abbrev pub sending : Channel → SendState
-sending l = send_state l.relay l.connection.client
+abbrev pub sending : SiteChannel → SendState
+sending l = send_state l.relay l.connection.channel.client
 
 -- nothing counts as sent, and the relay's cursor leaves out no row, whatever the outbox
 pub record IsAllDue (relay : Relay) : Type 0 where
@@ -41,22 +41,22 @@ at_number Zero zero one = zero
 at_number One zero one = one
 
 -- the relay of a connection is so, where it is open
-abbrev pub ChannelHas : (Relay → Type 0) → Option Channel → Type 0
+abbrev pub ChannelHas : (Relay → Type 0) → Option SiteChannel → Type 0
 ChannelHas Is None = ⊤
 ChannelHas Is (Some l) = Is l.relay
 
 -- the mail behind the cut of a connection, where it was open; that memory was refused to the deals isn't told
-abbrev pub MailAfterCut : Option Channel → Office → Office → Type 0
+abbrev pub MailAfterCut : Option SiteChannel → Office → Office → Type 0
 MailAfterCut None from to = to ≡ from
 MailAfterCut (Some l) from to = (r : Result (Unit {0}) AllocError) × Cuts l.connection from to r
 
 module _ {H K S C : Type 0} where
   -- the connection of a number, where it is open
-  abbrev pub channel_of : ConnectionNumber → Site H K S C → Option Channel
+  abbrev pub channel_of : ConnectionNumber → Site H K S C → Option SiteChannel
   channel_of number s = at_number number s.zero s.one
 
   -- the site with this in its place
-  abbrev pub with_channel : ConnectionNumber → Option Channel → Site H K S C → Site H K S C
+  abbrev pub with_channel : ConnectionNumber → Option SiteChannel → Site H K S C → Site H K S C
   with_channel number l s = record s { zero = at_zero number l s.zero; one = at_one number l s.one }
 
   -- the relays of both connections are so, where they are open
@@ -64,7 +64,7 @@ module _ {H K S C : Type 0} where
   ChannelsHave Is s = ChannelHas Is s.zero × ChannelHas Is s.one
 
   -- a connection is taken out, where it is open
-  abbrev pub TakesChannel : ConnectionNumber → Site H K S C → Site H K S C → Option Channel → Type 0
+  abbrev pub TakesChannel : ConnectionNumber → Site H K S C → Site H K S C → Option SiteChannel → Type 0
   TakesChannel number s t (Some l) = (channel_of number s ≡ Some l) × (t ≡ with_channel number None s)
   TakesChannel number s t None = (channel_of number s ≡ None) × (t ≡ s)
 
@@ -90,7 +90,7 @@ module _ {H K S C : Type 0} where
   After (Err fault) s from t to = AfterFault fault s from t to
 
   -- an open connection, which is this now, has this fate
-  abbrev pub Meets : ChannelFate → ConnectionNumber → Channel → Site H K S C → Office → Site H K S C → Office → Type 0
+  abbrev pub Meets : ChannelFate → ConnectionNumber → SiteChannel → Site H K S C → Office → Site H K S C → Office → Type 0
   Meets Stays number l s from t to = Same (with_channel number (Some l) s) from t to
   Meets IsCut number l s from t to = MailAfterCut (Some l) from to × (t ≡ with_channel number None s)
   Meets BothAreCut number l s from t to = CutsBoth (with_channel number (Some l) s) from t to

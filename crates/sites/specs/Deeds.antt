@@ -25,18 +25,18 @@ use Rattle.schedules.specs.declared.outcome.Outcome.TheVariants.{NotDone}
 use Rattle.sites.specs.Happenings.{command_row}
 use Rattle.sites.specs.Channels.{channel_of}
 use Rattle.sites.specs.SiteEvents.{SiteEvent, Commits, Takes, Drains}
-use Rattle.sites.specs.declared.channel.Channel.{Channel}
+use Rattle.sites.specs.declared.site_channel.SiteChannel.{SiteChannel}
 use Rattle.sites.specs.declared.site.Site.{Site}
 
 -- the connections of a service by number, where they are open
 abbrev pub Channels : Type 0
-Channels = ConnectionNumber → Option Channel
+Channels = ConnectionNumber → Option SiteChannel
 
 abbrev pub channels_of : {H K S C : Type 0} → Site H K S C → Channels
 channels_of s number = channel_of number s
 
 -- this frame is the next one that came on a connection
-abbrev pub CameOn : Option Channel → Content → Type 0
+abbrev pub CameOn : Option SiteChannel → Content → Type 0
 CameOn None f = ⊥
 CameOn (Some l) f = (later : Connection) × TakesNext l.connection later (Ok (Some f))
 

@@ -46,7 +46,7 @@ use Rattle.sites.specs.SiteEvents as event
 use Rattle.sites.specs.Channels.{sending, IsAllDue, MailAfterCut, channel_of, with_channel, Same, CutsBoth, After, Meets, MeetsAlone}
 use Rattle.sites.specs.Outcomes.{commit_told, open_told, fill_told, fill_fate, rise_told, decoder_told, decoder_fate, fall_told, fall_fate}
 use Rattle.sites.specs.Outcomes.{taken_told, taken_fate, drain_told, drain_fate, end_told}
-use Rattle.sites.specs.declared.channel.Channel.{Channel}
+use Rattle.sites.specs.declared.site_channel.SiteChannel.{SiteChannel}
 use Rattle.sites.specs.declared.site.Site.{Site}
 
 -- the journal's row of a seat's command
@@ -59,7 +59,7 @@ leaves_of failure.Old = OldTables
 leaves_of failure.New = NewTables
 
 -- the channel with this connection
-abbrev pub over : Channel → Connection → Channel
+abbrev pub over : SiteChannel → Connection → SiteChannel
 over l c = record l { connection = c }
 
 -- the frame that waits behind an answer: that which wasn't taken
@@ -69,7 +69,7 @@ waiting_of (Err fault) f = waiting_after fault f
 
 module _ {H K S C : Type 0} where
   -- an event of a connection that isn't open does nothing; of one that is, this
-  abbrev pub IfOpen : Option Channel → Outcome → (s : Site H K S C) (from : Office) (t : Site H K S C) (to : Office) → (Channel
+  abbrev pub IfOpen : Option SiteChannel → Outcome → (s : Site H K S C) (from : Office) (t : Site H K S C) (to : Office) → (SiteChannel
       → Type 0) → Type 0
   IfOpen None outcome s from t to Does = (outcome ≡ told.Closed) × Same s from t to
   IfOpen (Some l) outcome s from t to Does = Does l
@@ -86,24 +86,24 @@ module _ {H K S C : Type 0} where
       × (t ≡ with_channel number (Some (record { connection = c; relay = relay })) s)
   Adds number (Err fault) s t = t ≡ s
 
-  abbrev pub OpensChannel : ConnectionNumber → Option Channel → Outcome → Site H K S C → Office → Site H K S C → Office → Type 0
+  abbrev pub OpensChannel : ConnectionNumber → Option SiteChannel → Outcome → Site H K S C → Office → Site H K S C → Office → Type 0
   OpensChannel number (Some l) outcome s from t to = (outcome ≡ told.Already) × Same s from t to
   OpensChannel number None outcome s from t to =
       (r : Result Connection OpenFault) × Opens from to r × (outcome ≡ open_told r) × Adds number r s t
 
-  abbrev pub CutsChannel : ConnectionNumber → Channel → Outcome → Site H K S C → Office → Site H K S C → Office → Type 0
+  abbrev pub CutsChannel : ConnectionNumber → SiteChannel → Outcome → Site H K S C → Office → Site H K S C → Office → Type 0
   CutsChannel number l outcome s from t to =
       (outcome ≡ told.Cut) × MailAfterCut (Some l) from to × (t ≡ with_channel number None s)
 
   -- all rows are due again
-  abbrev pub Resends : ConnectionNumber → Channel → Outcome → Site H K S C → Office → Site H K S C → Office → Type 0
+  abbrev pub Resends : ConnectionNumber → SiteChannel → Outcome → Site H K S C → Office → Site H K S C → Office → Type 0
   Resends number l outcome s from t to = (outcome ≡ told.Due)
       × ((relay : Relay) × IsAllDue relay × Same (with_channel number (Some (record l { relay = relay })) s) from t to)
 
   -- ---- octets
 
   -- the first octets that wait went over
-  pub record Rises (number : ConnectionNumber) (most : ℕ) (l : Channel) (outcome : Outcome) (s : Site H K S C) (from : Office)
+  pub record Rises (number : ConnectionNumber) (most : ℕ) (l : SiteChannel) (outcome : Outcome) (s : Site H K S C) (from : Office)
       (t : Site H K S C) (to : Office) : Type 0 where
     pub result : Result ℕ BrokerFault
     pub later : Connection
@@ -111,7 +111,7 @@ module _ {H K S C : Type 0} where
     pub tells : outcome ≡ rise_told result
     pub site : t ≡ with_channel number (Some (over l later)) s
 
-  pub record Falls (number : ConnectionNumber) (most : ℕ) (l : Channel) (outcome : Outcome) (s : Site H K S C) (from : Office)
+  pub record Falls (number : ConnectionNumber) (most : ℕ) (l : SiteChannel) (outcome : Outcome) (s : Site H K S C) (from : Office)
       (t : Site H K S C) (to : Office) : Type 0 where
     pub result : Result ℕ FrameFault
     pub later : Connection
@@ -120,7 +120,7 @@ module _ {H K S C : Type 0} where
     pub tells : outcome ≡ fall_told result
     pub meets : Meets (fall_fate result) number (over l later) s between t to
 
-  abbrev pub CarriesOn : Way → ConnectionNumber → ℕ → Channel → Outcome → Site H K S C → Office → Site H K S C → Office → Type 0
+  abbrev pub CarriesOn : Way → ConnectionNumber → ℕ → SiteChannel → Outcome → Site H K S C → Office → Site H K S C → Office → Type 0
   CarriesOn Up number most l outcome s from t to = Rises number most l outcome s from t to
   CarriesOn Down number most l outcome s from t to = Falls number most l outcome s from t to
 
@@ -145,62 +145,62 @@ module _ {H K S C : Type 0} (seen : K → Seen (Tables S C)) (service : Service 
 
   -- The rows that are due are sent, up to the limit; before CONNECTED none, and the store isn't called. Where the tables match their
   -- journal and the relay's cursor was right, none is left out, and it is right afterwards.
-  pub record SendsRows (number : ConnectionNumber) (limit : ℕ) (l : Channel) (outcome : Outcome) (s : Site H K S C) (from : Office)
+  pub record SendsRows (number : ConnectionNumber) (limit : ℕ) (l : SiteChannel) (outcome : Outcome) (s : Site H K S C) (from : Office)
       (t : Site H K S C) (to : Office) : Type 0 where
     pub result : Result ℕ RelayFault
-    pub later : Channel
-    pub idle : IfSome (idle_answer l.connection.client.client.stage)
+    pub later : SiteChannel
+    pub idle : IfSome (idle_answer l.connection.channel.client.client.stage)
         (λ answer. (result ≡ answer) × (t.endpoint ≡ s.endpoint) × (sending later ≡ sending l))
-    pub reads : l.connection.client.client.stage ≡ Connected
+    pub reads : l.connection.channel.client.client.stage ≡ Connected
         → Reads (through seen) s.endpoint t.endpoint (λ _ _. ⊤) (store_end result)
     pub keeps : Stays (through seen) s.endpoint t.endpoint
     pub unused : (through seen s.endpoint).usable ≡ false → sending later ≡ sending l
-    pub fills : l.connection.client.client.stage ≡ Connected
+    pub fills : l.connection.channel.client.client.stage ≡ Connected
         → Fills (((seen t.endpoint.keep).doubt ≡ 0) × KnowsAll service l.relay (seen s.endpoint.keep).may_leave)
         (seen s.endpoint.keep).tables.unsettled limit (sending l) (sending later) result
     pub knows : (seen t.endpoint.keep).doubt ≡ 0 → KnowsAll service l.relay (seen s.endpoint.keep).may_leave
         → KnowsAll service later.relay (seen t.endpoint.keep).may_leave
-    pub rest : later.connection ≡ record l.connection { client = later.connection.client }
+    pub rest : later.connection ≡ record l.connection { channel = record l.connection.channel { client = later.connection.channel.client } }
     pub tells : outcome ≡ fill_told result
     pub meets : Meets (fill_fate result) number later (with_store t.endpoint s) from t to
 
   -- ---- receiving
 
   -- a frame is taken, from a connection that is this behind it
-  pub record TakesFrame (number : ConnectionNumber) (l : Channel) (f : Content) (outcome : Outcome) (s : Site H K S C) (from : Office)
+  pub record TakesFrame (number : ConnectionNumber) (l : SiteChannel) (f : Content) (outcome : Outcome) (s : Site H K S C) (from : Office)
       (t : Site H K S C) (to : Office) : Type 0 where
     pub result : Result Taken ReceptionFault
     pub client : ClientWithRoom ℕ
-    pub answers : Answers service.kind f l.connection.client.client client.client result
+    pub answers : Answers service.kind f l.connection.channel.client.client client.client result
     pub comes : ComesBy (through seen) s.endpoint t.endpoint service (TakeMay service f result)
     pub used : TellsOfUse (through seen) service.kind f s.endpoint t.endpoint result
     pub tells : outcome ≡ taken_told result
     pub meets : Meets (taken_fate result) number
-        (over l (record l.connection { client = client; waiting = waiting_of result f })) (with_store t.endpoint s) from t to
+        (over l (record l.connection { channel = record l.connection.channel { client = client; waiting = waiting_of result f } })) (with_store t.endpoint s) from t to
 
   -- what came: no whole frame, and nothing is done; a frame; or a fault of the octets
-  abbrev pub TakesWhat : Result (Option Content) FrameFault → ConnectionNumber → Channel → Outcome → Site H K S C → Office → Site H K S C
+  abbrev pub TakesWhat : Result (Option Content) FrameFault → ConnectionNumber → SiteChannel → Outcome → Site H K S C → Office → Site H K S C
       → Office → Type 0
   TakesWhat (Ok None) number l outcome s from t to = (outcome ≡ told.Idle) × Same (with_channel number (Some l) s) from t to
   TakesWhat (Ok (Some f)) number l outcome s from t to = TakesFrame number l f outcome s from t to
   TakesWhat (Err fault) number l outcome s from t to = (outcome ≡ decoder_told fault) × Meets (decoder_fate fault) number l s from t to
 
-  abbrev pub TakesOne : ConnectionNumber → Channel → Outcome → Site H K S C → Office → Site H K S C → Office → Type 0
+  abbrev pub TakesOne : ConnectionNumber → SiteChannel → Outcome → Site H K S C → Office → Site H K S C → Office → Type 0
   TakesOne number l outcome s from t to = (came : Result (Option Content) FrameFault) × (later : Connection)
       × TakesNext l.connection later came × TakesWhat came number (over l later) outcome s from t to
 
   -- ---- held letters
 
   -- the first held letter that is next is handled; a connected client settles it
-  pub record DrainsOver (number : ConnectionNumber) (l : Channel) (outcome : Outcome) (s : Site H K S C) (from : Office) (t : Site H K S C)
+  pub record DrainsOver (number : ConnectionNumber) (l : SiteChannel) (outcome : Outcome) (s : Site H K S C) (from : Office) (t : Site H K S C)
       (to : Office) : Type 0 where
     pub result : Result (Option Drained) ReceptionFault
     pub client : ClientWithRoom ℕ
-    pub wrote : DrainWrites l.connection.client.client client.client result
+    pub wrote : DrainWrites l.connection.channel.client.client client.client result
     pub comes : ComesBy (through seen) s.endpoint t.endpoint service (DrainsMay service result)
     pub used : TellsOfDraining (through seen) s.endpoint t.endpoint result
     pub tells : outcome ≡ drain_told result
-    pub meets : Meets (drain_fate result) number (over l (record l.connection { client = client })) (with_store t.endpoint s) from t to
+    pub meets : Meets (drain_fate result) number (over l (record l.connection { channel = record l.connection.channel { client = client } })) (with_store t.endpoint s) from t to
 
   -- where the connection isn't open, nobody settles it
   pub record DrainsAlone (outcome : Outcome) (s : Site H K S C) (from : Office) (t : Site H K S C) (to : Office) : Type 0 where
@@ -210,7 +210,7 @@ module _ {H K S C : Type 0} (seen : K → Seen (Tables S C)) (service : Service 
     pub tells : outcome ≡ drain_told result
     pub meets : MeetsAlone (drain_fate result) (with_store t.endpoint s) from t to
 
-  abbrev pub DrainsOne : ConnectionNumber → Option Channel → Outcome → Site H K S C → Office → Site H K S C → Office → Type 0
+  abbrev pub DrainsOne : ConnectionNumber → Option SiteChannel → Outcome → Site H K S C → Office → Site H K S C → Office → Type 0
   DrainsOne number None outcome s from t to = DrainsAlone outcome s from t to
   DrainsOne number (Some l) outcome s from t to = DrainsOver number l outcome s from t to
 

@@ -20,17 +20,13 @@
 //! The answer is true.
 #![tactic(auto)]
 
-mod carrying;
-mod channel;
 mod fate;
 mod laws;
 mod outcomes;
-mod receiving;
-mod relaying;
 mod site;
-mod storing;
+mod site_channel;
 
-pub use channel::Channel;
 pub use fate::ChannelFate;
 pub use laws::cursors_stay_right;
 pub use site::Site;
+pub use site_channel::SiteChannel;

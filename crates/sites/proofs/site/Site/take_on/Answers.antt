@@ -1,6 +1,7 @@
 use Rattle.std.proofs.Common.{◌≡◌, Some, refl, sym, subst}
 use Rattle.std.specs.Prelude.{Ok}
-use Rattle.mail.specs.Connecting.{TakesNext}
+use Rattle.channel.specs.Calls.{GivesNext}
+use Rattle.mail.specs.declared.connection.Connection.{Connection}
 use Rattle.sites.specs.Deeds.{CameOn, FrameMay}
 use Rattle.sites.proofs.Going.{comes_more}
 use Rattle.sites.proofs.Telling.{frame_more}
@@ -11,8 +12,9 @@ returns-in-Ok-Some-clause-comes g c =
     let service = g.H.Handler.service in
     let frame = c.in-Ok-Some.frame in
     let was : c.next.result ≡ Ok (Some frame) = cc (c.in-Ok-Some.is, c.in-Ok-Some.field-0-is) in
+    let later : Connection = record c.args.channel.connection { channel = c.next.new.self } in
     let came : CameOn (Some c.args.channel) frame =
-    (c.next.new.self, subst (TakesNext c.args.channel.connection c.next.new.self) was c.next.ensures) in
+    (later, (subst (GivesNext c.args.channel.connection.channel c.next.new.self) was c.next.ensures.gives, refl)) in
     comes_more g.K.Keep.seen c.args.self.now.endpoint c.take_frame.new.self.endpoint c.take_frame.new.self.endpoint service
     c.take_frame.result (FrameMay service (λ f. f ≡ frame) c.take_frame.result)
     (FrameMay service (CameOn (Some c.args.channel)) c.take_frame.result)
