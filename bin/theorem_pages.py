@@ -25,7 +25,7 @@ PROMISE = [
     ("and so", "the partners of each order agree, and stock and credit are conserved (`AllAgree`, by `agree`)."),
 ]
 
-SIGHT, GOOD, WORLD_GOOD = ("accord", "specs/Sight"), ("accord", "specs/Good"), ("schedule_runner", "specs/Good")
+SIGHT, GOOD, WORLD_GOOD = ("laws_stores", "specs/Sight"), ("laws_stores", "specs/Good"), ("schedule_runner", "specs/Good")
 PREMISES = (
     "`World::run` has no `requires`: it may be called with any events and in any world, and its clauses themselves ask for what they need."
     " `clean` asks for nothing, `did` only inside itself, event by event (`Passed`); `matching`, `goes` and `told` ask for the first two"
@@ -179,7 +179,7 @@ WORDS = [
 
 # ---- examples: of a definition (crate, file, name), the lemma of one that holds and of one that doesn't (crate, file of proofs/, lemma)
 
-TRADE, AGREEMENT, ACCORD = ("trade", "Examples"), ("agreement", "Examples"), ("accord", "Examples")
+TRADE, AGREEMENT, ACCORD = ("trade", "Examples"), ("laws_journals", "Examples"), ("laws_stores", "Examples")
 TOLD, PATH, WORLDS = (("schedule_runner", f"{it}Examples") for it in ("Told", "Path", "Good"))
 EXAMPLES = [
     ("activities", "specs/Journal", "state_of", (*TRADE, "states_are_by_order"), None),
@@ -188,17 +188,17 @@ EXAMPLES = [
     ("activities", "specs/Journal", "IsLegal", (*TRADE, "placed_and_answered"), (*TRADE, "a_repeated_letter_is_not_legal")),
     ("trade", "specs/Orders", "order_reactions", (*TRADE, "all_have_to_hold"), None),
     ("activities", "specs/Follow", "MayFollow", (*TRADE, "the_next_letter_may_follow"), (*TRADE, "no_other_seat_may_command")),
-    ("agreement", "specs/Journals", "HandlesPrefixes", (*AGREEMENT, "beginnings_are_handled"), (*AGREEMENT, "nobody_asked")),
-    ("agreement", "specs/Envelopes", "IsAuthentic", (*AGREEMENT, "a_request_is_authentic"), (*AGREEMENT, "others_are_not_authentic")),
-    ("agreement", "specs/Envelopes", "SettledAreHandled", (*AGREEMENT, "marks_are_of_what_was_handled"),
+    ("laws_journals", "specs/Journals", "HandlesPrefixes", (*AGREEMENT, "beginnings_are_handled"), (*AGREEMENT, "nobody_asked")),
+    ("laws_journals", "specs/Envelopes", "IsAuthentic", (*AGREEMENT, "a_request_is_authentic"), (*AGREEMENT, "others_are_not_authentic")),
+    ("laws_journals", "specs/Envelopes", "SettledAreHandled", (*AGREEMENT, "marks_are_of_what_was_handled"),
      (*AGREEMENT, "a_mark_is_not_ahead")),
-    ("agreement", "specs/Agreement", "PartnersAgree", (*AGREEMENT, "shipped_and_held"), (*AGREEMENT, "shipped_and_released")),
+    ("laws_journals", "specs/Agreement", "PartnersAgree", (*AGREEMENT, "shipped_and_held"), (*AGREEMENT, "shipped_and_released")),
     ("endpoint", "specs/Matches", "TablesMatchJournal", (*ACCORD, "empty_matches"), (*ACCORD, "a_row_alone_does_not_match")),
-    ("accord", "specs/Sight", "AreMatching", (*ACCORD, "the_tables_match"), (*ACCORD, "the_tables_match")),
-    ("accord", "specs/Sight", "MayLeave", (*ACCORD, "each_leaves_its_own"), (*ACCORD, "each_leaves_its_own")),
-    ("accord", "specs/Good", "IsGenuine", (*ACCORD, "sent_letters_are_genuine"), (*ACCORD, "sent_letters_are_genuine")),
-    ("accord", "specs/Good", "IsGood", (*ACCORD, "others_are_not_good"), (*ACCORD, "others_are_not_good")),
-    ("accord", "specs/Good", "AllAgree", (*ACCORD, "all_agree_at_the_end"), (*ACCORD, "released_and_billed")),
+    ("laws_stores", "specs/Sight", "AreMatching", (*ACCORD, "the_tables_match"), (*ACCORD, "the_tables_match")),
+    ("laws_stores", "specs/Sight", "MayLeave", (*ACCORD, "each_leaves_its_own"), (*ACCORD, "each_leaves_its_own")),
+    ("laws_stores", "specs/Good", "IsGenuine", (*ACCORD, "sent_letters_are_genuine"), (*ACCORD, "sent_letters_are_genuine")),
+    ("laws_stores", "specs/Good", "IsGood", (*ACCORD, "others_are_not_good"), (*ACCORD, "others_are_not_good")),
+    ("laws_stores", "specs/Good", "AllAgree", (*ACCORD, "all_agree_at_the_end"), (*ACCORD, "released_and_billed")),
     ("schedule_runner", "specs/Good", "IsGoodWorld", (*WORLDS, "worlds_are_good"), (*WORLDS, "services_are_not_good")),
     ("schedule_runner", "specs/Sight", "StaysMatching", (*PATH, "tables_stay_matching"), (*PATH, "tables_stay_matching")),
     ("schedule_runner", "specs/Good", "Agrees", (*WORLDS, "worlds_stay_good"), (*WORLDS, "worlds_stay_good")),
@@ -216,11 +216,11 @@ EXAMPLES = [
 
 SHOWS = ("Tells", "RowOf", "ListOf", "ShowsPair")
 # what pages leave to those behind them
-OF_EVENTS = [("schedule_runner", "specs/Steps", "Happened"), ("schedule_runner", "specs/Deeds", "Step"), ("sites", "site", "Site"),
-             ("mail", "mail", "Mail"), ("mail", "specs/Offices", "new_office"), ("mail", "specs/Offices", "Office"),
-             ("mail", "connection", "Connection"), ("mail", "specs/Connecting", "TakesNext"),
-             ("sites", "specs/Cursors", "AreRight")]
-OF_MAIL = [("genuine", "specs/Three", "Genuine")]
+OF_EVENTS = [("schedule_runner", "specs/Steps", "Happened"), ("schedule_runner", "specs/Deeds", "Step"), ("schedule_service", "site", "Site"),
+             ("schedule_mail", "mail", "Mail"), ("schedule_mail", "specs/Offices", "new_office"), ("schedule_mail", "specs/Offices", "Office"),
+             ("schedule_mail", "connection", "Connection"), ("schedule_mail", "specs/Connecting", "TakesNext"),
+             ("schedule_service", "specs/Cursors", "AreRight")]
+OF_MAIL = [("laws_events", "specs/Three", "Genuine")]
 OF_STORE = [("keep", "store", "Keep")]
 OF_SERVICE = [("endpoint", "endpoint", "WindowedEndpoint"), ("keep", "faulty", "Faulty"), ("keep", "specs/Failing", "through")]
 OF_SHOWS = [("schedule_runner", "specs/Shows", it) for it in SHOWS] + [("schedule_runner", "specs/Agreeing", "TellsAgreement")]
@@ -312,9 +312,9 @@ CORE = {
           "It has no event that puts octets of its own on a wire, changes one of those that are there, or their order, or changes the"
           " tables of a store behind its back. The events that are left only run many of these at once (`Pump`) or look (`Show` and those"
           " behind it). How a line is spelled is on [THEOREM-PROGRAM.md](THEOREM-PROGRAM.md)."],
-         [("schedules", "event", "Event")], True),
+         [("schedule_text", "event", "Event")], True),
         ("What events speak of", ["The seats, services, connections and commands that stand in an event."],
-         [("schedules", "event", "Event"), *[("base", "specs/Entity", it) for it in ("order_of", "stock_of", "account_of")]]),
+         [("schedule_text", "event", "Event"), *[("base", "specs/Entity", it) for it in ("order_of", "stock_of", "account_of")]]),
         ("A world at the beginning", ["The call that opens a world, over stores that may have tables already. Each store stands in one"
                                      " that fails where `Fail` has told it to (`Faulty`), and else does what the store in it does."],
          [("schedule_runner", "world", "World::open")], True),
@@ -333,13 +333,13 @@ CORE = {
         ("Three journals that fit each other",
          ["What each sender's journal sends, its receiver's journal handles in that order, and no further; and what is said of a journal,"
           " by an envelope or by a mark, is true of it."],
-         [("agreement", "specs/Journals", "HandlesPrefixes"), ("agreement", "specs/Journals", "AreLawful"),
-          ("agreement", "specs/Envelopes", "IsAuthentic"), ("agreement", "specs/Envelopes", "SettledAreHandled")]),
+         [("laws_journals", "specs/Journals", "HandlesPrefixes"), ("laws_journals", "specs/Journals", "AreLawful"),
+          ("laws_journals", "specs/Envelopes", "IsAuthentic"), ("laws_journals", "specs/Envelopes", "SettledAreHandled")]),
         ("Partners that agree",
          ["What follows for each order: it asks one to eight stocks and an account, its partners. None of them has shipped or billed while"
           " another has released or refused. One may have done it while another still holds what it was asked for: it can't refuse any"
           " more, but that it ever hears of it isn't promised."],
-         [("agreement", "specs/Agreement", it) for it in ("states_in", "PartnersAgree", "AreSound")]),
+         [("laws_journals", "specs/Agreement", it) for it in ("states_in", "PartnersAgree", "AreSound")]),
         ("Tables, and when they match a journal",
          ["A service's store keeps the journal, and beside it what the service reads instead of going over the journal anew. All of that"
           " follows of the journal, but the settled marks and the letters that came too early."],
@@ -416,7 +416,7 @@ EVENTS = {
         ("One event alone", ["The same promises of one event."], [("schedule_runner", "running", "World::step")], True),
         ("What a world is made of", ["Of each service its endpoint and two channels, and the mail, which is the broker with what it ever"
                                      " accepted."],
-         [("sites", "site", "Site"), ("mail", "mail", "Mail"), ("mail", "specs/Offices", "new_office")]),
+         [("schedule_service", "site", "Site"), ("schedule_mail", "mail", "Mail"), ("schedule_mail", "specs/Offices", "new_office")]),
         ("What each event does to the world", ["By an event and its outcome, of two worlds, before it and after it."],
          [("schedule_runner", "specs/Steps", "Happened")]),
         ("What each event does to the tables", ["The same, with tables of each service that a stop may leave."],
@@ -424,7 +424,7 @@ EVENTS = {
         ("What relays know of an outbox",
          ["A relay has a cursor, so that it needn't go over the outbox from the first row each time: up to there all was sent. It is right"
           " of each content that a stop may leave, and stays so, whichever event comes."],
-         [("sites", "specs/Cursors", "AreRight"), ("sites", "laws", "cursors_stay_right")]),
+         [("schedule_service", "specs/Cursors", "AreRight"), ("schedule_service", "laws", "cursors_stay_right")]),
     ],
 }
 
@@ -452,7 +452,7 @@ JOURNALS = {
     "behind": ["docs/THEOREM.md", "docs/THEOREM-STORE.md", "docs/THEOREM-SERVICE.md", "docs/THEOREM-EVENTS.md"],
     "sections": [
         ("Three journals agree", ["Each of these is a lemma that is called: its contract is what it proves."],
-         [("agreement", "laws", it) for it in ("a_row_keeps_the_laws", "a_mark_keeps_the_laws", "stays_lawful", "stays_authentic", "agree",
+         [("laws_journals", "laws", it) for it in ("a_row_keeps_the_laws", "a_mark_keeps_the_laws", "stays_lawful", "stays_authentic", "agree",
                                                "refused_are_left_alone")]),
     ],
 }
@@ -484,12 +484,12 @@ BROKER = {
     "signs": True,
     "sections": [
         ("A broker loses nothing and lets nothing overtake",
-         ["Over any calls of a broker, by any sessions, also where memory was refused. `Lives` says which: `calls.rt` of `broker_laws` has"
+         ["Over any calls of a broker, by any sessions, also where memory was refused. `Lives` says which: `calls.rt` of `laws_broker` has"
           " each call with the contract that it is one of these."],
-         [("broker_laws", "laws", it) for it in ("no_message_is_lost", "messages_were_sent", "accepted_sends_are_told_once",
+         [("laws_broker", "laws", it) for it in ("no_message_is_lost", "messages_were_sent", "accepted_sends_are_told_once",
                                                  "no_message_overtakes", "frames_are_handled_in_order_all_life")]),
         ("What a client reads was sent", ["The broker between its clients, over wires that cut what is written in any pieces."],
-         [("broker_laws", "texts", it) for it in ("what_a_client_wrote_is_handled", "each_message_was_sent", "each_receipt_was_asked_for",
+         [("laws_broker", "texts", it) for it in ("what_a_client_wrote_is_handled", "each_message_was_sent", "each_receipt_was_asked_for",
                                                   "a_client_refuses_nothing")]),
         ("Frames come out of a text however it is cut",
          ["The decoder's two calls, and what follows of every way to cut a text into pieces."],

@@ -1,20 +1,20 @@
 //! One example for the page of each library that needs no service.
 
-ghost use Rattle.broker_laws.specs.Runs.{NoLifeLosesAny};
-ghost use Rattle.broker_laws.specs.Carried.{ReadMessagesWereSent};
+ghost use Rattle.laws_broker.specs.Runs.{NoLifeLosesAny};
+ghost use Rattle.laws_broker.specs.Carried.{ReadMessagesWereSent};
 
 use base::limits::MAX_QUEUED;
 use base::{Entity, EntityFault, Key, Kind};
 use broker_book::{Action, Mode, QueueFault, Sent, Shared};
 use broker_core::{Broker, BrokerFault};
 use broker_index::Destinations;
-use broker_laws::{each_message_was_sent, no_message_is_lost};
+use laws_broker::{each_message_was_sent, no_message_is_lost};
 use broker_queues::Queues;
 use broker_server::Stop;
 use broker_tx::{TransactionFault, Transactions};
 use channel::Channel;
 use command_line::tell_bad_words;
-use line_script::{LineFault, read_octets};
+use test_script::{LineFault, read_octets};
 use receipts::{ReceiptFault, Receipts};
 use std::alloc::Global;
 use std::io;

@@ -37,7 +37,7 @@ fn print_frames(rt: &impl Print, alloc: Global) -> Result<()> {
     tell(rt, "base", an_entity_is_named_again(alloc))?;
     tell(rt, "text", a_line_is_read_again(alloc))?;
     tell(rt, "stomp_wire", what_was_put_is_taken(alloc))?;
-    tell(rt, "line_script", printed_octets_are_read(alloc))?;
+    tell(rt, "test_script", printed_octets_are_read(alloc))?;
     tell(rt, "command_line", words_that_are_no_text_are_told(alloc))?;
     tell(rt, "stomp_frame", a_frame_is_read_from_pieces(alloc))
 }

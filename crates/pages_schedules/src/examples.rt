@@ -2,26 +2,26 @@
 
 ghost use Rattle.std.specs.Prelude.{Bool};
 ghost use Rattle.envelope.specs.declared.message.Envelope.{Envelope};
-ghost use Rattle.genuine.specs.Laws.{EventPasses};
-ghost use Rattle.mail.specs.Offices.{Office};
-ghost use Rattle.passage.specs.Laws.{ReadingPasses};
-ghost use Rattle.sites.specs.declared.site.Site.{Site};
+ghost use Rattle.laws_events.specs.Laws.{EventPasses};
+ghost use Rattle.schedule_mail.specs.Offices.{Office};
+ghost use Rattle.laws_mail.specs.Laws.{ReadingPasses};
+ghost use Rattle.schedule_service.specs.declared.site.Site.{Site};
 
 use activities::Handler;
 use base::Entity;
 use billing::Accounts;
 use endpoint::Endpoint;
-use genuine::each_event_makes_nothing_up;
+use laws_events::each_event_makes_nothing_up;
 use keep::{Faulty, Keep};
 use keep_plain::PlainKeep;
-use mail::{Connection, Mail, OpenFault};
-use passage::what_is_read_passes;
+use schedule_mail::{Connection, Mail, OpenFault};
+use laws_mail::what_is_read_passes;
 use programs::{RunFault, run_text};
 use purchasing::Orders;
 use schedule_runner::World;
-use schedules::{ConnectionName, ConnectionNumber, ScheduleFault, read_schedule};
-use showing::show_row;
-use sites::Site;
+use schedule_text::{ConnectionName, ConnectionNumber, ScheduleFault, read_schedule};
+use schedule_shows::show_row;
+use schedule_service::Site;
 use std::alloc::{AllocError, Global};
 use warehouse::{Stock, Stocks};
 
@@ -51,7 +51,7 @@ pub fn nothing_is_sent_where_no_connection_is_open(alloc: Global) -> Result<bool
     let mut site = Site::new(purchasing);
     let mut mail = Mail::new(alloc);
     let outcome = site.fill(&mut mail, ConnectionNumber::Zero, 64);
-    Ok(matches!(outcome, schedules::Outcome::Closed))
+    Ok(matches!(outcome, schedule_text::Outcome::Closed))
 }
 
 pub fn a_service_that_acts_makes_nothing_up<H, K>()
@@ -68,9 +68,9 @@ pub fn an_open_connection_stays_open(
     world: &mut World<PlainKeep<Orders>, PlainKeep<Stocks>, PlainKeep<Accounts>>,
     connection: ConnectionName,
 ) -> bool {
-    let open = schedules::Event::Open(connection);
+    let open = schedule_text::Event::Open(connection);
     let _opened = world.step(&open);
-    matches!(world.step(&open), schedules::Outcome::Already)
+    matches!(world.step(&open), schedule_text::Outcome::Already)
 }
 
 pub fn a_row_is_shown(alloc: Global, bolt: &Entity) -> Result<bool, AllocError> {

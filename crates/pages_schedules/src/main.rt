@@ -13,7 +13,7 @@ use examples::{
 use keep_plain::PlainKeep;
 use programs::open_world;
 use purchasing::Orders;
-use schedules::{ConnectionName, ConnectionNumber, ServiceName};
+use schedule_text::{ConnectionName, ConnectionNumber, ServiceName};
 use std::alloc::Global;
 use std::error::Error;
 use std::fmt::Debug;

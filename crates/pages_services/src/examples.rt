@@ -1,22 +1,22 @@
 //! One example for the page of each library of services.
 
 ghost use Rattle.std.specs.Prelude.{◌≤◌};
-ghost use Rattle.accord.specs.Deeds.{Turns};
-ghost use Rattle.accord.specs.Good.{HoldsAuthentic, journals_of};
-ghost use Rattle.accord.specs.Sight.{AllTables};
-ghost use Rattle.agreement.specs.Envelopes.{IsAuthentic};
-ghost use Rattle.agreement.specs.Journals.{AreLawful};
-ghost use Rattle.agreement.specs.Steps.{Configuration, Reaches};
+ghost use Rattle.laws_stores.specs.Deeds.{Turns};
+ghost use Rattle.laws_stores.specs.Good.{HoldsAuthentic, journals_of};
+ghost use Rattle.laws_stores.specs.Sight.{AllTables};
+ghost use Rattle.laws_journals.specs.Envelopes.{IsAuthentic};
+ghost use Rattle.laws_journals.specs.Journals.{AreLawful};
+ghost use Rattle.laws_journals.specs.Steps.{Configuration, Reaches};
 ghost use Rattle.base.specs.declared.pair.Pair.{Pair};
 
-use accord::a_turn_keeps_the_laws;
+use laws_stores::a_turn_keeps_the_laws;
 use activities::{Handler, HandlerFault, Input, Outs};
-use agreement::stays_authentic;
+use laws_journals::stays_authentic;
 use base::{Entity, Key, Number, Pair};
 use billing::Accounts;
 use endpoint::{EndFault, Endpoint};
 use envelope::{Envelope, EnvelopeFault, Letter, Message, to_send};
-use exchange::{Delivery, Event, Network, Outcome, exchange};
+use laws_network::{Delivery, Event, Network, Outcome, exchange};
 use hotel::{Room, Rooms};
 use inbox::{Class, classify};
 use keep::{Change, Keep, KeepFault};
@@ -175,7 +175,7 @@ pub fn services_without_orders_agree(
     billing: &mut Endpoint<Accounts, PlainKeep<Accounts>>,
 ) -> bool {
     matches!(
-        audit::agreement(alloc, purchasing, warehouse, billing),
+        schedule_audit::agreement(alloc, purchasing, warehouse, billing),
         Ok(true)
     )
 }

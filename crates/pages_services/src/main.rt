@@ -18,7 +18,7 @@ use examples::{
     services_without_orders_agree, so_much_is_on_hand, so_much_is_the_limit,
     tables_hold_nothing_at_first, what_comes_early_waits,
 };
-use exchange::{Delivery, Event, Network, Outcome, exchange};
+use laws_network::{Delivery, Event, Network, Outcome, exchange};
 use hotel::{RoomCommand, Rooms};
 use hotel_day::a_day_at_the_hotel;
 use keep::{Faulty, Keep, KeepFault, Leaves};

@@ -2,11 +2,11 @@
 use Rattle.std.proofs.Common.{◌≡◌, List, [], ◌++◌, length, take, Result, OnOk, refl, sym, ap, subst, ◌∙◌}
 use Rattle.std.proofs.Math.Logic.{∥∥₁_map}
 use Rattle.endpoint.specs.Matches.{TablesMatchJournal}
-use Rattle.schedules.specs.declared.event.Event.{Event}
-use Rattle.schedules.specs.declared.outcome.Outcome.{Outcome}
+use Rattle.schedule_text.specs.declared.event.Event.{Event}
+use Rattle.schedule_text.specs.declared.outcome.Outcome.{Outcome}
 use Rattle.schedule_runner.specs.Paths.{IsPath, Makes}
 use Rattle.schedule_runner.specs.Runs.{Ran}
-use Rattle.accord.specs.Sight.{AllTables, MayLeave, AreMatching, all_empty, orders_service, stocks_service, accounts_service}
+use Rattle.laws_stores.specs.Sight.{AllTables, MayLeave, AreMatching, all_empty, orders_service, stocks_service, accounts_service}
 use Rattle.schedule_runner.specs.Sight.{StaysMatching, sight}
 use Rattle.schedule_runner.specs.Good.{IsGoodWorld, StaysGood, Agrees}
 use Rattle.schedule_runner.specs.Passing.{Passed}

@@ -9,10 +9,10 @@ use Rattle.activities.specs.declared.handler.Refusal.TheVariants.{NotOpen}
 use Rattle.clap.specs.Faults.{walk_fault, defaults_fault}
 use Rattle.clap.specs.Words.{Kinds, fault_of}
 use Rattle.clap.specs.declared.error.kind.ErrorKind.TheVariants.{DisplayHelp, DisplayVersion, UnknownArgument}
-use Rattle.schedules.specs.declared.event.Event.{Event}
-use Rattle.schedules.specs.declared.event.Event.TheVariants.{Order}
-use Rattle.schedules.specs.declared.outcome.Outcome.TheVariants.{NotDone}
-use Rattle.schedules.specs.Events.{events_of}
+use Rattle.schedule_text.specs.declared.event.Event.{Event}
+use Rattle.schedule_text.specs.declared.event.Event.TheVariants.{Order}
+use Rattle.schedule_text.specs.declared.outcome.Outcome.TheVariants.{NotDone}
+use Rattle.schedule_text.specs.Events.{events_of}
 use Rattle.programs.specs.declared.fault.RunFault.TheVariants.{BadEvent, Memory, Device}
 use Rattle.programs.specs.Ends.{Writers, lines_of, IsRunOf, IsUnread, IsRunFrom, IsEndOf, IsUntold, fault_line}
 use Rattle.programs.specs.Runs.{HasRun}

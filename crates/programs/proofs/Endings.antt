@@ -4,15 +4,15 @@ use Rattle.std.proofs.lemmas.List.{take_all}
 use Rattle.std.specs.Prelude.{IfSome, IfOk, OnErr, MatchResult}
 use Rattle.std.specs.Global.{Vec}
 use Rattle.std.specs.Io.KnownBytes.{Appends}
-use Rattle.schedules.specs.declared.event.Event.{Event}
-use Rattle.schedules.specs.declared.outcome.Outcome.{Outcome}
-use Rattle.schedules.specs.declared.fault.ScheduleFault.{ScheduleFault}
-use Rattle.schedules.specs.declared.fault.ScheduleFault.TheVariants as read
+use Rattle.schedule_text.specs.declared.event.Event.{Event}
+use Rattle.schedule_text.specs.declared.outcome.Outcome.{Outcome}
+use Rattle.schedule_text.specs.declared.fault.ScheduleFault.{ScheduleFault}
+use Rattle.schedule_text.specs.declared.fault.ScheduleFault.TheVariants as read
 use Rattle.programs.specs.declared.fault.RunFault.{RunFault}
 use Rattle.programs.specs.declared.fault.RunFault.TheVariants.{Memory, Device}
 use Rattle.programs.specs.RunFaults.{run_fault_of}
-use Rattle.schedules.specs.Events.{events_of}
-use Rattle.schedules.specs.Faults.{IsRead}
+use Rattle.schedule_text.specs.Events.{events_of}
+use Rattle.schedule_text.specs.Faults.{IsRead}
 use Rattle.programs.specs.Runs.{HasRun, HasBegun}
 use Rattle.programs.specs.Ends.{fault_line, lines_of, IsRunOf, IsRunFrom}
 use Rattle.command_line.specs.Written.{AppendsPart}

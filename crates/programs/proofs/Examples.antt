@@ -2,7 +2,7 @@
 use Rattle.std.proofs.Common.{◌≡◌, refl}
 use Rattle.std.specs.Prelude.{codes}
 use Rattle.std.specs.Fmt.{digits}
-use Rattle.schedules.specs.declared.fault.ScheduleFault.TheVariants as read
+use Rattle.schedule_text.specs.declared.fault.ScheduleFault.TheVariants as read
 use Rattle.programs.specs.declared.fault.RunFault.TheVariants.{BadEvent, Memory, Device}
 use Rattle.programs.specs.Ends.{fault_line}
 use Rattle.programs.specs.RunFaults.{run_fault_of}

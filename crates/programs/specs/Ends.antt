@@ -2,10 +2,10 @@
 use Rattle.std.specs.Prelude.{◌≡◌, ◌⊎◌, ℕ, List, ◌++◌, codes, decimal, Option, Result, Ok, Err, IfSome}
 use Rattle.std.specs.List.{flat_map}
 use Rattle.std.specs.Io.KnownBytes.{Appends}
-use Rattle.schedules.specs.declared.event.Event.{Event}
-use Rattle.schedules.specs.declared.outcome.Outcome.{Outcome}
-use Rattle.schedules.specs.Events.{events_of}
-use Rattle.schedules.specs.Outcomes.{outcome_lines}
+use Rattle.schedule_text.specs.declared.event.Event.{Event}
+use Rattle.schedule_text.specs.declared.outcome.Outcome.{Outcome}
+use Rattle.schedule_text.specs.Events.{events_of}
+use Rattle.schedule_text.specs.Outcomes.{outcome_lines}
 use Rattle.programs.specs.declared.fault.RunFault.{RunFault}
 use Rattle.programs.specs.declared.fault.RunFault.TheVariants.{BadEvent, Memory, Device}
 use Rattle.programs.specs.Runs.{HasRun, HasBegun}

@@ -1,6 +1,6 @@
 -- What ends a run whose schedule can't be read.
-use Rattle.schedules.specs.declared.fault.ScheduleFault.{ScheduleFault}
-use Rattle.schedules.specs.declared.fault.ScheduleFault.TheVariants as read
+use Rattle.schedule_text.specs.declared.fault.ScheduleFault.{ScheduleFault}
+use Rattle.schedule_text.specs.declared.fault.ScheduleFault.TheVariants as read
 use Rattle.programs.specs.declared.fault.RunFault.{RunFault}
 use Rattle.programs.specs.declared.fault.RunFault.TheVariants as run
 

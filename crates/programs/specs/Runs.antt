@@ -15,12 +15,12 @@ use Rattle.keep.specs.Tables.{Tables, empty}
 use Rattle.keep_plain.specs.Memory.{in_memory, tables_of}
 use Rattle.keep_plain.specs.declared.plain.PlainKeep.{PlainKeep}
 use Rattle.endpoint.specs.Matches.{TablesMatchJournal}
-use Rattle.schedules.specs.declared.event.Event.{Event}
-use Rattle.schedules.specs.declared.outcome.Outcome.{Outcome}
-use Rattle.mail.specs.Offices.{new_office}
+use Rattle.schedule_text.specs.declared.event.Event.{Event}
+use Rattle.schedule_text.specs.declared.outcome.Outcome.{Outcome}
+use Rattle.schedule_mail.specs.Offices.{new_office}
 use Rattle.schedule_runner.specs.Paths.{IsPath, Makes}
-use Rattle.accord.specs.Sight.{AllTables, orders_service, stocks_service, accounts_service}
-use Rattle.accord.specs.Good.{AllAgree}
+use Rattle.laws_stores.specs.Sight.{AllTables, orders_service, stocks_service, accounts_service}
+use Rattle.laws_stores.specs.Good.{AllAgree}
 use Rattle.schedule_runner.specs.Good.{IsGoodWorld}
 use Rattle.schedule_runner.specs.Passing.{Passed}
 use Rattle.schedule_runner.specs.Sight.{sight}

@@ -1,7 +1,7 @@
 -- What is written of pairs.
 use Rattle.std.specs.Prelude.{ℕ, List, [], ◌∷◌, ◌++◌, codes, decimal}
 use Rattle.base.specs.declared.pair.Pair.{Pair}
-use Rattle.schedules.specs.Outcomes.{shown_pair}
+use Rattle.schedule_text.specs.Outcomes.{shown_pair}
 
 -- the line of words, a pair and a number
 abbrev pub of_pair : List ℕ → Pair → ℕ → List ℕ

@@ -2,7 +2,7 @@
 
 ghost use Rattle.std.specs.Prelude.{◌≡◌};
 
-use schedules::ScheduleFault;
+use schedule_text::ScheduleFault;
 use thiserror::Error;
 
 /// Why a schedule ended before its end.

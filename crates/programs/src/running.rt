@@ -9,7 +9,7 @@ use keep::Faulty;
 use keep_plain::PlainKeep;
 use purchasing::Orders;
 use schedule_runner::World;
-use schedules::{Event, Outcome};
+use schedule_text::{Event, Outcome};
 use std::alloc::{AllocError, Global};
 use warehouse::Stocks;
 

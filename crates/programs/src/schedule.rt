@@ -8,7 +8,7 @@ ghost use Rattle.command_line.specs.Written.{AppendsPart};
 use crate::fault::RunFault;
 use crate::running::run_events;
 use crate::writing::{write_numbered, write_octets, write_outcomes};
-use schedules::read_schedule;
+use schedule_text::read_schedule;
 use std::alloc::Global;
 use std::io;
 use std::io::{ErrorKind, Read, Write};

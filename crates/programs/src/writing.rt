@@ -4,15 +4,15 @@ ghost use Rattle.std.specs.Prelude.{◌++◌, decimal, OnOk, OnErr};
 ghost use Rattle.std.specs.List.{flat_map};
 ghost use Rattle.std.specs.Io.{WritesAtMost};
 ghost use Rattle.std.specs.Io.KnownBytes.{Appends, WriteAppends};
-ghost use Rattle.schedules.specs.Outcomes.{outcome_lines, told_lines, shown_entity, shown_pair};
-ghost use Rattle.schedules.specs.Words.{escaped};
+ghost use Rattle.schedule_text.specs.Outcomes.{outcome_lines, told_lines, shown_entity, shown_pair};
+ghost use Rattle.schedule_text.specs.Words.{escaped};
 ghost use Rattle.command_line.specs.Written.{AppendsPart};
 ghost use Rattle.programs.specs.Written.{of_pair};
 
 use base::{Entity, Pair};
 use itoa::Buffer;
-use schedules::{Outcome, Told};
-use showing::spelled;
+use schedule_text::{Outcome, Told};
+use schedule_shows::spelled;
 use std::io;
 use std::io::{ErrorKind, Write};
 

@@ -2,14 +2,14 @@
 use Rattle.std.proofs.Common.{◌≡◌, ℕ, ◌+◌, List, [], ◌∷◌, ◌++◌, length, take, refl, ap, sym, ◌∙◌, subst, arith, append_assoc, length-append}
 use Rattle.std.specs.Prelude.{Result, Ok, Err, OnOk}
 use Rattle.keep.specs.Seen.{Seen}
-use Rattle.schedules.specs.declared.event.Event.{Event}
-use Rattle.schedules.specs.declared.outcome.Outcome.{Outcome}
+use Rattle.schedule_text.specs.declared.event.Event.{Event}
+use Rattle.schedule_text.specs.declared.outcome.Outcome.{Outcome}
 use Rattle.schedule_runner.specs.declared.world.World.{World}
 use Rattle.schedule_runner.specs.Deeds.{Moment, Goes, Step}
 use Rattle.schedule_runner.specs.Passing.{Passes, Passed}
 use Rattle.schedule_runner.specs.Paths.{IsPath, Makes}
 use Rattle.schedule_runner.specs.Runs.{Ran}
-use Rattle.accord.specs.Sight.{OrderTables, StockTables, AccountTables}
+use Rattle.laws_stores.specs.Sight.{OrderTables, StockTables, AccountTables}
 use Rattle.schedule_runner.specs.Told.{Told}
 use Rattle.schedule_runner.proofs.Composing.{goes_none, passes_then}
 use Rattle.schedule_runner.proofs.Following.{path_append, path_one}

@@ -11,29 +11,29 @@ use Rattle.keep.specs.Seen.{Seen, IsSound, End, no_memory, failed, unusable, ref
 use Rattle.keep.specs.Tables.{Tables}
 use Rattle.endpoint.specs.Faults.{end_cause}
 use Rattle.endpoint.specs.declared.fault.EndFault.{EndFault}
-use Rattle.audit.specs.Looks.{StandsFor, Rests, Fails, Looks}
-use Rattle.audit.specs.declared.fault.AuditFault.{AuditFault}
-use Rattle.audit.specs.declared.fault.AuditFault.TheVariants.{Purchasing, Warehouse, Billing}
-use Rattle.accord.specs.Sight.{AllTables, OrderTables, StockTables, AccountTables, MayLeave}
-use Rattle.accord.proofs.Keeping.{good_agrees}
-use Rattle.audit.proofs.Lawful.{all_agree}
-use Rattle.schedules.specs.declared.outcome.Outcome.{Outcome}
-use Rattle.sites.specs.Channels.{After, ChannelsHave}
-use Rattle.sites.proofs.Cursors.{RelaysRest, after_has}
-use Rattle.sites.specs.declared.site.Site.{Site}
-use Rattle.mail.specs.Offices.{Office}
+use Rattle.schedule_audit.specs.Looks.{StandsFor, Rests, Fails, Looks}
+use Rattle.schedule_audit.specs.declared.fault.AuditFault.{AuditFault}
+use Rattle.schedule_audit.specs.declared.fault.AuditFault.TheVariants.{Purchasing, Warehouse, Billing}
+use Rattle.laws_stores.specs.Sight.{AllTables, OrderTables, StockTables, AccountTables, MayLeave}
+use Rattle.laws_stores.proofs.Keeping.{good_agrees}
+use Rattle.schedule_audit.proofs.Lawful.{all_agree}
+use Rattle.schedule_text.specs.declared.outcome.Outcome.{Outcome}
+use Rattle.schedule_service.specs.Channels.{After, ChannelsHave}
+use Rattle.schedule_service.proofs.Cursors.{RelaysRest, after_has}
+use Rattle.schedule_service.specs.declared.site.Site.{Site}
+use Rattle.schedule_mail.specs.Offices.{Office}
 use Rattle.purchasing.specs.declared.orders.Orders.{Orders}
 use Rattle.warehouse.specs.declared.stocks.Stocks.{Stocks}
 use Rattle.billing.specs.declared.accounts.Accounts.{Accounts}
-use Rattle.audit.specs.Agree.{partners_agree}
+use Rattle.schedule_audit.specs.Agree.{partners_agree}
 use Rattle.trade.specs.Orders.{OrderState}
 use Rattle.trade.specs.Stocks.{StockState}
 use Rattle.trade.specs.Accounts.{AccountState}
 use Rattle.trade.specs.declared.commands.OrderCommand.{OrderCommand}
 use Rattle.trade.specs.declared.commands.StockCommand.{StockCommand}
 use Rattle.trade.specs.declared.commands.AccountCommand.{AccountCommand}
-use Rattle.genuine.specs.Three.{Genuine}
-use Rattle.genuine.proofs.Threes.{first_after, second_after, third_after}
+use Rattle.laws_events.specs.Three.{Genuine}
+use Rattle.laws_events.proofs.Threes.{first_after, second_after, third_after}
 use Rattle.schedule_runner.specs.declared.world.World.{World}
 use Rattle.schedule_runner.specs.Agreeing.{with_stores, AfterFault, LooksAtAll, AsksAll, FindsAgreement, TellsAgreement, agreement_told}
 use Rattle.schedule_runner.specs.Agreeing.{AgreesWhereGood}

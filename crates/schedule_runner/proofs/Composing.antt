@@ -3,17 +3,17 @@ use Rattle.std.proofs.Common.{◌≡◌, ℕ, suc, List, [], ◌∷◌, ◌++◌
 use Rattle.std.proofs.Math.Logic.{∥∥₁_elim, ∥∥₁_map}
 use Rattle.std.proofs.Props.{props}
 use Rattle.keep.specs.Seen.{Seen}
-use Rattle.schedules.specs.declared.event.Event.{Event}
-use Rattle.schedules.specs.declared.event.ConnectionName.{ConnectionName}
-use Rattle.schedules.specs.declared.event.Event.TheVariants.{Take, Pump}
-use Rattle.schedules.specs.declared.outcome.Outcome.{Outcome}
-use Rattle.schedules.specs.declared.outcome.Outcome.TheVariants.{Pumped}
+use Rattle.schedule_text.specs.declared.event.Event.{Event}
+use Rattle.schedule_text.specs.declared.event.ConnectionName.{ConnectionName}
+use Rattle.schedule_text.specs.declared.event.Event.TheVariants.{Take, Pump}
+use Rattle.schedule_text.specs.declared.outcome.Outcome.{Outcome}
+use Rattle.schedule_text.specs.declared.outcome.Outcome.TheVariants.{Pumped}
 use Rattle.schedule_runner.specs.declared.world.World.{World}
 use Rattle.schedule_runner.specs.Deeds.{Moment, moment, GoesBy, Step}
 use Rattle.schedule_runner.specs.Passing.{Passes, Passed, PassesAll}
 use Rattle.schedule_runner.specs.Paths.{Leads, Makes, MakesApart}
 use Rattle.schedule_runner.specs.Rounds.{takes, round_events, all_rounds}
-use Rattle.accord.specs.Sight.{OrderTables, StockTables, AccountTables}
+use Rattle.laws_stores.specs.Sight.{OrderTables, StockTables, AccountTables}
 use Rattle.schedule_runner.specs.Sight.{StaysClean, StaysMatching}
 use Rattle.schedule_runner.specs.Steps.{Happened}
 use Rattle.schedule_runner.proofs.Following.{leads_append, leads_none, leads_one}

@@ -1,7 +1,7 @@
 -- One path after another.
 use Rattle.std.proofs.Common.{List, [], ◌∷◌, ◌++◌, refl, subst}
-use Rattle.schedules.specs.declared.event.Event.{Event}
-use Rattle.schedules.specs.declared.outcome.Outcome.{Outcome}
+use Rattle.schedule_text.specs.declared.event.Event.{Event}
+use Rattle.schedule_text.specs.declared.outcome.Outcome.{Outcome}
 use Rattle.schedule_runner.specs.Paths.{IsPath, Leads}
 
 module _ {Z : Type 0} (Step : Event → Outcome → Z → Z → Type 0) where

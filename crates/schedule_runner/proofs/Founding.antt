@@ -17,15 +17,15 @@ use Rattle.reception.specs.declared.fault.ReceptionFault.TheVariants.{Frame, Cli
 use Rattle.reception.specs.declared.taken.Drained.{Drained}
 use Rattle.reception.specs.declared.taken.Taken.{Taken}
 use Rattle.reception.specs.declared.taken.Taken.TheVariants as taken
-use Rattle.schedules.specs.declared.event.ConnectionNumber.{ConnectionNumber}
-use Rattle.schedules.specs.declared.event.SeatCommand.{SeatCommand}
-use Rattle.schedules.specs.declared.outcome.Outcome.{Outcome}
-use Rattle.schedules.specs.declared.outcome.Outcome.TheVariants as outcome
-use Rattle.sites.specs.Deeds.{Channels, CameOn, CommandMay, FrameMay, HeldMay, SiteMay}
-use Rattle.sites.specs.Happenings.{command_row}
-use Rattle.sites.specs.SiteEvents.{SiteEvent, Commits, Opens, Cuts, Fills, Resends, Carries, Takes, Drains, Arms, Reopens, Stops}
-use Rattle.accord.specs.Deeds.{DeedIs}
-use Rattle.accord.proofs.Founded.{HeldIs, nothing_is, command_is, ingest_is, settle_is, drain_is}
+use Rattle.schedule_text.specs.declared.event.ConnectionNumber.{ConnectionNumber}
+use Rattle.schedule_text.specs.declared.event.SeatCommand.{SeatCommand}
+use Rattle.schedule_text.specs.declared.outcome.Outcome.{Outcome}
+use Rattle.schedule_text.specs.declared.outcome.Outcome.TheVariants as outcome
+use Rattle.schedule_service.specs.Deeds.{Channels, CameOn, CommandMay, FrameMay, HeldMay, SiteMay}
+use Rattle.schedule_service.specs.Happenings.{command_row}
+use Rattle.schedule_service.specs.SiteEvents.{SiteEvent, Commits, Opens, Cuts, Fills, Resends, Carries, Takes, Drains, Arms, Reopens, Stops}
+use Rattle.laws_stores.specs.Deeds.{DeedIs}
+use Rattle.laws_stores.proofs.Founded.{HeldIs, nothing_is, command_is, ingest_is, settle_is, drain_is}
 
 module _ {S C : Type 0} (s : Service S C) (P : Envelope → Type 0) where
   -- what these frames carry has the property

@@ -11,17 +11,17 @@ use Rattle.keep.specs.Tables.{empty, set_message}
 use Rattle.endpoint.specs.Arrivals.{row_of_letter}
 use Rattle.endpoint.specs.Deeds.{TakesIn}
 use Rattle.endpoint.proofs.Examples.{o1, bolts, from_order}
-use Rattle.accord.specs.Deeds.{Turns, OfPurchasing, ComesOf}
-use Rattle.accord.specs.Good.{IsGenuine}
-use Rattle.accord.specs.Sight.{OrderTables, StockTables, AllTables, MayLeave, all_empty}
-use Rattle.accord.proofs.Keeping.{good_later}
-use Rattle.mail.specs.Offices.{Office}
-use Rattle.sites.specs.declared.site_channel.SiteChannel.{SiteChannel}
+use Rattle.laws_stores.specs.Deeds.{Turns, OfPurchasing, ComesOf}
+use Rattle.laws_stores.specs.Good.{IsGenuine}
+use Rattle.laws_stores.specs.Sight.{OrderTables, StockTables, AllTables, MayLeave, all_empty}
+use Rattle.laws_stores.proofs.Keeping.{good_later}
+use Rattle.schedule_mail.specs.Offices.{Office}
+use Rattle.schedule_service.specs.declared.site_channel.SiteChannel.{SiteChannel}
 use Rattle.schedule_runner.specs.Good.{AllRight, IsGoodWorld, MailIs, StaysGood, Agrees}
 use Rattle.schedule_runner.specs.Sight.{sight}
 use Rattle.schedule_runner.proofs.PathExamples.{seen, TheWorld, world, tables, only, matches}
 use Rattle.schedule_runner.proofs.Righting.{new_good, opened_good, good_agree}
-use Rattle.accord.proofs.Placed.{placing, before, after, before_matches, taken_in}
+use Rattle.laws_stores.proofs.Placed.{placing, before, after, before_matches, taken_in}
 
 -- the first letter of the order to the stock, as it was sent and as it wasn't
 abbrev asks : ℕ → Letter

@@ -7,18 +7,18 @@ use Rattle.activities.proofs.Sameness.{either}
 use Rattle.endpoint.specs.Deeds.{Kept, kept, Deed, Nothing, TakesIn, Holds, Settles, Did}
 use Rattle.stomp_wire.specs.declared.wire.Way.{Way}
 use Rattle.stomp_wire.specs.declared.wire.Way.TheVariants.{Up, Down}
-use Rattle.schedules.specs.declared.event.ConnectionName.{ConnectionName}
-use Rattle.schedules.specs.declared.event.ConnectionNumber.TheVariants.{Zero, One}
-use Rattle.schedules.specs.declared.event.Event.{Event}
-use Rattle.schedules.specs.declared.event.Event.TheVariants as event
-use Rattle.schedules.specs.declared.event.SeatCommand.{SeatCommand}
-use Rattle.schedules.specs.declared.event.ServiceName.{ServiceName}
-use Rattle.schedules.specs.declared.event.ServiceName.TheVariants.{Purchasing, Warehouse, Billing}
-use Rattle.schedules.specs.declared.outcome.Outcome.{Outcome}
-use Rattle.schedules.specs.declared.outcome.Outcome.TheVariants as outcome
-use Rattle.sites.specs.Deeds.{Channels, SiteMay, channels_of, CameOn}
-use Rattle.sites.specs.Happenings.{command_row}
-use Rattle.sites.specs.SiteEvents.{Commits}
+use Rattle.schedule_text.specs.declared.event.ConnectionName.{ConnectionName}
+use Rattle.schedule_text.specs.declared.event.ConnectionNumber.TheVariants.{Zero, One}
+use Rattle.schedule_text.specs.declared.event.Event.{Event}
+use Rattle.schedule_text.specs.declared.event.Event.TheVariants as event
+use Rattle.schedule_text.specs.declared.event.SeatCommand.{SeatCommand}
+use Rattle.schedule_text.specs.declared.event.ServiceName.{ServiceName}
+use Rattle.schedule_text.specs.declared.event.ServiceName.TheVariants.{Purchasing, Warehouse, Billing}
+use Rattle.schedule_text.specs.declared.outcome.Outcome.{Outcome}
+use Rattle.schedule_text.specs.declared.outcome.Outcome.TheVariants as outcome
+use Rattle.schedule_service.specs.Deeds.{Channels, SiteMay, channels_of, CameOn}
+use Rattle.schedule_service.specs.Happenings.{command_row}
+use Rattle.schedule_service.specs.SiteEvents.{Commits}
 use Rattle.keep.specs.Seen.{Seen}
 use Rattle.keep.specs.Tables.{Tables}
 use Rattle.schedule_runner.specs.declared.acting.ServiceEvent.{ServiceEvent}
@@ -28,8 +28,8 @@ use Rattle.schedule_runner.specs.Deeds.{Moment, In, Turn, Step, Goes}
 use Rattle.schedule_runner.specs.Paths.{IsPath, Leads, Makes}
 use Rattle.schedule_runner.specs.Rounds.{takes, connection_events, service_events, round_events, all_rounds, named}
 use Rattle.schedule_runner.specs.declared.world.World.{World}
-use Rattle.accord.specs.Sight.{AllTables, OrderTables, StockTables, AccountTables}
-use Rattle.accord.specs.Sight.{orders_service, stocks_service, accounts_service}
+use Rattle.laws_stores.specs.Sight.{AllTables, OrderTables, StockTables, AccountTables}
+use Rattle.laws_stores.specs.Sight.{orders_service, stocks_service, accounts_service}
 use Rattle.schedule_runner.specs.Told.{commands_from, TellsCommand, RecordsTold, AllTold, Told, asks_orders, asks_stocks, asks_accounts}
 use Rattle.schedule_runner.proofs.Composing.{goes_map}
 use Rattle.schedule_runner.proofs.Receiving.{frame_rests, held_rests}

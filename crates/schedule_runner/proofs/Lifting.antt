@@ -11,26 +11,26 @@ use Rattle.envelope.specs.declared.message.Envelope.{Envelope}
 use Rattle.endpoint.specs.Matches.{AllMatch}
 use Rattle.keep.specs.Failing.{through}
 use Rattle.keep.specs.Seen.{Seen, IsSound}
-use Rattle.mail.specs.Offices.{Office}
+use Rattle.schedule_mail.specs.Offices.{Office}
 use Rattle.purchasing.specs.declared.orders.Orders.{Orders}
 use Rattle.warehouse.specs.declared.stocks.Stocks.{Stocks}
 use Rattle.billing.specs.declared.accounts.Accounts.{Accounts}
-use Rattle.schedules.specs.declared.outcome.Outcome.{Outcome}
-use Rattle.schedules.specs.declared.outcome.Outcome.TheVariants.{Stopped, Refused}
-use Rattle.sites.specs.declared.site.Site.{Site}
-use Rattle.sites.specs.Deeds.{DoubtStays, Matches, Goes, SiteMay, channels_of}
-use Rattle.sites.specs.Happenings.{Happens}
-use Rattle.sites.specs.Channels.{CutsBoth}
-use Rattle.sites.proofs.Cursors.{RelaysRest, cut_has, stored_right}
-use Rattle.genuine.specs.Three.{Genuine}
-use Rattle.sites.specs.SiteEvents.{SiteEvent}
+use Rattle.schedule_text.specs.declared.outcome.Outcome.{Outcome}
+use Rattle.schedule_text.specs.declared.outcome.Outcome.TheVariants.{Stopped, Refused}
+use Rattle.schedule_service.specs.declared.site.Site.{Site}
+use Rattle.schedule_service.specs.Deeds.{DoubtStays, Matches, Goes, SiteMay, channels_of}
+use Rattle.schedule_service.specs.Happenings.{Happens}
+use Rattle.schedule_service.specs.Channels.{CutsBoth}
+use Rattle.schedule_service.proofs.Cursors.{RelaysRest, cut_has, stored_right}
+use Rattle.laws_events.specs.Three.{Genuine}
+use Rattle.schedule_service.specs.SiteEvents.{SiteEvent}
 use Rattle.schedule_runner.specs.declared.world.World.{World}
 use Rattle.schedule_runner.specs.Deeds.{InPurchasing, InWarehouse, InBilling, Same}
 use Rattle.schedule_runner.specs.Good.{MailIs}
 use Rattle.schedule_runner.specs.Passing.{Both, Passes}
-use Rattle.accord.specs.Sight.{OrderTables, StockTables, AccountTables, orders_service, stocks_service, accounts_service}
+use Rattle.laws_stores.specs.Sight.{OrderTables, StockTables, AccountTables, orders_service, stocks_service, accounts_service}
 use Rattle.schedule_runner.specs.Steps.{AtPurchasing, AtWarehouse, AtBilling, AtMail, SendsAgain, IsNewBroker, BeginsAnew}
-use Rattle.genuine.proofs.Threes.{repeated_keeps, cut_all, restarted_keeps}
+use Rattle.laws_events.proofs.Threes.{repeated_keeps, cut_all, restarted_keeps}
 use Rattle.schedule_runner.proofs.Righting.{purchasing_good, warehouse_good, billing_good, still_good}
 
 module _ {KO KS KA : Type 0} (orders : KO → Seen OrderTables) (stocks : KS → Seen StockTables) (accounts : KA → Seen AccountTables)

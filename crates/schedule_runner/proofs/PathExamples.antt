@@ -23,22 +23,22 @@ use Rattle.endpoint.specs.Calls.{Commits}
 use Rattle.endpoint.specs.Deeds.{Nothing, TakesIn}
 use Rattle.endpoint.specs.Matches.{TablesMatchJournal}
 use Rattle.endpoint.proofs.Examples.{o1}
-use Rattle.accord.specs.Sight.{OrderTables, StockTables, AccountTables, AllTables, all_empty, orders_service, AreMatching, MayLeave}
-use Rattle.mail.specs.Offices.{new_office}
-use Rattle.schedules.specs.declared.event.Event.{Event}
-use Rattle.schedules.specs.declared.event.Event.TheVariants as event
-use Rattle.schedules.specs.declared.event.SeatCommand.{SeatCommand}
-use Rattle.schedules.specs.declared.outcome.Outcome.{Outcome}
-use Rattle.schedules.specs.declared.outcome.Outcome.TheVariants.{Committed, NotDone, Stopped, Pumped}
-use Rattle.sites.specs.Happenings.{command_row}
-use Rattle.sites.specs.Outcomes.{commit_told}
+use Rattle.laws_stores.specs.Sight.{OrderTables, StockTables, AccountTables, AllTables, all_empty, orders_service, AreMatching, MayLeave}
+use Rattle.schedule_mail.specs.Offices.{new_office}
+use Rattle.schedule_text.specs.declared.event.Event.{Event}
+use Rattle.schedule_text.specs.declared.event.Event.TheVariants as event
+use Rattle.schedule_text.specs.declared.event.SeatCommand.{SeatCommand}
+use Rattle.schedule_text.specs.declared.outcome.Outcome.{Outcome}
+use Rattle.schedule_text.specs.declared.outcome.Outcome.TheVariants.{Committed, NotDone, Stopped, Pumped}
+use Rattle.schedule_service.specs.Happenings.{command_row}
+use Rattle.schedule_service.specs.Outcomes.{commit_told}
 use Rattle.schedule_runner.specs.declared.world.World.{World}
 use Rattle.schedule_runner.specs.Deeds.{Moment, moment, Step, Goes}
 use Rattle.schedule_runner.specs.Paths.{IsPath, Leads, Makes}
 use Rattle.schedule_runner.specs.Sight.{sight, StaysMatching}
 use Rattle.schedule_runner.specs.Steps.{Happened}
 use Rattle.schedule_runner.specs.Told.{asks_orders, commands_from, AreTold, RecordsTold, AllTold, Told}
-use Rattle.accord.proofs.Placed.{placing, a_placed_order_is_committed, it_is_placed_once, before, after, before_matches, taken_in}
+use Rattle.laws_stores.proofs.Placed.{placing, a_placed_order_is_committed, it_is_placed_once, before, after, before_matches, taken_in}
 
 -- ---- the world
 

@@ -8,12 +8,12 @@ use Rattle.base.specs.declared.pair.Pair.{Pair}
 use Rattle.envelope.specs.declared.message.Envelope.{Envelope}
 use Rattle.keep.specs.Seen.{Seen}
 use Rattle.keep.specs.Tables.{Tables}
-use Rattle.schedules.specs.declared.outcome.Outcome.{Outcome}
-use Rattle.sites.specs.Happenings.{with_store}
-use Rattle.sites.specs.Channels.{ChannelsHave}
-use Rattle.sites.specs.declared.site.Site.{Site}
-use Rattle.sites.proofs.Cursors.{RelaysRest, after_has, still_right}
-use Rattle.genuine.specs.Three.{Genuine}
+use Rattle.schedule_text.specs.declared.outcome.Outcome.{Outcome}
+use Rattle.schedule_service.specs.Happenings.{with_store}
+use Rattle.schedule_service.specs.Channels.{ChannelsHave}
+use Rattle.schedule_service.specs.declared.site.Site.{Site}
+use Rattle.schedule_service.proofs.Cursors.{RelaysRest, after_has, still_right}
+use Rattle.laws_events.specs.Three.{Genuine}
 use Rattle.schedule_runner.specs.declared.looking.Mark.{Mark}
 use Rattle.schedule_runner.specs.declared.world.World.{World}
 use Rattle.schedule_runner.specs.Deeds.{Moment, Same}
@@ -21,9 +21,9 @@ use Rattle.schedule_runner.specs.Looks.{shown_told, ReadsSite, StoreStays}
 use Rattle.schedule_runner.specs.Good.{MailIs}
 use Rattle.schedule_runner.specs.Passing.{Both, Passes}
 use Rattle.schedule_runner.specs.Shows.{Tells, Behind, Marks, MarkOf, RowOf, MayShow, ShowsLine}
-use Rattle.accord.specs.Sight.{OrderTables, StockTables, AccountTables, orders_service, stocks_service, accounts_service}
+use Rattle.laws_stores.specs.Sight.{OrderTables, StockTables, AccountTables, orders_service, stocks_service, accounts_service}
 use Rattle.schedule_runner.proofs.Composing.{passes_map, passes_then}
-use Rattle.genuine.proofs.Threes.{first_after, second_after, third_after}
+use Rattle.laws_events.proofs.Threes.{first_after, second_after, third_after}
 use Rattle.schedule_runner.proofs.Righting.{still_good}
 
 module _ {H K S C : Type 0} (seen : K → Seen (Tables S C)) where

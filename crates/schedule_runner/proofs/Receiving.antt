@@ -12,9 +12,9 @@ use Rattle.reception.specs.declared.fault.ReceptionFault.{ReceptionFault}
 use Rattle.reception.specs.declared.fault.ReceptionFault.TheVariants.{Frame, Client, Envelope, End}
 use Rattle.reception.specs.declared.taken.Taken.{Taken}
 use Rattle.reception.specs.declared.taken.Taken.TheVariants as taken
-use Rattle.schedules.specs.declared.outcome.Outcome.{Outcome}
-use Rattle.schedules.specs.declared.outcome.Outcome.TheVariants as outcome
-use Rattle.sites.specs.Deeds.{FrameMay, HeldMay}
+use Rattle.schedule_text.specs.declared.outcome.Outcome.{Outcome}
+use Rattle.schedule_text.specs.declared.outcome.Outcome.TheVariants as outcome
+use Rattle.schedule_service.specs.Deeds.{FrameMay, HeldMay}
 use Rattle.schedule_runner.proofs.Resting.{IsNoCommand, nothing_is, ingest_rests, settle_rests, drain_rests}
 
 module _ {S C : Type 0} (s : Service S C) where

@@ -13,22 +13,22 @@ use Rattle.purchasing.specs.declared.orders.Orders.{Orders}
 use Rattle.warehouse.specs.declared.stocks.Stocks.{Stocks}
 use Rattle.keep.specs.Seen.{Seen, IsSound}
 use Rattle.endpoint.specs.Deeds.{kept, Nothing}
-use Rattle.mail.specs.Offices.{Office, new_office}
-use Rattle.schedules.specs.declared.outcome.Outcome.{Outcome}
-use Rattle.sites.specs.declared.site.Site.{Site}
-use Rattle.sites.specs.Deeds.{Matches, Goes, SiteMay, channels_of}
-use Rattle.sites.specs.Happenings.{Happens}
-use Rattle.sites.specs.SiteEvents.{SiteEvent}
-use Rattle.accord.specs.Deeds.{Turns, OfPurchasing, OfWarehouse, OfBilling, ComesOf}
-use Rattle.accord.specs.Good.{IsHeldIn, IsGenuine, IsGood}
-use Rattle.accord.specs.Sight.{AllTables, Sight, OrderTables, StockTables, AccountTables, AreClean, AreMatching, MayLeave, all_empty}
-use Rattle.accord.specs.Sight.{orders_service, stocks_service, accounts_service}
-use Rattle.accord.proofs.Beginning.{empty_good}
-use Rattle.accord.proofs.Genuine.{orders_genuine, stocks_genuine, accounts_genuine}
-use Rattle.accord.proofs.Keeping.{good_later, genuine_later, good_agrees}
-use Rattle.genuine.specs.Three.{Genuine}
-use Rattle.genuine.proofs.Threes.{start_genuine, genuine_more, first_came, second_came, third_came, first_keeps, second_keeps, third_keeps}
-use Rattle.sites.proofs.Cursors.{event_right, closed_right}
+use Rattle.schedule_mail.specs.Offices.{Office, new_office}
+use Rattle.schedule_text.specs.declared.outcome.Outcome.{Outcome}
+use Rattle.schedule_service.specs.declared.site.Site.{Site}
+use Rattle.schedule_service.specs.Deeds.{Matches, Goes, SiteMay, channels_of}
+use Rattle.schedule_service.specs.Happenings.{Happens}
+use Rattle.schedule_service.specs.SiteEvents.{SiteEvent}
+use Rattle.laws_stores.specs.Deeds.{Turns, OfPurchasing, OfWarehouse, OfBilling, ComesOf}
+use Rattle.laws_stores.specs.Good.{IsHeldIn, IsGenuine, IsGood}
+use Rattle.laws_stores.specs.Sight.{AllTables, Sight, OrderTables, StockTables, AccountTables, AreClean, AreMatching, MayLeave, all_empty}
+use Rattle.laws_stores.specs.Sight.{orders_service, stocks_service, accounts_service}
+use Rattle.laws_stores.proofs.Beginning.{empty_good}
+use Rattle.laws_stores.proofs.Genuine.{orders_genuine, stocks_genuine, accounts_genuine}
+use Rattle.laws_stores.proofs.Keeping.{good_later, genuine_later, good_agrees}
+use Rattle.laws_events.specs.Three.{Genuine}
+use Rattle.laws_events.proofs.Threes.{start_genuine, genuine_more, first_came, second_came, third_came, first_keeps, second_keeps, third_keeps}
+use Rattle.schedule_service.proofs.Cursors.{event_right, closed_right}
 use Rattle.schedule_runner.specs.Good.{MailIs, AllRight, IsGoodWorld, StaysGood, Agrees}
 use Rattle.schedule_runner.specs.Sight.{sight}
 use Rattle.schedule_runner.specs.declared.world.World.{World}

@@ -2,15 +2,15 @@
 use Rattle.std.proofs.Common.{◌≡◌, ℕ, suc, List, [], ◌∷◌, length, Ok, Err, refl, ap, arith}
 use Rattle.stomp_wire.specs.declared.wire.Way.TheVariants.{Up, Down}
 use Rattle.trade.specs.declared.commands.OrderCommand.{OrderCommand}
-use Rattle.schedules.specs.declared.event.ConnectionName.{ConnectionName}
-use Rattle.schedules.specs.declared.event.ConnectionNumber.TheVariants.{Zero, One}
-use Rattle.schedules.specs.declared.event.Event.{Event}
-use Rattle.schedules.specs.declared.event.Event.TheVariants as event
-use Rattle.schedules.specs.declared.event.ServiceName.TheVariants.{Purchasing, Warehouse, Billing}
-use Rattle.schedules.specs.declared.event.FailureLeaves.TheVariants.{New}
-use Rattle.schedules.specs.declared.outcome.Outcome.{Outcome}
-use Rattle.schedules.specs.declared.outcome.Outcome.TheVariants.{Idle, Held, Pumped}
-use Rattle.sites.specs.SiteEvents.{Opens, Cuts, Fills, Resends, Carries, Takes, Drains, Arms, Reopens, Stops}
+use Rattle.schedule_text.specs.declared.event.ConnectionName.{ConnectionName}
+use Rattle.schedule_text.specs.declared.event.ConnectionNumber.TheVariants.{Zero, One}
+use Rattle.schedule_text.specs.declared.event.Event.{Event}
+use Rattle.schedule_text.specs.declared.event.Event.TheVariants as event
+use Rattle.schedule_text.specs.declared.event.ServiceName.TheVariants.{Purchasing, Warehouse, Billing}
+use Rattle.schedule_text.specs.declared.event.FailureLeaves.TheVariants.{New}
+use Rattle.schedule_text.specs.declared.outcome.Outcome.{Outcome}
+use Rattle.schedule_text.specs.declared.outcome.Outcome.TheVariants.{Idle, Held, Pumped}
+use Rattle.schedule_service.specs.SiteEvents.{Opens, Cuts, Fills, Resends, Carries, Takes, Drains, Arms, Reopens, Stops}
 use Rattle.schedule_runner.specs.declared.acting.ServiceEvent.TheVariants as asked
 use Rattle.schedule_runner.specs.Events.{asked_of}
 use Rattle.schedule_runner.specs.Paths.{IsPath, Leads, Makes}

@@ -13,22 +13,22 @@ use Rattle.endpoint.proofs.Examples.{o1, bolts, acme, from_order}
 use Rattle.keep.specs.Failing.{through}
 use Rattle.keep.specs.Law.{Reads}
 use Rattle.keep.specs.Tables.{Tables, empty}
-use Rattle.accord.specs.Sight.{OrderTables, StockTables, AccountTables}
-use Rattle.mail.specs.Offices.{Office, new_office}
-use Rattle.schedules.specs.declared.event.Event.TheVariants as event
-use Rattle.schedules.specs.declared.event.ServiceName.TheVariants.{Purchasing, Warehouse, Billing}
-use Rattle.schedules.specs.declared.outcome.Outcome.{Outcome}
-use Rattle.schedules.specs.declared.outcome.Outcome.TheVariants as told
-use Rattle.showing.specs.Printed.{shown_or_none, shown_order, shown_order_command, shown_stock_command, pair_line}
-use Rattle.sites.specs.Outcomes.{fault_told}
-use Rattle.sites.specs.declared.site.Site.{Site}
+use Rattle.laws_stores.specs.Sight.{OrderTables, StockTables, AccountTables}
+use Rattle.schedule_mail.specs.Offices.{Office, new_office}
+use Rattle.schedule_text.specs.declared.event.Event.TheVariants as event
+use Rattle.schedule_text.specs.declared.event.ServiceName.TheVariants.{Purchasing, Warehouse, Billing}
+use Rattle.schedule_text.specs.declared.outcome.Outcome.{Outcome}
+use Rattle.schedule_text.specs.declared.outcome.Outcome.TheVariants as told
+use Rattle.schedule_shows.specs.Printed.{shown_or_none, shown_order, shown_order_command, shown_stock_command, pair_line}
+use Rattle.schedule_service.specs.Outcomes.{fault_told}
+use Rattle.schedule_service.specs.declared.site.Site.{Site}
 use Rattle.schedule_runner.specs.declared.looking.Listing.TheVariants.{Frames, Journal}
 use Rattle.schedule_runner.specs.declared.looking.Mark.TheVariants.{Sent, Settled, Handled}
 use Rattle.schedule_runner.specs.Looks.{mark_of, IsRow, AreListed, read_told, shown_told, ReadsSite}
 use Rattle.schedule_runner.specs.Shows.{Tells, Behind, ShowsLine, RowOf, ListOf, MarkOf, Marks, ShowsPair, ShowsSettled, ShowsHandled}
 use Rattle.schedule_runner.specs.Steps.{Happened}
 use Rattle.schedule_runner.proofs.PathExamples.{seen, store, TheWorld, world}
-use Rattle.accord.proofs.Placed.{before, after}
+use Rattle.laws_stores.proofs.Placed.{before, after}
 
 -- the number of a refusal
 abbrev number_of : Outcome → ℕ

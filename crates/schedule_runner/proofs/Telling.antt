@@ -3,9 +3,9 @@ use Rattle.std.proofs.Common.{◌≡◌, ℕ, suc, ◌+◌, List, [], ◌∷◌,
 use Rattle.std.proofs.Common.{length, length-append, append_assoc}
 use Rattle.std.proofs.lemmas.List.{append-nil}
 use Rattle.activities.specs.declared.input.JournalRow.{JournalRow}
-use Rattle.schedules.specs.declared.event.Event.{Event}
-use Rattle.schedules.specs.declared.event.SeatCommand.{SeatCommand}
-use Rattle.schedules.specs.declared.outcome.Outcome.{Outcome}
+use Rattle.schedule_text.specs.declared.event.Event.{Event}
+use Rattle.schedule_text.specs.declared.event.SeatCommand.{SeatCommand}
+use Rattle.schedule_text.specs.declared.outcome.Outcome.{Outcome}
 use Rattle.schedule_runner.specs.Paths.{IsPath}
 use Rattle.schedule_runner.specs.Told.{command_at, commands_from, TellsCommand, AreTold, RecordsTold}
 

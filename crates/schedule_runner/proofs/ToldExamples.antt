@@ -13,14 +13,14 @@ use Rattle.activities.specs.declared.input.JournalRow.{JournalRow}
 use Rattle.trade.specs.Items.{item}
 use Rattle.endpoint.proofs.Examples.{o1, bolts, acme}
 use Rattle.keep.specs.Tables.{empty}
-use Rattle.accord.specs.Sight.{AllTables, all_empty}
-use Rattle.schedules.specs.declared.event.Event.TheVariants.{Order, Stock, Account, StopBroker}
-use Rattle.schedules.specs.declared.event.SeatCommand.{SeatCommand}
-use Rattle.schedules.specs.declared.outcome.Outcome.TheVariants.{Committed, Refused, Stopped, Opened}
+use Rattle.laws_stores.specs.Sight.{AllTables, all_empty}
+use Rattle.schedule_text.specs.declared.event.Event.TheVariants.{Order, Stock, Account, StopBroker}
+use Rattle.schedule_text.specs.declared.event.SeatCommand.{SeatCommand}
+use Rattle.schedule_text.specs.declared.outcome.Outcome.TheVariants.{Committed, Refused, Stopped, Opened}
 use Rattle.schedule_runner.specs.Told.{command_at, commands_from, asks_orders, asks_stocks, asks_accounts, TellsCommand, AreTold}
 use Rattle.schedule_runner.specs.Told.{RecordsTold}
 use Rattle.schedule_runner.specs.Told.{AllTold}
-use Rattle.accord.proofs.Placed.{placing}
+use Rattle.laws_stores.proofs.Placed.{placing}
 
 -- seat 0 places an order, books stock and sets a limit
 abbrev placed : SeatCommand OrderCommand

@@ -5,19 +5,19 @@ use Rattle.endpoint.specs.declared.fault.EndFault.{EndFault}
 use Rattle.endpoint.specs.declared.fault.EndFault.TheVariants.{StoreFailed, Memory, Unusable}
 use Rattle.endpoint.specs.Deeds.{Nothing, TakesIn}
 use Rattle.keep.specs.Failing.{Failing, through}
-use Rattle.audit.specs.Agree.{partners_agree}
-use Rattle.audit.specs.Looks.{StandsFor}
+use Rattle.schedule_audit.specs.Agree.{partners_agree}
+use Rattle.schedule_audit.specs.Looks.{StandsFor}
 use Rattle.keep.specs.Seen.{Seen}
 use Rattle.keep.specs.Tables.{empty}
-use Rattle.accord.specs.Sight.{OrderTables, StockTables, AccountTables, AllTables, all_empty, orders_service}
-use Rattle.audit.specs.declared.fault.AuditFault.TheVariants as at
-use Rattle.mail.specs.Offices.{Office, new_office}
-use Rattle.mail.specs.declared.repeat_fault.RepeatFault.TheVariants as repeat
-use Rattle.schedules.specs.declared.event.Event.TheVariants as event
-use Rattle.schedules.specs.declared.event.ConnectionNumber.TheVariants.{Zero}
-use Rattle.schedules.specs.declared.event.ServiceName.TheVariants.{Warehouse, Billing}
-use Rattle.schedules.specs.declared.outcome.Outcome.TheVariants as told
-use Rattle.sites.specs.SiteEvents.{Cuts}
+use Rattle.laws_stores.specs.Sight.{OrderTables, StockTables, AccountTables, AllTables, all_empty, orders_service}
+use Rattle.schedule_audit.specs.declared.fault.AuditFault.TheVariants as at
+use Rattle.schedule_mail.specs.Offices.{Office, new_office}
+use Rattle.schedule_mail.specs.declared.repeat_fault.RepeatFault.TheVariants as repeat
+use Rattle.schedule_text.specs.declared.event.Event.TheVariants as event
+use Rattle.schedule_text.specs.declared.event.ConnectionNumber.TheVariants.{Zero}
+use Rattle.schedule_text.specs.declared.event.ServiceName.TheVariants.{Warehouse, Billing}
+use Rattle.schedule_text.specs.declared.outcome.Outcome.TheVariants as told
+use Rattle.schedule_service.specs.SiteEvents.{Cuts}
 use Rattle.schedule_runner.specs.declared.acting.ServiceEvent.TheVariants.{Cut}
 use Rattle.schedule_runner.specs.declared.world.World.{World}
 use Rattle.schedule_runner.specs.Agreeing.{agreement_told, with_stores, fault_of, AfterFault, LooksAtAll, AsksAll, FindsAgreement}
@@ -25,7 +25,7 @@ use Rattle.schedule_runner.specs.Agreeing.{TellsAgreement}
 use Rattle.schedule_runner.specs.Deeds.{moment, Moves, InPurchasing, In, Same, Turn}
 use Rattle.schedule_runner.specs.Sight.{StaysClean, StaysMatching}
 use Rattle.schedule_runner.specs.Steps.{again, SendsAgain, IsNewBroker, AtMail, BeginsAnew, AtPurchasing, At, Happened}
-use Rattle.accord.proofs.Placed.{placing}
+use Rattle.laws_stores.proofs.Placed.{placing}
 
 -- ---- what is told
 

@@ -4,14 +4,14 @@ use Rattle.keep.specs.Failing.{through}
 use Rattle.keep.specs.Seen.{Seen}
 use Rattle.endpoint.specs.Faults.{end_fault_number}
 use Rattle.endpoint.specs.declared.fault.EndFault.{EndFault}
-use Rattle.audit.specs.Agree.{partners_agree}
-use Rattle.audit.specs.Looks.{Looks}
-use Rattle.audit.specs.declared.fault.AuditFault.{AuditFault}
-use Rattle.audit.specs.declared.fault.AuditFault.TheVariants.{Purchasing, Warehouse, Billing}
-use Rattle.accord.specs.Sight.{OrderTables, StockTables, AccountTables, AreClean, AreMatching}
-use Rattle.schedules.specs.declared.outcome.Outcome.{Outcome}
-use Rattle.schedules.specs.declared.outcome.Outcome.TheVariants.{Agreement, Refused}
-use Rattle.sites.specs.Channels.{After}
+use Rattle.schedule_audit.specs.Agree.{partners_agree}
+use Rattle.schedule_audit.specs.Looks.{Looks}
+use Rattle.schedule_audit.specs.declared.fault.AuditFault.{AuditFault}
+use Rattle.schedule_audit.specs.declared.fault.AuditFault.TheVariants.{Purchasing, Warehouse, Billing}
+use Rattle.laws_stores.specs.Sight.{OrderTables, StockTables, AccountTables, AreClean, AreMatching}
+use Rattle.schedule_text.specs.declared.outcome.Outcome.{Outcome}
+use Rattle.schedule_text.specs.declared.outcome.Outcome.TheVariants.{Agreement, Refused}
+use Rattle.schedule_service.specs.Channels.{After}
 use Rattle.schedule_runner.specs.declared.world.World.{World}
 use Rattle.schedule_runner.specs.Good.{IsGoodWorld}
 use Rattle.schedule_runner.specs.Sight.{sight}

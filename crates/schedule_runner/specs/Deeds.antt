@@ -7,21 +7,21 @@ use Rattle.trade.specs.declared.commands.AccountCommand.{AccountCommand}
 use Rattle.keep.specs.Seen.{Seen}
 use Rattle.keep.specs.Tables.{Tables}
 use Rattle.endpoint.specs.Deeds.{kept, Deed, Did}
-use Rattle.schedules.specs.declared.event.Event.{Event}
-use Rattle.schedules.specs.declared.event.Event.TheVariants as event
-use Rattle.schedules.specs.declared.event.ServiceName.{ServiceName}
-use Rattle.schedules.specs.declared.event.ServiceName.TheVariants.{Purchasing, Warehouse, Billing}
-use Rattle.schedules.specs.declared.outcome.Outcome.{Outcome}
-use Rattle.sites.specs.Deeds.{Channels, SiteMay, channels_of}
-use Rattle.sites.specs.SiteEvents.{SiteEvent, Commits}
+use Rattle.schedule_text.specs.declared.event.Event.{Event}
+use Rattle.schedule_text.specs.declared.event.Event.TheVariants as event
+use Rattle.schedule_text.specs.declared.event.ServiceName.{ServiceName}
+use Rattle.schedule_text.specs.declared.event.ServiceName.TheVariants.{Purchasing, Warehouse, Billing}
+use Rattle.schedule_text.specs.declared.outcome.Outcome.{Outcome}
+use Rattle.schedule_service.specs.Deeds.{Channels, SiteMay, channels_of}
+use Rattle.schedule_service.specs.SiteEvents.{SiteEvent, Commits}
 use Rattle.schedule_runner.specs.declared.acting.ServiceEvent.{ServiceEvent}
 use Rattle.schedule_runner.specs.declared.acting.ServiceEvent.TheVariants.{Open, Cut, Fill, Resend, Carry, Take, Drain, Fail, Reopen, Stop}
 use Rattle.schedule_runner.specs.declared.world.World.{World}
 use Rattle.schedule_runner.specs.Events.{asked_of}
 use Rattle.schedule_runner.specs.Paths.{IsPath, Makes}
-use Rattle.accord.specs.Sight.{AllTables, OrderTables, StockTables, AccountTables}
-use Rattle.accord.specs.Sight.{orders_service, stocks_service, accounts_service}
-use Rattle.accord.specs.Sight.{AreClean, AreMatching, MayLeave}
+use Rattle.laws_stores.specs.Sight.{AllTables, OrderTables, StockTables, AccountTables}
+use Rattle.laws_stores.specs.Sight.{orders_service, stocks_service, accounts_service}
+use Rattle.laws_stores.specs.Sight.{AreClean, AreMatching, MayLeave}
 use Rattle.schedule_runner.specs.Sight.{sight}
 use Rattle.schedule_runner.specs.Steps.{Happened}
 

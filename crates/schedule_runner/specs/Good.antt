@@ -1,11 +1,11 @@
 -- When three services and the mail between them are good, and that they stay so.
 use Rattle.envelope.specs.declared.message.Envelope.{Envelope}
 use Rattle.keep.specs.Seen.{Seen}
-use Rattle.accord.specs.Good.{IsGenuine, IsGood, AllAgree}
-use Rattle.accord.specs.Sight.{OrderTables, StockTables, AccountTables, AreClean, AreMatching}
-use Rattle.accord.specs.Sight.{orders_service, stocks_service, accounts_service}
-use Rattle.genuine.specs.Three.{Genuine}
-use Rattle.sites.specs.Cursors.{AreRight}
+use Rattle.laws_stores.specs.Good.{IsGenuine, IsGood, AllAgree}
+use Rattle.laws_stores.specs.Sight.{OrderTables, StockTables, AccountTables, AreClean, AreMatching}
+use Rattle.laws_stores.specs.Sight.{orders_service, stocks_service, accounts_service}
+use Rattle.laws_events.specs.Three.{Genuine}
+use Rattle.schedule_service.specs.Cursors.{AreRight}
 use Rattle.schedule_runner.specs.Sight.{sight}
 use Rattle.schedule_runner.specs.declared.world.World.{World}
 

@@ -1,12 +1,12 @@
 -- What a part of a step does to the world and to its tables.
 use Rattle.std.specs.Prelude.{List}
 use Rattle.keep.specs.Seen.{Seen}
-use Rattle.schedules.specs.declared.event.Event.{Event}
-use Rattle.schedules.specs.declared.outcome.Outcome.{Outcome}
+use Rattle.schedule_text.specs.declared.event.Event.{Event}
+use Rattle.schedule_text.specs.declared.outcome.Outcome.{Outcome}
 use Rattle.schedule_runner.specs.declared.world.World.{World}
 use Rattle.schedule_runner.specs.Deeds.{Moment, GoesBy, Step}
 use Rattle.schedule_runner.specs.Paths.{Leads}
-use Rattle.accord.specs.Sight.{OrderTables, StockTables, AccountTables}
+use Rattle.laws_stores.specs.Sight.{OrderTables, StockTables, AccountTables}
 use Rattle.schedule_runner.specs.Sight.{StaysClean, StaysMatching}
 use Rattle.schedule_runner.specs.Good.{StaysGood, Agrees}
 use Rattle.schedule_runner.specs.Steps.{Happened}

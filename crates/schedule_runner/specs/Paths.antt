@@ -1,9 +1,9 @@
 -- Events that are made one after another.
 use Rattle.std.specs.Prelude.{◌≡◌, List, [], ◌∷◌}
-use Rattle.schedules.specs.declared.event.Event.{Event}
-use Rattle.schedules.specs.declared.event.Event.TheVariants.{Pump}
-use Rattle.schedules.specs.declared.outcome.Outcome.{Outcome}
-use Rattle.schedules.specs.declared.outcome.Outcome.TheVariants.{Pumped}
+use Rattle.schedule_text.specs.declared.event.Event.{Event}
+use Rattle.schedule_text.specs.declared.event.Event.TheVariants.{Pump}
+use Rattle.schedule_text.specs.declared.outcome.Outcome.{Outcome}
+use Rattle.schedule_text.specs.declared.outcome.Outcome.TheVariants.{Pumped}
 use Rattle.schedule_runner.specs.Rounds.{all_rounds}
 
 module _ {Z : Type 0} (Step : Event → Outcome → Z → Z → Type 0) where

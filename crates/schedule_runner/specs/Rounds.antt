@@ -1,13 +1,13 @@
 -- The events of a pump.
 use Rattle.std.specs.Prelude.{ℕ, zero, suc, List, [], ◌∷◌, ◌++◌}
 use Rattle.stomp_wire.specs.declared.wire.Way.TheVariants.{Up, Down}
-use Rattle.schedules.specs.declared.event.ConnectionName.{ConnectionName}
-use Rattle.schedules.specs.declared.event.ConnectionNumber.{ConnectionNumber}
-use Rattle.schedules.specs.declared.event.ConnectionNumber.TheVariants.{Zero, One}
-use Rattle.schedules.specs.declared.event.Event.{Event}
-use Rattle.schedules.specs.declared.event.Event.TheVariants.{Fill, Carry, Take, Drain}
-use Rattle.schedules.specs.declared.event.ServiceName.{ServiceName}
-use Rattle.schedules.specs.declared.event.ServiceName.TheVariants.{Purchasing, Warehouse, Billing}
+use Rattle.schedule_text.specs.declared.event.ConnectionName.{ConnectionName}
+use Rattle.schedule_text.specs.declared.event.ConnectionNumber.{ConnectionNumber}
+use Rattle.schedule_text.specs.declared.event.ConnectionNumber.TheVariants.{Zero, One}
+use Rattle.schedule_text.specs.declared.event.Event.{Event}
+use Rattle.schedule_text.specs.declared.event.Event.TheVariants.{Fill, Carry, Take, Drain}
+use Rattle.schedule_text.specs.declared.event.ServiceName.{ServiceName}
+use Rattle.schedule_text.specs.declared.event.ServiceName.TheVariants.{Purchasing, Warehouse, Billing}
 
 -- so many frames are taken
 abbrev pub takes : ℕ → ConnectionName → List Event

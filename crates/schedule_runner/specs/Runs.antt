@@ -1,7 +1,7 @@
 -- What a run appends.
 use Rattle.std.specs.Prelude.{◌≡◌, List, ◌++◌, length, take, Result, OnOk}
-use Rattle.schedules.specs.declared.event.Event.{Event}
-use Rattle.schedules.specs.declared.outcome.Outcome.{Outcome}
+use Rattle.schedule_text.specs.declared.event.Event.{Event}
+use Rattle.schedule_text.specs.declared.outcome.Outcome.{Outcome}
 
 -- One outcome was appended for each step that was made: the steps of the first events, and of all where the answer is Ok. `Made` holds of
 -- these events and outcomes.

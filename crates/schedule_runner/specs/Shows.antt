@@ -6,18 +6,18 @@ use Rattle.base.specs.declared.entity.Kind.{Kind}
 use Rattle.base.specs.declared.entity.Kind.TheVariants.{Order, Stock, Account}
 use Rattle.base.specs.declared.pair.Pair.{Pair}
 use Rattle.keep.specs.Seen.{Seen}
-use Rattle.schedules.specs.declared.event.ServiceName.{ServiceName}
-use Rattle.schedules.specs.declared.event.ServiceName.TheVariants.{Purchasing, Warehouse, Billing}
-use Rattle.schedules.specs.declared.outcome.Outcome.{Outcome}
-use Rattle.schedules.specs.declared.outcome.Outcome.TheVariants.{Shown, Refused}
-use Rattle.showing.specs.Printed.{shown_or_none, shown_order, shown_stock, shown_account, pair_line}
-use Rattle.showing.specs.Printed.{shown_order_command, shown_stock_command, shown_account_command}
+use Rattle.schedule_text.specs.declared.event.ServiceName.{ServiceName}
+use Rattle.schedule_text.specs.declared.event.ServiceName.TheVariants.{Purchasing, Warehouse, Billing}
+use Rattle.schedule_text.specs.declared.outcome.Outcome.{Outcome}
+use Rattle.schedule_text.specs.declared.outcome.Outcome.TheVariants.{Shown, Refused}
+use Rattle.schedule_shows.specs.Printed.{shown_or_none, shown_order, shown_stock, shown_account, pair_line}
+use Rattle.schedule_shows.specs.Printed.{shown_order_command, shown_stock_command, shown_account_command}
 use Rattle.schedule_runner.specs.declared.looking.Listing.{Listing}
 use Rattle.schedule_runner.specs.declared.looking.Mark.{Mark}
 use Rattle.schedule_runner.specs.declared.looking.Mark.TheVariants.{Sent, Settled, Handled}
 use Rattle.schedule_runner.specs.declared.world.World.{World}
 use Rattle.schedule_runner.specs.Looks.{mark_of, IsRow, AreListed, shown_told, ReadsSite}
-use Rattle.accord.specs.Sight.{OrderTables, StockTables, AccountTables}
+use Rattle.laws_stores.specs.Sight.{OrderTables, StockTables, AccountTables}
 
 -- this line is shown, or memory was refused to it
 abbrev pub MayShow : List ℕ → Outcome → Type 0

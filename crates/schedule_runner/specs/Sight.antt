@@ -1,7 +1,7 @@
 -- Three services of a world, as their stores show them.
 use Rattle.keep.specs.Failing.{through}
 use Rattle.keep.specs.Seen.{Seen}
-use Rattle.accord.specs.Sight.{Sight, OrderTables, StockTables, AccountTables, AreClean, AreMatching}
+use Rattle.laws_stores.specs.Sight.{Sight, OrderTables, StockTables, AccountTables, AreClean, AreMatching}
 use Rattle.schedule_runner.specs.declared.world.World.{World}
 
 -- the stores of a world, each of which may fail where it is told to

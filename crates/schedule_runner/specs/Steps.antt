@@ -1,19 +1,19 @@
 -- What an event does to the world, by its outcome.
 use Rattle.std.specs.Prelude.{◌≡◌, ℕ, Option, Some, None, Result, Ok, Err}
 use Rattle.keep.specs.Seen.{Seen}
-use Rattle.mail.specs.Offices.{Office, restarted}
-use Rattle.mail.specs.RepeatFaults.{repeat_fault_number}
-use Rattle.mail.specs.declared.repeat_fault.RepeatFault.{RepeatFault}
-use Rattle.mail.specs.Repeating.{Repeats}
-use Rattle.schedules.specs.declared.event.Event.{Event}
-use Rattle.schedules.specs.declared.event.Event.TheVariants as event
-use Rattle.schedules.specs.declared.event.ServiceName.{ServiceName}
-use Rattle.schedules.specs.declared.event.ServiceName.TheVariants.{Purchasing, Warehouse, Billing}
-use Rattle.schedules.specs.declared.outcome.Outcome.{Outcome}
-use Rattle.schedules.specs.declared.outcome.Outcome.TheVariants.{Again, Absent, Stopped, Refused}
-use Rattle.sites.specs.Happenings.{Happens}
-use Rattle.sites.specs.Channels.{CutsBoth}
-use Rattle.sites.specs.SiteEvents.{SiteEvent, Commits}
+use Rattle.schedule_mail.specs.Offices.{Office, restarted}
+use Rattle.schedule_mail.specs.RepeatFaults.{repeat_fault_number}
+use Rattle.schedule_mail.specs.declared.repeat_fault.RepeatFault.{RepeatFault}
+use Rattle.schedule_mail.specs.Repeating.{Repeats}
+use Rattle.schedule_text.specs.declared.event.Event.{Event}
+use Rattle.schedule_text.specs.declared.event.Event.TheVariants as event
+use Rattle.schedule_text.specs.declared.event.ServiceName.{ServiceName}
+use Rattle.schedule_text.specs.declared.event.ServiceName.TheVariants.{Purchasing, Warehouse, Billing}
+use Rattle.schedule_text.specs.declared.outcome.Outcome.{Outcome}
+use Rattle.schedule_text.specs.declared.outcome.Outcome.TheVariants.{Again, Absent, Stopped, Refused}
+use Rattle.schedule_service.specs.Happenings.{Happens}
+use Rattle.schedule_service.specs.Channels.{CutsBoth}
+use Rattle.schedule_service.specs.SiteEvents.{SiteEvent, Commits}
 use Rattle.trade.specs.declared.commands.OrderCommand.{OrderCommand}
 use Rattle.trade.specs.declared.commands.StockCommand.{StockCommand}
 use Rattle.trade.specs.declared.commands.AccountCommand.{AccountCommand}
@@ -24,7 +24,7 @@ use Rattle.schedule_runner.specs.declared.world.World.{World}
 use Rattle.schedule_runner.specs.Events.{asked_of}
 use Rattle.schedule_runner.specs.Agreeing.{TellsAgreement}
 use Rattle.schedule_runner.specs.Shows.{Tells, RowOf, ListOf, ShowsPair}
-use Rattle.accord.specs.Sight.{OrderTables, StockTables, AccountTables, orders_service, stocks_service, accounts_service}
+use Rattle.laws_stores.specs.Sight.{OrderTables, StockTables, AccountTables, orders_service, stocks_service, accounts_service}
 
 -- what a repetition is answered
 abbrev pub again : Result (Option ℕ) RepeatFault → Outcome

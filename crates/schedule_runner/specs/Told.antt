@@ -7,13 +7,13 @@ use Rattle.trade.specs.declared.commands.AccountCommand.{AccountCommand}
 use Rattle.activities.specs.declared.input.Input.{Input}
 use Rattle.activities.specs.declared.input.Input.TheVariants.{FromSeat, FromEntity}
 use Rattle.activities.specs.declared.input.JournalRow.{JournalRow}
-use Rattle.schedules.specs.declared.event.Event.{Event}
-use Rattle.schedules.specs.declared.event.Event.TheVariants.{Order, Stock, Account}
-use Rattle.schedules.specs.declared.event.SeatCommand.{SeatCommand}
-use Rattle.schedules.specs.declared.outcome.Outcome.{Outcome}
-use Rattle.schedules.specs.declared.outcome.Outcome.TheVariants.{Committed, Refused}
+use Rattle.schedule_text.specs.declared.event.Event.{Event}
+use Rattle.schedule_text.specs.declared.event.Event.TheVariants.{Order, Stock, Account}
+use Rattle.schedule_text.specs.declared.event.SeatCommand.{SeatCommand}
+use Rattle.schedule_text.specs.declared.outcome.Outcome.{Outcome}
+use Rattle.schedule_text.specs.declared.outcome.Outcome.TheVariants.{Committed, Refused}
 use Rattle.schedule_runner.specs.Deeds.{GoesBy}
-use Rattle.accord.specs.Sight.{AllTables, OrderTables, StockTables, AccountTables}
+use Rattle.laws_stores.specs.Sight.{AllTables, OrderTables, StockTables, AccountTables}
 use Rattle.schedule_runner.specs.declared.world.World.{World}
 use Rattle.keep.specs.Seen.{Seen}
 

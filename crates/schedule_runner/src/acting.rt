@@ -1,15 +1,15 @@
 //! What one service is told to do, and which of its functions does it.
 
-ghost use Rattle.mail.specs.Offices.{Office};
+ghost use Rattle.schedule_mail.specs.Offices.{Office};
 ghost use Rattle.schedule_runner.specs.Events.{asked_of};
-ghost use Rattle.sites.specs.Deeds.{DoubtStays, Matches, Goes, SiteMay, channels_of};
-ghost use Rattle.sites.specs.Happenings.{Happens};
+ghost use Rattle.schedule_service.specs.Deeds.{DoubtStays, Matches, Goes, SiteMay, channels_of};
+ghost use Rattle.schedule_service.specs.Happenings.{Happens};
 
 use activities::Handler;
 use keep::Keep;
-use mail::Mail;
-use schedules::{ConnectionNumber, FailureLeaves, Ordinal, Outcome};
-use sites::Site;
+use schedule_mail::Mail;
+use schedule_text::{ConnectionNumber, FailureLeaves, Ordinal, Outcome};
+use schedule_service::Site;
 use std::alloc::Global;
 use stomp_wire::Way;
 

@@ -6,12 +6,12 @@ ghost use Rattle.schedule_runner.specs.Deeds.{Same};
 ghost use Rattle.schedule_runner.specs.Passing.{Both, Passes};
 
 use crate::World;
-use audit::AuditFault;
+use schedule_audit::AuditFault;
 use billing::Account;
 use endpoint::EndFault;
 use keep::Keep;
 use purchasing::Order;
-use schedules::Outcome;
+use schedule_text::Outcome;
 use trade::{AccountCommand, OrderCommand, StockCommand};
 use warehouse::Stock;
 
@@ -35,7 +35,7 @@ where
     fn ask_all(&mut self) -> Result<bool, AuditFault>
         ensures { AsksAll KO.seen KS.seen KA.seen result self.old self.new }
     {
-        audit::agreement(
+        schedule_audit::agreement(
             self.alloc,
             &mut self.purchasing.endpoint,
             &mut self.warehouse.endpoint,

@@ -12,9 +12,9 @@
 //!     world: &mut World<PlainKeep<Orders>, PlainKeep<Stocks>, PlainKeep<Accounts>>,
 //!     connection: ConnectionName,
 //! ) -> bool {
-//!     let open = schedules::Event::Open(connection);
+//!     let open = schedule_text::Event::Open(connection);
 //!     let _opened = world.step(&open);
-//!     matches!(world.step(&open), schedules::Outcome::Already)
+//!     matches!(world.step(&open), schedule_text::Outcome::Already)
 //! }
 //! ```
 //!

@@ -5,7 +5,7 @@ ghost use Rattle.keep.specs.Law.{Reads};
 ghost use Rattle.keep.specs.Listing.{AreFirst};
 ghost use Rattle.endpoint.specs.Calls.{Stays};
 ghost use Rattle.endpoint.specs.Faults.{end_of};
-ghost use Rattle.sites.specs.Channels.{After};
+ghost use Rattle.schedule_service.specs.Channels.{After};
 ghost use Rattle.schedule_runner.specs.Looks.{most, IsRow, AreListed, mark_of, read_told, shown_told, ReadsSite, StoreStays};
 
 use activities::Handler;
@@ -13,10 +13,10 @@ use base::{Entity, Pair};
 use endpoint::{EndFault, Endpoint};
 use envelope::Letter;
 use keep::Keep;
-use mail::Mail;
-use schedules::Outcome;
-use showing::{Shown, show_frames, show_journal, show_row};
-use sites::Site;
+use schedule_mail::Mail;
+use schedule_text::Outcome;
+use schedule_shows::{Shown, show_frames, show_journal, show_row};
+use schedule_service::Site;
 use std::alloc::Global;
 
 /// What of a service is shown row by row.
@@ -68,7 +68,7 @@ where
 }
 
 /// The lines of the frames that the service is to send. One read of the store.
-fn frame_lines<H, K>(alloc: Global, endpoint: &mut Endpoint<H, K>) -> Result<Vec<u8>, EndFault>
+fn test_frames<H, K>(alloc: Global, endpoint: &mut Endpoint<H, K>) -> Result<Vec<u8>, EndFault>
 where
     H: Shown,
     K: Keep<State = H::State, Command = H::Command> + Drop,
@@ -109,7 +109,7 @@ where
     ensures stays { Stays K.seen endpoint.old endpoint.new }
 {
     match listing {
-        Listing::Frames => frame_lines(alloc, endpoint),
+        Listing::Frames => test_frames(alloc, endpoint),
         Listing::Journal => journal_lines(alloc, endpoint),
     }
 }

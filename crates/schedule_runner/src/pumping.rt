@@ -8,7 +8,7 @@ use crate::acting::ServiceEvent;
 use billing::Account;
 use keep::Keep;
 use purchasing::Order;
-use schedules::{ConnectionName, ConnectionNumber, Rounds, ServiceName};
+use schedule_text::{ConnectionName, ConnectionNumber, Rounds, ServiceName};
 use stomp_wire::Way;
 use trade::{AccountCommand, OrderCommand, StockCommand};
 use warehouse::Stock;

@@ -13,7 +13,7 @@ use crate::World;
 use billing::Account;
 use keep::Keep;
 use purchasing::Order;
-use schedules::{Event, Outcome};
+use schedule_text::{Event, Outcome};
 use std::alloc::AllocError;
 use trade::{AccountCommand, OrderCommand, StockCommand};
 use warehouse::Stock;

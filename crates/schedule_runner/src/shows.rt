@@ -1,7 +1,7 @@
 //! What is shown of the services.
 
 ghost use Rattle.std.specs.Prelude.{◌≡◌};
-ghost use Rattle.showing.specs.Printed.{pair_line};
+ghost use Rattle.schedule_shows.specs.Printed.{pair_line};
 ghost use Rattle.schedule_runner.specs.Deeds.{Same};
 ghost use Rattle.schedule_runner.specs.Passing.{Both, Passes};
 ghost use Rattle.schedule_runner.specs.Shows.{Tells, RowOf, ListOf, MarkOf, MayShow, ShowsHandled, ShowsSettled, ShowsPair};
@@ -12,8 +12,8 @@ use base::{Entity, Kind, Pair};
 use billing::{Account, Accounts};
 use keep::Keep;
 use purchasing::{Order, Orders};
-use schedules::{Outcome, ServiceName};
-use showing::show_marks;
+use schedule_text::{Outcome, ServiceName};
+use schedule_shows::show_marks;
 use std::alloc::Global;
 use trade::{AccountCommand, OrderCommand, StockCommand};
 use warehouse::{Stock, Stocks};

@@ -4,14 +4,14 @@ ghost use Rattle.schedule_runner.specs.Deeds.{In, InPurchasing, InWarehouse, InB
 ghost use Rattle.schedule_runner.specs.Passing.{Both, Passes, Passed};
 ghost use Rattle.schedule_runner.specs.Paths.{Makes, MakesApart};
 ghost use Rattle.schedule_runner.specs.Steps.{At, AtPurchasing, AtWarehouse, AtBilling, AtMail, SendsAgain, BeginsAnew, Happened};
-ghost use Rattle.sites.specs.SiteEvents.{Commits};
+ghost use Rattle.schedule_service.specs.SiteEvents.{Commits};
 
 use crate::World;
 use crate::acting::{ServiceEvent, act};
 use billing::{Account, Accounts};
 use keep::Keep;
 use purchasing::{Order, Orders};
-use schedules::{Event, Ordinal, Outcome, SeatCommand, ServiceName};
+use schedule_text::{Event, Ordinal, Outcome, SeatCommand, ServiceName};
 use trade::{AccountCommand, OrderCommand, StockCommand};
 use warehouse::{Stock, Stocks};
 

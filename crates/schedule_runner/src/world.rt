@@ -1,18 +1,18 @@
 //! The world of three services.
 
 ghost use Rattle.std.specs.Prelude.{◌≡◌, None};
-ghost use Rattle.accord.specs.Good.{IsGood};
-ghost use Rattle.accord.specs.Sight.{AllTables, MayLeave, all_empty};
-ghost use Rattle.mail.specs.Offices.{new_office};
+ghost use Rattle.laws_stores.specs.Good.{IsGood};
+ghost use Rattle.laws_stores.specs.Sight.{AllTables, MayLeave, all_empty};
+ghost use Rattle.schedule_mail.specs.Offices.{new_office};
 ghost use Rattle.schedule_runner.specs.Good.{IsGoodWorld};
 ghost use Rattle.schedule_runner.specs.Sight.{sight};
 
 use billing::{Account, Accounts};
 use endpoint::Endpoint;
 use keep::{Faulty, Keep};
-use mail::Mail;
+use schedule_mail::Mail;
 use purchasing::{Order, Orders};
-use sites::Site;
+use schedule_service::Site;
 use std::alloc::Global;
 use trade::{AccountCommand, OrderCommand, StockCommand};
 use warehouse::{Stock, Stocks};

@@ -1,4 +1,4 @@
-use Rattle.schedules.specs.Outcomes.{outcome_lines}
+use Rattle.schedule_text.specs.Outcomes.{outcome_lines}
 use Rattle.programs.proofs.Writes.{appends_more, part_of_all, on_err_always}
 use Rattle.programs.proofs.writing.write_outcomes.Goals as goal
 

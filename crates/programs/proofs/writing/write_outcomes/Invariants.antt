@@ -1,7 +1,7 @@
 use Rattle.std.proofs.Common.{take}
 use Rattle.std.specs.List.{flat_map}
 use Rattle.std.specs.Io.KnownBytes.{Appends}
-use Rattle.schedules.specs.Outcomes.{outcome_lines}
+use Rattle.schedule_text.specs.Outcomes.{outcome_lines}
 use Rattle.programs.proofs.writing.write_outcomes.Given as goal
 
 abbrev pub invariant-loop-outcome : goal.invariant-loop-outcome

@@ -1,7 +1,7 @@
 use Rattle.std.proofs.Common.{get_or, refl, subst}
 use Rattle.std.specs.List.{flat_map}
 use Rattle.std.specs.Io.KnownBytes.{Appends}
-use Rattle.schedules.specs.Words.{spelled}
+use Rattle.schedule_text.specs.Words.{spelled}
 use Rattle.command_line.specs.Written.{AppendsPart}
 use Rattle.programs.proofs.Writes.{appends_more, part_of_all, on_err_always}
 use Rattle.programs.proofs.writing.write_word.Goals as goal

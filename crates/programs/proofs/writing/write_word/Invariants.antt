@@ -1,7 +1,7 @@
 use Rattle.std.proofs.Common.{take}
 use Rattle.std.specs.List.{flat_map}
 use Rattle.std.specs.Io.KnownBytes.{Appends}
-use Rattle.schedules.specs.Words.{spelled}
+use Rattle.schedule_text.specs.Words.{spelled}
 use Rattle.programs.proofs.writing.write_word.Given as goal
 
 abbrev pub invariant-loop-octet : goal.invariant-loop-octet

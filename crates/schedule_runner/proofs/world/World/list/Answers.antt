@@ -1,5 +1,5 @@
 use Rattle.std.proofs.Common.{refl}
-use Rattle.schedules.specs.declared.event.ServiceName.TheVariants.{Purchasing, Warehouse, Billing}
+use Rattle.schedule_text.specs.declared.event.ServiceName.TheVariants.{Purchasing, Warehouse, Billing}
 use Rattle.schedule_runner.proofs.Reading.{lift_order_read, lift_stock_read, lift_account_read}
 use Rattle.schedule_runner.specs.Shows.{ListOf}
 use Rattle.schedule_runner.proofs.world.World.list.Goals as goal

@@ -1,5 +1,5 @@
 use Rattle.std.proofs.Common.{ap}
-use Rattle.sites.specs.declared.site.Site.{Site}
+use Rattle.schedule_service.specs.declared.site.Site.{Site}
 use Rattle.schedule_runner.proofs.Righting.{opened_good, new_good}
 use Rattle.schedule_runner.proofs.world.World.open.Goals as goal
 

@@ -1,4 +1,4 @@
-use Rattle.sites.specs.SiteEvents.{Commits}
+use Rattle.schedule_service.specs.SiteEvents.{Commits}
 use Rattle.schedule_runner.proofs.Lifting.{lift_purchasing}
 use Rattle.schedule_runner.proofs.world.World.order.Goals as goal
 

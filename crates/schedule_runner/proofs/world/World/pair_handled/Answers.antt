@@ -1,6 +1,6 @@
 use Rattle.std.proofs.Common.{ℕ}
 use Rattle.schedule_runner.specs.declared.looking.Mark.TheVariants.{Handled}
-use Rattle.showing.specs.Printed.{pair_line}
+use Rattle.schedule_shows.specs.Printed.{pair_line}
 use Rattle.schedule_runner.specs.Shows.{ShowsLine}
 use Rattle.schedule_runner.proofs.Reading.{passes_next, passes_fault, passes_line}
 use Rattle.schedule_runner.proofs.world.World.pair_handled.Goals as goal

@@ -1,6 +1,6 @@
 use Rattle.std.proofs.Common.{◌≡◌, ◌+◌, [], ◌∷◌, subst, arith}
 use Rattle.stomp_wire.specs.declared.wire.Way.TheVariants.{Up, Down}
-use Rattle.schedules.specs.declared.event.Event.TheVariants.{Fill, Carry, Take}
+use Rattle.schedule_text.specs.declared.event.Event.TheVariants.{Fill, Carry, Take}
 use Rattle.schedule_runner.specs.Passing.{PassesAll}
 use Rattle.schedule_runner.specs.Rounds.{takes}
 use Rattle.schedule_runner.proofs.Composing.{passes_all, passes_nothing, passes_one, takes_more}

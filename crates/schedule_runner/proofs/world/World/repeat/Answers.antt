@@ -1,6 +1,6 @@
 use Rattle.std.proofs.Common.{refl, ap, subst}
-use Rattle.mail.specs.Repeating.{Repeats}
-use Rattle.schedules.specs.declared.outcome.Outcome.TheVariants.{Refused}
+use Rattle.schedule_mail.specs.Repeating.{Repeats}
+use Rattle.schedule_text.specs.declared.outcome.Outcome.TheVariants.{Refused}
 use Rattle.schedule_runner.proofs.Lifting.{lift_again}
 use Rattle.schedule_runner.proofs.world.World.repeat.Goals as goal
 

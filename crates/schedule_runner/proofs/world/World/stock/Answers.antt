@@ -1,4 +1,4 @@
-use Rattle.sites.specs.SiteEvents.{Commits}
+use Rattle.schedule_service.specs.SiteEvents.{Commits}
 use Rattle.schedule_runner.proofs.Lifting.{lift_warehouse}
 use Rattle.schedule_runner.proofs.world.World.stock.Goals as goal
 

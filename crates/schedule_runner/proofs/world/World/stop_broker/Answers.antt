@@ -1,5 +1,5 @@
 use Rattle.std.proofs.Common.{refl}
-use Rattle.schedules.specs.declared.outcome.Outcome.TheVariants.{Stopped, Refused}
+use Rattle.schedule_text.specs.declared.outcome.Outcome.TheVariants.{Stopped, Refused}
 use Rattle.schedule_runner.specs.declared.world.World.{World}
 use Rattle.schedule_runner.specs.Steps.{BeginsAnew}
 use Rattle.schedule_runner.proofs.Lifting.{lift_anew}

@@ -1,5 +1,0 @@
-use Rattle.broker_laws.proofs.Accounts.{told_once}
-use Rattle.broker_laws.proofs.laws.accepted_sends_are_told_once.Goals as goal
-
-pub returns : goal.returns
-returns c = told_once

@@ -1,5 +1,0 @@
-use Rattle.broker_laws.proofs.Streams.{handled_in_order}
-use Rattle.broker_laws.proofs.laws.frames_are_handled_in_order_all_life.Goals as goal
-
-pub returns : goal.returns
-returns c = handled_in_order

@@ -1,5 +1,0 @@
-use Rattle.broker_laws.proofs.Streams.{others_leave}
-use Rattle.broker_laws.proofs.laws.other_calls_leave_a_session.Goals as goal
-
-pub returns : goal.returns
-returns c = others_leave

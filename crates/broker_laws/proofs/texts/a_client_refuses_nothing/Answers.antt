@@ -1,5 +1,0 @@
-use Rattle.broker_laws.proofs.Lasting.{nothing_is_refused}
-use Rattle.broker_laws.proofs.texts.a_client_refuses_nothing.Goals as goal
-
-pub returns : goal.returns
-returns g c = nothing_is_refused _

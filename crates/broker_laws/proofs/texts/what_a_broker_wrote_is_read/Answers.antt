@@ -1,5 +1,0 @@
-use Rattle.broker_laws.proofs.Conversing.{brokers_are_read}
-use Rattle.broker_laws.proofs.texts.what_a_broker_wrote_is_read.Goals as goal
-
-pub returns : goal.returns
-returns c = brokers_are_read

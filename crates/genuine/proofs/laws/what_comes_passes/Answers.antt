@@ -1,6 +1,0 @@
-use Rattle.passage.specs.Passing.{passing}
-use Rattle.genuine.proofs.Threes.{first_came}
-use Rattle.genuine.proofs.laws.what_comes_passes.Goals as goal
-
-pub returns : goal.returns
-returns g c test a b d o genuine number f came e read = first_came (passing test) a b d o genuine number f came e read

@@ -1,6 +1,0 @@
-use Rattle.std.proofs.Common.{◌≡◌, ◌++◌, length}
-use Rattle.relay_lines.specs.Counting.{confirms}
-use Rattle.relay_lines.proofs.counting.send_all.Given as goal
-
-abbrev pub invariant-loop-sent : goal.invariant-loop-sent
-invariant-loop-sent l = (l.outs ≡ l.fn.outs ++ confirms l.sending.receiver l._sent) × (l.before ≡ length l.fn.outs)

@@ -1,0 +1,165 @@
+//! Whether the partners of all orders agree.
+
+ghost use Rattle.std.specs.Prelude.{◌≡◌};
+ghost use Rattle.base.specs.declared.entity.Kind.TheVariants.{Order as OrderKind};
+ghost use Rattle.schedule_audit.specs.Agree.{phase_by, go_one_way, phases_at, order_agrees, row_agrees, rows_agree, partners_agree};
+ghost use Rattle.schedule_audit.specs.Looks.{LooksAtPartners, Looks};
+
+use crate::AuditFault;
+use crate::looking::{is_given_back, is_taken, order_row, phase_at_account, phase_at_stock};
+use activities::JournalRow;
+use base::{Entity, Kind};
+use billing::{Account, Accounts};
+use endpoint::Endpoint;
+use keep::Keep;
+use purchasing::{Order, Orders};
+use std::alloc::Global;
+use trade::{AccountCommand, LinePhase, OrderCommand, StockCommand};
+use warehouse::{Stock, Stocks};
+
+/// How far the line of an order is at one of its partners, if it has one there. One read of the partner's store.
+fn phase_at<KS, KA>(
+    alloc: Global,
+    warehouse: &mut Endpoint<Stocks, KS>,
+    billing: &mut Endpoint<Accounts, KA>,
+    partner: &Entity,
+    order: &Entity,
+) -> Result<Option<LinePhase>, AuditFault>
+where
+    KS: Keep<State = Stock, Command = StockCommand> + Drop,
+    KA: Keep<State = Account, Command = AccountCommand> + Drop,
+    ensures { LooksAtPartners KS.seen KA.seen (λ s a phase. phase ≡ phase_by s a order.now partner.now.kind partner.now) result
+        warehouse.old warehouse.new billing.old billing.new }
+{
+    match partner.kind() {
+        Kind::Order => Ok(None),
+        Kind::Stock => match phase_at_stock(alloc, warehouse, partner, order) {
+            Ok(phase) => Ok(phase),
+            Err(fault) => Err(AuditFault::Warehouse(fault)),
+        },
+        Kind::Account => match phase_at_account(alloc, billing, partner, order) {
+            Ok(phase) => Ok(phase),
+            Err(fault) => Err(AuditFault::Billing(fault)),
+        },
+    }
+}
+
+/// Whether the lines of an order go one way. One read for each partner.
+fn lines_agree<KS, KA>(
+    alloc: Global,
+    warehouse: &mut Endpoint<Stocks, KS>,
+    billing: &mut Endpoint<Accounts, KA>,
+    order: &Entity,
+    placed: &Order,
+) -> Result<bool, AuditFault>
+where
+    KS: Keep<State = Stock, Command = StockCommand> + Drop,
+    KA: Keep<State = Account, Command = AccountCommand> + Drop,
+    ensures { LooksAtPartners KS.seen KA.seen (λ s a agrees. agrees ≡ go_one_way (phases_at s a order.now placed.now.partners)) result
+        warehouse.old warehouse.new billing.old billing.new }
+{
+    let mut taken = false;
+    let mut given_back = false;
+    for index in 0..placed.partner_count() {
+        let Some(partner) = placed.partner(index) else {
+            unreachable!()
+        };
+        let phase = phase_at(alloc, warehouse, billing, partner.entity(), order)?;
+        taken |= is_taken(phase);
+        given_back |= is_given_back(phase);
+    }
+    Ok(!(taken && given_back))
+}
+
+/// Whether the partners of an order agree. One read of purchasing's store, and one for each partner.
+fn order_agrees<KO, KS, KA>(
+    alloc: Global,
+    purchasing: &mut Endpoint<Orders, KO>,
+    warehouse: &mut Endpoint<Stocks, KS>,
+    billing: &mut Endpoint<Accounts, KA>,
+    order: &Entity,
+) -> Result<bool, AuditFault>
+where
+    KO: Keep<State = Option<Order>, Command = OrderCommand> + Drop,
+    KS: Keep<State = Stock, Command = StockCommand> + Drop,
+    KA: Keep<State = Account, Command = AccountCommand> + Drop,
+    requires { order.now.kind ≡ OrderKind }
+    ensures { Looks KO.seen KS.seen KA.seen (λ o s a agrees. agrees ≡ order_agrees s a order.now (o.entity order.now)) result
+        purchasing.old purchasing.new warehouse.old warehouse.new billing.old billing.new }
+{
+    match order_row(alloc, purchasing, order) {
+        Ok(Some(Some(placed))) => lines_agree(alloc, warehouse, billing, order, &placed),
+        Ok(_) => Ok(true),
+        Err(fault) => Err(AuditFault::Purchasing(fault)),
+    }
+}
+
+/// Whether the partners of a row's entity agree, where it is an order.
+fn row_agrees<KO, KS, KA>(
+    alloc: Global,
+    purchasing: &mut Endpoint<Orders, KO>,
+    warehouse: &mut Endpoint<Stocks, KS>,
+    billing: &mut Endpoint<Accounts, KA>,
+    row: &JournalRow<OrderCommand>,
+) -> Result<bool, AuditFault>
+where
+    KO: Keep<State = Option<Order>, Command = OrderCommand> + Drop,
+    KS: Keep<State = Stock, Command = StockCommand> + Drop,
+    KA: Keep<State = Account, Command = AccountCommand> + Drop,
+    ensures { Looks KO.seen KS.seen KA.seen (λ o s a agrees. agrees ≡ row_agrees o s a row.now) result
+        purchasing.old purchasing.new warehouse.old warehouse.new billing.old billing.new }
+{
+    if row.entity.kind() != Kind::Order {
+        return Ok(true);
+    }
+    order_agrees(alloc, purchasing, warehouse, billing, &row.entity)
+}
+
+/// Whether the partners of each order that has one of these rows agree. What is read of an order is read again at each of its rows.
+fn rows_agree<KO, KS, KA>(
+    alloc: Global,
+    purchasing: &mut Endpoint<Orders, KO>,
+    warehouse: &mut Endpoint<Stocks, KS>,
+    billing: &mut Endpoint<Accounts, KA>,
+    rows: &[JournalRow<OrderCommand>],
+) -> Result<bool, AuditFault>
+where
+    KO: Keep<State = Option<Order>, Command = OrderCommand> + Drop,
+    KS: Keep<State = Stock, Command = StockCommand> + Drop,
+    KA: Keep<State = Account, Command = AccountCommand> + Drop,
+    ensures { Looks KO.seen KS.seen KA.seen (λ o s a agree. agree ≡ rows_agree o s a rows.now) result
+        purchasing.old purchasing.new warehouse.old warehouse.new billing.old billing.new }
+{
+    for row in rows {
+        if !row_agrees(alloc, purchasing, warehouse, billing, row)? {
+            return Ok(false);
+        }
+    }
+    Ok(true)
+}
+
+/// Whether the partners of each order agree: of no order that has a row in purchasing's journal is one partner's line shipped or billed
+/// while another's is released or refused. Nothing changes.
+///
+/// It asks each store only reads: one of purchasing's journal, and for each of its rows one of the order and one at each partner.
+///
+/// # Errors
+/// Of the service whose read wasn't done: `Unusable`, `StoreFailed` or `Memory`, as its read tells it. The other stores stay as they are.
+pub fn agreement<KO, KS, KA>(
+    alloc: Global,
+    purchasing: &mut Endpoint<Orders, KO>,
+    warehouse: &mut Endpoint<Stocks, KS>,
+    billing: &mut Endpoint<Accounts, KA>,
+) -> Result<bool, AuditFault>
+where
+    KO: Keep<State = Option<Order>, Command = OrderCommand> + Drop,
+    KS: Keep<State = Stock, Command = StockCommand> + Drop,
+    KA: Keep<State = Account, Command = AccountCommand> + Drop,
+    ensures { Looks KO.seen KS.seen KA.seen (λ o s a agree. agree ≡ partners_agree o s a) result
+        purchasing.old purchasing.new warehouse.old warehouse.new billing.old billing.new }
+{
+    match purchasing.journal(alloc, 1, usize::MAX) {
+        Ok(rows) => rows_agree(alloc, purchasing, warehouse, billing, rows.as_slice()),
+        Err(fault) => Err(AuditFault::Purchasing(fault)),
+    }
+}

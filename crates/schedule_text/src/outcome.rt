@@ -1,0 +1,120 @@
+//! What becomes of events, and the lines that tell it.
+
+ghost use Rattle.std.specs.Prelude.{◌≡◌};
+ghost use Rattle.schedule_text.specs.Outcomes.{outcome_lines, told_lines};
+
+use activities::Refusal;
+use base::Pair;
+
+/// What became of an event.
+#[derive(Debug, Drop)]
+pub enum Outcome {
+    /// A command was taken in, at this position of the journal.
+    Committed(u64),
+    /// The connection was opened.
+    Opened,
+    /// It is open already.
+    Already,
+    /// It isn't open.
+    Closed,
+    /// It was cut.
+    Cut,
+    /// So many rows were sent.
+    Sent(u64),
+    /// All unsettled rows are due again.
+    Due,
+    /// So many octets were moved.
+    Carried(u64),
+    /// The broker answered CONNECT.
+    Connected,
+    /// The RECEIPT of this number came.
+    Receipt(u64),
+    /// A letter was handled, at this position of the journal.
+    Handled(u64),
+    /// A letter came that was handled before.
+    Repeated,
+    /// A letter is held, since one before it is missing.
+    Held,
+    /// A settle came: its pair is settled up to this number now.
+    Settled(u64),
+    /// An ERROR came, with this text.
+    Error(String),
+    /// There was nothing to do.
+    Idle,
+    /// The held message of this pair and number was handled.
+    Drained(Pair, u64),
+    /// A message was sent again, as this number.
+    Again(u64),
+    /// No message was accepted at that place.
+    Absent,
+    /// A call of the store will fail.
+    Armed,
+    /// The store was opened anew.
+    Reopened,
+    /// A service or the broker was stopped and started again.
+    Stopped,
+    /// The rounds were run.
+    Pumped,
+    /// It was refused, with the number of the fault.
+    Refused(u8),
+    /// It was refused as business.
+    NotDone(Refusal),
+    /// What was shown: whole lines.
+    Shown(Vec<u8>),
+    /// Whether the partners of each order agree.
+    Agreement(bool),
+}
+
+/// The pieces of the lines that tell an outcome: all but the last have one line.
+#[derive(Clone, Copy, Debug)]
+pub enum Told<'a> {
+    /// Words and a number.
+    Number(&'a str, u64),
+    /// Words, and a text, which may be empty.
+    Text(&'a str, &'a str),
+    /// Words, a pair and a number.
+    OfPair(&'a str, &'a Pair, u64),
+    /// Whole lines.
+    Lines(&'a [u8]),
+}
+
+impl Outcome {
+    /// The pieces of the lines that tell it.
+    #[tactic(auto, using(std::proofs::Common::append_assoc))]
+    pub fn told(&self) -> Told<'_>
+        ensures { told_lines result ≡ outcome_lines self.now }
+    {
+        match self {
+            Outcome::Committed(pos) => Told::Number("committed ", *pos),
+            Outcome::Opened => Told::Text("opened", ""),
+            Outcome::Already => Told::Text("already", ""),
+            Outcome::Closed => Told::Text("closed", ""),
+            Outcome::Cut => Told::Text("cut", ""),
+            Outcome::Sent(count) => Told::Number("sent ", *count),
+            Outcome::Due => Told::Text("due", ""),
+            Outcome::Carried(count) => Told::Number("carried ", *count),
+            Outcome::Connected => Told::Text("connected", ""),
+            Outcome::Receipt(number) => Told::Number("receipt ", *number),
+            Outcome::Handled(pos) => Told::Number("handled ", *pos),
+            Outcome::Repeated => Told::Text("repeated", ""),
+            Outcome::Held => Told::Text("held", ""),
+            Outcome::Settled(mark) => Told::Number("settled ", *mark),
+            Outcome::Error(text) => Told::Text("error ", text),
+            Outcome::Idle => Told::Text("idle", ""),
+            Outcome::Drained(pair, number) => Told::OfPair("drained ", pair, *number),
+            Outcome::Again(number) => Told::Number("again ", *number),
+            Outcome::Absent => Told::Text("none", ""),
+            Outcome::Armed => Told::Text("armed", ""),
+            Outcome::Reopened => Told::Text("reopened", ""),
+            Outcome::Stopped => Told::Text("stopped", ""),
+            Outcome::Pumped => Told::Text("pumped", ""),
+            Outcome::Refused(number) => Told::Number("refused ", u64::from(*number)),
+            Outcome::NotDone(refusal) => {
+                Told::Number("refused 61 ", u64::from(refusal.number()))
+            }
+            Outcome::Shown(lines) => Told::Lines(lines.as_slice()),
+            Outcome::Agreement(true) => Told::Text("agreement true", ""),
+            Outcome::Agreement(false) => Told::Text("agreement false", ""),
+        }
+    }
+}

@@ -1,0 +1,123 @@
+//! Schedules, read from text.
+
+ghost use Rattle.std.specs.Prelude.{◌≡◌, ◌<◌, ◌∷◌, ◌++◌, ◌==◌, ◌||◌, nat_lt, nat_le, length, count_by, position, option_to_list, OnOk};
+ghost use Rattle.schedule_text.specs.Events.{event_of, events_of};
+ghost use Rattle.schedule_text.specs.Faults.{IsRead};
+ghost use Rattle.schedule_text.specs.Lines.{lines_of};
+ghost use Rattle.schedule_text.specs.Reading.{Reads};
+ghost use Rattle.schedule_text.specs.Schedules.{is_quiet, said_on, found_in, found_on};
+
+use crate::event::Event;
+use crate::fault::{LineFault, ScheduleFault};
+use crate::parsing::read_event;
+use crate::words::read_words;
+use std::alloc::{AllocError, Global};
+
+/// The most octets of an event's line, were each octet of its words escaped.
+const LONGEST_LINE: usize = 3_074;
+
+/// The most words of an event: those of `place`.
+const MOST_WORDS: usize = 37;
+
+/// Whether a line has nothing to run: it's empty, or a comment.
+fn is_quiet(line: &str) -> bool
+    ensures { result ≡ is_quiet line.now }
+{
+    line.is_empty() || line.as_bytes()[0] == b'#'
+}
+
+/// Whether a line has more octets or more words than any event, so that none of them need be kept.
+fn exceeds_events(line: &str) -> bool
+    ensures { result ≡ (nat_lt LONGEST_LINE (length line.now) || nat_le MOST_WORDS (count_by (λ o. o == 32) line.now)) }
+{
+    line.len() > LONGEST_LINE
+        || line.as_bytes().iter().filter(|o| **o == b' ').count() >= MOST_WORDS
+}
+
+/// The event of a line.
+fn read_said(alloc: Global, line: &str) -> Result<Event, LineFault>
+    ensures { Reads (λ event. event) result (said_on event_of line.now) }
+{
+    if exceeds_events(line) {
+        return Err(LineFault::Bad);
+    }
+    let words = read_words(alloc, line)?;
+    read_event(alloc, words.as_slice())
+}
+
+/// What a line of text has to run.
+fn read_text(alloc: Global, line: &str) -> Result<Option<Event>, LineFault>
+    ensures { Reads (λ found. found) result (found_in event_of line.now) }
+{
+    if is_quiet(line) {
+        return Ok(None);
+    }
+    Ok(Some(read_said(alloc, line)?))
+}
+
+/// What a line has to run: it's text, or faulty.
+#[tactic(auto, using(crate::proofs::Utf8::utf8_yes, crate::proofs::Utf8::utf8_no))]
+fn read_line(alloc: Global, line: &[u8]) -> Result<Option<Event>, LineFault>
+    ensures { Reads (λ found. found) result (found_on event_of line.now) }
+{
+    match str::from_utf8(line) {
+        Ok(text) => read_text(alloc, text),
+        Err(_) => Err(LineFault::Bad),
+    }
+}
+
+/// Where the first LF of a text stands.
+fn end_of_line(text: &[u8]) -> Option<usize>
+    ensures { result ≡ position (λ o. o == 10) text.now }
+{
+    text.iter().position(|o| *o == b'\n')
+}
+
+/// The first line of a text, without the LF that ends it, and what follows it.
+fn first_line(text: &[u8]) -> (&[u8], &[u8])
+    requires { 0 < length text.now }
+    ensures line { lines_of text.now ≡ result.0.now ∷ lines_of result.1.now }
+    ensures shorter { length result.1.now < length text.now }
+{
+    match end_of_line(text) {
+        Some(at) => (&text[..at], &text[at + 1..]),
+        None => (text, &text[text.len()..]),
+    }
+}
+
+/// Puts the event of a line behind the others, where it has one.
+fn add(events: &mut Vec<Event>, found: Option<Event>) -> Result<(), AllocError>
+    ensures { OnOk result (events.new.items ≡ events.old.items ++ option_to_list found) }
+{
+    if let Some(event) = found {
+        events.push(event)?;
+    }
+    Ok(())
+}
+
+/// The events of a schedule, in order.
+///
+/// A schedule is lines of UTF-8, each ended by LF, which the last may lack. Empty lines and lines that begin with `#` have no event,
+/// but are counted.
+///
+/// # Errors
+/// `BadEvent` with the number of the first line that is no event, counted from 1; else `Memory` where a growth was refused.
+pub fn read_schedule(alloc: Global, text: &[u8]) -> Result<Vec<Event>, ScheduleFault>
+    ensures { IsRead (events_of text.now) result }
+{
+    let mut events = Vec::new(alloc);
+    let mut rest = text;
+    let mut number: u64 = 0;
+    while !rest.is_empty() {
+        let (line, after) = first_line(rest);
+        number += 1;
+        let found = match read_line(alloc, line) {
+            Ok(found) => found,
+            Err(LineFault::Bad) => return Err(ScheduleFault::BadEvent(number)),
+            Err(LineFault::Memory) => return Err(ScheduleFault::Memory),
+        };
+        add(&mut events, found)?;
+        rest = after;
+    }
+    Ok(events)
+}

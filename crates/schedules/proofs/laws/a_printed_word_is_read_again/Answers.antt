@@ -1,5 +1,0 @@
-use Rattle.schedules.proofs.Again.{word_again}
-use Rattle.schedules.proofs.laws.a_printed_word_is_read_again.Goals as goal
-
-pub returns : goal.returns
-returns c = word_again

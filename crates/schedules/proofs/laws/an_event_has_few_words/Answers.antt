@@ -1,5 +1,0 @@
-use Rattle.schedules.proofs.Sizes.{event_line_size}
-use Rattle.schedules.proofs.laws.an_event_has_few_words.Goals as goal
-
-pub returns : goal.returns
-returns c = event_line_size

@@ -1,7 +1,0 @@
-use Rattle.std.proofs.Common.{◌≡◌, ◌++◌, take}
-use Rattle.std.specs.List.{flat_map}
-use Rattle.showing.specs.Printed.{shown_partner}
-use Rattle.showing.proofs.states.push_partners.Given as goal
-
-abbrev pub invariant-loop-at : goal.invariant-loop-at
-invariant-loop-at l = l.line.items ≡ l.fn.line.items ++ flat_map shown_partner (take l.at l.order.partners)

@@ -1,4 +1,0 @@
-use Rattle.sites.proofs.site_channel.hang_up.Goals as goal
-
-pub returns-in-Some : goal.returns-in-Some
-returns-in-Some c = rw c.in-Some.is (c.cut.result, c.cut.ensures.cuts)

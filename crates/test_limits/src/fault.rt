@@ -1,0 +1,46 @@
+//! Why a line has no answer.
+
+use base::EntityFault;
+use broker_core::BrokerFault;
+use endpoint::EndFault;
+use test_script::{Fault, LineFault};
+use std::alloc::AllocError;
+use stomp_frame::FrameFault;
+use thiserror::Error;
+
+/// Why a line has no answer.
+#[derive(Debug, Drop, Error)]
+pub enum CallFault {
+    /// No line is so, or a word of it isn't one.
+    #[error(transparent)]
+    Line(#[from] LineFault),
+    /// A text names no entity.
+    #[error(transparent)]
+    Entity(#[from] EntityFault),
+    /// The frame's fault, or the decoder's.
+    #[error(transparent)]
+    Frame(#[from] FrameFault),
+    /// The endpoint's fault.
+    #[error(transparent)]
+    End(#[from] EndFault),
+    /// The broker's fault.
+    #[error(transparent)]
+    Broker(#[from] BrokerFault),
+    /// A growth was refused.
+    #[error("out of memory")]
+    Memory(#[from(alloc)] AllocError),
+}
+
+impl Fault for CallFault {
+    fn is_memory(&self) -> bool {
+        matches!(
+            self,
+            CallFault::Line(LineFault::Memory)
+                | CallFault::Memory(_)
+                | CallFault::Entity(EntityFault::Memory)
+                | CallFault::Frame(FrameFault::Memory)
+                | CallFault::End(EndFault::Memory)
+                | CallFault::Broker(BrokerFault::Memory { took: _ })
+        )
+    }
+}

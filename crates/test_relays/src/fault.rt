@@ -1,0 +1,55 @@
+//! Why a line has no answer.
+
+use base::EntityFault;
+use endpoint::EndFault;
+use test_script::{Fault, LineFault};
+use reception::ReceptionFault;
+use relay::RelayFault;
+use std::alloc::AllocError;
+use stomp_client::ClientFault;
+use stomp_frame::FrameFault;
+use thiserror::Error;
+
+/// Why a line has no answer.
+#[derive(Debug, Drop, Error)]
+pub enum CallFault {
+    /// No line is so, or a word of it isn't one.
+    #[error(transparent)]
+    Line(#[from] LineFault),
+    /// A text names no entity.
+    #[error(transparent)]
+    Entity(#[from] EntityFault),
+    /// The decoder's fault.
+    #[error(transparent)]
+    Frame(#[from] FrameFault),
+    /// The client's fault.
+    #[error(transparent)]
+    Client(#[from] ClientFault),
+    /// The endpoint's fault.
+    #[error(transparent)]
+    End(#[from] EndFault),
+    /// The relay's fault.
+    #[error(transparent)]
+    Relay(#[from] RelayFault),
+    /// The reception's fault.
+    #[error(transparent)]
+    Reception(#[from] ReceptionFault),
+    /// A growth was refused.
+    #[error("out of memory")]
+    Memory(#[from(alloc)] AllocError),
+}
+
+impl Fault for CallFault {
+    fn is_memory(&self) -> bool {
+        match self {
+            CallFault::Line(fault) => matches!(fault, LineFault::Memory),
+            CallFault::Entity(fault) => matches!(fault, EntityFault::Memory),
+            CallFault::Frame(fault) => matches!(fault, FrameFault::Memory),
+            CallFault::Client(fault) => fault.number() == 44,
+            CallFault::End(fault) => fault.number() == 64,
+            CallFault::Relay(fault) => matches!(fault.number(), 44 | 51 | 64),
+            CallFault::Reception(fault) => matches!(fault.number(), 44 | 51 | 64),
+            CallFault::Memory(_) => true,
+        }
+    }
+}

@@ -1,0 +1,28 @@
+//! Why a line has no answer.
+
+use test_script::{Fault, LineFault};
+use std::alloc::AllocError;
+use thiserror::Error;
+
+/// Why a line has no answer.
+#[derive(Debug, Drop, Error)]
+pub enum CallFault {
+    /// No line is so, or a word of it isn't one.
+    #[error(transparent)]
+    Line(#[from] LineFault),
+    /// What was written isn't text.
+    #[error("what was written isn't UTF-8")]
+    NotText,
+    /// A growth was refused.
+    #[error("out of memory")]
+    Memory(#[from(alloc)] AllocError),
+}
+
+impl Fault for CallFault {
+    fn is_memory(&self) -> bool {
+        matches!(
+            self,
+            CallFault::Line(LineFault::Memory) | CallFault::Memory(_)
+        )
+    }
+}

@@ -1,0 +1,44 @@
+//! Why a line has no answer.
+
+use activities::HandlerFault;
+use base::EntityFault;
+use endpoint::EndFault;
+use test_script::{Fault, LineFault};
+use std::alloc::AllocError;
+use thiserror::Error;
+
+/// Why a line has no answer.
+#[derive(Debug, Drop, Error)]
+pub enum CallFault {
+    /// No line is so, or a word of it isn't one.
+    #[error(transparent)]
+    Line(#[from] LineFault),
+    /// The numbers and lines are of no state.
+    #[error("no such state")]
+    Unsound,
+    /// A text names no entity.
+    #[error(transparent)]
+    Entity(#[from] EntityFault),
+    /// The handler's fault.
+    #[error(transparent)]
+    Handler(#[from] HandlerFault),
+    /// The endpoint's fault.
+    #[error(transparent)]
+    End(#[from] EndFault),
+    /// A growth was refused.
+    #[error("out of memory")]
+    Memory(#[from(alloc)] AllocError),
+}
+
+impl Fault for CallFault {
+    fn is_memory(&self) -> bool {
+        matches!(
+            self,
+            CallFault::Line(LineFault::Memory)
+                | CallFault::Memory(_)
+                | CallFault::Entity(EntityFault::Memory)
+                | CallFault::Handler(HandlerFault::Memory)
+                | CallFault::End(EndFault::Memory)
+        )
+    }
+}

@@ -1,0 +1,113 @@
+//! Requests as text: the name of the case, and then each part that is there, as `receipt "r"`.
+
+use test_script::push_octets;
+use std::alloc::AllocError;
+use stomp_frame::Header;
+use stomp_session::{Acknowledge, Connect, Request, Send, Subscribe, Text};
+
+/// Appends a part.
+pub fn push_part(text: &mut String, name: &str, value: &[u8]) -> Result<(), AllocError> {
+    write!(text, "; {name} \"")?;
+    push_octets(text, value)?;
+    text.push('"')
+}
+
+/// Appends a text that may be missing.
+fn push_text(text: &mut String, name: &str, value: &Option<Text>) -> Result<(), AllocError> {
+    match value {
+        Some(value) => push_part(text, name, value.as_str().as_bytes()),
+        None => Ok(()),
+    }
+}
+
+/// Appends a header.
+fn push_header(text: &mut String, header: &Header) -> Result<(), AllocError> {
+    text.push_str("; header \"")?;
+    push_octets(text, header.name().as_bytes())?;
+    text.push(':')?;
+    push_octets(text, header.value().as_bytes())?;
+    text.push('"')
+}
+
+/// Appends headers, each as a part of its own.
+fn push_headers(text: &mut String, headers: &[Header]) -> Result<(), AllocError> {
+    for header in headers {
+        push_header(text, header)?;
+    }
+    Ok(())
+}
+
+fn push_connect(text: &mut String, connect: &Connect) -> Result<(), AllocError> {
+    push_part(
+        text,
+        "accept-version",
+        connect.accept_version.as_str().as_bytes(),
+    )?;
+    push_part(text, "host", connect.host.as_str().as_bytes())
+}
+
+fn push_send(text: &mut String, send: &Send) -> Result<(), AllocError> {
+    push_part(text, "destination", send.destination.as_str().as_bytes())?;
+    push_headers(text, send.headers.as_slice())?;
+    push_part(text, "body", send.body.as_slice())?;
+    push_text(text, "transaction", &send.transaction)
+}
+
+fn push_subscribe(text: &mut String, subscribe: &Subscribe) -> Result<(), AllocError> {
+    push_part(text, "id", subscribe.id.as_str().as_bytes())?;
+    push_part(
+        text,
+        "destination",
+        subscribe.destination.as_str().as_bytes(),
+    )?;
+    push_text(text, "ack", &subscribe.ack)?;
+    push_part(text, "mode", subscribe.ack_mode().as_bytes())
+}
+
+fn push_acknowledge(text: &mut String, answer: &Acknowledge) -> Result<(), AllocError> {
+    push_part(text, "id", answer.id.as_str().as_bytes())?;
+    push_text(text, "transaction", &answer.transaction)
+}
+
+/// The name of a request's case.
+fn name(request: &Request) -> &'static str {
+    match request {
+        Request::Connect(_) => "Connect",
+        Request::Send(_) => "Send",
+        Request::Subscribe(_) => "Subscribe",
+        Request::Unsubscribe(_) => "Unsubscribe",
+        Request::Ack(_) => "Ack",
+        Request::Nack(_) => "Nack",
+        Request::Begin(_) => "Begin",
+        Request::Commit(_) => "Commit",
+        Request::Abort(_) => "Abort",
+        Request::Disconnect(_) => "Disconnect",
+    }
+}
+
+/// Appends what is a request's own.
+fn push_own(text: &mut String, request: &Request) -> Result<(), AllocError> {
+    match request {
+        Request::Connect(connect) => push_connect(text, connect),
+        Request::Send(send) => push_send(text, send),
+        Request::Subscribe(subscribe) => push_subscribe(text, subscribe),
+        Request::Unsubscribe(unsubscribe) => {
+            push_part(text, "id", unsubscribe.id.as_str().as_bytes())
+        }
+        Request::Ack(answer) | Request::Nack(answer) => push_acknowledge(text, answer),
+        Request::Begin(edge) | Request::Commit(edge) | Request::Abort(edge) => {
+            push_part(text, "transaction", edge.transaction.as_str().as_bytes())
+        }
+        Request::Disconnect(_) => Ok(()),
+    }
+}
+
+/// Appends a request.
+pub fn push_request(text: &mut String, request: &Request) -> Result<(), AllocError> {
+    text.push_str(name(request))?;
+    push_own(text, request)?;
+    match request.receipt() {
+        Some(receipt) => push_part(text, "receipt", receipt.as_bytes()),
+        None => Ok(()),
+    }
+}
