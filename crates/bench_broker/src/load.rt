@@ -153,8 +153,8 @@ impl Bench {
         Ok(())
     }
 
-    /// A message is sent, and the session that it goes out to takes its octets and acknowledges the delivery of this number. The answer is
-    /// how many octets went out: 0 where no session had any.
+    /// A message is sent, and the session that it goes out to takes its octets and acknowledges the delivery of this
+    /// number. The answer is how many octets went out: 0 where no session had any.
     fn hand_one(&mut self, queue: usize, delivery: u64) -> Result<usize, BenchFault> {
         let Some(head) = self.heads.get(queue) else {
             return Ok(0);

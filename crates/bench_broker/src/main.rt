@@ -1,8 +1,8 @@
-//! How fast a broker hands messages on, without sockets: one session sends, others have a subscription each, to a queue of their own. A
-//! message is handed on where its SEND was fed, its MESSAGE was taken away, and its ACK was fed.
+//! How fast a broker hands messages on, without sockets: one session sends, others have a subscription each, to a queue
+//! of their own. A message is handed on where its SEND was fed, its MESSAGE was taken away, and its ACK was fed.
 //!
-//! Without arguments: 8 subscriptions, bodies of 100 octets, 100 messages that wait in other queues, 1,000 messages handed on; what came
-//! of it. With these four numbers as arguments: the same for them, and the messages per second.
+//! Without arguments: 8 subscriptions, bodies of 100 octets, 100 messages that wait in other queues, 1,000 messages
+//! handed on; what came of it. With these four numbers as arguments: the same for them, and the messages per second.
 #![tactic(auto)]
 
 mod fault;

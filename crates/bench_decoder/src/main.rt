@@ -1,8 +1,8 @@
 //! How fast the decoder reads a stream of equal frames that comes in pieces of one size.
 //!
-//! Without arguments: a megabyte, and what was read of it. With a kind of stream, the length of a piece and a number of megabytes: the
-//! same for that many, and the octets per second. The kinds are `small`, `lines`, `headers`, `large`, `open` and `longest`; `encode`
-//! writes the frames of `small` in place of reading them.
+//! Without arguments: a megabyte, and what was read of it. With a kind of stream, the length of a piece and a number of
+//! megabytes: the same for that many, and the octets per second. The kinds are `small`, `lines`, `headers`, `large`,
+//! `open` and `longest`; `encode` writes the frames of `small` in place of reading them.
 #![tactic(auto)]
 
 use base::limits::MAX_BODY;
@@ -36,8 +36,8 @@ fn letter(alloc: Global) -> Result<Frame<MAX_BODY>, FrameFault> {
     Ok(frame)
 }
 
-/// A frame of this kind, and how many of them are about a megabyte: a letter; one with a header line of 1,000 octets; one with 32
-/// headers; one with a body of 65,536 octets and its length; one with the longest body and its length.
+/// A frame of this kind, and how many of them are about a megabyte: a letter; one with a header line of 1,000 octets;
+/// one with 32 headers; one with a body of 65,536 octets and its length; one with the longest body and its length.
 fn frame_of(alloc: Global, kind: &str) -> Result<(Frame<MAX_BODY>, usize), FrameFault> {
     let mut frame = letter(alloc)?;
     match kind {

@@ -8,13 +8,15 @@ use Rattle.broker_core.specs.Streams.{Fed, FedInTurn}
 use Rattle.broker_core.proofs.Feedings.{handled_first}
 use Rattle.broker_server.specs.Lives.{ReadInTurn, ReadIsHandled}
 
-fed_in_turn : (full n : ℕ) (old : Server) (before : Option (List ℕ)) (feeds : List Fed) (new : Server) (after : Option (List ℕ))
+fed_in_turn : (full n : ℕ) (old : Server) (before : Option (List ℕ)) (feeds : List Fed) (new : Server)
+    (after : Option (List ℕ))
     → ReadInTurn full n old before feeds new after → FedInTurn full n old feeds new
 fed_in_turn full n old before [] new after h = h.0
 fed_in_turn full n old before (f ∷ feeds) new after h =
     (h.2.0.from, (h.0, (h.2.0.untouched, h.2.0.took, fed_in_turn full n h.0 h.1 feeds new after h.2.1)))
 
-read_in_turn : (full n : ℕ) (old : Server) (before : Option (List ℕ)) (feeds : List Fed) (new : Server) (after : Option (List ℕ))
+read_in_turn : (full n : ℕ) (old : Server) (before : Option (List ℕ)) (feeds : List Fed) (new : Server)
+    (after : Option (List ℕ))
     → ReadInTurn full n old before feeds new after → Consumes before after (flat_map (λ f. f.piece) feeds)
 read_in_turn full n old before [] new after h = h.1
 read_in_turn full n old before (f ∷ feeds) new after h =

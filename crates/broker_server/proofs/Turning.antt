@@ -1,5 +1,6 @@
 -- A piece that is read, and octets that are written.
-use Rattle.std.proofs.Common.{◌≡◌, ℕ, ◌+◌, Bool, true, false, List, [], ◌∷◌, ◌++◌, ◌-◌, length, take, drop, Option, Ok, refl}
+use Rattle.std.proofs.Common.{◌≡◌, ℕ, ◌+◌, Bool, true, false, List, [], ◌∷◌, ◌++◌, ◌-◌, length, take, drop, Option, Ok}
+use Rattle.std.proofs.Common.{refl}
 use Rattle.std.proofs.Common.{sym, ap, ◌∙◌, arith, subst}
 use Rattle.std.specs.List.{find}
 use Rattle.std.specs.Io.KnownBytes.{Consumes}
@@ -18,7 +19,8 @@ use Rattle.broker_server.specs.declared.turn.Written.TheVariants.{All, Blocked, 
 
 -- ---- reading
 
-pub read_whole : (full n : ℕ) (old new : Server) (before after : Option (List ℕ)) (buffer : List ℕ) (count : ℕ) (p : Piece)
+pub read_whole : (full n : ℕ) (old new : Server) (before after : Option (List ℕ)) (buffer : List ℕ) (count : ℕ)
+    (p : Piece)
     → p ≡ Octets count → PieceAnswer before after buffer (Ok p) → FeedsAll full n (take count buffer) old new
     → ReadsIn full n old new before after
 read_whole full n old new before after buffer count (Octets k) e h f =
@@ -30,7 +32,8 @@ read_whole full n old new before after buffer count _ e h f = absurd (cc)
 
 out_step : (n k : ℕ) (s : Session) (ss : List Session) (b : Bool) → is_session n s ≡ b
     → out_in (find (is_session n) (with_session n (without_first k) ss)) ≡ drop k (out_in (find (is_session n) ss))
-    → out_in (find (is_session n) (with_session n (without_first k) (s ∷ ss))) ≡ drop k (out_in (find (is_session n) (s ∷ ss)))
+    → out_in (find (is_session n) (with_session n (without_first k) (s ∷ ss)))
+    ≡ drop k (out_in (find (is_session n) (s ∷ ss)))
 out_step n k s ss true e ih = rw (e, e) refl
 out_step n k s ss false e ih = rw (e, e) ih
 
@@ -43,7 +46,8 @@ pub out_without : (n k : ℕ) (ss : List Session)
 out_without n k [] = sym (drop_none k [] refl)
 out_without n k (s ∷ ss) = out_step n k s ss (is_session n s) refl (out_without n k ss)
 
-some_out : (n : ℕ) (b : Server) (count : ℕ) (before after : Option (List ℕ)) → WritesSome (out_in (session_of n b)) before after count
+some_out : (n : ℕ) (b : Server) (count : ℕ) (before after : Option (List ℕ))
+    → WritesSome (out_in (session_of n b)) before after count
     → WritesOut n b (changing n (without_first count) b) before after
 some_out n b count before after h =
     let out = out_in (session_of n b) in
@@ -66,17 +70,20 @@ all_out n b count before after Again h = some_out n b count before after h
 
 -- what was written is taken away
 pub written_out : (n : ℕ) (old new : Server) (out : List ℕ) (count : ℕ) (before after : Option (List ℕ)) (w : Written)
-    → out ≡ out_in (session_of n old) → new ≡ changing n (without_first count) old → SomeAnswer before after out (Ok (count, w))
+    → out ≡ out_in (session_of n old) → new ≡ changing n (without_first count) old
+    → SomeAnswer before after out (Ok (count, w))
     → WriteAnswer n old new before after (Ok w)
 written_out n old new out count before after w e k h =
     subst (λ (b : Server). WriteAnswer n old b before after (Ok w)) (sym k)
     (all_out n old count before after w (subst (λ (l : List ℕ). SomeAnswer before after l (Ok (count, w))) e h))
 
-some_rest : (octets : List ℕ) (from count : ℕ) (before after : Option (List ℕ)) → WritesSome (drop from octets) before after count
+some_rest : (octets : List ℕ) (from count : ℕ) (before after : Option (List ℕ))
+    → WritesSome (drop from octets) before after count
     → WritesRest (drop from octets) (drop (from + count) octets) before after
 some_rest octets from count before after h = record {
   octets = take count (drop from octets);
-  first = sym (take-append-drop count (drop from octets)) ∙ ap (λ l. take count (drop from octets) ++ l) (drop-drop count from octets);
+  first = sym (take-append-drop count (drop from octets))
+      ∙ ap (λ l. take count (drop from octets) ++ l) (drop-drop count from octets);
   appended = h.appended;
 }
 
@@ -99,6 +106,7 @@ written_rest old octets left from count before after w e k h =
     (all_rest octets from count before after w (subst (λ (l : List ℕ). SomeAnswer before after l (Ok (count, w))) k h))
 
 -- what stands behind a place, as a slice has it
-pub behind : (left octets : List ℕ) (from : ℕ) → left ≡ octets → take (length left - from) (drop from left) ≡ drop from octets
+pub behind : (left octets : List ℕ) (from : ℕ) → left ≡ octets
+    → take (length left - from) (drop from left) ≡ drop from octets
 behind left octets from e =
     ap (λ n. take n (drop from left)) (sym (length-drop from left)) ∙ take-length (drop from left) ∙ ap (drop from) e

@@ -10,7 +10,8 @@ use Rattle.broker_server.specs.declared.turn.Written.TheVariants as written
 
 -- What one read answers: so many octets at the front of the buffer; or none.
 abbrev pub PieceAnswer : Option (List ℕ) → Option (List ℕ) → List ℕ → Result Piece TurnFault → Type 0
-PieceAnswer before after buffer (Ok (Octets count)) = (count ≤ length buffer) × Consumes before after (take count buffer)
+PieceAnswer before after buffer (Ok (Octets count)) =
+    (count ≤ length buffer) × Consumes before after (take count buffer)
 PieceAnswer before after buffer (Ok Blocked) = Consumes before after []
 PieceAnswer before after buffer (Ok Ended) = Consumes before after [] × IsAtEnd after
 PieceAnswer before after buffer (Ok Interrupted) = Consumes before after []
@@ -24,7 +25,8 @@ pub record WritesSome (octets : List ℕ) (before after : Option (List ℕ)) (co
 
 -- What one write answers: at `All` all of them were.
 abbrev pub SomeAnswer : Option (List ℕ) → Option (List ℕ) → List ℕ → Result (ℕ × Written) TurnFault → Type 0
-SomeAnswer before after octets (Ok (count, written.All)) = WritesSome octets before after count × (count ≡ length octets)
+SomeAnswer before after octets (Ok (count, written.All)) =
+    WritesSome octets before after count × (count ≡ length octets)
 SomeAnswer before after octets (Ok (count, written.Blocked)) = WritesSome octets before after count
 SomeAnswer before after octets (Ok (count, written.Again)) = WritesSome octets before after count
 SomeAnswer before after octets (Err Stream) = Keeps before after

@@ -21,8 +21,8 @@ pub record FeedsAll (full n : ℕ) (piece : List ℕ) (old new : Server) : Type 
   pub count : ℕ
   pub feeds : Feeds full old n piece new count
 
--- What feeding an open session answers. At `Waits` the session has the piece, and goes on at the next feed; at `Untaken` nothing has
--- changed, which never comes of a piece without an octet.
+-- What feeding an open session answers. At `Waits` the session has the piece, and goes on at the next feed; at
+-- `Untaken` nothing has changed, which never comes of a piece without an octet.
 abbrev pub FedAnswer : ℕ → ℕ → List ℕ → Server → Server → Result (Unit {0}) ReadFault → Type 0
 FedAnswer full n piece old new (Ok _) = FeedsAll full n piece old new
 FedAnswer full n piece old new (Err Waits) = FeedsPart full old n piece new
@@ -38,7 +38,8 @@ pub record ReadsNone (old new : Server) (before after : Option (List ℕ)) : Typ
 
 -- the octets that were read are those that the session was fed; or nothing was read
 pub data ReadsIn (full n : ℕ) (old new : Server) (before after : Option (List ℕ)) : Type 0 where
-  some : (piece : List ℕ) → FeedsAll full n piece old new → Consumes before after piece → ReadsIn full n old new before after
+  some : (piece : List ℕ) → FeedsAll full n piece old new → Consumes before after piece
+      → ReadsIn full n old new before after
   none : ReadsNone old new before after → ReadsIn full n old new before after
 
 -- the session took the octets that were read, and then memory was refused
@@ -48,13 +49,16 @@ pub record ReadsPart (full n : ℕ) (old new : Server) (before after : Option (L
   pub octets : Consumes before after piece
 
 -- the session took none of the octets that were read: they begin the buffer, and nothing else has changed
-pub record ReadsUntaken (n : ℕ) (old new : Server) (before after : Option (List ℕ)) (buffer : List ℕ) (count : ℕ) : Type 0 where
+pub record ReadsUntaken (n : ℕ) (old new : Server) (before after : Option (List ℕ)) (buffer : List ℕ) (count : ℕ) : Type
+    0 where
   pub within : count ≤ length buffer
   pub feeds : FeedsNone old n (take count buffer) new
   pub octets : Consumes before after (take count buffer)
 
--- What a turn of reading answers: what was read is what the session was fed. At `Ended` the stream gave nothing and has no more.
-abbrev pub ReadAnswer : ℕ → ℕ → Server → Server → Option (List ℕ) → Option (List ℕ) → List ℕ → Result Turn ReadFault → Type 0
+-- What a turn of reading answers: what was read is what the session was fed. At `Ended` the stream gave nothing and has
+-- no more.
+abbrev pub ReadAnswer : ℕ → ℕ → Server → Server → Option (List ℕ) → Option (List ℕ) → List ℕ → Result Turn ReadFault
+    → Type 0
 ReadAnswer full n old new before after buffer (Ok turn.Ended) = ReadsNone old new before after × IsAtEnd after
 ReadAnswer full n old new before after buffer (Ok turn.Blocked) = ReadsIn full n old new before after
 ReadAnswer full n old new before after buffer (Ok turn.More) = ReadsIn full n old new before after
@@ -85,9 +89,11 @@ pub record WritesOut (n : ℕ) (old new : Server) (before after : Option (List �
   pub changed : new ≡ changing n (without_first (length octets)) old
   pub appended : Appends before after octets
 
--- What a turn of writing answers: at `All` nothing is left; where the stream failed nothing was written, and nothing has changed.
+-- What a turn of writing answers: at `All` nothing is left; where the stream failed nothing was written, and nothing
+-- has changed.
 abbrev pub WriteAnswer : ℕ → Server → Server → Option (List ℕ) → Option (List ℕ) → Result Written TurnFault → Type 0
-WriteAnswer n old new before after (Ok written.All) = WritesOut n old new before after × (out_in (session_of n new) ≡ [])
+WriteAnswer n old new before after (Ok written.All) =
+    WritesOut n old new before after × (out_in (session_of n new) ≡ [])
 WriteAnswer n old new before after (Ok written.Blocked) = WritesOut n old new before after
 WriteAnswer n old new before after (Ok written.Again) = WritesOut n old new before after
 WriteAnswer n old new before after (Err Stream) = (new ≡ old) × Keeps before after

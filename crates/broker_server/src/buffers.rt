@@ -9,11 +9,12 @@ const BUFFER: usize = 65_536;
 /// The buffers that may keep octets at once.
 const SPARES: usize = 8;
 
-/// The octets of a block of the reserve: allocators serve what is much larger from elsewhere, and give it back to the system.
+/// The octets of a block of the reserve: allocators serve what is much larger from elsewhere, and give it back to the
+/// system.
 const BLOCK: usize = 98_304;
 
-/// A buffer that connections are read into, and spare ones: where a session has no memory for what was read, the buffer keeps it, and a
-/// spare one comes in its place.
+/// A buffer that connections are read into, and spare ones: where a session has no memory for what was read, the buffer
+/// keeps it, and a spare one comes in its place.
 #[derive(Drop)]
 pub(crate) struct Buffers {
     alloc: Global,
@@ -41,7 +42,8 @@ impl Buffers {
         &mut self.current
     }
 
-    /// The buffer that was read into, which is to keep what it holds; none where there is no spare one. It takes no memory.
+    /// The buffer that was read into, which is to keep what it holds; none where there is no spare one. It takes no
+    /// memory.
     pub(crate) fn keep(&mut self) -> Option<Vec<u8>> {
         let spare = self.spares.pop()?;
         Some(replace(&mut self.current, spare))
@@ -63,8 +65,8 @@ impl Buffers {
     }
 }
 
-/// Memory that is kept for deals: where one was refused it is let go, so that others can be made. As far as memory isn't refused, it is
-/// taken again behind the writing, before a frame that waits is tried.
+/// Memory that is kept for deals: where one was refused it is let go, so that others can be made. As far as memory
+/// isn't refused, it is taken again behind the writing, before a frame that waits is tried.
 #[derive(Drop)]
 pub(crate) struct Reserve {
     alloc: Global,

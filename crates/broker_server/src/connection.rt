@@ -17,10 +17,12 @@ use std::alloc::Global;
 use std::mem::replace;
 use std::net::Shutdown;
 
-/// The octets of a frame besides its body: a command's line, those of 33 headers and an empty one, each with its end, and a NUL.
+/// The octets of a frame besides its body: a command's line, those of 33 headers and an empty one, each with its end,
+/// and a NUL.
 const MAX_HEAD: usize = 35 * (MAX_LINE + 2) + 1;
 
-/// The octets for a session that may be left after a write: 8 MiB besides as many of the longest messages as a subscription has out.
+/// The octets for a session that may be left after a write: 8 MiB besides as many of the longest messages as a
+/// subscription has out.
 const MAX_UNREAD: usize = 8_388_608 + MAX_UNANSWERED * (MAX_HEAD + MAX_BODY);
 
 /// The octets that are thrown away behind the end of a session.
@@ -37,7 +39,8 @@ enum Stage {
     Draining,
 }
 
-/// What waits since memory was refused to it. Nothing is read meanwhile, so that the system's buffers hold the client back.
+/// What waits since memory was refused to it. Nothing is read meanwhile, so that the system's buffers hold the client
+/// back.
 #[derive(Drop)]
 enum Due {
     /// Nothing.
@@ -186,7 +189,8 @@ impl Connection {
         Step::Waits
     }
 
-    /// Goes on with what waits. Where nothing does any more it is read again: the socket doesn't tell twice of what came meanwhile.
+    /// Goes on with what waits. Where nothing does any more it is read again: the socket doesn't tell twice of what
+    /// came meanwhile.
     pub(crate) fn go_on<const FULL: usize>(
         &mut self,
         alloc: Global,

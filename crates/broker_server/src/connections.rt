@@ -22,8 +22,8 @@ struct Leave {
     until: Instant,
 }
 
-/// The connections by the numbers of their sessions, those that leave, the first to go first, and those of which something waits for
-/// memory.
+/// The connections by the numbers of their sessions, those that leave, the first to go first, and those of which
+/// something waits for memory.
 #[derive(Drop)]
 pub(crate) struct Connections {
     alloc: Global,
@@ -46,8 +46,8 @@ impl Connections {
         }
     }
 
-    /// Takes in a connection and opens its session. Where that fails the connection is closed, and nothing else has changed. There is room
-    /// then to note that it waits for memory.
+    /// Takes in a connection and opens its session. Where that fails the connection is closed, and nothing else has
+    /// changed. There is room then to note that it waits for memory.
     pub(crate) fn take_in<const FULL: usize>(
         &mut self,
         registry: &Registry,

@@ -34,7 +34,8 @@ pub enum ReadFault {
     /// The read failed.
     #[error("the stream failed")]
     Stream,
-    /// Memory was refused to a frame, or to a deal behind it. The octets were taken: the next feed goes on where this one has stopped.
+    /// Memory was refused to a frame, or to a deal behind it. The octets were taken: the next feed goes on where this
+    /// one has stopped.
     #[error("out of memory: frames wait")]
     Waits,
     /// Memory was refused to the octets, so many of them: the session has taken none, and nothing has changed.

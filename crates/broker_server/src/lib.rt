@@ -1,8 +1,9 @@
 //! Serves a broker of STOMP 1.2 on sockets: one thread, no blocking call but the wait for readiness.
 //!
-//! The part that handles the octets of one connection is over any stream that reads and writes. Each octet that is read is fed once and in
-//! order to the session of its connection, and what is written is a beginning of that session's octets, of which no more is taken away:
-//! [`read_in`], [`write_out`] and [`Rest`]. What is around them, the loop over ready sockets, is safe; no contract says what a socket does.
+//! The part that handles the octets of one connection is over any stream that reads and writes. Each octet that is read
+//! is fed once and in order to the session of its connection, and what is written is a beginning of that session's
+//! octets, of which no more is taken away: [`read_in`], [`write_out`] and [`Rest`]. What is around them, the loop over
+//! ready sockets, is safe; no contract says what a socket does.
 //!
 //! ```text
 //! let mut broker: Broker<MAX_QUEUED> = Broker::new(alloc);
@@ -19,22 +20,24 @@
 //! }
 //! ```
 //!
-//! - Of a connection at most 65,536 octets are read at a turn, so that others come to theirs. All that a turn brought is handled, and then
-//!   the answers are written together.
-//! - A connection with more than 25,740,400 octets left that its client doesn't read is dropped, and so is one whose read or write fails:
-//!   its subscriptions end, and what was out to them goes to others. Nothing ever waits for it. These are 8 MiB besides 16 of the longest
-//!   messages, as many as are out to a subscription at once, so that a client that reads slowly gets them.
-//! - After an ERROR or a DISCONNECT (STOMP 1.2, sections "ERROR", "DISCONNECT"), or where the client has shut its side, what is left is
-//!   written and this side is shut; what the client still sends is read and thrown away, up to 67,108,864 octets and 5 seconds. So no reset
-//!   of the connection takes an ERROR away before it is read.
+//! - Of a connection at most 65,536 octets are read at a turn, so that others come to theirs. All that a turn brought
+//!   is handled, and then the answers are written together.
+//! - A connection with more than 25,740,400 octets left that its client doesn't read is dropped, and so is one whose
+//!   read or write fails: its subscriptions end, and what was out to them goes to others. Nothing ever waits for it.
+//!   These are 8 MiB besides 16 of the longest messages, as many as are out to a subscription at once, so that a client
+//!   that reads slowly gets them.
+//! - After an ERROR or a DISCONNECT (STOMP 1.2, sections "ERROR", "DISCONNECT"), or where the client has shut its side,
+//!   what is left is written and this side is shut; what the client still sends is read and thrown away, up to
+//!   67,108,864 octets and 5 seconds. So no reset of the connection takes an ERROR away before it is read.
 //! - Where the system has no descriptor left, connections wait until one is free.
-//! - Where memory is refused to a frame, or to a deal behind it, its connection stays. It isn't read from until its frames have gone on,
-//!   and they are tried at each turn, behind the writing of what was dealt, which gives memory back. Octets for which there is no memory
-//!   are kept in one of 8 buffers that were taken at the start; a connection for which none is free is dropped.
-//! - Where memory is refused to a deal, 196,608 octets are let go that were taken at the start, and are taken again once octets were
-//!   written.
-//! - Where memory is refused to a new connection it is closed, and so is one whose session is over, and whose client doesn't read, where
-//!   there is none for what is left.
+//! - Where memory is refused to a frame, or to a deal behind it, its connection stays. It isn't read from until its
+//!   frames have gone on, and they are tried at each turn, behind the writing of what was dealt, which gives memory
+//!   back. Octets for which there is no memory are kept in one of 8 buffers that were taken at the start; a connection
+//!   for which none is free is dropped.
+//! - Where memory is refused to a deal, 196,608 octets are let go that were taken at the start, and are taken again
+//!   once octets were written.
+//! - Where memory is refused to a new connection it is closed, and so is one whose session is over, and whose client
+//!   doesn't read, where there is none for what is left.
 #![tactic(auto)]
 
 mod buffers;

@@ -40,8 +40,8 @@ impl Rest {
         }
     }
 
-    /// Takes a session away, with what is left to be written for it: its subscriptions end, and what was out to them is ready again. It
-    /// deals nothing.
+    /// Takes a session away, with what is left to be written for it: its subscriptions end, and what was out to them is
+    /// ready again. It deals nothing.
     ///
     /// # Errors
     /// `Memory` where a growth was refused: the session is away then too.

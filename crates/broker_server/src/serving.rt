@@ -43,8 +43,8 @@ struct Server {
     has_written: bool,
 }
 
-/// Serves the connections of a listener by a broker, until it is asked to stop: those that are open then are closed, and their sessions
-/// are taken away.
+/// Serves the connections of a listener by a broker, until it is asked to stop: those that are open then are closed,
+/// and their sessions are taken away.
 ///
 /// A turn waits for sockets, reads of each that is ready, takes in what waits, and writes all answers together.
 ///
@@ -180,7 +180,8 @@ impl Server {
         }
     }
 
-    /// Deals where a session was taken away, since messages may be ready again, and where memory was refused: for that is the reserve.
+    /// Deals where a session was taken away, since messages may be ready again, and where memory was refused: for that
+    /// is the reserve.
     fn deal<const FULL: usize>(&mut self, broker: &mut Broker<FULL>) {
         if self.connections.has_dropped || self.is_short() {
             self.connections.has_dropped = false;

@@ -61,13 +61,14 @@ fn read_piece<S: Read>(stream: &mut S, buffer: &mut [u8]) -> Result<Piece, TurnF
     }
 }
 
-/// Feeds octets to an open session, and handles them as far as its frames are whole. With no octets it goes on with the frames that wait
-/// since memory was refused to them.
+/// Feeds octets to an open session, and handles them as far as its frames are whole. With no octets it goes on with the
+/// frames that wait since memory was refused to them.
 ///
 /// # Errors
-/// - `Waits` where memory was refused behind the taking of the octets: the frames before were handled, and the next feed, also one of no
-///   octets, goes on where this one has stopped: no frame is lost or handled twice;
-/// - `Untaken` where memory was refused to the octets, never to none: nothing has changed, and they may be fed again. It tells how many.
+/// - `Waits` where memory was refused behind the taking of the octets: the frames before were handled, and the next
+///   feed, also one of no octets, goes on where this one has stopped: no frame is lost or handled twice;
+/// - `Untaken` where memory was refused to the octets, never to none: nothing has changed, and they may be fed again.
+///   It tells how many.
 pub fn feed_in<const FULL: usize>(
     broker: &mut Broker<FULL>,
     session: SessionId,
@@ -85,15 +86,16 @@ pub fn feed_in<const FULL: usize>(
     }
 }
 
-/// Reads once from the stream of an open session, at most as many octets as `buffer` has, and feeds them to the session: each octet that
-/// was read is fed once, behind those before, and handled as far as its frames are whole.
+/// Reads once from the stream of an open session, at most as many octets as `buffer` has, and feeds them to the
+/// session: each octet that was read is fed once, behind those before, and handled as far as its frames are whole.
 ///
 /// # Errors
 /// - `Stream` where the read failed, and then nothing was read;
-/// - `Waits` where memory was refused behind the taking of the octets. The session has all of them, and a later [`feed_in`], also one of no
-///   octets, goes on with its frames: what is read until then waits behind them;
-/// - `Untaken` where memory was refused to the octets themselves. The session has none of them, and nothing has changed: they are the first
-///   so many of `buffer`, of which the stream doesn't tell again, and may be fed later by [`feed_in`], before others.
+/// - `Waits` where memory was refused behind the taking of the octets. The session has all of them, and a later
+///   [`feed_in`], also one of no octets, goes on with its frames: what is read until then waits behind them;
+/// - `Untaken` where memory was refused to the octets themselves. The session has none of them, and nothing has
+///   changed: they are the first so many of `buffer`, of which the stream doesn't tell again, and may be fed later by
+///   [`feed_in`], before others.
 pub fn read_in<S: Read, const FULL: usize>(
     stream: &mut S,
     broker: &mut Broker<FULL>,
@@ -102,7 +104,8 @@ pub fn read_in<S: Read, const FULL: usize>(
 ) -> Result<Turn, ReadFault>
     requires open { closed_in (session_of session broker.old) ≡ false }
     requires room { 0 < length buffer.old }
-    ensures { ReadAnswer FULL session broker.old broker.new (S.remaining stream.old) (S.remaining stream.new) buffer.new result }
+    ensures { ReadAnswer FULL session broker.old broker.new (S.remaining stream.old) (S.remaining stream.new) buffer.new
+        result }
 {
     let piece = match read_piece(stream, buffer) {
         Ok(piece) => piece,
@@ -140,7 +143,8 @@ pub fn discard<S: Read>(stream: &mut S, buffer: &mut [u8]) -> Result<(usize, Tur
     }
 }
 
-/// Writes a beginning of octets: the answer is how many, and what is with the others. Where the stream fails none was written.
+/// Writes a beginning of octets: the answer is how many, and what is with the others. Where the stream fails none was
+/// written.
 pub(crate) fn write_some<S: Write>(
     stream: &mut S,
     octets: &[u8],

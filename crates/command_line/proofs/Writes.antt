@@ -51,10 +51,12 @@ on_err_always (Err e) p = p
 pub first_of_three : (a b : Option (List ℕ)) (x y z : List ℕ) → AppendsPart a b x → AppendsPart a b (x ++ y ++ z)
 first_of_three a b x y z p = part_first a b (x ++ y) z (part_first a b x y p)
 
-pub second_of_three : (a b c : Option (List ℕ)) (x y z : List ℕ) → Appends a b x → AppendsPart b c y → AppendsPart a c (x ++ y ++ z)
+pub second_of_three : (a b c : Option (List ℕ)) (x y z : List ℕ) → Appends a b x → AppendsPart b c y
+    → AppendsPart a c (x ++ y ++ z)
 second_of_three a b c x y z first p = part_first a c (x ++ y) z (part_then a b c x y first p)
 
-pub third_of_three : {T E : Type 0} (a b c d : Option (List ℕ)) (x y z : List ℕ) (r : Result T E) → Appends a b x → Appends b c y
+pub third_of_three : {T E : Type 0} (a b c d : Option (List ℕ)) (x y z : List ℕ) (r : Result T E) → Appends a b x
+    → Appends b c y
     → OnErr r (AppendsPart c d z) → OnErr r (AppendsPart a d (x ++ y ++ z))
 third_of_three a b c d x y z r first second third =
     on_err_weaker r (λ p. part_then a c d (x ++ y) z (appends_then a b c x y first second) p) third

@@ -1,5 +1,5 @@
-//! What a program tells where the words of its command line ask for no run: help and the version, a fault of usage, or that a word isn't
-//! UTF-8. `clap` reads the words; its texts and the status that follows are the same in each program.
+//! What a program tells where the words of its command line ask for no run: help and the version, a fault of usage, or
+//! that a word isn't UTF-8. `clap` reads the words; its texts and the status that follows are the same in each program.
 //!
 //! ```rust
 //! pub fn words_that_are_no_text_are_told(alloc: Global) -> io::Result<u8> {

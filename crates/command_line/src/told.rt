@@ -25,8 +25,8 @@ fn is_request(kind: ErrorKind) -> bool
     matches!(kind, ErrorKind::DisplayHelp | ErrorKind::DisplayVersion)
 }
 
-/// Writes what `clap` says of the words: help and the version to `out`, a fault of usage to `err`. Answers the status: 0 for what was
-/// asked for, 2 for a fault.
+/// Writes what `clap` says of the words: help and the version to `out`, a fault of usage to `err`. Answers the status:
+/// 0 for what was asked for, 2 for a fault.
 ///
 /// # Errors
 /// Where the stream failed on which it is told; the other is as it was.

@@ -42,8 +42,10 @@ pub(crate) fn write_three<W: Write>(
     second: &[u8],
     third: &[u8],
 ) -> io::Result<()>
-    ensures ok { OnOk result (Appends (W.contents out.old) (W.contents out.new) (first.now ++ second.now ++ third.now)) }
-    ensures err { OnErr result (AppendsPart (W.contents out.old) (W.contents out.new) (first.now ++ second.now ++ third.now)) }
+    ensures ok { OnOk result (Appends (W.contents out.old) (W.contents out.new)
+        (first.now ++ second.now ++ third.now)) }
+    ensures err { OnErr result (AppendsPart (W.contents out.old) (W.contents out.new)
+        (first.now ++ second.now ++ third.now)) }
 {
     write_octets(out, first)?;
     write_octets(out, second)?;

@@ -1,5 +1,5 @@
-//! A hotel and a service of orders, each on one connection with a broker that is served in a thread: an order asks for a room, and gets its
-//! answer.
+//! A hotel and a service of orders, each on one connection with a broker that is served in a thread: an order asks for
+//! a room, and gets its answer.
 #![tactic(auto)]
 
 mod connected;

@@ -1,5 +1,6 @@
 -- The rows of an outbox that are sent are good.
-use Rattle.std.proofs.Common.{◌≡◌, ℕ, zero, suc, ◌+◌, Bool, true, false, List, [], ◌∷◌, length, Option, Some, None, Result, Ok, Err}
+use Rattle.std.proofs.Common.{◌≡◌, ℕ, zero, suc, ◌+◌, Bool, true, false, List, [], ◌∷◌, length, Option, Some, None}
+use Rattle.std.proofs.Common.{Result, Ok, Err}
 use Rattle.std.proofs.Common.{refl, sym, ap, subst, arith}
 use Rattle.std.specs.Prelude.{IfSome, nat_lt, if◌then◌else◌}
 use Rattle.std.specs.List.{AllByRecursion}
@@ -48,7 +49,8 @@ use Rattle.schedule_service.specs.declared.site.Site.{Site}
 none_is_some : (m : Message) → None ≡ Some m → ⊥
 none_is_some m e = cc
 
-unsent_stands : (messages : Messages) (p : Pair) (n : ℕ) (m : Message) (b : Bool) → (if b then messages p n else None) ≡ Some m
+unsent_stands : (messages : Messages) (p : Pair) (n : ℕ) (m : Message) (b : Bool)
+    → (if b then messages p n else None) ≡ Some m
     → messages p n ≡ Some m
 unsent_stands messages p n m true h = h
 unsent_stands messages p n m false h = absurd (none_is_some m h)
@@ -66,7 +68,8 @@ first_stand marks messages after (suc n) (l ∷ ls) are = (
   first_stand marks messages (Some (place_of l)) n ls are.1,
 )
 
-given_stand : (clean : Type 0) (marks : Pair → ℕ) (messages : Messages) (limit : ℕ) (ls : List Letter) (last : ℕ) (r : Result ℕ RelayFault)
+given_stand : (clean : Type 0) (marks : Pair → ℕ) (messages : Messages) (limit : ℕ) (ls : List Letter) (last : ℕ)
+    (r : Result ℕ RelayFault)
     → Gives clean (unsent marks messages) None limit ls last r → clean → Stand messages ls
 given_stand clean marks messages limit ls last (Ok count) gives c = first_stand marks messages None limit ls (gives.1 c)
 given_stand clean marks messages limit ls last (Err fault) gives c =
@@ -75,7 +78,8 @@ given_stand clean marks messages limit ls last (Err fault) gives c =
 module _ (ok : Envelope → Type 0) where
   -- ---- their SENDs
 
-  sends_good : (messages : Messages) → ((l : Letter) → messages l.pair l.number ≡ Some l.message → ok (envelope.Letter l))
+  sends_good : (messages : Messages) → ((l : Letter) → messages l.pair l.number ≡ Some l.message
+      → ok (envelope.Letter l))
       → (c : SendState) (ls : List Letter) → AllByRecursion (λ l. IsEnvelope (envelope.Letter l)) ls → Stand messages ls
       → AreFrames MAX_BODY (sends_of c ls) → AllByRecursion (GoodFrame ok) (sends_of c ls)
   sends_good messages good c [] are stand frames = tt
@@ -85,14 +89,16 @@ module _ (ok : Envelope → Type 0) where
   )
 
   filled_good : (clean : Type 0) (messages : Messages) (limit : ℕ) (old new : SendState) (r : Result ℕ RelayFault)
-      → Fills clean messages limit old new r → clean → ((l : Letter) → messages l.pair l.number ≡ Some l.message → ok (envelope.Letter l))
+      → Fills clean messages limit old new r → clean
+      → ((l : Letter) → messages l.pair l.number ≡ Some l.message → ok (envelope.Letter l))
       → HasWritten old.client.out → WritesGood ok old.client new.client
   filled_good clean messages limit old new r fills c good written =
       let added = adds_written old.client.out new.client.out (sends_of old fills.letters) fills.sends.wrote written in
       record {
         frames = sends_of old fills.letters;
         each = sends_good messages good old fills.letters fills.sends.each
-            (given_stand clean old.marks messages limit fills.letters new.client.receipts.last r fills.gives c) added.1.0;
+            (given_stand clean old.marks messages limit fills.letters new.client.receipts.last r fills.gives c)
+            added.1.0;
         out = added.0;
       }
 
@@ -100,20 +106,25 @@ module _ (ok : Envelope → Type 0) where
   idle_good : (here : Stage) (old new : SendState) (r : Result ℕ RelayFault) (A : Type 0) → IfSome (idle_answer here)
       (λ answer. (r ≡ answer) × A × (new ≡ old)) → (here ≡ stage.Connected → WritesGood ok old.client new.client)
       → WritesGood ok old.client new.client
-  idle_good stage.Fresh old new r A idle connected = writes_none ok old.client new.client (ap (λ (x : SendState). x.client.out) idle.2)
+  idle_good stage.Fresh old new r A idle connected =
+      writes_none ok old.client new.client (ap (λ (x : SendState). x.client.out) idle.2)
   idle_good stage.Connecting old new r A idle connected =
       writes_none ok old.client new.client (ap (λ (x : SendState). x.client.out) idle.2)
-  idle_good stage.Closed old new r A idle connected = writes_none ok old.client new.client (ap (λ (x : SendState). x.client.out) idle.2)
+  idle_good stage.Closed old new r A idle connected =
+      writes_none ok old.client new.client (ap (λ (x : SendState). x.client.out) idle.2)
   idle_good stage.Connected old new r A idle connected = connected refl
 
-  module _ {H K S C : Type 0} (seen : K → Seen (Tables S C)) (sound : (k : K) → IsSound (seen k)) (service : Service S C)
+  module _ {H K S C : Type 0} (seen : K → Seen (Tables S C)) (sound : (k : K) → IsSound (seen k))
+      (service : Service S C)
       (s : Site H K S C) (from : Office) (t : Site H K S C) (to : Office) (clean : (seen t.endpoint.keep).doubt ≡ 0)
       (match : AllMatch service (seen s.endpoint.keep).may_leave) (right : AreRight seen service s)
       (true_ok : (e : Envelope) → IsTrue service (seen t.endpoint.keep).may_leave e → ok e) where
-    module _ (number : ConnectionNumber) (limit : ℕ) (l : SiteChannel) (is : channel_of number s ≡ Some l) (outcome : Outcome)
+    module _ (number : ConnectionNumber) (limit : ℕ) (l : SiteChannel) (is : channel_of number s ≡ Some l)
+        (outcome : Outcome)
         (sends : SendsRows seen service number limit l outcome s from t to) where
       -- a row that stands is true of each content
-      row_ok : l.connection.channel.client.client.stage ≡ stage.Connected → (through seen s.endpoint).usable ≡ true → (row : Letter)
+      row_ok : l.connection.channel.client.client.stage ≡ stage.Connected → (through seen s.endpoint).usable ≡ true
+          → (row : Letter)
           → (seen s.endpoint.keep).tables.unsettled row.pair row.number ≡ Some row.message → ok (envelope.Letter row)
       row_ok up usable row stands = true_ok (envelope.Letter row) (λ u may.
           let least = (sends.reads up).doubt in
@@ -127,10 +138,12 @@ module _ (ok : Envelope → Type 0) where
       -- whatever is sent of an outbox is good
       pub rows_good : HasWritten l.connection.channel.client.client.out
           → WritesGood ok l.connection.channel.client.client sends.later.connection.channel.client.client
-      rows_good written = idle_good l.connection.channel.client.client.stage (sending l) (sending sends.later) sends.result
+      rows_good written =
+          idle_good l.connection.channel.client.client.stage (sending l) (sending sends.later) sends.result
           (t.endpoint ≡ s.endpoint) sends.idle
           (λ up. either (cases_Bool (through seen s.endpoint).usable)
-          (λ usable. filled_good (((seen t.endpoint.keep).doubt ≡ 0) × KnowsAll service l.relay (seen s.endpoint.keep).may_leave)
+          (λ usable. filled_good (((seen t.endpoint.keep).doubt ≡ 0)
+          × KnowsAll service l.relay (seen s.endpoint.keep).may_leave)
           (seen s.endpoint.keep).tables.unsettled limit (sending l) (sending sends.later) sends.result (sends.fills up)
           (clean, (match, channel_has (KnowsEach service (seen s.endpoint.keep).may_leave) number s l is right))
           (row_ok up usable) written)

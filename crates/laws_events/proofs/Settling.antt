@@ -27,7 +27,8 @@ same_settle : (p q : Pair) (n k : ℕ) → p.from ≡ q.from → p.to ≡ q.to �
 same_settle p q n k from to number = λ i. Settle (record { from = sym from i; to = sym to i }) (sym number i)
 
 -- what is written like a settle is that settle
-settle_alone : (p : Pair) (n : ℕ) → IsNumber n → (x : Envelope) → Carries (headers_of (Settle p n)) (content_of (Settle p n)) x
+settle_alone : (p : Pair) (n : ℕ) → IsNumber n → (x : Envelope)
+    → Carries (headers_of (Settle p n)) (content_of (Settle p n)) x
     → x ≡ Settle p n
 settle_alone p n is (Letter l) c =
     let words : codes "settle" ≡ codes "message" = same_value _ _ c.kind in
@@ -40,7 +41,8 @@ settle_alone p n is (Settle q k) c =
     (one_number n k is c.envelope.numbered.number (same_value (decimal n) (decimal k) c.number))
 
 -- so its SEND is good
-pub settle_good : (ok : Envelope → Type 0) (p : Pair) (n : ℕ) → IsNumber n → ok (Settle p n) → IsFrame MAX_BODY (send_of (Settle p n))
+pub settle_good : (ok : Envelope → Type 0) (p : Pair) (n : ℕ) → IsNumber n → ok (Settle p n)
+    → IsFrame MAX_BODY (send_of (Settle p n))
     → GoodFrame ok (send_of (Settle p n))
 settle_good ok p n is good frame = send_alike_good ok (Settle p n) [] tt
     (λ x c. subst ok (sym (settle_alone p n is x c)) good) frame

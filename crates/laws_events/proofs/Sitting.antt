@@ -1,5 +1,6 @@
 -- One connection of a service changes, and all else stays.
-use Rattle.std.proofs.Common.{◌≡◌, ◌⊎◌, inl, inr, ℕ, ◌+◌, ◌≤◌, ◌<◌, List, [], Option, Some, None, Ok, refl, sym, ap, subst, ◌∙◌, arith}
+use Rattle.std.proofs.Common.{◌≡◌, ◌⊎◌, inl, inr, ℕ, ◌+◌, ◌≤◌, ◌<◌, List, [], Option, Some, None, Ok, refl, sym, ap}
+use Rattle.std.proofs.Common.{subst, ◌∙◌, arith}
 use Rattle.std.specs.Prelude.{if◌then◌else◌, Result}
 use Rattle.std.proofs.lemmas.Bool.{eq-eqb, ne_eqb}
 use Rattle.activities.proofs.Sameness.{either}
@@ -30,9 +31,11 @@ at_other n m text on h = ap (λ b. if b then text else on m) (ne_eqb n m h)
 
 -- ---- what stays
 
-module _ (ok : Envelope → Type 0) (up down up' down' : ℕ → List ℕ) (from to : Office) (rise : from.broker.opened ≤ to.broker.opened) where
+module _ (ok : Envelope → Type 0) (up down up' down' : ℕ → List ℕ) (from to : Office)
+    (rise : from.broker.opened ≤ to.broker.opened) where
   -- a connection whose texts are the same
-  pub channel_stays : (l : Option SiteChannel) → ((m : ℕ) → IsOf m l → (up' m ≡ up m) × (down' m ≡ down m)) → ChannelSits ok up down l from
+  pub channel_stays : (l : Option SiteChannel) → ((m : ℕ) → IsOf m l → (up' m ≡ up m) × (down' m ≡ down m))
+      → ChannelSits ok up down l from
       → ChannelSits ok up' down' l to
   channel_stays None same h = tt
   channel_stays (Some l) same h =
@@ -41,7 +44,8 @@ module _ (ok : Envelope → Type 0) (up down up' down' : ℕ → List ℕ) (from
       record { texts = (e.0 ∙ h.texts.0, e.1 ∙ h.texts.1); good = h.good; opened = omega (arith, known, rise) }
 
   -- a service whose texts are
-  pub sits_stay : {H K S C : Type 0} (s : Site H K S C) → ((m : ℕ) → HasSession s m → (up' m ≡ up m) × (down' m ≡ down m))
+  pub sits_stay : {H K S C : Type 0} (s : Site H K S C)
+      → ((m : ℕ) → HasSession s m → (up' m ≡ up m) × (down' m ≡ down m))
       → Sits ok up down s from → Sits ok up' down' s to
   sits_stay s same h = record {
     zero = channel_stays s.zero (λ m is. same m (inl is)) h.zero;
@@ -56,7 +60,8 @@ abbrev pub other_channel : {H K S C : Type 0} → ConnectionNumber → Site H K 
 other_channel Zero s = s.one
 other_channel One s = s.zero
 
-module _ {H K S C : Type 0} (ok : Envelope → Type 0) (up down : ℕ → List ℕ) (s : Site H K S C) (from to : Office) (n : ℕ)
+module _ {H K S C : Type 0} (ok : Envelope → Type 0) (up down : ℕ → List ℕ) (s : Site H K S C) (from to : Office)
+    (n : ℕ)
     (going coming : List ℕ) (o : Option SiteChannel) (only : (m : ℕ) → IsOf m o → m ≡ n)
     (new : ChannelSits ok (at n going up) (at n coming down) o to) (rise : from.broker.opened ≤ to.broker.opened) where
   stays_beside : (l : Option SiteChannel) → (IsOf n l → ⊥) → ChannelSits ok up down l from
@@ -65,7 +70,8 @@ module _ {H K S C : Type 0} (ok : Envelope → Type 0) (up down : ℕ → List �
       (λ m is. let no : n ≡ m → ⊥ = λ e. beside (subst (λ i. IsOf i l) (sym e) is) in
       (at_other n m going up no, at_other n m coming down no)) h
 
-  replaced_sits : (number : ConnectionNumber) → (IsOf n (other_channel number s) → ⊥) → Sits ok up down s from → Sits ok (at n going up)
+  replaced_sits : (number : ConnectionNumber) → (IsOf n (other_channel number s) → ⊥) → Sits ok up down s from
+      → Sits ok (at n going up)
       (at n coming down) (with_channel number o s) to
   replaced_sits Zero beside h = record {
     zero = new;
@@ -78,7 +84,8 @@ module _ {H K S C : Type 0} (ok : Envelope → Type 0) (up down : ℕ → List �
     apart = λ m a b. beside (subst (λ i. IsOf i s.zero) (only m b) a);
   }
 
-  replaced_own : (number : ConnectionNumber) → HasSession s n ⊎ (from.broker.opened < n) → (m : ℕ) → HasSession (with_channel number o s) m
+  replaced_own : (number : ConnectionNumber) → HasSession s n ⊎ (from.broker.opened < n) → (m : ℕ)
+      → HasSession (with_channel number o s) m
       → HasSession s m ⊎ (from.broker.opened < m)
   replaced_own Zero mine m has = either has
       (λ is. subst (λ i. HasSession s i ⊎ (from.broker.opened < i)) (sym (only m is)) mine) (λ is. inl (inr is))
@@ -86,8 +93,10 @@ module _ {H K S C : Type 0} (ok : Envelope → Type 0) (up down : ℕ → List �
       (λ is. inl (inl is)) (λ is. subst (λ i. HasSession s i ⊎ (from.broker.opened < i)) (sym (only m is)) mine)
 
   -- one connection is another, or isn't open; its session was the service's own, or is a new one
-  pub replaced : (number : ConnectionNumber) → (IsOf n (other_channel number s) → ⊥) → HasSession s n ⊎ (from.broker.opened < n)
-      → Sits ok up down s from → GoodOffice ok (at n going up) (at n coming down) to → Passes ok up down s from (with_channel number o s) to
+  pub replaced : (number : ConnectionNumber) → (IsOf n (other_channel number s) → ⊥) → HasSession s n
+      ⊎ (from.broker.opened < n)
+      → Sits ok up down s from → GoodOffice ok (at n going up) (at n coming down) to
+      → Passes ok up down s from (with_channel number o s) to
   replaced number beside mine h office = record {
     rising = at n going up;
     falling = at n coming down;
@@ -95,20 +104,24 @@ module _ {H K S C : Type 0} (ok : Envelope → Type 0) (up down : ℕ → List �
     sits = replaced_sits number beside h;
     opened = rise;
     others = λ m known not.
-        let no : n ≡ m → ⊥ = λ e. either mine (λ has. not (subst (HasSession s) e has)) (λ more. omega (arith, e, more, known)) in
+        let no : n ≡ m → ⊥ =
+        λ e. either mine (λ has. not (subst (HasSession s) e has)) (λ more. omega (arith, e, more, known)) in
         (at_other n m going up no, at_other n m coming down no);
     own = replaced_own number mine;
   }
 
-module _ {H K S C : Type 0} (ok : Envelope → Type 0) (up down : ℕ → List ℕ) (number : ConnectionNumber) (s : Site H K S C) (l : SiteChannel)
+module _ {H K S C : Type 0} (ok : Envelope → Type 0) (up down : ℕ → List ℕ) (number : ConnectionNumber)
+    (s : Site H K S C) (l : SiteChannel)
     (is : channel_of number s ≡ Some l) where
   -- an open connection's session is its own
-  open_apart : (number : ConnectionNumber) → channel_of number s ≡ Some l → (from : Office) → Sits ok up down s from → (n : ℕ)
+  open_apart : (number : ConnectionNumber) → channel_of number s ≡ Some l → (from : Office) → Sits ok up down s from
+      → (n : ℕ)
       → n ≡ l.connection.session → IsOf n (other_channel number s) → ⊥
   open_apart Zero is from h n e other = h.apart n (subst (IsOf n) (sym is) (sym e)) other
   open_apart One is from h n e other = h.apart n other (subst (IsOf n) (sym is) (sym e))
 
-  open_own : (number : ConnectionNumber) → channel_of number s ≡ Some l → (n : ℕ) → n ≡ l.connection.session → HasSession s n
+  open_own : (number : ConnectionNumber) → channel_of number s ≡ Some l → (n : ℕ) → n ≡ l.connection.session
+      → HasSession s n
   open_own Zero is n e = inl (subst (IsOf n) (sym is) (sym e))
   open_own One is n e = inr (subst (IsOf n) (sym is) (sym e))
 
@@ -122,7 +135,8 @@ module _ {H K S C : Type 0} (ok : Envelope → Type 0) (up down : ℕ → List �
   linked from h = linked_at number is from h
 
   -- an open connection has other texts, and its session is the same
-  pub moved : (k : SiteChannel) (from to : Office) → k.connection.session ≡ l.connection.session → GoodConnection ok k.connection
+  pub moved : (k : SiteChannel) (from to : Office) → k.connection.session ≡ l.connection.session
+      → GoodConnection ok k.connection
       → to.broker.opened ≡ from.broker.opened → Sits ok up down s from → GoodWith ok k.connection up down to
       → Passes ok up down s from (with_channel number (Some k) s) to
   moved k from to same good rise h office =
@@ -137,43 +151,52 @@ module _ {H K S C : Type 0} (ok : Envelope → Type 0) (up down : ℕ → List �
       (omega (arith, rise)) number (open_apart number is from h n same) (inl (open_own number is n same)) h office
 
   -- it is cut
-  pub cut_off : {E : Type 0} (c : Connection) (from to : Office) (r : Result (Unit {0}) E) → c.session ≡ l.connection.session
-      → Cuts c from to r → Sits ok up down s from → GoodOffice ok up down from → Passes ok up down s from (with_channel number None s) to
+  pub cut_off : {E : Type 0} (c : Connection) (from to : Office) (r : Result (Unit {0}) E)
+      → c.session ≡ l.connection.session
+      → Cuts c from to r → Sits ok up down s from → GoodOffice ok up down from
+      → Passes ok up down s from (with_channel number None s) to
   cut_off c from to r same cuts h office =
       let rise = cut_opened c from to r cuts in
       replaced ok up down s from to c.session [] [] None (λ m e. absurd e) tt (omega (arith, rise)) number
-      (open_apart number is from h c.session same) (inl (open_own number is c.session same)) h (cut_good ok up down c from to r cuts office)
+      (open_apart number is from h c.session same) (inl (open_own number is c.session same)) h
+      (cut_good ok up down c from to r cuts office)
 
 module _ {H K S C : Type 0} (ok : Envelope → Type 0) (up down : ℕ → List ℕ) (s : Site H K S C) (from to : Office) where
   old_session : (l : Option SiteChannel) (n : ℕ) → ChannelSits ok up down l from → from.broker.opened < n → IsOf n l → ⊥
   old_session None n h more is = is
   old_session (Some l) n h more is = let known = h.opened in omega (arith, known, more, is)
 
-  old_beside : (number : ConnectionNumber) (n : ℕ) → Sits ok up down s from → from.broker.opened < n → IsOf n (other_channel number s) → ⊥
+  old_beside : (number : ConnectionNumber) (n : ℕ) → Sits ok up down s from → from.broker.opened < n
+      → IsOf n (other_channel number s) → ⊥
   old_beside Zero n h more = old_session s.one n h.one more
   old_beside One n h more = old_session s.zero n h.zero more
 
   -- a connection is opened
-  pub opened_channel : (number : ConnectionNumber) (c : Connection) (relay : Relay) → Opens from to (Ok c) → Sits ok up down s from
-      → GoodOffice ok up down from → Passes ok up down s from (with_channel number (Some (record { connection = c; relay = relay })) s) to
+  pub opened_channel : (number : ConnectionNumber) (c : Connection) (relay : Relay) → Opens from to (Ok c)
+      → Sits ok up down s from
+      → GoodOffice ok up down from → Passes ok up down s from (with_channel number
+      (Some (record { connection = c; relay = relay })) s) to
   opened_channel number c relay opens h office =
       let numbers = opened_number from c to opens in
       let number' : c.session ≡ from.broker.opened + 1 = numbers.0 in
       let risen : to.broker.opened ≡ from.broker.opened + 1 = numbers.1 in
       let more : from.broker.opened < c.session = omega (arith, number') in
-      replaced ok up down s from to c.session (going c) (coming c) (Some (record { connection = c; relay = relay })) (λ m e. sym e)
+      replaced ok up down s from to c.session (going c) (coming c) (Some (record { connection = c; relay = relay }))
+      (λ m e. sym e)
       (record {
         texts = (at_of c.session c.session (going c) up refl, at_of c.session c.session (coming c) down refl);
         good = opened_connection ok from c to opens;
         opened = omega (arith, number', risen);
       })
-      (omega (arith, risen)) number (old_beside number c.session h more) (inr more) h (opened_good ok up down from c to opens office)
+      (omega (arith, risen)) number (old_beside number c.session h more) (inr more) h
+      (opened_good ok up down from c to opens office)
 
 -- ---- nothing changes, or one change comes behind another
 
 module _ {H K S C : Type 0} (ok : Envelope → Type 0) (up down : ℕ → List ℕ) where
   -- nothing of the connections and the mail
-  pub stayed : (s : Site H K S C) (o : Office) → Sits ok up down s o → GoodOffice ok up down o → Passes ok up down s o s o
+  pub stayed : (s : Site H K S C) (o : Office) → Sits ok up down s o → GoodOffice ok up down o
+      → Passes ok up down s o s o
   stayed s o h office = record {
     rising = up;
     falling = down;
@@ -185,7 +208,8 @@ module _ {H K S C : Type 0} (ok : Envelope → Type 0) (up down : ℕ → List �
   }
 
   -- a connection that isn't open
-  pub closed : (number : ConnectionNumber) (s : Site H K S C) (o : Office) → Sits ok up down s o → GoodOffice ok up down o
+  pub closed : (number : ConnectionNumber) (s : Site H K S C) (o : Office) → Sits ok up down s o
+      → GoodOffice ok up down o
       → Passes ok up down s o (with_channel number None s) o
   closed Zero s o h office = record {
     rising = up;
@@ -207,10 +231,12 @@ module _ {H K S C : Type 0} (ok : Envelope → Type 0) (up down : ℕ → List �
   }
 
   -- of the store nothing is said
-  pub sits_any_store : (e : Failing K) (s : Site H K S C) (o : Office) → Sits ok up down s o → Sits ok up down (with_store e s) o
+  pub sits_any_store : (e : Failing K) (s : Site H K S C) (o : Office) → Sits ok up down s o
+      → Sits ok up down (with_store e s) o
   sits_any_store e s o h = record { zero = h.zero; one = h.one; apart = h.apart }
 
-  pub passes_any_store : (e : Failing K) (s t : Site H K S C) (from to : Office) → Passes ok up down (with_store e s) from t to
+  pub passes_any_store : (e : Failing K) (s t : Site H K S C) (from to : Office)
+      → Passes ok up down (with_store e s) from t to
       → Passes ok up down s from t to
   passes_any_store e s t from to p = record {
     rising = p.rising;

@@ -37,7 +37,8 @@ use Rattle.schedule_service.specs.declared.site.Site.{Site}
 
 -- ---- one service beside others
 
-module _ {H K S C H' K' S' C' : Type 0} (ok : Envelope → Type 0) (up down : ℕ → List ℕ) (s t : Site H K S C) (x : Site H' K' S' C')
+module _ {H K S C H' K' S' C' : Type 0} (ok : Envelope → Type 0) (up down : ℕ → List ℕ) (s t : Site H K S C)
+    (x : Site H' K' S' C')
     (from to : Office) (p : Passes ok up down s from t to) (sits : Sits ok up down x from) where
   channel_known : (l : Option SiteChannel) (n : ℕ) → ChannelSits ok up down l from → IsOf n l → n ≤ from.broker.opened
   channel_known None n h is = absurd is
@@ -76,7 +77,8 @@ module _ {H K S C : Type 0} (s : Site H K S C) (zero : s.zero ≡ None) (one : s
   }
 
 module _ (ok more : Envelope → Type 0) (grows : (e : Envelope) → ok e → more e) where
-  channel_more : (up down : ℕ → List ℕ) (l : Option SiteChannel) (o : Office) → ChannelSits ok up down l o → ChannelSits more up down l o
+  channel_more : (up down : ℕ → List ℕ) (l : Option SiteChannel) (o : Office) → ChannelSits ok up down l o
+      → ChannelSits more up down l o
   channel_more up down None o h = tt
   channel_more up down (Some l) o h = record {
     texts = h.texts;
@@ -85,7 +87,8 @@ module _ (ok more : Envelope → Type 0) (grows : (e : Envelope) → ok e → mo
         h.opened;
   }
 
-  sits_more : {H K S C : Type 0} (up down : ℕ → List ℕ) (s : Site H K S C) (o : Office) → Sits ok up down s o → Sits more up down s o
+  sits_more : {H K S C : Type 0} (up down : ℕ → List ℕ) (s : Site H K S C) (o : Office) → Sits ok up down s o
+      → Sits more up down s o
   sits_more up down s o h = record {
     zero = channel_more up down s.zero o h.zero;
     one = channel_more up down s.one o h.one;
@@ -94,8 +97,10 @@ module _ (ok more : Envelope → Type 0) (grows : (e : Envelope) → ok e → mo
   }
 
 -- what comes on a connection of a service is good
-came_good : {H K S C : Type 0} (ok : Envelope → Type 0) (up down : ℕ → List ℕ) (a : Site H K S C) (o : Office) → Sits ok up down a o
-    → GoodOffice ok up down o → (number : ConnectionNumber) (f : Content) (l : Option SiteChannel) → channel_of number a ≡ l → CameOn l f
+came_good : {H K S C : Type 0} (ok : Envelope → Type 0) (up down : ℕ → List ℕ) (a : Site H K S C) (o : Office)
+    → Sits ok up down a o
+    → GoodOffice ok up down o → (number : ConnectionNumber) (f : Content) (l : Option SiteChannel)
+    → channel_of number a ≡ l → CameOn l f
     → GoodFrame ok f
 came_good ok up down a o h office number f None is came = absurd came
 came_good ok up down a o h office number f (Some l) is came =
@@ -103,7 +108,8 @@ came_good ok up down a o h office number f (Some l) is came =
     (next_good ok up down l.connection came.0 o (Ok (Some f)) came.1 here.texts here.good office).0
 
 module _ {H K S C H' K' S' C' H'' K'' S'' C'' : Type 0} where
-  pub rotated : (ok : Envelope → Type 0) (a : Site H K S C) (b : Site H' K' S' C') (c : Site H'' K'' S'' C'') (o : Office)
+  pub rotated : (ok : Envelope → Type 0) (a : Site H K S C) (b : Site H' K' S' C') (c : Site H'' K'' S'' C'')
+      (o : Office)
       → Genuine ok a b c o → Genuine ok b c a o
   rotated ok a b c o h = record {
     up = h.up;
@@ -118,7 +124,8 @@ module _ {H K S C H' K' S' C' H'' K'' S'' C'' : Type 0} where
   }
 
   -- where no connection is open
-  all_closed : (ok : Envelope → Type 0) (a : Site H K S C) (b : Site H' K' S' C') (c : Site H'' K'' S'' C'') → a.zero ≡ None → a.one ≡ None
+  all_closed : (ok : Envelope → Type 0) (a : Site H K S C) (b : Site H' K' S' C') (c : Site H'' K'' S'' C'')
+      → a.zero ≡ None → a.one ≡ None
       → b.zero ≡ None → b.one ≡ None → c.zero ≡ None → c.one ≡ None → (o : Office) → GoodOffice ok (λ _. []) (λ _. []) o
       → Genuine ok a b c o
   all_closed ok a b c az ao bz bo cz co o office = record {
@@ -134,12 +141,14 @@ module _ {H K S C H' K' S' C' H'' K'' S'' C'' : Type 0} where
   }
 
   -- in the beginning
-  pub start_genuine : (ok : Envelope → Type 0) (a : Site H K S C) (b : Site H' K' S' C') (c : Site H'' K'' S'' C'') → a.zero ≡ None
+  pub start_genuine : (ok : Envelope → Type 0) (a : Site H K S C) (b : Site H' K' S' C') (c : Site H'' K'' S'' C'')
+      → a.zero ≡ None
       → a.one ≡ None → b.zero ≡ None → b.one ≡ None → c.zero ≡ None → c.one ≡ None → Genuine ok a b c new_office
   start_genuine ok a b c az ao bz bo cz co = all_closed ok a b c az ao bz bo cz co new_office (new_office_good ok)
 
   -- what is genuine among some envelopes is among more
-  pub genuine_more : (ok more : Envelope → Type 0) → ((e : Envelope) → ok e → more e) → (a : Site H K S C) (b : Site H' K' S' C')
+  pub genuine_more : (ok more : Envelope → Type 0) → ((e : Envelope) → ok e → more e)
+      → (a : Site H K S C) (b : Site H' K' S' C')
       (c : Site H'' K'' S'' C'') (o : Office) → Genuine ok a b c o → Genuine more a b c o
   genuine_more ok more grows a b c o h = record {
     up = h.up;
@@ -154,7 +163,8 @@ module _ {H K S C H' K' S' C' H'' K'' S'' C'' : Type 0} where
   }
 
   -- the first of three acts
-  pub first_passes : (ok : Envelope → Type 0) (a t : Site H K S C) (b : Site H' K' S' C') (c : Site H'' K'' S'' C'') (from to : Office)
+  pub first_passes : (ok : Envelope → Type 0) (a t : Site H K S C) (b : Site H' K' S' C') (c : Site H'' K'' S'' C'')
+      (from to : Office)
       → (h : Genuine ok a b c from) → Passes ok h.up h.down a from t to → Genuine ok t b c to
   first_passes ok a t b c from to h p = record {
     up = p.rising;
@@ -165,33 +175,45 @@ module _ {H K S C H' K' S' C' H'' K'' S'' C'' : Type 0} where
     third = other_sits ok h.up h.down a t c from to p h.third (apart_turned c a h.third_first);
     first_second = other_apart ok h.up h.down a t b from to p h.second h.first_second;
     second_third = h.second_third;
-    third_first = apart_turned t c (other_apart ok h.up h.down a t c from to p h.third (apart_turned c a h.third_first));
+    third_first =
+        apart_turned t c (other_apart ok h.up h.down a t c from to p h.third (apart_turned c a h.third_first));
   }
 
-  pub first_keeps : (ok : Envelope → Type 0) (a t : Site H K S C) (b : Site H' K' S' C') (c : Site H'' K'' S'' C'') (from to : Office)
-      (seen : K → Seen (Tables S C)) → ((k : K) → IsSound (seen k)) → (service : Service S C) (what : SiteEvent C) (outcome : Outcome)
+  pub first_keeps : (ok : Envelope → Type 0) (a t : Site H K S C) (b : Site H' K' S' C') (c : Site H'' K'' S'' C'')
+      (from to : Office)
+      (seen : K → Seen (Tables S C)) → ((k : K) → IsSound (seen k))
+      → (service : Service S C) (what : SiteEvent C) (outcome : Outcome)
       → (seen t.endpoint.keep).doubt ≡ 0 → AllMatch service (seen a.endpoint.keep).may_leave → AreRight seen service a
-      → ((e : Envelope) → IsTrue service (seen t.endpoint.keep).may_leave e → ok e) → Happens seen service what outcome a from t to
+      → ((e : Envelope) → IsTrue service (seen t.endpoint.keep).may_leave e → ok e)
+      → Happens seen service what outcome a from t to
       → Genuine ok a b c from → Genuine ok t b c to
   first_keeps ok a t b c from to seen sound service what outcome clean match right true_ok happens h =
       first_passes ok a t b c from to h
-      (event_passes ok seen sound service outcome a from t to clean match right true_ok h.up h.down h.first h.office what happens)
+      (event_passes ok seen sound service outcome a from t to clean match right true_ok h.up h.down h.first h.office
+      what happens)
 
   -- a read of a store, which may have failed
-  pub first_after : {R : Type 0} (ok : Envelope → Type 0) (a t : Site H K S C) (b : Site H' K' S' C') (c : Site H'' K'' S'' C'')
-      (from to : Office) (e : Failing K) (r : Result R EndFault) → After r (record a { endpoint = e }) from t to → Genuine ok a b c from
+  pub first_after : {R : Type 0} (ok : Envelope → Type 0) (a t : Site H K S C) (b : Site H' K' S' C')
+      (c : Site H'' K'' S'' C'')
+      (from to : Office) (e : Failing K) (r : Result R EndFault) → After r (record a { endpoint = e }) from t to
+      → Genuine ok a b c from
       → Genuine ok t b c to
   first_after ok a t b c from to e r after h = first_passes ok a t b c from to h
       (passes_any_store ok h.up h.down e a t from to
-      (after_passes ok h.up h.down r (with_store e a) from t to after (sits_any_store ok h.up h.down e a from h.first) h.office))
+      (after_passes ok h.up h.down r (with_store e a) from t to after (sits_any_store ok h.up h.down e a from h.first)
+      h.office))
 
-  pub first_cut : (ok : Envelope → Type 0) (a t : Site H K S C) (b : Site H' K' S' C') (c : Site H'' K'' S'' C'') (from to : Office)
+  pub first_cut : (ok : Envelope → Type 0) (a t : Site H K S C) (b : Site H' K' S' C') (c : Site H'' K'' S'' C'')
+      (from to : Office)
       → CutsBoth a from t to → Genuine ok a b c from → Genuine ok t b c to
-  first_cut ok a t b c from to cuts h = first_passes ok a t b c from to h (cuts_pass ok h.up h.down a from t to cuts h.first h.office)
+  first_cut ok a t b c from to cuts h =
+      first_passes ok a t b c from to h (cuts_pass ok h.up h.down a from t to cuts h.first h.office)
 
   -- an accepted SEND is sent again
-  pub repeated_keeps : (ok : Envelope → Type 0) (a : Site H K S C) (b : Site H' K' S' C') (c : Site H'' K'' S'' C'') (place : ℕ)
-      (from to : Office) (r : Result (Option ℕ) RepeatFault) → Repeats place from to r → Genuine ok a b c from → Genuine ok a b c to
+  pub repeated_keeps : (ok : Envelope → Type 0) (a : Site H K S C) (b : Site H' K' S' C') (c : Site H'' K'' S'' C'')
+      (place : ℕ)
+      (from to : Office) (r : Result (Option ℕ) RepeatFault) → Repeats place from to r → Genuine ok a b c from
+      → Genuine ok a b c to
   repeated_keeps ok a b c place from to r repeats h =
       let rise = repeated_opened place from to r repeats in
       record {
@@ -208,26 +230,32 @@ module _ {H K S C H' K' S' C' H'' K'' S'' C'' : Type 0} where
 
   -- ---- what is taken
 
-  pub first_came : (ok : Envelope → Type 0) (a : Site H K S C) (b : Site H' K' S' C') (c : Site H'' K'' S'' C'') (o : Office)
-      → Genuine ok a b c o → (number : ConnectionNumber) (f : Content) → CameOn (channels_of a number) f → (e : Envelope)
+  pub first_came : (ok : Envelope → Type 0) (a : Site H K S C) (b : Site H' K' S' C') (c : Site H'' K'' S'' C'')
+      (o : Office)
+      → Genuine ok a b c o → (number : ConnectionNumber) (f : Content) → CameOn (channels_of a number) f
+      → (e : Envelope)
       → read_frame f ≡ Some e → ok e
   first_came ok a b c o h number f came e read =
       message_ok ok f e (came_good ok h.up h.down a o h.first h.office number f (channel_of number a) refl came) read
 
 -- ---- the second and the third of three
 
-module _ {H K S C H' K' S' C' H'' K'' S'' C'' : Type 0} (ok : Envelope → Type 0) (a : Site H K S C) (b : Site H' K' S' C')
+module _ {H K S C H' K' S' C' H'' K'' S'' C'' : Type 0} (ok : Envelope → Type 0) (a : Site H K S C)
+    (b : Site H' K' S' C')
     (c : Site H'' K'' S'' C'') where
-  pub second_keeps : (t : Site H' K' S' C') (from to : Office) (seen : K' → Seen (Tables S' C')) → ((k : K') → IsSound (seen k))
+  pub second_keeps : (t : Site H' K' S' C') (from to : Office) (seen : K' → Seen (Tables S' C'))
+      → ((k : K') → IsSound (seen k))
       → (service : Service S' C') (what : SiteEvent C') (outcome : Outcome) → (seen t.endpoint.keep).doubt ≡ 0
       → AllMatch service (seen b.endpoint.keep).may_leave → AreRight seen service b
       → ((e : Envelope) → IsTrue service (seen t.endpoint.keep).may_leave e → ok e)
       → Happens seen service what outcome b from t to → Genuine ok a b c from → Genuine ok a t c to
   second_keeps t from to seen sound service what outcome clean match right true_ok happens h =
       rotated ok c a t to (rotated ok t c a to
-      (first_keeps ok b t c a from to seen sound service what outcome clean match right true_ok happens (rotated ok a b c from h)))
+      (first_keeps ok b t c a from to seen sound service what outcome clean match right true_ok happens
+      (rotated ok a b c from h)))
 
-  pub third_keeps : (t : Site H'' K'' S'' C'') (from to : Office) (seen : K'' → Seen (Tables S'' C'')) → ((k : K'') → IsSound (seen k))
+  pub third_keeps : (t : Site H'' K'' S'' C'') (from to : Office) (seen : K'' → Seen (Tables S'' C''))
+      → ((k : K'') → IsSound (seen k))
       → (service : Service S'' C'') (what : SiteEvent C'') (outcome : Outcome) → (seen t.endpoint.keep).doubt ≡ 0
       → AllMatch service (seen c.endpoint.keep).may_leave → AreRight seen service c
       → ((e : Envelope) → IsTrue service (seen t.endpoint.keep).may_leave e → ok e)
@@ -247,28 +275,36 @@ module _ {H K S C H' K' S' C' H'' K'' S'' C'' : Type 0} (ok : Envelope → Type 
   third_after t from to e r after h =
       rotated ok t a b to (first_after ok c t a b from to e r after (rotated ok b c a from (rotated ok a b c from h)))
 
-  second_cut : (t : Site H' K' S' C') (from to : Office) → CutsBoth b from t to → Genuine ok a b c from → Genuine ok a t c to
+  second_cut : (t : Site H' K' S' C') (from to : Office) → CutsBoth b from t to → Genuine ok a b c from
+      → Genuine ok a t c to
   second_cut t from to cuts h =
       rotated ok c a t to (rotated ok t c a to (first_cut ok b t c a from to cuts (rotated ok a b c from h)))
 
-  third_cut : (t : Site H'' K'' S'' C'') (from to : Office) → CutsBoth c from t to → Genuine ok a b c from → Genuine ok a b t to
+  third_cut : (t : Site H'' K'' S'' C'') (from to : Office) → CutsBoth c from t to → Genuine ok a b c from
+      → Genuine ok a b t to
   third_cut t from to cuts h =
       rotated ok t a b to (first_cut ok c t a b from to cuts (rotated ok b c a from (rotated ok a b c from h)))
 
-  pub second_came : (o : Office) → Genuine ok a b c o → (number : ConnectionNumber) (f : Content) → CameOn (channels_of b number) f
+  pub second_came : (o : Office) → Genuine ok a b c o → (number : ConnectionNumber) (f : Content)
+      → CameOn (channels_of b number) f
       → (e : Envelope) → read_frame f ≡ Some e → ok e
   second_came o h number f came e read = first_came ok b c a o (rotated ok a b c o h) number f came e read
 
-  pub third_came : (o : Office) → Genuine ok a b c o → (number : ConnectionNumber) (f : Content) → CameOn (channels_of c number) f
+  pub third_came : (o : Office) → Genuine ok a b c o → (number : ConnectionNumber) (f : Content)
+      → CameOn (channels_of c number) f
       → (e : Envelope) → read_frame f ≡ Some e → ok e
-  third_came o h number f came e read = first_came ok c a b o (rotated ok b c a o (rotated ok a b c o h)) number f came e read
+  third_came o h number f came e read =
+      first_came ok c a b o (rotated ok b c a o (rotated ok a b c o h)) number f came e read
 
-module _ {H K S C H' K' S' C' H'' K'' S'' C'' : Type 0} (ok : Envelope → Type 0) (a t : Site H K S C) (b u : Site H' K' S' C')
-    (c v : Site H'' K'' S'' C'') (from one two to : Office) (first : CutsBoth a from t one) (second : CutsBoth b one u two)
+module _ {H K S C H' K' S' C' H'' K'' S'' C'' : Type 0} (ok : Envelope → Type 0) (a t : Site H K S C)
+    (b u : Site H' K' S' C')
+    (c v : Site H'' K'' S'' C'') (from one two to : Office) (first : CutsBoth a from t one)
+    (second : CutsBoth b one u two)
     (third : CutsBoth c two v to) (h : Genuine ok a b c from) where
   -- all connections are cut
   pub cut_all : Genuine ok t u v to
-  cut_all = third_cut ok t u c v two to third (second_cut ok t b c u one two second (first_cut ok a t b c from one first h))
+  cut_all =
+      third_cut ok t u c v two to third (second_cut ok t b c u one two second (first_cut ok a t b c from one first h))
 
   -- and a new broker begins
   pub restarted_keeps : Genuine ok t u v (restarted to)
@@ -276,5 +312,6 @@ module _ {H K S C H' K' S' C' H'' K'' S'' C'' : Type 0} (ok : Envelope → Type 
       let all = cut_all in
       all_closed ok t u v (ap (λ (s : Site H K S C). s.zero) first.site) (ap (λ (s : Site H K S C). s.one) first.site)
       (ap (λ (s : Site H' K' S' C'). s.zero) second.site) (ap (λ (s : Site H' K' S' C'). s.one) second.site)
-      (ap (λ (s : Site H'' K'' S'' C''). s.zero) third.site) (ap (λ (s : Site H'' K'' S'' C''). s.one) third.site) (restarted to)
+      (ap (λ (s : Site H'' K'' S'' C''). s.zero) third.site) (ap (λ (s : Site H'' K'' S'' C''). s.one) third.site)
+      (restarted to)
       (restarted_good ok all.up all.down to all.office)

@@ -16,10 +16,11 @@ use Rattle.schedule_service.specs.Happenings.{Happens}
 use Rattle.schedule_service.specs.SiteEvents.{SiteEvent}
 use Rattle.schedule_service.specs.declared.site.Site.{Site}
 
-module _ {H K S C : Type 0} (seen : K → Seen (Tables S C)) (service : Service S C) (test : Envelope → Bool) (s t : Site H K S C)
+module _ {H K S C : Type 0} (seen : K → Seen (Tables S C)) (service : Service S C) (test : Envelope → Bool)
+    (s t : Site H K S C)
     (from to : Office) where
-  -- An event leads there. No file is in doubt then, all contents of the store matched their journal before, of which the relays' cursors
-  -- were right, and what is true in each content that there is then passes.
+  -- An event leads there. No file is in doubt then, all contents of the store matched their journal before, of which
+  -- the relays' cursors were right, and what is true in each content that there is then passes.
   pub record Leads : Type 0 where
     pub event : SiteEvent C
     pub outcome : Outcome
@@ -31,7 +32,8 @@ module _ {H K S C : Type 0} (seen : K → Seen (Tables S C)) (service : Service 
 
   -- then all is good again where it was good
   abbrev pub EventPasses : Type 0
-  EventPasses = Leads → (up down : ℕ → List ℕ) → GoodOffice (passing test) up down from → Sits (passing test) up down s from
+  EventPasses =
+      Leads → (up down : ℕ → List ℕ) → GoodOffice (passing test) up down from → Sits (passing test) up down s from
       → Passes (passing test) up down s from t to
 
   -- then all is genuine again among three services, of which this is the first

@@ -42,9 +42,10 @@ module _ (ok : Envelope → Type 0) (up down : ℕ → List ℕ) where
     pub one : ChannelSits s.one o
     pub apart : (n : ℕ) → IsOf n s.zero → IsOf n s.one → ⊥
 
--- What an event of a service leaves: texts with which all is good again. Those of sessions that aren't the service's are as they were, and
--- a session that the service has then it had before, or it is a new one.
-pub record Passes {H K S C : Type 0} (ok : Envelope → Type 0) (up down : ℕ → List ℕ) (s : Site H K S C) (from : Office) (t : Site H K S C)
+-- What an event of a service leaves: texts with which all is good again. Those of sessions that aren't the service's
+-- are as they were, and a session that the service has then it had before, or it is a new one.
+pub record Passes {H K S C : Type 0} (ok : Envelope → Type 0) (up down : ℕ → List ℕ) (s : Site H K S C) (from : Office)
+    (t : Site H K S C)
     (to : Office) : Type 0 where
   pub rising : ℕ → List ℕ
   pub falling : ℕ → List ℕ

@@ -6,8 +6,10 @@ use Rattle.laws_mail.specs.Passing.{GoodOffice}
 use Rattle.laws_events.specs.Sitting.{Sits, AreApart}
 use Rattle.schedule_service.specs.declared.site.Site.{Site}
 
--- All that is on its way among three services, and all that their broker keeps or ever accepted, is some of these envelopes or none.
-pub record Genuine {H K S C H' K' S' C' H'' K'' S'' C'' : Type 0} (ok : Envelope → Type 0) (a : Site H K S C) (b : Site H' K' S' C')
+-- All that is on its way among three services, and all that their broker keeps or ever accepted, is some of these
+-- envelopes or none.
+pub record Genuine {H K S C H' K' S' C' H'' K'' S'' C'' : Type 0} (ok : Envelope → Type 0) (a : Site H K S C)
+    (b : Site H' K' S' C')
     (c : Site H'' K'' S'' C'') (o : Office) : Type 0 where
   pub up : ℕ → List ℕ
   pub down : ℕ → List ℕ

@@ -15,8 +15,9 @@ ghost use Rattle.schedule_service.specs.declared.site.Site.{Site};
 use activities::Handler;
 use keep::Keep;
 
-/// Where all envelopes on their way and in the broker pass a test, they do so behind an event of one service, if what is true by its
-/// journal then passes. Its connections have the texts that are on their way, and those of other connections are as they were.
+/// Where all envelopes on their way and in the broker pass a test, they do so behind an event of one service, if what
+/// is true by its journal then passes. Its connections have the texts that are on their way, and those of other
+/// connections are as they were.
 pub fn each_event_makes_nothing_up<H, K>()
 where
     H: Handler,
@@ -37,7 +38,8 @@ where
     ensures acts { (test : Envelope → Bool) (s t : Site H K H.State H.Command) (b : Site I L I.State I.Command)
         (c : Site J M J.State J.Command) (from to : Office) → FirstKeeps K.seen H.service test s t from to b c }
     ensures turned { (test : Envelope → Bool) (a : Site H K H.State H.Command) (b : Site I L I.State I.Command)
-        (c : Site J M J.State J.Command) (o : Office) → Genuine (passing test) a b c o → Genuine (passing test) b c a o }
+        (c : Site J M J.State J.Command) (o : Office) → Genuine (passing test) a b c o
+        → Genuine (passing test) b c a o }
 {}
 
 /// The envelope of a frame that came on a connection of a service passes.

@@ -1,5 +1,6 @@
 -- Partners agree where each receiver handled a beginning of what was sent to it.
-use Rattle.std.proofs.Common.{◌≡◌, ℕ, zero, suc, ◌<◌, length, arith, List, [], ◌∷◌, ◌⊎◌, refl, Option, Some, None, inl, inr, subst}
+use Rattle.std.proofs.Common.{◌≡◌, ℕ, zero, suc, ◌<◌, length, arith, List, [], ◌∷◌, ◌⊎◌, refl, Option, Some, None, inl}
+use Rattle.std.proofs.Common.{inr, subst}
 use Rattle.std.specs.Prelude.{IsNone, slice_index_or}
 use Rattle.base.specs.declared.entity.Kind.{Kind}
 use Rattle.base.specs.declared.entity.Kind.TheVariants.{Order, Stock, Account}
@@ -15,9 +16,11 @@ use Rattle.activities.specs.Numbered.{numbered}
 use Rattle.trade.specs.Lines.{Line}
 use Rattle.trade.specs.Orders.{order_reactions}
 use Rattle.laws_journals.specs.Journals.{Journals, sent_by, sent_in, letters_by, letters_in, HandlesPrefixes}
-use Rattle.laws_journals.specs.Agreement.{states_in, line_by, line_at, IsShippedOrBilled, IsReleasedOrRefused, IsPartner, PartnersAgree}
+use Rattle.laws_journals.specs.Agreement.{states_in, line_by, line_at, IsShippedOrBilled, IsReleasedOrRefused}
+use Rattle.laws_journals.specs.Agreement.{IsPartner, PartnersAgree}
 use Rattle.laws_journals.specs.Agreement.{RefusedAreLeftAlone, AreSound}
-use Rattle.laws_journals.proofs.Partners.{Heard, Told, ByPhase, ByLine, heard-left, stock_line-tells, account_line-tells}
+use Rattle.laws_journals.proofs.Partners.{Heard, Told, ByPhase, ByLine, heard-left, stock_line-tells}
+use Rattle.laws_journals.proofs.Partners.{account_line-tells}
 use Rattle.laws_journals.proofs.Orders.{order_tells, told-partner, Agreed, agreed, left_alone}
 use Rattle.trade.specs.Stocks.{stock_reactions}
 use Rattle.trade.specs.Accounts.{account_reactions}
@@ -40,7 +43,8 @@ told-in : (js : Journals) → HandlesPrefixes js → (m : Message) (s r : Name) 
     → Told m (sent_in js (from_to s r))
 told-in js prefixes m s r h =
     let p = prefixes (from_to s r) in
-    heard-numbered m 0 (sent_in js (from_to s r)) (subst (Heard m) p.1 (heard-left m (letters_in js (from_to s r)) p.0 h))
+    heard-numbered m 0 (sent_in js (from_to s r)) (subst (Heard m) p.1 (heard-left m (letters_in js (from_to s r)) p.0
+    h))
 
 -- a line tells what its stock or account heard of the order and told it
 line_tells : (js : Journals) (k : Kind) (at o : Name) (l : Line) → line_by (states_in js) o k at ≡ Some l
@@ -54,22 +58,27 @@ order_sent : (js : Journals) (o : Name) → o.kind ≡ Order → (r : Name)
     → sent_in js (from_to o r) ≡ messages_to r (course order_reactions (part o js.orders)).1
 order_sent js o k r = rw k refl
 
-order_handled : (js : Journals) (o : Name) → o.kind ≡ Order → (s : Name) → letters_in js (from_to s o) ≡ letters_from s (part o js.orders)
+order_handled : (js : Journals) (o : Name) → o.kind ≡ Order → (s : Name)
+    → letters_in js (from_to s o) ≡ letters_from s (part o js.orders)
 order_handled js o k s = rw k refl
 
 -- where a partner's line is done, no partner's line is released or refused
-one_way : (js : Journals) → HandlesPrefixes js → (o : Name) → o.kind ≡ Order → (p q : Name) → IsPartner ((states_in js).orders o) q
-    → (l : Line) → line_at (states_in js) o p ≡ Some l → l.phase ≡ Done → (m : Line) → line_at (states_in js) o q ≡ Some m
+one_way : (js : Journals) → HandlesPrefixes js → (o : Name) → o.kind ≡ Order → (p q : Name)
+    → IsPartner ((states_in js).orders o) q
+    → (l : Line) → line_at (states_in js) o p ≡ Some l → l.phase ≡ Done → (m : Line)
+    → line_at (states_in js) o q ≡ Some m
     → (m.phase ≡ Released) ⊎ (m.phase ≡ LinePhase.Refused) → ⊥
 one_way js prefixes o k p q partner l at done m to undone = go undone
   where
     confirmed : Told Confirm (sent_in js (from_to o p))
     confirmed = told-in js prefixes Confirm o p
-        (let w : ByPhase l.phase (letters_in js (from_to o p)) (sent_in js (from_to p o)) = (line_tells js p.kind p o l at).1 in
+        (let w : ByPhase l.phase (letters_in js (from_to o p)) (sent_in js (from_to p o)) =
+        (line_tells js p.kind p o l at).1 in
         rw done at w)
 
     all : Agreed ((states_in js).orders o) (part o js.orders) (course order_reactions (part o js.orders)).1
-    all = agreed ((states_in js).orders o) (part o js.orders) _ p (order_tells (part o js.orders)) (rw (order_sent js o k p) at confirmed)
+    all = agreed ((states_in js).orders o) (part o js.orders) _ p (order_tells (part o js.orders))
+        (rw (order_sent js o k p) at confirmed)
 
     agrees : Told Tentative (sent_in js (from_to q o))
     agrees = told-in js prefixes Tentative q o (rw (order_handled js o k q) (all.heard q partner))
@@ -97,7 +106,8 @@ partners_agree js prefixes o k = record {
   one_way = λ p q a b d u. go p q b (line_at (states_in js) o p) (line_at (states_in js) o q) refl refl d u;
   nowhere_else = λ at not. none_or (line_at (states_in js) o at) (λ l e.
       let asked = (line_tells js at.kind at o l e).0 in
-      not (told-partner ((states_in js).orders o) (part o js.orders) _ at (Request asked.0) (order_tells (part o js.orders))
+      not (told-partner ((states_in js).orders o) (part o js.orders) _ at (Request asked.0)
+      (order_tells (part o js.orders))
       (rw (order_sent js o k at) at (told-in js prefixes (Request asked.0) o at asked.1))));
 }
   where
@@ -110,7 +120,8 @@ partners_agree js prefixes o k = record {
 pub refused_left : (js : Journals) (o : Name) → o.kind ≡ Order
     → RefusedAreLeftAlone ((states_in js).orders o) (λ p. sent_in js (from_to o p))
 refused_left js o k p refused there =
-    let told : Told Cancel (sent_in js (from_to o p)) = told_at Cancel (sent_in js (from_to o p)) there.0 there.1 there.2 in
+    let told : Told Cancel (sent_in js (from_to o p)) =
+    told_at Cancel (sent_in js (from_to o p)) there.0 there.1 there.2 in
     left_alone ((states_in js).orders o) (part o js.orders) (course order_reactions (part o js.orders)).1 p
     (order_tells (part o js.orders)) refused (rw (order_sent js o k p) at told)
 

@@ -16,17 +16,19 @@ use Rattle.laws_journals.specs.Journals.{sent_in}
 use Rattle.laws_journals.specs.Agreement.{states_in, HasRefused}
 use Rattle.laws_journals.proofs.ConfirmedExamples.{order, stock, account, from_to, stock_at}
 use Rattle.laws_journals.specs.Steps.{Configuration, Reaches, start}
-use Rattle.laws_journals.proofs.Machine.{Action, ToOrder, ToStock, ToAccount, SendsLetter, SendsSettle, Arrives, act_all, acts_reach}
+use Rattle.laws_journals.proofs.Machine.{Action, ToOrder, ToStock, ToAccount, SendsLetter, SendsSettle, Arrives}
+use Rattle.laws_journals.proofs.Machine.{act_all, acts_reach}
 
--- ten bolts came in and the limit is 500; the order asks for 3 of them and for 501; the account refuses before the stock is asked,
--- and the order's cancel arrives at the stock first; then the request arrives, the cancel again, two settles in the wrong order, and
--- what the stock had answered
+-- ten bolts came in and the limit is 500; the order asks for 3 of them and for 501; the account refuses before the
+-- stock is asked, and the order's cancel arrives at the stock first; then the request arrives, the cancel again, two
+-- settles in the wrong order, and what the stock had answered
 abbrev pub schedule : List Action
 schedule =
     ToStock (codes "bolts") 0 (Receive 10) ∷ ToAccount (codes "acme") 0 (SetLimit 500)
     ∷ ToOrder (codes "o1") 0 (Place (item (codes "bolts") 3 ∷ []) (codes "acme") 501)
     ∷ SendsLetter (from_to order account) 1 ∷ Arrives 0 ∷ SendsLetter (from_to account order) 1 ∷ Arrives 0
-    ∷ SendsLetter (from_to order stock) 2 ∷ Arrives 0 ∷ SendsLetter (from_to order stock) 1 ∷ Arrives 0 ∷ SendsSettle (from_to order stock)
+    ∷ SendsLetter (from_to order stock) 2 ∷ Arrives 0 ∷ SendsLetter (from_to order stock) 1 ∷ Arrives 0 ∷ SendsSettle
+    (from_to order stock)
     ∷ Arrives 2 ∷ SendsSettle (from_to order stock) ∷ Arrives 0 ∷ Arrives 1
     ∷ SendsLetter (from_to stock order) 1 ∷ Arrives 0 ∷ []
 
@@ -37,10 +39,17 @@ after_first count = act_all (take count schedule) start
 -- how the order comes to be cancelled
 pub record IsCancelledByRefusal : Type 0 where
   pub refused : (states_in (after_first 5).journals).accounts account
-      ≡ record { limit = 500; billed = 0; held = 0; lines = record { order = order; n = 501; phase = LinePhase.Refused } ∷ [] }
+      ≡ record {
+        limit = 500;
+        billed = 0;
+        held = 0;
+        lines =
+            record { order = order; n = 501; phase = LinePhase.Refused } ∷ [];
+      }
   pub cancelled : (states_in (after_first 7).journals).orders order ≡ Some (record {
     status = Cancelled;
-    partners = record { entity = stock; n = 3; phase = Phase.Cancelled } ∷ record { entity = account; n = 501; phase = Phase.Refused } ∷ [];
+    partners = record { entity = stock; n = 3; phase = Phase.Cancelled } ∷ record
+        { entity = account; n = 501; phase = Phase.Refused } ∷ [];
   })
   pub known : HasRefused ((states_in (after_first 7).journals).orders order) account
   -- the cancel waits for the request

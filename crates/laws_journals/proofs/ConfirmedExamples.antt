@@ -22,7 +22,8 @@ use Rattle.trade.specs.Accounts.{AccountState}
 use Rattle.laws_journals.specs.Journals.{sent_in}
 use Rattle.laws_journals.specs.Agreement.{states_in}
 use Rattle.laws_journals.specs.Steps.{Configuration, Reaches, start}
-use Rattle.laws_journals.proofs.Machine.{Action, ToOrder, ToStock, ToAccount, SendsLetter, SendsSettle, Arrives, act_all, acts_reach}
+use Rattle.laws_journals.proofs.Machine.{Action, ToOrder, ToStock, ToAccount, SendsLetter, SendsSettle, Arrives}
+use Rattle.laws_journals.proofs.Machine.{act_all, acts_reach}
 
 -- the order o1, its stock bolts and its account acme
 abbrev pub order : Name
@@ -38,8 +39,8 @@ account = account_of (codes "acme")
 abbrev pub from_to : Name → Name → Pair
 from_to sender receiver = record { from = sender; to = receiver }
 
--- ten bolts came in and the limit is 500; the order asks for 3 of them and for all of the limit; every letter arrives, the stock's
--- answer twice, and the stock says how far it has handled
+-- ten bolts came in and the limit is 500; the order asks for 3 of them and for all of the limit; every letter arrives,
+-- the stock's answer twice, and the stock says how far it has handled
 abbrev pub schedule : List Action
 schedule =
     ToStock (codes "bolts") 0 (Receive 10) ∷ ToAccount (codes "acme") 0 (SetLimit 500)
@@ -63,7 +64,13 @@ order_at status bolts acme = Some (record {
 -- the stock and the account, with the order's line in this phase
 abbrev pub stock_at : ℕ → ℕ → ℕ → LinePhase → StockState
 stock_at on_hand held shipped phase =
-    record { on_hand = on_hand; held = held; shipped = shipped; received = 10; lines = record { order = order; n = 3; phase = phase } ∷ [] }
+    record {
+      on_hand = on_hand;
+      held = held;
+      shipped = shipped;
+      received = 10;
+      lines = record { order = order; n = 3; phase = phase } ∷ [];
+    }
 
 abbrev pub account_at : ℕ → ℕ → LinePhase → AccountState
 account_at billed held phase = record
@@ -76,7 +83,8 @@ pub record IsOnItsWay : Type 0 where
   pub account_holds : (states_in (after_first 7).journals).accounts account ≡ account_at 0 500 Held
   pub half : (states_in (after_first 9).journals).orders order ≡ order_at Open Phase.Tentative Phase.Requested
   pub repeated : (after_first 10).journals ≡ (after_first 9).journals
-  pub confirmed : (states_in (after_first 12).journals).orders order ≡ order_at Confirmed Phase.Confirmed Phase.Confirmed
+  pub confirmed : (states_in (after_first 12).journals).orders order
+      ≡ order_at Confirmed Phase.Confirmed Phase.Confirmed
   pub shipped : (states_in (after_first 14).journals).stocks stock ≡ stock_at 7 0 3 Done
   pub billed : (states_in (after_first 16).journals).accounts account ≡ account_at 500 0 Done
 

@@ -40,7 +40,8 @@ a_request_adds_a_row = AddsStock _ (record { of_kind = refl; seated = tt; accept
 
 another_request_adds_a_row : AddsRow (after_first 6).journals (after_first 7).journals
 unfolding same_entity same_pair is_before
-another_request_adds_a_row = AddsAccount _ (record { of_kind = refl; seated = tt; accepted = refl; next = refl }) refl refl
+another_request_adds_a_row =
+    AddsAccount _ (record { of_kind = refl; seated = tt; accepted = refl; next = refl }) refl refl
 
 an_answer_adds_a_row : AddsRow (after_first 8).journals (after_first 9).journals
 unfolding same_entity same_pair is_before
@@ -54,16 +55,19 @@ a_wrong_seat_adds_nothing = refl
 abbrev request : Input StockCommand
 request = FromEntity order 1 (Request 3)
 
-a_letter_is_known : IsFrom (Contains (Letter (record { pair = from_to order stock; number = 1; message = Request 3 }) ∷ [])) stock request
+a_letter_is_known : IsFrom (Contains (Letter (record { pair = from_to order stock; number = 1; message = Request 3 }) ∷
+    [])) stock request
     × (IsFrom (Contains []) stock request → ⊥)
 a_letter_is_known = ((0, omega arith, refl), λ h. let none = h.1 in omega arith)
 
 -- ---- envelopes and marks
 
 abbrev letter : Name → Name → ℕ → Message → Envelope
-letter sender receiver number message = Letter (record { pair = from_to sender receiver; number = number; message = message })
+letter sender receiver number message =
+    Letter (record { pair = from_to sender receiver; number = number; message = message })
 
--- the order has asked the stock, in its letter 1; it has sent no letter 0 and no letter 2, and nothing else under the number 1
+-- the order has asked the stock, in its letter 1; it has sent no letter 0 and no letter 2, and nothing else under the
+-- number 1
 a_request_is_authentic : IsAuthentic (after_first 3).journals (letter order stock 1 (Request 3))
 unfolding same_entity
 a_request_is_authentic = refl
@@ -96,7 +100,8 @@ a_wrong_settle_marks_nothing = refl
 abbrev unasked : Journals
 unasked = record {
   orders = [];
-  stocks = record { entity = stock; input = FromSeat 0 (Receive 10) } ∷ record { entity = stock; input = FromEntity order 1 (Request 3) }
+  stocks = record { entity = stock; input = FromSeat 0 (Receive 10) } ∷ record
+      { entity = stock; input = FromEntity order 1 (Request 3) }
       ∷ [];
   accounts = [];
 }
@@ -113,7 +118,8 @@ a_line_of_no_partner h = let none = h.nowhere_else stock (λ no. no) in absurd (
 abbrev apart : ℕ → Journals
 apart limit = record {
   orders = record { entity = order; input = FromSeat 0 (Place (item (codes "bolts") 3 ∷ []) (codes "acme") 500) } ∷ [];
-  stocks = record { entity = stock; input = FromSeat 0 (Receive 10) } ∷ record { entity = stock; input = FromEntity order 1 (Request 3) }
+  stocks = record { entity = stock; input = FromSeat 0 (Receive 10) } ∷ record
+      { entity = stock; input = FromEntity order 1 (Request 3) }
       ∷ record { entity = stock; input = FromEntity order 2 Confirm } ∷ [];
   accounts = record { entity = account; input = FromSeat 0 (SetLimit limit) }
       ∷ record { entity = account; input = FromEntity order 1 (Request 500) }
@@ -133,18 +139,21 @@ shipped_and_released h = h.one_way stock account (inl refl) (inr (inl refl)) ref
 good_after : (count : ℕ) → IsGoodConfiguration (after_first count)
 good_after count = reached_good start (after_first count) (acts_reach (take count schedule) start) start_good
 
--- the order has sent a request to each of its partners; the stock has handled its own, and the account has handled nothing yet
+-- the order has sent a request to each of its partners; the stock has handled its own, and the account has handled
+-- nothing yet
 beginnings_are_handled : HandlesPrefixes (after_first 5).journals
 beginnings_are_handled = (good_after 5).lawful.prefixes
 
 -- the stock is known to have handled two letters, and has handled two
 marks_are_of_what_was_handled : SettledAreHandled (after_first 18).journals (after_first 18).settled
-    × ((after_first 18).settled (from_to order stock) ≡ 2) × (handled_in (after_first 18).journals (from_to order stock) ≡ 2)
+    × ((after_first 18).settled (from_to order stock) ≡ 2)
+    × (handled_in (after_first 18).journals (from_to order stock) ≡ 2)
 unfolding same_entity same_pair is_before
 marks_are_of_what_was_handled = ((good_after 18).settled, refl, refl)
 
 -- the stock has shipped, and the account holds what it was asked for: it will bill, and can't release or refuse
-shipped_and_held : PartnersAgree ((states_in (after_first 14).journals).orders order) (line_at (states_in (after_first 14).journals) order)
+shipped_and_held : PartnersAgree ((states_in (after_first 14).journals).orders order)
+    (line_at (states_in (after_first 14).journals) order)
 shipped_and_held = partners_agree (after_first 14).journals (good_after 14).lawful.prefixes order refl
 
 -- an order that knows that its account refused has told its stock to cancel; it may not have told the account too
@@ -172,17 +181,20 @@ a_mark_is_raised = (
   mark_raises (from_to order stock) 2 (λ pair. 1),
   record { own = refl; others = λ other apart. refl },
   λ h. let own = h.own in omega arith,
-  λ h. let other = h.others (from_to order account) (λ same. let kinds : Account ≡ Stock = ap (λ pair. pair.to.kind) same in absurd (cc)) in
+  λ h. let other = h.others (from_to order account) (λ same. let kinds : Account ≡ Stock =
+      ap (λ pair. pair.to.kind) same in absurd (cc)) in
       omega arith,
 )
 
 -- a command is a step from the beginning on; nothing is reached without one
 a_command_is_a_step : ConfigurationStep start (after_first 1) × (IsConfigurationPath start [] (after_first 1) → ⊥)
     × IsConfigurationPath start (after_first 1 ∷ []) (after_first 1)
-a_command_is_a_step = (commanded, (λ h. let none : 1 ≡ 0 = ap (λ x. length x.journals.stocks) h in omega arith), (commanded, refl))
+a_command_is_a_step =
+    (commanded, (λ h. let none : 1 ≡ 0 = ap (λ x. length x.journals.stocks) h in omega arith), (commanded, refl))
   where
     commanded : ConfigurationStep start (after_first 1)
-    commanded = Writes (AddsStock _ (record { of_kind = refl; seated = omega arith; accepted = refl; next = tt }) tt refl) refl refl
+    commanded = Writes (AddsStock _ (record { of_kind = refl; seated = omega arith; accepted = refl; next = tt }) tt
+        refl) refl refl
 
 -- an order that was placed may ask, and nothing may be said in its name before
 only_the_authentic_is_sent :
@@ -191,7 +203,8 @@ only_the_authentic_is_sent :
 unfolding same_entity
 only_the_authentic_is_sent = (Sends (letter order stock 1 (Request 3)) refl refl, λ h. absurd (cc))
 
--- a mark ahead of the handling isn't good, nor is an envelope that nobody sent, nor are journals that don't fit each other
+-- a mark ahead of the handling isn't good, nor is an envelope that nobody sent, nor are journals that don't fit each
+-- other
 others_are_not_good :
     (IsGoodConfiguration (record { journals = (after_first 1).journals; settled = λ pair. 1; sent = [] }) → ⊥)
     × (IsGoodConfiguration (record {

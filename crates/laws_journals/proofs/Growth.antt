@@ -1,5 +1,7 @@
--- One more row of one service, and one mark raised, keep the journals lawful, the marks behind the handling, and every envelope authentic.
-use Rattle.std.proofs.Common.{◌≡◌, ℕ, suc, ◌≤◌, Bool, true, false, List, [], ◌∷◌, ◌++◌, ◌⊎◌, refl, arith, sym, inl, inr, Some, length}
+-- One more row of one service, and one mark raised, keep the journals lawful, the marks behind the handling, and every
+-- envelope authentic.
+use Rattle.std.proofs.Common.{◌≡◌, ℕ, suc, ◌≤◌, Bool, true, false, List, [], ◌∷◌, ◌++◌, ◌⊎◌, refl, arith, sym, inl, inr}
+use Rattle.std.proofs.Common.{Some, length}
 use Rattle.std.proofs.Common.{subst}
 use Rattle.base.specs.Entity.{Name}
 use Rattle.base.proofs.Entities.{same_pair-Decides}
@@ -26,7 +28,8 @@ use Rattle.activities.proofs.Sameness.{either}
 use Rattle.activities.proofs.Prefixes.{prefix-same, prefix_trans, numbered-prefix, numbered_prefix-next, nth-prefix}
 use Rattle.activities.proofs.Journals.{sent_of-grows, handled_of-grows, letters_of-command, letters_of-cases}
 use Rattle.activities.proofs.Legal.{legal-more}
-use Rattle.laws_journals.specs.Journals.{Journals, sent_by, sent_in, letters_by, letters_in, handled_in, AreLegal, HandlesPrefixes, AreLawful}
+use Rattle.laws_journals.specs.Journals.{Journals, sent_by, sent_in, letters_by, letters_in, handled_in, AreLegal}
+use Rattle.laws_journals.specs.Journals.{HandlesPrefixes, AreLawful}
 use Rattle.laws_journals.specs.Envelopes.{IsAuthentic, SettledAreHandled, Raises}
 use Rattle.laws_journals.specs.Growth.{IsFrom, AddsRowFrom, AddsRow, AddsOrder, AddsStock, AddsAccount, Grows}
 
@@ -43,15 +46,19 @@ pub record Follows (js later : Journals) : Type 0 where
 
 -- ---- rows of letters that are known to be authentic
 
-from-known : {C : Type 0} (known more : Envelope → Type 0) (e : Name) (input : Input C) → ((x : Envelope) → known x → more x)
+from-known : {C : Type 0} (known more : Envelope → Type 0) (e : Name) (input : Input C)
+    → ((x : Envelope) → known x → more x)
     → IsFrom known e input → IsFrom more e input
 from-known known more e (FromSeat seat c) all h = tt
 from-known known more e (FromEntity s n m) all h = all _ h
 
-pub adds-known : (known more : Envelope → Type 0) (js later : Journals) → ((x : Envelope) → known x → more x) → AddsRowFrom known js later
+pub adds-known : (known more : Envelope → Type 0) (js later : Journals) → ((x : Envelope) → known x → more x)
+    → AddsRowFrom known js later
     → AddsRowFrom more js later
-adds-known known more js later all (AddsOrder row may from e) = AddsOrder row may (from-known known more row.entity row.input all from) e
-adds-known known more js later all (AddsStock row may from e) = AddsStock row may (from-known known more row.entity row.input all from) e
+adds-known known more js later all (AddsOrder row may from e) =
+    AddsOrder row may (from-known known more row.entity row.input all from) e
+adds-known known more js later all (AddsStock row may from e) =
+    AddsStock row may (from-known known more row.entity row.input all from) e
 adds-known known more js later all (AddsAccount row may from e) =
     AddsAccount row may (from-known known more row.entity row.input all from) e
 
@@ -60,16 +67,20 @@ adds-known known more js later all (AddsAccount row may from e) =
 abbrev pair_of : Name → Name → Pair
 pair_of s r = record { from = s; to = r }
 
-row_handles : {C : Type 0} (js : Journals) (rows : List (JournalRow C)) (e : Name) (input : Input C) → HasNextNumber rows e input
+row_handles : {C : Type 0} (js : Journals) (rows : List (JournalRow C)) (e : Name) (input : Input C)
+    → HasNextNumber rows e input
     → IsFrom (IsAuthentic js) e input
-    → (pair : Pair) → HandlesNext js pair (letters_of rows pair) (letters_of (rows ++ record { entity = e; input = input } ∷ []) pair)
+    → (pair : Pair) → HandlesNext js pair (letters_of rows pair) (letters_of
+    (rows ++ record { entity = e; input = input } ∷ []) pair)
 row_handles js rows e (FromSeat seat c) next genuine pair = inl (letters_of-command rows e seat c pair)
 row_handles js rows e (FromEntity from n m) next genuine pair =
     either (letters_of-cases rows (pair_of from e) n m pair) inl (λ h. inr (own h.0 h.1 h.2))
   where
     own : pair.from ≡ from → pair.to ≡ e
-        → letters_of (rows ++ record { entity = e; input = FromEntity from n m } ∷ []) pair ≡ letters_of rows pair ++ (n, m) ∷ []
-        → (k : Message) × (letters_of (rows ++ record { entity = e; input = FromEntity from n m } ∷ []) pair ≡ letters_of rows pair
+        → letters_of (rows ++ record { entity = e; input = FromEntity from n m } ∷ []) pair ≡ letters_of rows pair
+        ++ (n, m) ∷ []
+        → (k : Message) × (letters_of (rows ++ record { entity = e; input = FromEntity from n m } ∷ []) pair
+        ≡ letters_of rows pair
         ++ (suc (handled_of rows pair), k) ∷ []) × (nth (sent_in js pair) (suc (handled_of rows pair)) ≡ Some k)
     own f t letters =
         let same : pair_of from e ≡ pair = λ i. record { from = sym f i; to = sym t i } in
@@ -81,7 +92,8 @@ adds-follows : (js later : Journals) → AddsRow js later → Follows js later
 adds-follows js later (AddsOrder row may genuine e) =
     rw e (record { sent = λ pair. sent pair.from.kind pair; handled = λ pair. handled pair.to.kind pair })
   where
-    sent : (k : Kind) (pair : Pair) → IsPrefixOf (sent_by js k pair) (sent_by (record js { orders = js.orders ++ row ∷ [] }) k pair)
+    sent : (k : Kind) (pair : Pair) → IsPrefixOf (sent_by js k pair) (sent_by
+        (record js { orders = js.orders ++ row ∷ [] }) k pair)
     sent Order pair = sent_of-grows order_reactions js.orders (row ∷ []) pair
     sent Stock pair = prefix-same _ _ refl
     sent Account pair = prefix-same _ _ refl
@@ -94,7 +106,8 @@ adds-follows js later (AddsOrder row may genuine e) =
 adds-follows js later (AddsStock row may genuine e) =
     rw e (record { sent = λ pair. sent pair.from.kind pair; handled = λ pair. handled pair.to.kind pair })
   where
-    sent : (k : Kind) (pair : Pair) → IsPrefixOf (sent_by js k pair) (sent_by (record js { stocks = js.stocks ++ row ∷ [] }) k pair)
+    sent : (k : Kind) (pair : Pair) → IsPrefixOf (sent_by js k pair) (sent_by
+        (record js { stocks = js.stocks ++ row ∷ [] }) k pair)
     sent Order pair = prefix-same _ _ refl
     sent Stock pair = sent_of-grows stock_reactions js.stocks (row ∷ []) pair
     sent Account pair = prefix-same _ _ refl
@@ -107,24 +120,38 @@ adds-follows js later (AddsStock row may genuine e) =
 adds-follows js later (AddsAccount row may genuine e) =
     rw e (record { sent = λ pair. sent pair.from.kind pair; handled = λ pair. handled pair.to.kind pair })
   where
-    sent : (k : Kind) (pair : Pair) → IsPrefixOf (sent_by js k pair) (sent_by (record js { accounts = js.accounts ++ row ∷ [] }) k pair)
+    sent : (k : Kind) (pair : Pair) → IsPrefixOf (sent_by js k pair) (sent_by
+        (record js { accounts = js.accounts ++ row ∷ [] }) k pair)
     sent Order pair = prefix-same _ _ refl
     sent Stock pair = prefix-same _ _ refl
     sent Account pair = sent_of-grows account_reactions js.accounts (row ∷ []) pair
 
     handled : (k : Kind) (pair : Pair)
-        → HandlesNext js pair (letters_by js k pair) (letters_by (record js { accounts = js.accounts ++ row ∷ [] }) k pair)
+        → HandlesNext js pair (letters_by js k pair) (letters_by (record js { accounts = js.accounts ++ row ∷ [] }) k
+        pair)
     handled Order pair = inl refl
     handled Stock pair = inl refl
     handled Account pair = row_handles js js.accounts row.entity row.input may.next genuine pair
 
 legal-later : (js later : Journals) → AddsRow js later → AreLegal js → AreLegal later
 legal-later js later (AddsOrder row may genuine e) h =
-    rw e (record { orders = legal-more order_reactions Order js.orders row h.orders may; stocks = h.stocks; accounts = h.accounts })
+    rw e (record {
+      orders = legal-more order_reactions Order js.orders row h.orders may;
+      stocks = h.stocks;
+      accounts = h.accounts;
+    })
 legal-later js later (AddsStock row may genuine e) h =
-    rw e (record { orders = h.orders; stocks = legal-more stock_reactions Stock js.stocks row h.stocks may; accounts = h.accounts })
+    rw e (record {
+      orders = h.orders;
+      stocks = legal-more stock_reactions Stock js.stocks row h.stocks may;
+      accounts = h.accounts;
+    })
 legal-later js later (AddsAccount row may genuine e) h =
-    rw e (record { orders = h.orders; stocks = h.stocks; accounts = legal-more account_reactions Account js.accounts row h.accounts may })
+    rw e (record {
+      orders = h.orders;
+      stocks = h.stocks;
+      accounts = legal-more account_reactions Account js.accounts row h.accounts may;
+    })
 
 -- ---- what follows
 
@@ -136,13 +163,18 @@ prefixes-later js later f h pair = prefix_trans _ _ _
     (numbered-prefix 0 (sent_in js pair) (sent_in later pair) (f.sent pair))
 
 pub lawful-later : (js later : Journals) → AddsRow js later → AreLawful js → AreLawful later
-lawful-later js later adds h = record
-    { legal = legal-later js later adds h.legal; prefixes = prefixes-later js later (adds-follows js later adds) h.prefixes }
+lawful-later js later adds h = record {
+  legal = legal-later js later adds h.legal;
+  prefixes =
+      prefixes-later js later (adds-follows js later adds) h.prefixes;
+}
 
-orders_grow : (js : Journals) (more : List (JournalRow OrderCommand)) → Grows js (record js { orders = js.orders ++ more })
+orders_grow : (js : Journals) (more : List (JournalRow OrderCommand))
+    → Grows js (record js { orders = js.orders ++ more })
 orders_grow js more = record { sent = λ pair. sent pair.from.kind pair; handled = λ pair. handled pair.to.kind pair }
   where
-    sent : (k : Kind) (pair : Pair) → IsPrefixOf (sent_by js k pair) (sent_by (record js { orders = js.orders ++ more }) k pair)
+    sent : (k : Kind) (pair : Pair) → IsPrefixOf (sent_by js k pair) (sent_by (record js { orders = js.orders ++ more })
+        k pair)
     sent Order pair = sent_of-grows order_reactions js.orders more pair
     sent Stock pair = prefix-same _ _ refl
     sent Account pair = prefix-same _ _ refl
@@ -153,10 +185,12 @@ orders_grow js more = record { sent = λ pair. sent pair.from.kind pair; handled
     handled Stock pair = omega arith
     handled Account pair = omega arith
 
-stocks_grow : (js : Journals) (more : List (JournalRow StockCommand)) → Grows js (record js { stocks = js.stocks ++ more })
+stocks_grow : (js : Journals) (more : List (JournalRow StockCommand))
+    → Grows js (record js { stocks = js.stocks ++ more })
 stocks_grow js more = record { sent = λ pair. sent pair.from.kind pair; handled = λ pair. handled pair.to.kind pair }
   where
-    sent : (k : Kind) (pair : Pair) → IsPrefixOf (sent_by js k pair) (sent_by (record js { stocks = js.stocks ++ more }) k pair)
+    sent : (k : Kind) (pair : Pair) → IsPrefixOf (sent_by js k pair) (sent_by (record js { stocks = js.stocks ++ more })
+        k pair)
     sent Order pair = prefix-same _ _ refl
     sent Stock pair = sent_of-grows stock_reactions js.stocks more pair
     sent Account pair = prefix-same _ _ refl
@@ -167,10 +201,12 @@ stocks_grow js more = record { sent = λ pair. sent pair.from.kind pair; handled
     handled Stock pair = handled_of-grows js.stocks more pair
     handled Account pair = omega arith
 
-accounts_grow : (js : Journals) (more : List (JournalRow AccountCommand)) → Grows js (record js { accounts = js.accounts ++ more })
+accounts_grow : (js : Journals) (more : List (JournalRow AccountCommand))
+    → Grows js (record js { accounts = js.accounts ++ more })
 accounts_grow js more = record { sent = λ pair. sent pair.from.kind pair; handled = λ pair. handled pair.to.kind pair }
   where
-    sent : (k : Kind) (pair : Pair) → IsPrefixOf (sent_by js k pair) (sent_by (record js { accounts = js.accounts ++ more }) k pair)
+    sent : (k : Kind) (pair : Pair) → IsPrefixOf (sent_by js k pair) (sent_by
+        (record js { accounts = js.accounts ++ more }) k pair)
     sent Order pair = prefix-same _ _ refl
     sent Stock pair = prefix-same _ _ refl
     sent Account pair = sent_of-grows account_reactions js.accounts more pair
@@ -201,7 +237,8 @@ grows_trans a b c g h = record {
 
 -- what is authentic stays so
 pub authentic-later : (js later : Journals) → Grows js later → (e : Envelope) → IsAuthentic js e → IsAuthentic later e
-authentic-later js later g (Letter l) h = nth-prefix l.number l.message (sent_in js l.pair) (sent_in later l.pair) (g.sent l.pair) h
+authentic-later js later g (Letter l) h =
+    nth-prefix l.number l.message (sent_in js l.pair) (sent_in later l.pair) (g.sent l.pair) h
 authentic-later js later g (Settle pair count) h = let l = g.handled pair in omega arith
 
 -- and marks stay behind
@@ -210,7 +247,8 @@ pub settled-later : (js later : Journals) → Grows js later → (settled : Pair
 settled-later js later g settled h pair = let l = g.handled pair in let k = h pair in omega arith
 
 -- also where one is raised to what was handled
-pub raised-handled : (js : Journals) (pair : Pair) (count : ℕ) (settled later : Pair → ℕ) → IsAuthentic js (Settle pair count)
+pub raised-handled : (js : Journals) (pair : Pair) (count : ℕ) (settled later : Pair → ℕ)
+    → IsAuthentic js (Settle pair count)
     → Raises pair count settled later → SettledAreHandled js settled → SettledAreHandled js later
 raised-handled js pair count settled later a raises h other = by_case (same_pair other pair) refl
   where
@@ -221,12 +259,14 @@ raised-handled js pair count settled later a raises h other = by_case (same_pair
         let old = h pair in
         rw same (omega arith)
     by_case false e =
-        let is = raises.others other (λ same. let t : same_pair other pair ≡ true = (same_pair-Decides other pair).1 same in cc) in
+        let is = raises.others other (λ same. let t : same_pair other pair ≡ true =
+        (same_pair-Decides other pair).1 same in cc) in
         let old = h other in
         omega arith
 
 -- and none is taken back
-pub raised-up : (pair other : Pair) (count : ℕ) (settled later : Pair → ℕ) → Raises pair count settled later → settled other ≤ later other
+pub raised-up : (pair other : Pair) (count : ℕ) (settled later : Pair → ℕ) → Raises pair count settled later
+    → settled other ≤ later other
 raised-up pair other count settled later raises = by_case (same_pair other pair) refl
   where
     by_case : (b : Bool) → same_pair other pair ≡ b → settled other ≤ later other
@@ -235,5 +275,6 @@ raised-up pair other count settled later raises = by_case (same_pair other pair)
         let own = raises.own in
         rw same (omega arith)
     by_case false e =
-        let is = raises.others other (λ same. let t : same_pair other pair ≡ true = (same_pair-Decides other pair).1 same in cc) in
+        let is = raises.others other (λ same. let t : same_pair other pair ≡ true =
+        (same_pair-Decides other pair).1 same in cc) in
         omega arith

@@ -1,5 +1,6 @@
 -- A machine of actions, by which the examples compute: what each does is a step, or nothing.
-use Rattle.std.proofs.Common.{◌≡◌, ℕ, zero, suc, ◌≤◌, List, [], ◌∷◌, ◌++◌, Bool, true, false, ◌⊎◌, ◌≢◌, refl, ap, arith, inl, inr, Option}
+use Rattle.std.proofs.Common.{◌≡◌, ℕ, zero, suc, ◌≤◌, List, [], ◌∷◌, ◌++◌, Bool, true, false, ◌⊎◌, ◌≢◌, refl, ap, arith}
+use Rattle.std.proofs.Common.{inl, inr, Option}
 use Rattle.std.proofs.Common.{Some, None, Result, Ok, Err, length}
 use Rattle.std.specs.Prelude.{Contains, slice_get, max, ◌==◌, nat_le, nat_lt, if◌then◌else◌}
 use Rattle.std.proofs.lemmas.Bool.Decides.{nat_tests}
@@ -35,8 +36,8 @@ use Rattle.laws_journals.specs.Envelopes.{Raises}
 use Rattle.laws_journals.specs.Growth.{AddsRowFrom, AddsOrder, AddsStock, AddsAccount}
 use Rattle.laws_journals.specs.Steps.{Configuration, ConfigurationStep, Writes, Marks, Sends, Reaches}
 
--- a seat's command to an entity, an envelope that a service sends (again), or one that arrives, told by its place among those that were
--- sent, where the newest is 0
+-- a seat's command to an entity, an envelope that a service sends (again), or one that arrives, told by its place among
+-- those that were sent, where the newest is 0
 pub data Action : Type 0 where
   ToOrder : (key : List ℕ) → (seat : ℕ) → OrderCommand → Action
   ToStock : (key : List ℕ) → (seat : ℕ) → StockCommand → Action
@@ -46,7 +47,8 @@ pub data Action : Type 0 where
   Arrives : (which : ℕ) → Action
 
 -- the rows with one more, unless it is refused
-abbrev pub unless_refused : {S C : Type 0} → Result (S × List Out) Refusal → List (JournalRow C) → JournalRow C → List (JournalRow C)
+abbrev pub unless_refused : {S C : Type 0} → Result (S × List Out) Refusal → List (JournalRow C) → JournalRow C
+    → List (JournalRow C)
 unless_refused (Ok done) rows row = rows ++ row ∷ []
 unless_refused (Err refusal) rows row = rows
 
@@ -54,7 +56,8 @@ unless_refused (Err refusal) rows row = rows
 abbrev pub with_command : {S C : Type 0} → Reactions S C → Name → ℕ → C → List (JournalRow C) → List (JournalRow C)
 with_command t e seat command rows =
     if nat_lt seat SEATS
-    then unless_refused (react t (state_of t rows e) (FromSeat seat command)) rows (record { entity = e; input = FromSeat seat command })
+    then unless_refused (react t (state_of t rows e) (FromSeat seat command)) rows
+    (record { entity = e; input = FromSeat seat command })
     else rows
 
 -- the journals after a receiver of this kind took a letter in
@@ -70,8 +73,8 @@ with_letter js Account l = record js
 abbrev pub with_mark : Pair → ℕ → (Pair → ℕ) → Pair → ℕ
 with_mark of count settled pair = if same_pair pair of then max (settled pair) count else settled pair
 
--- An envelope arrives: a letter is handled if it is the next of its pair, a settle is taken if so much was sent. A letter that comes too
--- early changes nothing, and may arrive again, as one that was held does when its turn comes.
+-- An envelope arrives: a letter is handled if it is the next of its pair, a settle is taken if so much was sent. A
+-- letter that comes too early changes nothing, and may arrive again, as one that was held does when its turn comes.
 abbrev pub arrives : Configuration → Option Envelope → Configuration
 arrives w None = w
 arrives w (Some (Letter l)) = if l.number == suc
@@ -82,7 +85,8 @@ arrives w (Some (Settle pair count)) =
 -- a letter with this number is sent, if there is such a message
 abbrev pub sends : Configuration → Pair → ℕ → Option Message → Configuration
 sends w pair number None = w
-sends w pair number (Some m) = record w { sent = Letter (record { pair = pair; number = number; message = m }) ∷ w.sent }
+sends w pair number (Some m) =
+    record w { sent = Letter (record { pair = pair; number = number; message = m }) ∷ w.sent }
 
 -- the configuration after one action
 abbrev pub act : Configuration → Action → Configuration
@@ -90,8 +94,12 @@ act w (ToOrder key seat c) = record w
     { journals = record w.journals { orders = with_command order_reactions (order_of key) seat c w.journals.orders } }
 act w (ToStock key seat c) = record w
     { journals = record w.journals { stocks = with_command stock_reactions (stock_of key) seat c w.journals.stocks } }
-act w (ToAccount key seat c) = record w
-    { journals = record w.journals { accounts = with_command account_reactions (account_of key) seat c w.journals.accounts } }
+act w (ToAccount key seat c) = record w {
+  journals = record w.journals {
+    accounts =
+        with_command account_reactions (account_of key) seat c w.journals.accounts;
+  };
+}
 act w (SendsLetter pair number) = sends w pair number (nth (sent_in w.journals pair) number)
 act w (SendsSettle pair) = record w { sent = Settle pair (handled_in w.journals pair) ∷ w.sent }
 act w (Arrives which) = arrives w (slice_get w.sent which)
@@ -104,7 +112,8 @@ act_all (a ∷ actions) w = act_all actions (act w a)
 -- ---- commands
 
 -- a command changes nothing, or adds a row that may follow
-abbrev Commanded : {S C : Type 0} → Reactions S C → Kind → List (JournalRow C) → JournalRow C → List (JournalRow C) → Type 0
+abbrev Commanded : {S C : Type 0} → Reactions S C → Kind → List (JournalRow C) → JournalRow C → List (JournalRow C)
+    → Type 0
 Commanded t kind rows row later = (later ≡ rows) ⊎ (MayFollow t kind rows row × (later ≡ rows ++ row ∷ []))
 
 answered : {S C : Type 0} (t : Reactions S C) (kind : Kind) (e : Name) (seat : ℕ) (c : C) (rows : List (JournalRow C))
@@ -119,7 +128,8 @@ commanded : {S C : Type 0} (t : Reactions S C) (kind : Kind) (e : Name) (seat : 
     → e.kind ≡ kind → Commanded t kind rows (command_row e seat c) (with_command t e seat c rows)
 commanded t kind e seat c rows k = by_case (nat_lt seat 16) refl
   where
-    by_case : (b : Bool) → nat_lt seat 16 ≡ b → Commanded t kind rows (command_row e seat c) (with_command t e seat c rows)
+    by_case : (b : Bool) → nat_lt seat 16 ≡ b
+        → Commanded t kind rows (command_row e seat c) (with_command t e seat c rows)
     by_case true seated = rw seated (answered t kind e seat c rows _ k seated refl)
     by_case false seated = rw seated (inl refl)
 
@@ -130,11 +140,15 @@ abbrev Does : Configuration → Configuration → Type 0
 Does old new = (new ≡ old) ⊎ ConfigurationStep old new
 
 -- the next letter of its pair adds a row, if it is known
-letter_adds : (known : Envelope → Type 0) (js : Journals) (k : Kind) (l : LetterOf) → l.pair.to.kind ≡ k → known (Letter l)
+letter_adds : (known : Envelope → Type 0) (js : Journals) (k : Kind) (l : LetterOf) → l.pair.to.kind ≡ k
+    → known (Letter l)
     → l.number ≡ suc (length (letters_by js k l.pair)) → AddsRowFrom known js (with_letter js k l)
-letter_adds known js Order l k from next = AddsOrder _ (record { of_kind = k; seated = tt; accepted = refl; next = next }) from refl
-letter_adds known js Stock l k from next = AddsStock _ (record { of_kind = k; seated = tt; accepted = refl; next = next }) from refl
-letter_adds known js Account l k from next = AddsAccount _ (record { of_kind = k; seated = tt; accepted = refl; next = next }) from refl
+letter_adds known js Order l k from next =
+    AddsOrder _ (record { of_kind = k; seated = tt; accepted = refl; next = next }) from refl
+letter_adds known js Stock l k from next =
+    AddsStock _ (record { of_kind = k; seated = tt; accepted = refl; next = next }) from refl
+letter_adds known js Account l k from next =
+    AddsAccount _ (record { of_kind = k; seated = tt; accepted = refl; next = next }) from refl
 
 letter_does : (w : Configuration) (l : LetterOf) → Contains w.sent (Letter l) → Does w (arrives w (Some (Letter l)))
 letter_does w l there = by_case (l.number == suc (handled_in w.journals l.pair)) refl
@@ -145,13 +159,15 @@ letter_does w l there = by_case (l.number == suc (handled_in w.journals l.pair))
         rw e (inr (Writes (letter_adds (Contains w.sent) w.journals l.pair.to.kind l refl there next) refl refl))
     by_case false e = rw e (inl refl)
 
-pub mark_raises : (pair : Pair) (count : ℕ) (settled : Pair → ℕ) → Raises pair count settled (with_mark pair count settled)
+pub mark_raises : (pair : Pair) (count : ℕ) (settled : Pair → ℕ)
+    → Raises pair count settled (with_mark pair count settled)
 mark_raises pair count settled = record {
   own = let same : same_pair pair pair ≡ true = (same_pair-Decides pair pair).1 refl in rw same refl;
   others = λ other apart. by_case other apart (same_pair other pair) refl;
 }
   where
-    by_case : (other : Pair) → other ≢ pair → (b : Bool) → same_pair other pair ≡ b → with_mark pair count settled other ≡ settled other
+    by_case : (other : Pair) → other ≢ pair → (b : Bool) → same_pair other pair ≡ b
+        → with_mark pair count settled other ≡ settled other
     by_case other apart true e = absurd (apart ((same_pair-Decides other pair).0 e))
     by_case other apart false e = rw e refl
 
@@ -168,12 +184,14 @@ there [] k e at = absurd (grind arith)
 there (x ∷ es) zero e at = (0, omega arith, cc)
 there (x ∷ es) (suc k) e at = let rest = there es k e at in (suc rest.0, omega arith, rest.2)
 
-arrives_does : (w : Configuration) (e : Option Envelope) → ((x : Envelope) → e ≡ Some x → Contains w.sent x) → Does w (arrives w e)
+arrives_does : (w : Configuration) (e : Option Envelope) → ((x : Envelope) → e ≡ Some x → Contains w.sent x)
+    → Does w (arrives w e)
 arrives_does w None at = inl refl
 arrives_does w (Some (Letter l)) at = letter_does w l (at _ refl)
 arrives_does w (Some (Settle pair count)) at = settle_does w pair count (at _ refl)
 
-sends_does : (w : Configuration) (pair : Pair) (number : ℕ) (m : Option Message) → nth (sent_in w.journals pair) number ≡ m
+sends_does : (w : Configuration) (pair : Pair) (number : ℕ) (m : Option Message)
+    → nth (sent_in w.journals pair) number ≡ m
     → Does w (sends w pair number m)
 sends_does w pair number None at = inl refl
 sends_does w pair number (Some m) at = inr (Sends _ at refl)
@@ -185,7 +203,8 @@ act_does w (ToOrder key seat c) = either (commanded order_reactions Order (order
 act_does w (ToStock key seat c) = either (commanded stock_reactions Stock (stock_of key) seat c w.journals.stocks refl)
     (λ e. inl (ap (λ rows. record w { journals = record w.journals { stocks = rows } }) e))
     (λ e. inr (Writes (AddsStock _ e.0 tt (rw e.1 refl)) refl refl))
-act_does w (ToAccount key seat c) = either (commanded account_reactions Account (account_of key) seat c w.journals.accounts refl)
+act_does w (ToAccount key seat c) =
+    either (commanded account_reactions Account (account_of key) seat c w.journals.accounts refl)
     (λ e. inl (ap (λ rows. record w { journals = record w.journals { accounts = rows } }) e))
     (λ e. inr (Writes (AddsAccount _ e.0 tt (rw e.1 refl)) refl refl))
 act_does w (SendsLetter pair number) = sends_does w pair number _ refl

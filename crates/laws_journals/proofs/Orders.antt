@@ -1,5 +1,6 @@
 -- What an order has told its partners, by its status and what it heard of them.
-use Rattle.std.proofs.Common.{◌≡◌, ℕ, List, [], ◌∷◌, ◌++◌, Bool, true, false, ◌⊎◌, refl, arith, sym, Option, Some, None, inl, inr, subst}
+use Rattle.std.proofs.Common.{◌≡◌, ℕ, List, [], ◌∷◌, ◌++◌, Bool, true, false, ◌⊎◌, refl, arith, sym, Option, Some, None}
+use Rattle.std.proofs.Common.{inl, inr, subst}
 use Rattle.std.specs.Prelude.{if◌then◌else◌, ◌&&◌, not, filter, ⊤}
 use Rattle.std.proofs.lemmas.List.{append-nil}
 use Rattle.envelope.specs.declared.message.Message.{Message}
@@ -18,8 +19,10 @@ use Rattle.activities.specs.declared.outs.Out.{Out}
 use Rattle.trade.specs.Items.{are_lines, are_numbers}
 use Rattle.activities.specs.Reaction.{after, course, state, messages_to, letters_from}
 use Rattle.base.specs.Number.{is_number}
-use Rattle.trade.specs.Orders.{Partner, OrderState, is_open, is_tentative, awaits, with_phase, all_tentative, all_in, to_all}
-use Rattle.trade.specs.Orders.{to_others, requests, placed, partners_of, tentative_from, refused_by, on_order_message, order_reactions}
+use Rattle.trade.specs.Orders.{Partner, OrderState, is_open, is_tentative, awaits, with_phase, all_tentative, all_in}
+use Rattle.trade.specs.Orders.{to_all}
+use Rattle.trade.specs.Orders.{to_others, requests, placed, partners_of, tentative_from, refused_by, on_order_message}
+use Rattle.trade.specs.Orders.{order_reactions}
 use Rattle.laws_journals.specs.Agreement.{IsAmong, IsPartner, IsRefusing, HasRefused}
 use Rattle.activities.proofs.Sameness.{Tells, same_entity-tells, same_entity-same, either}
 use Rattle.activities.proofs.Reactions.{holds_along, messages_to-append, letters_from-append}
@@ -47,7 +50,8 @@ Never m outs = Each (λ out. out.message ≡ m → ⊥) outs
 -- each partner whose phase is tentative was heard
 abbrev pub TentativeHeard : {C : Type 0} → List (Input C) → List Partner → Type 0
 TentativeHeard inputs [] = ⊤
-TentativeHeard inputs (p ∷ ps) = (is_tentative p.phase ≡ true → Heard Tentative (letters_from p.entity inputs)) × TentativeHeard inputs ps
+TentativeHeard inputs (p ∷ ps) =
+    (is_tentative p.phase ≡ true → Heard Tentative (letters_from p.entity inputs)) × TentativeHeard inputs ps
 
 -- each partner was
 abbrev pub AllHeard : {C : Type 0} → List (Input C) → List Partner → Type 0
@@ -57,7 +61,8 @@ AllHeard inputs (p ∷ ps) = Heard Tentative (letters_from p.entity inputs) × A
 -- each partner that refused was never told to cancel
 abbrev pub RefusedLeft : List Partner → List Out → Type 0
 RefusedLeft [] outs = ⊤
-RefusedLeft (p ∷ ps) outs = (p.phase ≡ Phase.Refused → Told Cancel (messages_to p.entity outs) → ⊥) × RefusedLeft ps outs
+RefusedLeft (p ∷ ps) outs =
+    (p.phase ≡ Phase.Refused → Told Cancel (messages_to p.entity outs) → ⊥) × RefusedLeft ps outs
 
 abbrev pub ByStatus : {C : Type 0} → Status → List Partner → List (Input C) → List Out → Type 0
 ByStatus Open ps inputs outs = Never Confirm outs × Never Cancel outs × TentativeHeard inputs ps
@@ -80,17 +85,21 @@ tentative_heard-more inputs more [] h = tt
 tentative_heard-more inputs more (p ∷ ps) h =
     ((λ t. heard-more Tentative p.entity inputs more (h.0 t)), tentative_heard-more inputs more ps h.1)
 
-all_heard-more : {C : Type 0} (inputs more : List (Input C)) (ps : List Partner) → AllHeard inputs ps → AllHeard (inputs ++ more) ps
+all_heard-more : {C : Type 0} (inputs more : List (Input C)) (ps : List Partner) → AllHeard inputs ps
+    → AllHeard (inputs ++ more) ps
 all_heard-more inputs more [] h = tt
-all_heard-more inputs more (p ∷ ps) h = (heard-more Tentative p.entity inputs more h.0, all_heard-more inputs more ps h.1)
+all_heard-more inputs more (p ∷ ps) h =
+    (heard-more Tentative p.entity inputs more h.0, all_heard-more inputs more ps h.1)
 
-by_status-more : {C : Type 0} (s : Status) (ps : List Partner) (inputs more : List (Input C)) (outs : List Out) → ByStatus s ps inputs outs
+by_status-more : {C : Type 0} (s : Status) (ps : List Partner) (inputs more : List (Input C)) (outs : List Out)
+    → ByStatus s ps inputs outs
     → ByStatus s ps (inputs ++ more) outs
 by_status-more Open ps inputs more outs h = (h.0, h.1, tentative_heard-more inputs more ps h.2)
 by_status-more Confirmed ps inputs more outs h = (h.0, all_heard-more inputs more ps h.1)
 by_status-more Cancelled ps inputs more outs h = h
 
-by_order-more : {C : Type 0} (o : Option OrderState) (inputs more : List (Input C)) (outs : List Out) → ByOrder o inputs outs
+by_order-more : {C : Type 0} (o : Option OrderState) (inputs more : List (Input C)) (outs : List Out)
+    → ByOrder o inputs outs
     → ByOrder o (inputs ++ more) outs
 by_order-more None inputs more outs h = h
 by_order-more (Some o) inputs more outs h = (h.0, by_status-more o.status o.partners inputs more outs h.1)
@@ -112,17 +121,20 @@ among-all_in e phase [] h = h
 among-all_in e phase (p ∷ ps) (inl x) = inl x
 among-all_in e phase (p ∷ ps) (inr x) = inr (among-all_in e phase ps x)
 
-tentative_marked : {C : Type 0} (inputs : List (Input C)) (s : Name) (ps : List Partner) → Heard Tentative (letters_from s inputs)
+tentative_marked : {C : Type 0} (inputs : List (Input C)) (s : Name) (ps : List Partner)
+    → Heard Tentative (letters_from s inputs)
     → TentativeHeard inputs ps → TentativeHeard inputs (with_phase s Phase.Tentative ps)
 tentative_marked inputs s [] here h = tt
-tentative_marked inputs s (p ∷ ps) here h = by_case (tentative_marked inputs s ps here h.1) (same_entity-tells s p.entity)
+tentative_marked inputs s (p ∷ ps) here h =
+    by_case (tentative_marked inputs s ps here h.1) (same_entity-tells s p.entity)
   where
     by_case : TentativeHeard inputs (with_phase s Phase.Tentative ps) → Tells s p.entity (same_entity s p.entity)
         → TentativeHeard inputs (with_phase s Phase.Tentative (p ∷ ps))
     by_case rest (inl e) = rw e.0 ((λ _. rw (← e.1) here), h.1)
     by_case rest (inr e) = rw e.0 (h.0, rest)
 
-all_tentative-heard : {C : Type 0} (inputs : List (Input C)) (ps : List Partner) → all_tentative ps ≡ true → TentativeHeard inputs ps
+all_tentative-heard : {C : Type 0} (inputs : List (Input C)) (ps : List Partner) → all_tentative ps ≡ true
+    → TentativeHeard inputs ps
     → AllHeard inputs ps
 all_tentative-heard inputs [] t h = tt
 all_tentative-heard inputs (p ∷ ps) t h =
@@ -159,7 +171,8 @@ others s ps = filter (λ (p : Partner). not (same_entity s p.entity)) ps
 
 to_others-partners : (s : Name) (m : Message) (ps : List Partner) → ToPartners ps (to_others s m ps)
 to_others-partners s m [] = tt
-to_others-partners s m (p ∷ ps) = by_case (same_entity s p.entity) (among-tail p ps (to_others s m ps) (to_others-partners s m ps))
+to_others-partners s m (p ∷ ps) =
+    by_case (same_entity s p.entity) (among-tail p ps (to_others s m ps) (to_others-partners s m ps))
   where
     by_case : (t : Bool) → ToPartners (p ∷ ps) (to_others s m ps)
         → ToPartners (p ∷ ps) (to_all m (if not t then p ∷ others s ps else others s ps))
@@ -174,7 +187,8 @@ to_others-never : (s : Name) (m k : Message) (ps : List Partner) → (m ≡ k �
 to_others-never s m k [] ne = tt
 to_others-never s m k (p ∷ ps) ne = by_case (same_entity s p.entity) (to_others-never s m k ps ne)
   where
-    by_case : (t : Bool) → Never k (to_others s m ps) → Never k (to_all m (if not t then p ∷ others s ps else others s ps))
+    by_case : (t : Bool) → Never k (to_others s m ps)
+        → Never k (to_all m (if not t then p ∷ others s ps else others s ps))
     by_case true h = h
     by_case false h = (ne, h)
 
@@ -196,7 +210,8 @@ told-each P r m (x ∷ xs) h t = by_case (same_entity-tells r x.receiver) (told-
     by_case : Tells r x.receiver (same_entity r x.receiver)
         → (Told m (messages_to r xs) → (out : Out) × P out × (r ≡ out.receiver) × (out.message ≡ m))
         → (out : Out) × P out × (r ≡ out.receiver) × (out.message ≡ m)
-    by_case (inl e) f = let k : (x.message ≡ m) ⊎ Told m (messages_to r xs) = rw e.0 at t in either k (λ is. (x, h.0, e.1, is)) f
+    by_case (inl e) f =
+        let k : (x.message ≡ m) ⊎ Told m (messages_to r xs) = rw e.0 at t in either k (λ is. (x, h.0, e.1, is)) f
     by_case (inr e) f = let k : Told m (messages_to r xs) = rw e.0 at t in f k
 
 pub told-never : (r : Name) (m : Message) (outs : List Out) → Never m outs → Told m (messages_to r outs) → ⊥
@@ -206,7 +221,8 @@ others_apart : (s : Name) (m : Message) (ps : List Partner) → messages_to s (t
 others_apart s m [] = refl
 others_apart s m (p ∷ ps) = by_case (same_entity s p.entity) refl (others_apart s m ps)
   where
-    by_case : (t : Bool) → same_entity s p.entity ≡ t → messages_to s (to_others s m ps) ≡ [] → messages_to s (to_others s m (p ∷ ps)) ≡ []
+    by_case : (t : Bool) → same_entity s p.entity ≡ t → messages_to s (to_others s m ps) ≡ []
+        → messages_to s (to_others s m (p ∷ ps)) ≡ []
     by_case true e h = rw e h
     by_case false e h = rw (e, e) h
 
@@ -219,7 +235,8 @@ refused-one : (s : Name) (ps : List Partner) (outs : List Out) → (Told Cancel 
 refused-one s [] outs h = tt
 refused-one s (p ∷ ps) outs h = by_case (same_entity-tells s p.entity) (refused-one s ps outs h)
   where
-    by_case : Tells s p.entity (same_entity s p.entity) → RefusedLeft (with_phase s Phase.Refused (all_in Phase.Cancelled ps)) outs
+    by_case : Tells s p.entity (same_entity s p.entity)
+        → RefusedLeft (with_phase s Phase.Refused (all_in Phase.Cancelled ps)) outs
         → RefusedLeft (with_phase s Phase.Refused (all_in Phase.Cancelled (p ∷ ps))) outs
     by_case (inl e) rest = rw e.0 ((λ _. rw (← e.1) h), refused-none ps outs)
     by_case (inr e) rest = rw e.0 ((λ x. absurd (cc)), rest)
@@ -240,7 +257,8 @@ unchanged inputs outs o h = rw append-nil h
 
 none_requested : (inputs : List (Input OrderCommand)) (ps : List Partner) → AllRequested ps → TentativeHeard inputs ps
 none_requested inputs [] h = tt
-none_requested inputs (p ∷ ps) h = ((λ t. let e : p.phase ≡ Phase.Requested = h.0 in absurd (grind arith)), none_requested inputs ps h.1)
+none_requested inputs (p ∷ ps) h =
+    ((λ t. let e : p.phase ≡ Phase.Requested = h.0 in absurd (grind arith)), none_requested inputs ps h.1)
 
 placed_keeps : (inputs : List (Input OrderCommand)) (outs : List Out) (ps : List Partner) → AllRequested ps → outs ≡ []
     → Keeps inputs outs (placed ps)
@@ -255,13 +273,17 @@ is_open-is Confirmed h = absurd (cc)
 is_open-is Cancelled h = absurd (cc)
 
 -- what is known of an open order
-opened : (o : OrderState) (inputs : List (Input OrderCommand)) (outs : List Out) → is_open o.status ≡ true → ByOrder (Some o) inputs outs
+opened : (o : OrderState) (inputs : List (Input OrderCommand)) (outs : List Out) → is_open o.status ≡ true
+    → ByOrder (Some o) inputs outs
     → ToPartners o.partners outs × ByStatus Open o.partners inputs outs
 opened o inputs outs e h = (h.0, subst (λ s. ByStatus s o.partners inputs outs) (is_open-is o.status e) h.1)
 
 cancelled_keeps : (inputs : List (Input OrderCommand)) (outs : List Out) (o : OrderState) → is_open o.status ≡ true
     → ByOrder (Some o) inputs outs
-    → Keeps inputs outs (Some (record { status = Cancelled; partners = all_in Phase.Cancelled o.partners }), to_all Cancel o.partners)
+    → Keeps inputs outs (
+      Some (record { status = Cancelled; partners = all_in Phase.Cancelled o.partners }),
+      to_all Cancel o.partners,
+    )
 cancelled_keeps inputs outs o e h =
     let k = opened o inputs outs e h in (
       each-append _ outs _ (each-map _ _ (λ out x. among-all_in out.receiver Phase.Cancelled o.partners x) outs k.0)
@@ -273,7 +295,8 @@ cancelled_keeps inputs outs o e h =
       ),
     )
 
-tentative_keeps : (inputs : List (Input OrderCommand)) (outs : List Out) (o : OrderState) (s : Name) → is_open o.status ≡ true
+tentative_keeps : (inputs : List (Input OrderCommand)) (outs : List Out) (o : OrderState) (s : Name)
+    → is_open o.status ≡ true
     → Heard Tentative (letters_from s inputs) → ByOrder (Some o) inputs outs
     → Keeps inputs outs (tentative_from o s)
 tentative_keeps inputs outs o s e here h = by_case (all_tentative (with_phase s Phase.Tentative o.partners)) refl
@@ -284,7 +307,8 @@ tentative_keeps inputs outs o s e here h = by_case (all_tentative (with_phase s 
     marked : TentativeHeard inputs (with_phase s Phase.Tentative o.partners)
     marked = tentative_marked inputs s o.partners here k.1.2
 
-    by_case : (t : Bool) → all_tentative (with_phase s Phase.Tentative o.partners) ≡ t → Keeps inputs outs (tentative_from o s)
+    by_case : (t : Bool) → all_tentative (with_phase s Phase.Tentative o.partners) ≡ t
+        → Keeps inputs outs (tentative_from o s)
     by_case true t = rw t (
       each-append _ outs _ (each-map _ _ (λ out x. among-all_in out.receiver Phase.Confirmed o.partners x) outs k.0)
           (each-map _ _ (λ out x. among-all_in out.receiver Phase.Confirmed o.partners x) (to_all Confirm o.partners)
@@ -298,10 +322,12 @@ tentative_keeps inputs outs o s e here h = by_case (all_tentative (with_phase s 
     )
     by_case false t = rw (t, append-nil) (
       each-map _ _ (λ out x. among-with_phase out.receiver s Phase.Tentative o.partners x) outs k.0,
-      subst (λ z. ByStatus z (with_phase s Phase.Tentative o.partners) inputs outs) (sym (is_open-is o.status e)) (k.1.0, k.1.1, marked),
+      subst (λ z. ByStatus z (with_phase s Phase.Tentative o.partners) inputs outs) (sym (is_open-is o.status e))
+          (k.1.0, k.1.1, marked),
     )
 
-refused_keeps : (inputs : List (Input OrderCommand)) (outs : List Out) (o : OrderState) (s : Name) → is_open o.status ≡ true
+refused_keeps : (inputs : List (Input OrderCommand)) (outs : List Out) (o : OrderState) (s : Name)
+    → is_open o.status ≡ true
     → ByOrder (Some o) inputs outs → Keeps inputs outs (refused_by o s)
 refused_keeps inputs outs o s e h =
     let k = opened o inputs outs e h in
@@ -312,11 +338,13 @@ refused_keeps inputs outs o s e h =
       (
         each-append _ outs _ k.1.0 (to_others-never s Cancel Confirm o.partners (λ x. cc)),
         refused-one s o.partners (outs ++ to_others s Cancel o.partners)
-            (λ t. told-never s Cancel outs k.1.1 (rw (messages_to-append, others_apart s Cancel o.partners, append-nil) at t)),
+            (λ t. told-never s Cancel outs k.1.1 (rw (messages_to-append, others_apart s Cancel o.partners, append-nil)
+            at t)),
       ),
     )
 
-message_keeps : (inputs : List (Input OrderCommand)) (outs : List Out) (o : Option OrderState) (s : Name) (n : ℕ) (m : Message)
+message_keeps : (inputs : List (Input OrderCommand)) (outs : List Out) (o : Option OrderState) (s : Name) (n : ℕ)
+    (m : Message)
     → ByOrder o inputs outs
     → Keeps (inputs ++ FromEntity s n m ∷ []) outs (on_order_message o s m)
 message_keeps inputs outs None s n m h = rw append-nil h
@@ -362,14 +390,16 @@ all_requested (i ∷ is) account amount = (refl, all_requested is account amount
 -- a command's answer, which may be a refusal
 command_keeps : (inputs : List (Input OrderCommand)) (at : Option OrderState × List Out) (seat : ℕ) (c : OrderCommand)
     → ByOrder at.0 inputs at.1
-    → ByOrder (after order_reactions at (FromSeat seat c)).0 (inputs ++ FromSeat seat c ∷ []) (after order_reactions at (FromSeat seat c)).1
+    → ByOrder (after order_reactions at (FromSeat seat c)).0 (inputs ++ FromSeat seat c ∷ [])
+    (after order_reactions at (FromSeat seat c)).1
 command_keeps inputs (o, outs) seat c h = by_state o c (by_order-more o inputs (FromSeat seat c ∷ []) outs h)
   where
     now : List (Input OrderCommand)
     now = inputs ++ FromSeat seat c ∷ []
 
     by_state : (o : Option OrderState) (k : OrderCommand) → ByOrder o now outs
-        → ByOrder (after order_reactions (o, outs) (FromSeat seat k)).0 now (after order_reactions (o, outs) (FromSeat seat k)).1
+        → ByOrder (after order_reactions (o, outs) (FromSeat seat k)).0 now
+        (after order_reactions (o, outs) (FromSeat seat k)).1
     by_state None (Place is account amount) h = by_case (are_lines is) (are_numbers is && is_number amount) refl refl
       where
         by_case : (t u : Bool) → are_lines is ≡ t → (are_numbers is && is_number amount) ≡ u
@@ -377,7 +407,8 @@ command_keeps inputs (o, outs) seat c h = by_state o c (by_order-more o inputs (
             (after order_reactions (None, outs) (FromSeat seat (Place is account amount))).1
         by_case false u e f = rw e h
         by_case true false e f = rw (e, f) h
-        by_case true true e f = rw (e, f) (placed_keeps now outs (partners_of is account amount) (all_requested is account amount) h)
+        by_case true true e f =
+            rw (e, f) (placed_keeps now outs (partners_of is account amount) (all_requested is account amount) h)
     by_state None CancelOrder h = h
     by_state (Some o) (Place is account amount) h = h
     by_state (Some o) CancelOrder h = by_case (is_open o.status) refl
@@ -388,39 +419,46 @@ command_keeps inputs (o, outs) seat c h = by_state o c (by_order-more o inputs (
         by_case true e = rw e (cancelled_keeps now outs o e h)
         by_case false e = rw e h
 
-order_step : (inputs : List (Input OrderCommand)) (i : Input OrderCommand) (at : Option OrderState × List Out) → ByOrder at.0 inputs at.1
+order_step : (inputs : List (Input OrderCommand)) (i : Input OrderCommand) (at : Option OrderState × List Out)
+    → ByOrder at.0 inputs at.1
     → ByOrder (after order_reactions at i).0 (inputs ++ i ∷ []) (after order_reactions at i).1
 order_step inputs (FromSeat seat c) at h = command_keeps inputs at seat c h
 order_step inputs (FromEntity s n m) at h = message_keeps inputs at.1 at.0 s n m h
 
-pub order_tells : (inputs : List (Input OrderCommand)) → ByOrder (state order_reactions inputs) inputs (course order_reactions inputs).1
+pub order_tells : (inputs : List (Input OrderCommand))
+    → ByOrder (state order_reactions inputs) inputs (course order_reactions inputs).1
 order_tells inputs = holds_along order_reactions (λ xs at. ByOrder at.0 xs at.1) refl order_step inputs
 
 -- who is told anything is a partner
-pub told-partner : {C : Type 0} (o : Option OrderState) (inputs : List (Input C)) (outs : List Out) (r : Name) (m : Message)
+pub told-partner : {C : Type 0} (o : Option OrderState) (inputs : List (Input C)) (outs : List Out) (r : Name)
+    (m : Message)
     → ByOrder o inputs outs → Told m (messages_to r outs) → IsPartner o r
 told-partner None inputs outs r m h t = absurd (rw h at t)
-told-partner (Some o) inputs outs r m h t = let w = told-each (λ out. IsAmong out.receiver o.partners) r m outs h.0 t in rw w.2 w.1
+told-partner (Some o) inputs outs r m h t =
+    let w = told-each (λ out. IsAmong out.receiver o.partners) r m outs h.0 t in rw w.2 w.1
 
 -- where one partner is told to confirm, each was heard and none is told to cancel
 pub record Agreed {C : Type 0} (o : Option OrderState) (inputs : List (Input C)) (outs : List Out) : Type 0 where
   pub heard : (r : Name) → IsPartner o r → Heard Tentative (letters_from r inputs)
   pub never : (r : Name) → Told Cancel (messages_to r outs) → ⊥
 
-all_heard-among : {C : Type 0} (inputs : List (Input C)) (r : Name) (ps : List Partner) → AllHeard inputs ps → IsAmong r ps
+all_heard-among : {C : Type 0} (inputs : List (Input C)) (r : Name) (ps : List Partner) → AllHeard inputs ps
+    → IsAmong r ps
     → Heard Tentative (letters_from r inputs)
 all_heard-among inputs r [] h a = absurd a
 all_heard-among inputs r (p ∷ ps) h (inl e) = rw e h.0
 all_heard-among inputs r (p ∷ ps) h (inr a) = all_heard-among inputs r ps h.1 a
 
-agreed_by : {C : Type 0} (s : Status) (ps : List Partner) (inputs : List (Input C)) (outs : List Out) (r : Name) → ByStatus s ps inputs outs
+agreed_by : {C : Type 0} (s : Status) (ps : List Partner) (inputs : List (Input C)) (outs : List Out) (r : Name)
+    → ByStatus s ps inputs outs
     → Told Confirm (messages_to r outs)
     → AllHeard inputs ps × ((q : Name) → Told Cancel (messages_to q outs) → ⊥)
 agreed_by Open ps inputs outs r h t = absurd (told-never r Confirm outs h.0 t)
 agreed_by Confirmed ps inputs outs r h t = (h.1, λ q. told-never q Cancel outs h.0)
 agreed_by Cancelled ps inputs outs r h t = absurd (told-never r Confirm outs h.0 t)
 
-pub agreed : {C : Type 0} (o : Option OrderState) (inputs : List (Input C)) (outs : List Out) (r : Name) → ByOrder o inputs outs
+pub agreed : {C : Type 0} (o : Option OrderState) (inputs : List (Input C)) (outs : List Out) (r : Name)
+    → ByOrder o inputs outs
     → Told Confirm (messages_to r outs) → Agreed o inputs outs
 agreed None inputs outs r h t = absurd (rw h at t)
 agreed (Some o) inputs outs r h t =
@@ -429,19 +467,22 @@ agreed (Some o) inputs outs r h t =
 
 -- a partner that refused is never told to cancel
 
-refused_among : (ps : List Partner) (outs : List Out) (r : Name) → RefusedLeft ps outs → IsRefusing r ps → Told Cancel (messages_to r outs)
+refused_among : (ps : List Partner) (outs : List Out) (r : Name) → RefusedLeft ps outs → IsRefusing r ps
+    → Told Cancel (messages_to r outs)
     → ⊥
 refused_among [] outs r h a t = a
 refused_among (p ∷ ps) outs r h (inl e) t = h.0 e.1 (rw e.0 at t)
 refused_among (p ∷ ps) outs r h (inr a) t = refused_among ps outs r h.1 a t
 
-left_by : {C : Type 0} (s : Status) (ps : List Partner) (inputs : List (Input C)) (outs : List Out) (r : Name) → ByStatus s ps inputs outs
+left_by : {C : Type 0} (s : Status) (ps : List Partner) (inputs : List (Input C)) (outs : List Out) (r : Name)
+    → ByStatus s ps inputs outs
     → IsRefusing r ps → Told Cancel (messages_to r outs) → ⊥
 left_by Open ps inputs outs r h a t = told-never r Cancel outs h.1 t
 left_by Confirmed ps inputs outs r h a t = told-never r Cancel outs h.0 t
 left_by Cancelled ps inputs outs r h a t = refused_among ps outs r h.1 a t
 
-pub left_alone : {C : Type 0} (o : Option OrderState) (inputs : List (Input C)) (outs : List Out) (r : Name) → ByOrder o inputs outs
+pub left_alone : {C : Type 0} (o : Option OrderState) (inputs : List (Input C)) (outs : List Out) (r : Name)
+    → ByOrder o inputs outs
     → HasRefused o r → Told Cancel (messages_to r outs) → ⊥
 left_alone None inputs outs r h a t = a
 left_alone (Some o) inputs outs r h a t = left_by o.status o.partners inputs outs r h.1 a t

@@ -25,11 +25,12 @@ use Rattle.laws_journals.proofs.Machine.{Action, ToOrder, ToStock, ToAccount, Se
 abbrev nuts : Name
 nuts = stock_of (codes "nuts")
 
--- ten bolts and four nuts came in; the order asks for 3 bolts, so many nuts and all of the limit; the nuts answer first, the account last,
--- and whatever the order tells arrives
+-- ten bolts and four nuts came in; the order asks for 3 bolts, so many nuts and all of the limit; the nuts answer
+-- first, the account last, and whatever the order tells arrives
 abbrev schedule : ℕ → List Action
 schedule asked =
-    ToStock (codes "bolts") 0 (Receive 10) ∷ ToStock (codes "nuts") 0 (Receive 4) ∷ ToAccount (codes "acme") 0 (SetLimit 500)
+    ToStock (codes "bolts") 0 (Receive 10) ∷ ToStock (codes "nuts") 0 (Receive 4) ∷ ToAccount (codes "acme") 0
+    (SetLimit 500)
     ∷ ToOrder (codes "o1") 0 (Place (item (codes "bolts") 3 ∷ item (codes "nuts") asked ∷ []) (codes "acme") 500)
     ∷ SendsLetter (from_to order stock) 1 ∷ Arrives 0 ∷ SendsLetter (from_to order nuts) 1 ∷ Arrives 0
     ∷ SendsLetter (from_to order account) 1 ∷ Arrives 0 ∷ SendsLetter (from_to nuts order) 1 ∷ Arrives 0
@@ -55,12 +56,19 @@ order_at asked status of_bolts of_nuts of_account = Some (record {
 -- the nuts, with the order's line in this phase
 abbrev nuts_at : ℕ → ℕ → ℕ → LinePhase → StockState
 nuts_at asked on_hand shipped phase =
-    record { on_hand = on_hand; held = 0; shipped = shipped; received = 4; lines = record { order = order; n = asked; phase = phase } ∷ [] }
+    record {
+      on_hand = on_hand;
+      held = 0;
+      shipped = shipped;
+      received = 4;
+      lines = record { order = order; n = asked; phase = phase } ∷ [];
+    }
 
 -- for four nuts
 pub record AllHold : Type 0 where
   -- two hold, and the third wasn't heard of
-  pub waits : (states_in (after_first 4 14).journals).orders order ≡ order_at 4 Open Phase.Tentative Phase.Tentative Phase.Requested
+  pub waits : (states_in (after_first 4 14).journals).orders order ≡ order_at 4 Open Phase.Tentative Phase.Tentative
+      Phase.Requested
   pub untold : sent_in (after_first 4 14).journals (from_to order nuts) ≡ Request 4 ∷ []
   -- all hold
   pub confirmed : (states_in (after_first 4 16).journals).orders order

@@ -22,11 +22,13 @@ use Rattle.laws_journals.proofs.Growth.{grows}
 
 -- the order is placed, and so it has sent its requests; the stock takes the first of them in: nothing is lost
 a_placed_order_grows : Grows (after_first 2).journals (after_first 3).journals
-a_placed_order_grows = grows _ _ (AddsOrder _ (record { of_kind = refl; seated = omega arith; accepted = refl; next = tt }) tt refl)
+a_placed_order_grows =
+    grows _ _ (AddsOrder _ (record { of_kind = refl; seated = omega arith; accepted = refl; next = tt }) tt refl)
 
 a_handled_request_grows : Grows (after_first 4).journals (after_first 5).journals
 unfolding same_entity same_pair
-a_handled_request_grows = grows _ _ (AddsStock _ (record { of_kind = refl; seated = tt; accepted = refl; next = refl }) refl refl)
+a_handled_request_grows =
+    grows _ _ (AddsStock _ (record { of_kind = refl; seated = tt; accepted = refl; next = refl }) refl refl)
 
 -- without the order's row its request is lost, and without the stock's row the request's handling is
 lost_rows_are_no_growth : (Grows (after_first 3).journals start.journals → ⊥)
@@ -40,7 +42,10 @@ lost_rows_are_no_growth = (
 -- where no service did anything, all is sound
 nothing_is_sound : AreSound (states_in start.journals)
 nothing_is_sound = record {
-  agree = λ order kind. record { one_way = λ p q partner other done undone. partner; nowhere_else = λ at none. no_line order at.kind at };
+  agree = λ order kind. record {
+    one_way = λ p q partner other done undone. partner;
+    nowhere_else = λ at none. no_line order at.kind at;
+  };
   orders = λ e. tt;
   stocks = λ e. record {
     conserved = refl;
@@ -50,7 +55,13 @@ nothing_is_sound = record {
     shipped = refl;
     lines = lines_sound-none;
   };
-  accounts = λ e. record { bounded = omega arith; covered = omega arith; held = refl; billed = refl; lines = lines_sound-none };
+  accounts = λ e. record {
+    bounded = omega arith;
+    covered = omega arith;
+    held = refl;
+    billed = refl;
+    lines = lines_sound-none;
+  };
 }
   where
     no_line : (order : Name) (kind : Kind) (at : Name) → IsNone (line_by (states_in start.journals) order kind at)
@@ -70,7 +81,8 @@ asks_nobody h = let some = (h.orders order).some in omega (arith, some)
 abbrev unasked : Journals
 unasked = record {
   orders = [];
-  stocks = record { entity = stock; input = FromSeat 0 (Receive 10) } ∷ record { entity = stock; input = FromEntity order 1 (Request 3) }
+  stocks = record { entity = stock; input = FromSeat 0 (Receive 10) } ∷ record
+      { entity = stock; input = FromEntity order 1 (Request 3) }
       ∷ record { entity = stock; input = FromEntity order 2 Confirm } ∷ [];
   accounts = [];
 }

@@ -14,21 +14,26 @@ use Rattle.activities.proofs.Legal.{legal-none}
 use Rattle.laws_journals.specs.Journals.{Journals, sent_in, letters_by}
 use Rattle.laws_journals.specs.Envelopes.{IsAuthentic}
 use Rattle.laws_journals.specs.Growth.{Grows}
-use Rattle.laws_journals.specs.Steps.{Configuration, start, ConfigurationStep, Writes, Marks, Sends, IsConfigurationPath, Reaches}
+use Rattle.laws_journals.specs.Steps.{Configuration, start, ConfigurationStep, Writes, Marks, Sends}
+use Rattle.laws_journals.specs.Steps.{IsConfigurationPath, Reaches}
 use Rattle.laws_journals.specs.Steps.{AreAuthentic, IsGoodConfiguration}
-use Rattle.laws_journals.proofs.Growth.{adds-known, lawful-later, grows, grows-from, grows-same, grows_trans, authentic-later, settled-later}
+use Rattle.laws_journals.proofs.Growth.{adds-known, lawful-later, grows, grows-from, grows-same, grows_trans}
+use Rattle.laws_journals.proofs.Growth.{authentic-later, settled-later}
 use Rattle.laws_journals.proofs.Growth.{raised-handled, raised-up}
 
-all_authentic-later : (js later : Journals) → Grows js later → (es : List Envelope) → AreAuthentic js es → AreAuthentic later es
+all_authentic-later : (js later : Journals) → Grows js later → (es : List Envelope) → AreAuthentic js es
+    → AreAuthentic later es
 all_authentic-later js later g [] h = tt
 all_authentic-later js later g (e ∷ es) h = (authentic-later js later g e h.0, all_authentic-later js later g es h.1)
 
-sent_authentic : (js : Journals) (es : List Envelope) → AreAuthentic js es → (e : Envelope) → Contains es e → IsAuthentic js e
+sent_authentic : (js : Journals) (es : List Envelope) → AreAuthentic js es → (e : Envelope) → Contains es e
+    → IsAuthentic js e
 sent_authentic js es h e there = All-contains (IsAuthentic js) es e (All-from_recursion (IsAuthentic js) es h) there
 
 -- ---- one step
 
-pub step_good : (old new : Configuration) → ConfigurationStep old new → IsGoodConfiguration old → IsGoodConfiguration new
+pub step_good : (old new : Configuration) → ConfigurationStep old new → IsGoodConfiguration old
+    → IsGoodConfiguration new
 step_good old new (Writes from settled sent) h =
     let adds = adds-known (Contains old.sent) (IsAuthentic old.journals) old.journals new.journals
     (sent_authentic old.journals old.sent h.authentic) from in
@@ -55,12 +60,14 @@ step_grows old new (Sends envelope authentic e) = rw e (grows-same old.journals)
 
 step_marks : (old new : Configuration) (pair : Pair) → ConfigurationStep old new → old.settled pair ≤ new.settled pair
 step_marks old new pair (Writes from settled sent) = rw settled (omega arith)
-step_marks old new pair (Marks of count among raises journals sent) = raised-up of pair count old.settled new.settled raises
+step_marks old new pair (Marks of count among raises journals sent) =
+    raised-up of pair count old.settled new.settled raises
 step_marks old new pair (Sends envelope authentic e) = rw e (omega arith)
 
 -- ---- many
 
-path_good : (path : List Configuration) (old new : Configuration) → IsConfigurationPath old path new → IsGoodConfiguration old
+path_good : (path : List Configuration) (old new : Configuration) → IsConfigurationPath old path new
+    → IsGoodConfiguration old
     → IsGoodConfiguration new
 path_good [] old new h good = rw h good
 path_good (next ∷ path) old new h good = path_good path next new h.1 (step_good old next h.0 good)
@@ -68,7 +75,8 @@ path_good (next ∷ path) old new h good = path_good path next new h.1 (step_goo
 pub reached_good : (old new : Configuration) → Reaches old new → IsGoodConfiguration old → IsGoodConfiguration new
 reached_good old new h good = path_good h.0 old new h.1 good
 
-path_grows : (path : List Configuration) (old new : Configuration) → IsConfigurationPath old path new → Grows old.journals new.journals
+path_grows : (path : List Configuration) (old new : Configuration) → IsConfigurationPath old path new
+    → Grows old.journals new.journals
 path_grows [] old new h = rw h (grows-same old.journals)
 path_grows (next ∷ path) old new h =
     grows_trans old.journals next.journals new.journals (step_grows old next h.0) (path_grows path next new h.1)
@@ -103,7 +111,8 @@ start_good = record {
   authentic = tt;
 }
   where
-    prefixes : (k : Kind) (pair : Pair) → IsPrefixOf (letters_by start.journals k pair) (numbered 0 (sent_in start.journals pair))
+    prefixes : (k : Kind) (pair : Pair)
+        → IsPrefixOf (letters_by start.journals k pair) (numbered 0 (sent_in start.journals pair))
     prefixes Order pair = (_, refl)
     prefixes Stock pair = (_, refl)
     prefixes Account pair = (_, refl)

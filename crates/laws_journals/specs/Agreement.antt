@@ -69,10 +69,11 @@ abbrev pub HasRefused : Option OrderState → Name → Type 0
 HasRefused None e = ⊥
 HasRefused (Some o) e = IsRefusing e o.partners
 
--- Of an order in this state, with its line at each entity: no partner's line is shipped or billed while another's is released or
--- refused, and its lines stand at partners alone.
+-- Of an order in this state, with its line at each entity: no partner's line is shipped or billed while another's is
+-- released or refused, and its lines stand at partners alone.
 pub record PartnersAgree (order : Option OrderState) (line : Name → Option Line) : Type 0 where
-  pub one_way : (p q : Name) → IsPartner order p → IsPartner order q → IsShippedOrBilled (line p) → IsReleasedOrRefused (line q) → ⊥
+  pub one_way : (p q : Name) → IsPartner order p → IsPartner order q → IsShippedOrBilled (line p)
+      → IsReleasedOrRefused (line q) → ⊥
   pub nowhere_else : (at : Name) → (IsPartner order at → ⊥) → IsNone (line at)
 
 -- of an order in this state, with what it told each entity: a partner that refused isn't told to give anything back

@@ -27,11 +27,14 @@ IsFrom known e (FromEntity sender number message) =
 
 -- one service wrote one row: one that may follow, and whose letter is one of the known envelopes
 pub data AddsRowFrom (known : Envelope → Type 0) (js later : Journals) : Type 0 where
-  AddsOrder : (row : JournalRow OrderCommand) → MayFollow order_reactions Order js.orders row → IsFrom known row.entity row.input
+  AddsOrder : (row : JournalRow OrderCommand) → MayFollow order_reactions Order js.orders row
+      → IsFrom known row.entity row.input
       → later ≡ record js { orders = js.orders ++ row ∷ [] } → AddsRowFrom known js later
-  AddsStock : (row : JournalRow StockCommand) → MayFollow stock_reactions Stock js.stocks row → IsFrom known row.entity row.input
+  AddsStock : (row : JournalRow StockCommand) → MayFollow stock_reactions Stock js.stocks row
+      → IsFrom known row.entity row.input
       → later ≡ record js { stocks = js.stocks ++ row ∷ [] } → AddsRowFrom known js later
-  AddsAccount : (row : JournalRow AccountCommand) → MayFollow account_reactions Account js.accounts row → IsFrom known row.entity row.input
+  AddsAccount : (row : JournalRow AccountCommand) → MayFollow account_reactions Account js.accounts row
+      → IsFrom known row.entity row.input
       → later ≡ record js { accounts = js.accounts ++ row ∷ [] } → AddsRowFrom known js later
 
 -- one whose letter is authentic

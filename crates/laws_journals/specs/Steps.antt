@@ -18,9 +18,9 @@ pub record Configuration : Type 0 where
 abbrev pub start : Configuration
 start = record { journals = record { orders = []; stocks = []; accounts = [] }; settled = λ pair. 0; sent = [] }
 
--- One step: a service writes a row, of a command or of a letter that was sent; a sender raises its mark, by a settle that was sent; or a
--- service sends what is authentic. What was sent may arrive never, late, many times and in any order: nothing asks for a step. A call
--- that failed took its step or took none.
+-- One step: a service writes a row, of a command or of a letter that was sent; a sender raises its mark, by a settle
+-- that was sent; or a service sends what is authentic. What was sent may arrive never, late, many times and in any
+-- order: nothing asks for a step. A call that failed took its step or took none.
 pub data ConfigurationStep (old new : Configuration) : Type 0 where
   Writes : AddsRowFrom (Contains old.sent) old.journals new.journals → new.settled ≡ old.settled → new.sent ≡ old.sent
       → ConfigurationStep old new

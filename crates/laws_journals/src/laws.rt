@@ -13,8 +13,8 @@ ghost use Rattle.laws_journals.specs.Growth.{AddsRow, Grows};
 ghost use Rattle.laws_journals.specs.Journals.{Journals, AreLawful, HandlesPrefixes, sent_in};
 ghost use Rattle.laws_journals.specs.Steps.{Configuration, IsGoodConfiguration, Reaches, ConfigurationStep, start};
 
-/// One row of one service, whichever it is, keeps lawful journals lawful, takes nothing away that was sent or handled, and so keeps
-/// marks behind the handling and envelopes authentic.
+/// One row of one service, whichever it is, keeps lawful journals lawful, takes nothing away that was sent or handled,
+/// and so keeps marks behind the handling and envelopes authentic.
 pub fn a_row_keeps_the_laws()
     ensures lawful { (js later : Journals) → AddsRow js later → AreLawful js → AreLawful later }
     ensures grows { (js later : Journals) → AddsRow js later → Grows js later }
@@ -23,20 +23,23 @@ pub fn a_row_keeps_the_laws()
     ensures authentic { (js later : Journals) (e : Envelope) → Grows js later → IsAuthentic js e → IsAuthentic later e }
 {}
 
-/// A settled mark that is raised by an authentic settle stays behind the handling, and no mark is taken back, also where an older settle
-/// arrives behind a newer one.
+/// A settled mark that is raised by an authentic settle stays behind the handling, and no mark is taken back, also
+/// where an older settle arrives behind a newer one.
 pub fn a_mark_keeps_the_laws()
     ensures settled { (js : Journals) (pair : Pair) (count : ℕ) (settled later : Pair → ℕ) →
-        IsAuthentic js (Settle pair count) → Raises pair count settled later → SettledAreHandled js settled → SettledAreHandled js later }
+        IsAuthentic js (Settle pair count) → Raises pair count settled later → SettledAreHandled js settled
+        → SettledAreHandled js later }
     ensures marks { (pair other : Pair) (count : ℕ) (settled later : Pair → ℕ) →
         Raises pair count settled later → settled other ≤ later other }
 {}
 
-/// Whatever arrives, is lost, arrives again or in another order: the journals stay lawful, what is marked settled was handled, and
-/// every envelope that was ever sent is authentic. So it is from the beginning on, and from every good configuration.
+/// Whatever arrives, is lost, arrives again or in another order: the journals stay lawful, what is marked settled was
+/// handled, and every envelope that was ever sent is authentic. So it is from the beginning on, and from every good
+/// configuration.
 pub fn stays_lawful()
     ensures start { IsGoodConfiguration start }
-    ensures step { (old new : Configuration) → ConfigurationStep old new → IsGoodConfiguration old → IsGoodConfiguration new }
+    ensures step { (old new : Configuration) → ConfigurationStep old new → IsGoodConfiguration old
+        → IsGoodConfiguration new }
     ensures good { (old new : Configuration) → Reaches old new → IsGoodConfiguration old → IsGoodConfiguration new }
     ensures lawful { (new : Configuration) → Reaches start new → AreLawful new.journals }
     ensures settled { (new : Configuration) → Reaches start new → SettledAreHandled new.journals new.settled }
@@ -50,8 +53,8 @@ pub fn stays_authentic()
     ensures marks { (old new : Configuration) (pair : Pair) → Reaches old new → old.settled pair ≤ new.settled pair }
 {}
 
-/// Where each receiver handled a beginning of what was sent to it, the partners of each order agree; and nothing that came into a
-/// stock, and nothing of an account's limit, is ever lost or used twice.
+/// Where each receiver handled a beginning of what was sent to it, the partners of each order agree; and nothing that
+/// came into a stock, and nothing of an account's limit, is ever lost or used twice.
 pub fn agree()
     ensures partners { (js : Journals) → HandlesPrefixes js → (order : Name) → order.kind ≡ Order →
         PartnersAgree ((states_in js).orders order) (line_at (states_in js) order) }

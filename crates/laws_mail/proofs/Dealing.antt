@@ -22,7 +22,8 @@ acks_unread None = tt
 acks_unread (Some n) = (refl, tt)
 
 module _ (ok : Envelope → Type 0) where
-  handed_good : (d : Handed) (new : Book) → HandsOut (Brought ok) (HasName ok) d new → GoodFrame ok (message_frame (delivery_of d))
+  handed_good : (d : Handed) (new : Book) → HandsOut (Brought ok) (HasName ok) d new
+      → GoodFrame ok (message_frame (delivery_of d))
   handed_good d new h = record {
     fits = h.frame;
     means = λ _ e k. h.brought e
@@ -31,14 +32,18 @@ module _ (ok : Envelope → Type 0) where
   }
 
   module _ (up down : ℕ → List ℕ) where
-    deals_good : (ds : List Handed) (old new : Book) (from to : Roster) → Deals old ds new → Taken Hands from ds to → GoodBook ok old
+    deals_good : (ds : List Handed) (old new : Book) (from to : Roster) → Deals old ds new → Taken Hands from ds to
+        → GoodBook ok old
         → GoodSessions ok up down from.sessions → GoodBook ok new × GoodSessions ok up down to.sessions
     deals_good [] old new from to h t g s = (rw h g, rw t s)
     deals_good (d ∷ ds) old new from to h t g s =
         let one = hands_out (Brought ok) (HasName ok) (λ s k. k) old d h.0 h.1 g in
-        let wrote = each_changed _ _ d.to.session (writing (message_frame (delivery_of d))) from.sessions (λ x e. refl) s
-        (λ x e. writes_good ok (up d.to.session) (down d.to.session) x _ (s.found d.to.session x e) (handed_good d h.0 one)) in
-        deals_good ds h.0 new t.0 to h.2 t.2 one.book (subst (λ (r : Roster). GoodSessions ok up down r.sessions) (sym t.1) wrote)
+        let wrote =
+        each_changed _ _ d.to.session (writing (message_frame (delivery_of d))) from.sessions (λ x e. refl) s
+        (λ x e. writes_good ok (up d.to.session) (down d.to.session) x _ (s.found d.to.session x e)
+        (handed_good d h.0 one)) in
+        deals_good ds h.0 new t.0 to h.2 t.2 one.book (subst (λ (r : Roster). GoodSessions ok up down r.sessions)
+        (sym t.1) wrote)
 
     pub dealing_good : (old new : Server) → Dealing old new → GoodServer ok up down old → GoodServer ok up down new
     dealing_good old new h g =
@@ -46,7 +51,8 @@ module _ (ok : Envelope → Type 0) where
         (sessions_of ok up down old g) in
         record { book = r.0; sessions = r.1.found; gone = r.1.none }
 
-    pub dispatch_good : {E : Type 0} (old new : Server) (r : Result (Unit {0}) E) → DispatchAnswer old new r → GoodServer ok up down old
+    pub dispatch_good : {E : Type 0} (old new : Server) (r : Result (Unit {0}) E) → DispatchAnswer old new r
+        → GoodServer ok up down old
         → GoodServer ok up down new
     dispatch_good old new (Ok _) h g = dealing_good old new h.0 g
     dispatch_good old new (Err _) h g = dealing_good old new h g

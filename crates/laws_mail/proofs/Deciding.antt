@@ -1,9 +1,11 @@
 -- What is decided of a good frame.
-use Rattle.std.proofs.Common.{◌≡◌, inl, inr, Bool, true, false, Option, Some, None, Result, Ok, Err, codes, refl, sym, ap, ◌∙◌, subst}
+use Rattle.std.proofs.Common.{◌≡◌, inl, inr, Bool, true, false, Option, Some, None, Result, Ok, Err, codes, refl, sym}
+use Rattle.std.proofs.Common.{ap, ◌∙◌, subst}
 use Rattle.std.specs.Str.{bytes_eq}
 use Rattle.stomp_frame.specs.Frames.{Content, Header}
 use Rattle.stomp_frame.specs.declared.command.Command.{Command}
-use Rattle.stomp_frame.specs.declared.command.Command.TheVariants.{Send, Subscribe, Unsubscribe, Ack, Nack, Begin, Commit, Abort}
+use Rattle.stomp_frame.specs.declared.command.Command.TheVariants.{Send, Subscribe, Unsubscribe, Ack, Nack, Begin}
+use Rattle.stomp_frame.specs.declared.command.Command.TheVariants.{Commit, Abort}
 use Rattle.stomp_frame.specs.declared.command.Command.TheVariants.{Disconnect}
 use Rattle.stomp_session.specs.Fitting.{Fits}
 use Rattle.stomp_session.specs.Headers.{is_own}
@@ -41,7 +43,8 @@ asked_is (Some fault) f q e = absurd (let k : Err fault ≡ Ok q = e in cc)
 
 module _ (ok : Envelope → Type 0) where
   -- a SEND brings what it means, and no other request brings anything
-  request_good : (c : Command) (f : Content) → f.command ≡ c → Fits (asked_by c f) → GoodFrame ok f → GoodRequest ok (asked_by c f)
+  request_good : (c : Command) (f : Content) → f.command ≡ c → Fits (asked_by c f) → GoodFrame ok f
+      → GoodRequest ok (asked_by c f)
   request_good Send f e fits g =
       (fits, λ x k. g.means (ap carries e) x (sym (read_envelope-filter is_own f.headers f.body read_is_own) ∙ k))
   request_good Subscribe f e fits g = fits
@@ -54,7 +57,8 @@ module _ (ok : Envelope → Type 0) where
   request_good Disconnect f e fits g = fits
   request_good _ f e fits g = fits
 
-  decided_by : (connected : Bool) (f : Content) (r : Result Request SessionFault) → request_of connected f ≡ r → GoodFrame ok f
+  decided_by : (connected : Bool) (f : Content) (r : Result Request SessionFault) → request_of connected f ≡ r
+      → GoodFrame ok f
       → GoodDecided ok (answer_by f r)
   decided_by connected f (Ok q) e g =
       let same : asked f ≡ q = asked_is (refusal_of connected f) f q e in

@@ -41,17 +41,39 @@ settled_is_a_frame : IsFrame MAX_BODY (send_of settled)
 settled_is_a_frame = record {
   headers = (
     owned Send (codes "destination") (codes "/queue/billing")
-        (record { good = refl; ascii = refl; own = refl; utf8 = utf8 (codes "/queue/billing") refl; short = omega arith }),
+        (record {
+          good = refl;
+          ascii = refl;
+          own = refl;
+          utf8 = utf8 (codes "/queue/billing") refl;
+          short = omega arith;
+        }),
     (
       owned Send (codes "kind") (codes "settle")
           (record { good = refl; ascii = refl; own = refl; utf8 = utf8 (codes "settle") refl; short = omega arith }),
       (
         owned Send (codes "from") (codes "account/1")
-            (record { good = refl; ascii = refl; own = refl; utf8 = utf8 (codes "account/1") refl; short = omega arith }),
+            (record {
+              good = refl;
+              ascii = refl;
+              own = refl;
+              utf8 = utf8 (codes "account/1") refl;
+              short = omega arith;
+            }),
         (
           owned Send (codes "to") (codes "order/1")
-              (record { good = refl; ascii = refl; own = refl; utf8 = utf8 (codes "order/1") refl; short = omega arith }),
-          (echo_owned Send (codes "number") (decimal 7) refl refl refl refl (omega arith) (told_number 7 (omega arith)), tt),
+              (record {
+                good = refl;
+                ascii = refl;
+                own = refl;
+                utf8 = utf8 (codes "order/1") refl;
+                short = omega arith;
+              }),
+          (
+            echo_owned Send (codes "number") (decimal 7) refl refl refl refl (omega arith)
+                (told_number 7 (omega arith)),
+            tt,
+          ),
         ),
       ),
     ),
@@ -69,5 +91,6 @@ settle_passes = spelled_more (λ e. e ≡ settled) [] (send_of settled) (nothing
 settle_is_seen : Spelled none (canonical (send_of settled)) → ⊥
 settle_is_seen h =
     (first_good none (send_of settled) (canonical (send_of settled)) [] (canonical (send_of settled)) h
-    (0, canon_spells MAX_BODY (omega arith) (send_of settled) settled_is_a_frame) (sym (append-nil (canonical (send_of settled))))).0.means
+    (0, canon_spells MAX_BODY (omega arith) (send_of settled) settled_is_a_frame)
+    (sym (append-nil (canonical (send_of settled))))).0.means
     refl settled (read_envelope-written settled settled_is_an_envelope)

@@ -1,5 +1,6 @@
 -- Which frames are good.
-use Rattle.std.proofs.Common.{◌≡◌, ℕ, false, cond, List, [], ◌∷◌, ◌++◌, codes, decimal, Option, Some, None, Ok, refl, sym, ap, ◌∙◌, subst}
+use Rattle.std.proofs.Common.{◌≡◌, ℕ, false, cond, List, [], ◌∷◌, ◌++◌, codes, decimal, Option, Some, None, Ok, refl}
+use Rattle.std.proofs.Common.{sym, ap, ◌∙◌, subst}
 use Rattle.std.proofs.Common.{arith}
 use Rattle.std.specs.List.{AllByRecursion}
 use Rattle.std.specs.Str.{bytes_eq}
@@ -7,7 +8,8 @@ use Rattle.base.specs.declared.limits.TheConstants.{MAX_BODY}
 use Rattle.stomp_frame.specs.Frames.{Content, Header, IsFrame, frame, header, value_of}
 use Rattle.stomp_frame.specs.declared.command.Command.TheVariants.{Send, Ack, Nack, Begin, Commit, Abort, Connect}
 use Rattle.stomp_session.proofs.Owning.{owned, utf8}
-use Rattle.stomp_client.specs.Frames.{connect_frame, subscribe_frame, disconnect_frame, transaction_frame, answer_frame, in_transaction}
+use Rattle.stomp_client.specs.Frames.{connect_frame, subscribe_frame, disconnect_frame, transaction_frame, answer_frame}
+use Rattle.stomp_client.specs.Frames.{in_transaction}
 use Rattle.stomp_client.specs.Frames.{with_receipt}
 use Rattle.envelope.specs.Reading.{Carries, Delivers, is_read, read_envelope, read_frame}
 use Rattle.envelope.specs.Written.{IsEnvelope, content_of, headers_of, send_of}
@@ -29,7 +31,8 @@ none_valued : (name : List ℕ) (hs : List Header) → NoneNamed name hs → val
 none_valued name [] others = refl
 none_valued name (h ∷ hs) others = rw others.0 (none_valued name hs others.1)
 
-value_behind : (name : List ℕ) (hs more : List Header) → NoneNamed name more → value_of name (hs ++ more) ≡ value_of name hs
+value_behind : (name : List ℕ) (hs more : List Header) → NoneNamed name more
+    → value_of name (hs ++ more) ≡ value_of name hs
 value_behind name [] more others = none_valued name more others
 value_behind name (h ∷ hs) more others =
     ap (λ (v : Option (List ℕ)). cond (bytes_eq h.name name) (Some h.value) v) (value_behind name hs more others)
@@ -49,7 +52,12 @@ are_others (h ∷ hs) others =
     let from = neither (bytes_eq h.name (codes "from")) _ kind.1 in
     let to = neither (bytes_eq h.name (codes "to")) _ from.1 in
     let number = neither (bytes_eq h.name (codes "number")) _ to.1 in
-    record { kind = (kind.0, rest.kind); from = (from.0, rest.from); to = (to.0, rest.to); number = (number.0, rest.number) }
+    record {
+      kind = (kind.0, rest.kind);
+      from = (from.0, rest.from);
+      to = (to.0, rest.to);
+      number = (number.0, rest.number);
+    }
 
 -- they may stand behind the others
 pub read_envelope-behind : (hs more : List Header) (body : List ℕ) → AllByRecursion (λ h. is_read h ≡ false) more
@@ -86,19 +94,23 @@ module _ (ok : Envelope → Type 0) where
   pub connect_good : GoodFrame ok connect_frame
   connect_good = not_carrying_good ok connect_frame refl connect_is_a_frame
 
-  pub subscribe_good : (destination : List ℕ) → IsFrame MAX_BODY (subscribe_frame destination) → GoodFrame ok (subscribe_frame destination)
+  pub subscribe_good : (destination : List ℕ) → IsFrame MAX_BODY (subscribe_frame destination)
+      → GoodFrame ok (subscribe_frame destination)
   subscribe_good destination is = not_carrying_good ok _ refl is
 
   pub disconnect_good : IsFrame MAX_BODY disconnect_frame → GoodFrame ok disconnect_frame
   disconnect_good is = not_carrying_good ok _ refl is
 
-  pub begin_good : (number : ℕ) → IsFrame MAX_BODY (transaction_frame Begin number) → GoodFrame ok (transaction_frame Begin number)
+  pub begin_good : (number : ℕ) → IsFrame MAX_BODY (transaction_frame Begin number)
+      → GoodFrame ok (transaction_frame Begin number)
   begin_good number is = not_carrying_good ok _ refl is
 
-  pub commit_good : (number : ℕ) → IsFrame MAX_BODY (transaction_frame Commit number) → GoodFrame ok (transaction_frame Commit number)
+  pub commit_good : (number : ℕ) → IsFrame MAX_BODY (transaction_frame Commit number)
+      → GoodFrame ok (transaction_frame Commit number)
   commit_good number is = not_carrying_good ok _ refl is
 
-  pub abort_good : (number : ℕ) → IsFrame MAX_BODY (transaction_frame Abort number) → GoodFrame ok (transaction_frame Abort number)
+  pub abort_good : (number : ℕ) → IsFrame MAX_BODY (transaction_frame Abort number)
+      → GoodFrame ok (transaction_frame Abort number)
   abort_good number is = not_carrying_good ok _ refl is
 
   pub ack_good : (message : Content) (transaction : Option ℕ) → IsFrame MAX_BODY (answer_frame Ack message transaction)
@@ -106,7 +118,8 @@ module _ (ok : Envelope → Type 0) where
   ack_good message None is = not_carrying_good ok _ refl is
   ack_good message (Some number) is = not_carrying_good ok _ refl is
 
-  pub nack_good : (message : Content) (transaction : Option ℕ) → IsFrame MAX_BODY (answer_frame Nack message transaction)
+  pub nack_good : (message : Content) (transaction : Option ℕ)
+      → IsFrame MAX_BODY (answer_frame Nack message transaction)
       → GoodFrame ok (answer_frame Nack message transaction)
   nack_good message None is = not_carrying_good ok _ refl is
   nack_good message (Some number) is = not_carrying_good ok _ refl is
@@ -136,13 +149,15 @@ module _ (ok : Envelope → Type 0) where
   pub send_good : (e : Envelope) → IsEnvelope e → ok e → IsFrame MAX_BODY (send_of e) → GoodFrame ok (send_of e)
   send_good e is good fits = send_alike_good e [] tt (alone e is good) fits
 
-  pub send_receipted_good : (e : Envelope) (number : ℕ) → IsEnvelope e → ok e → IsFrame MAX_BODY (with_receipt number (send_of e))
+  pub send_receipted_good : (e : Envelope) (number : ℕ) → IsEnvelope e → ok e
+      → IsFrame MAX_BODY (with_receipt number (send_of e))
       → GoodFrame ok (with_receipt number (send_of e))
   send_receipted_good e number is good fits =
       send_alike_good e (header (codes "receipt") (decimal number) ∷ []) (refl, tt) (alone e is good) fits
 
   pub send_within_good : (e : Envelope) (transaction : Option ℕ) → IsEnvelope e → ok e
-      → IsFrame MAX_BODY (in_transaction transaction (send_of e)) → GoodFrame ok (in_transaction transaction (send_of e))
+      → IsFrame MAX_BODY (in_transaction transaction (send_of e))
+      → GoodFrame ok (in_transaction transaction (send_of e))
   send_within_good e None is good fits = send_good e is good fits
   send_within_good e (Some number) is good fits =
       send_alike_good e (header (codes "transaction") (decimal number) ∷ []) (refl, tt) (alone e is good) fits

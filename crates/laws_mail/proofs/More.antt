@@ -2,7 +2,8 @@
 use Rattle.std.proofs.Common.{◌≡◌, ℕ, List, ◌++◌, Option, Some, None, Ok, Err}
 use Rattle.stomp_frame.specs.Frames.{Content}
 use Rattle.stomp_session.specs.declared.request.Request.{Request}
-use Rattle.stomp_session.specs.declared.request.Request.TheVariants.{Connect, Send, Subscribe, Unsubscribe, Ack, Nack, Begin, Commit, Abort}
+use Rattle.stomp_session.specs.declared.request.Request.TheVariants.{Connect, Send, Subscribe, Unsubscribe, Ack, Nack}
+use Rattle.stomp_session.specs.declared.request.Request.TheVariants.{Begin, Commit, Abort}
 use Rattle.stomp_session.specs.declared.request.Request.TheVariants.{Disconnect}
 use Rattle.broker_book.specs.Books.{Book}
 use Rattle.broker_book.specs.declared.parts.Action.{Action}
@@ -16,7 +17,8 @@ use Rattle.broker_tx.specs.Transactions.{Transaction}
 use Rattle.envelope.specs.declared.message.Envelope.{Envelope}
 use Rattle.schedule_mail.specs.Offices.{Office}
 use Rattle.schedule_mail.specs.declared.connection.Connection.{Connection}
-use Rattle.laws_mail.specs.Passing.{Brought, GoodBook, GoodConnection, GoodDecided, GoodFrame, GoodNext, GoodOffice, GoodRequest, GoodServer}
+use Rattle.laws_mail.specs.Passing.{Brought, GoodBook, GoodConnection, GoodDecided, GoodFrame, GoodNext, GoodOffice}
+use Rattle.laws_mail.specs.Passing.{GoodRequest, GoodServer}
 use Rattle.laws_mail.specs.Passing.{GoodSession, GoodWaiting, Spelled}
 
 module _ (ok more : Envelope → Type 0) (k : (e : Envelope) → ok e → more e) where
@@ -42,7 +44,8 @@ module _ (ok more : Envelope → Type 0) (k : (e : Envelope) → ok e → more e
     living = all_weaker (MessageFits (Brought ok)) (MessageFits (Brought more)) b.living
         (λ m g. record { sent = sent_more m.sent g.sent; number = g.number }) h.living;
     subscriptions = h.subscriptions;
-    accepted = all_weaker (AcceptedFits (Brought ok)) (AcceptedFits (Brought more)) b.accepted (λ a g. sent_more a.sent g) h.accepted;
+    accepted = all_weaker (AcceptedFits (Brought ok)) (AcceptedFits (Brought more)) b.accepted
+        (λ a g. sent_more a.sent g) h.accepted;
   }
 
   action_more : (a : Action) → ActionFits (Brought ok) a → ActionFits (Brought more) a
@@ -79,7 +82,8 @@ module _ (ok more : Envelope → Type 0) (k : (e : Envelope) → ok e → more e
   session_more up down s h = record {
     waits = waiting_more s.incoming.waiting h.waits;
     comes = λ a b. text_more (s.incoming.decoder.octets ++ up) (h.comes a b);
-    transactions = all_weaker (TransactionFits (Brought ok)) (TransactionFits (Brought more)) s.transactions transaction_more
+    transactions =
+        all_weaker (TransactionFits (Brought ok)) (TransactionFits (Brought more)) s.transactions transaction_more
         h.transactions;
     goes = text_more (down ++ s.out) h.goes;
   }
@@ -96,7 +100,8 @@ module _ (ok more : Envelope → Type 0) (k : (e : Envelope) → ok e → more e
   pub office_more : (up down : ℕ → List ℕ) (o : Office) → GoodOffice ok up down o → GoodOffice more up down o
   office_more up down o h = record {
     server = server_more up down o.broker h.server;
-    earlier = all_weaker (AcceptedFits (Brought ok)) (AcceptedFits (Brought more)) o.earlier (λ a g. sent_more a.sent g) h.earlier;
+    earlier = all_weaker (AcceptedFits (Brought ok)) (AcceptedFits (Brought more)) o.earlier (λ a g. sent_more a.sent g)
+        h.earlier;
     above = h.above;
   }
 

@@ -1,5 +1,6 @@
 -- Octets that leave a broker and are read, and sessions that are opened and dropped.
-use Rattle.std.proofs.Common.{◌≡◌, ℕ, ◌+◌, Bool, true, false, List, [], ◌∷◌, ◌++◌, take, drop, Option, Some, None, Ok, refl, sym, ap, ◌∙◌}
+use Rattle.std.proofs.Common.{◌≡◌, ℕ, ◌+◌, Bool, true, false, List, [], ◌∷◌, ◌++◌, take, drop, Option, Some, None, Ok}
+use Rattle.std.proofs.Common.{refl, sym, ap, ◌∙◌}
 use Rattle.std.proofs.Common.{subst, append_assoc}
 use Rattle.std.specs.Prelude.{◌==◌}
 use Rattle.std.specs.List.{find}
@@ -24,18 +25,21 @@ module _ (ok : Envelope → Type 0) (up down : ℕ → List ℕ) where
   -- ---- a decoder at the other end
 
   -- all that is on its way down to a number, and what waits for it in the broker
-  below : (n : ℕ) (b : Server) (o : Option Session) → session_of n b ≡ o → GoodServer ok up down b → Spelled ok (down n ++ out_in o)
+  below : (n : ℕ) (b : Server) (o : Option Session) → session_of n b ≡ o → GoodServer ok up down b
+      → Spelled ok (down n ++ out_in o)
   below n b None e h = subst (Spelled ok) (sym (append-nil (down n))) (h.gone n e)
   below n b (Some s) e h = (h.sessions n s e).goes
 
   -- the frame that it gives is good, and so is the rest
-  pub given_good : (n : ℕ) (f : Content) (old new : Held) (b : Server) → down n ≡ old.octets → Nexts MAX_BODY old new (Ok (Some f))
+  pub given_good : (n : ℕ) (f : Content) (old new : Held) (b : Server) → down n ≡ old.octets
+      → Nexts MAX_BODY old new (Ok (Some f))
       → GoodServer ok up down b → GoodFrame ok f × GoodServer ok (at n (up n) up) (at n new.octets down) b
   given_good n f old new b e (was, sound, front, s, octets) h =
       let parts : (out : List ℕ) → down n ++ out ≡ front ++ (new.octets ++ out) =
       λ out. ap (λ l. l ++ out) (e ∙ octets) ∙ append_assoc front new.octets out in
       let waits = out_in (session_of n b) in (
-        (first_good ok f front (new.octets ++ waits) (down n ++ waits) (below n b (session_of n b) refl h) s (parts waits)).0,
+        (first_good ok f front (new.octets ++ waits) (down n ++ waits) (below n b (session_of n b) refl h) s
+            (parts waits)).0,
         retold_at ok up down n (up n) new.octets b (λ held k. k)
             (λ out k. (first_good ok f front (new.octets ++ out) (down n ++ out) k s (parts out)).1) h,
       )
@@ -58,11 +62,14 @@ module _ (ok : Envelope → Type 0) (up down : ℕ → List ℕ) where
     comes = h.comes;
     transactions = h.transactions;
     goes = subst (Spelled ok)
-        (sym (append_assoc low (take count s.out) (drop count s.out) ∙ ap (λ l. low ++ l) (take-append-drop count s.out))) h.goes;
+        (sym (append_assoc low (take count s.out) (drop count s.out)
+        ∙ ap (λ l. low ++ l) (take-append-drop count s.out))) h.goes;
   }
 
-  none_taken : (low : List ℕ) (count : ℕ) (o : Option Session) → o ≡ None → Spelled ok low → Spelled ok (low ++ take count (out_in o))
-  none_taken low count o e h = subst (Spelled ok) (sym (append-nil low) ∙ ap (λ l. low ++ l) (sym (taken_of count o e))) h
+  none_taken : (low : List ℕ) (count : ℕ) (o : Option Session) → o ≡ None → Spelled ok low
+      → Spelled ok (low ++ take count (out_in o))
+  none_taken low count o e h =
+      subst (Spelled ok) (sym (append-nil low) ∙ ap (λ l. low ++ l) (sym (taken_of count o e))) h
     where
       taken_of : (count : ℕ) (o : Option Session) → o ≡ None → take count (out_in o) ≡ []
       taken_of count None e = take-nil count
@@ -72,12 +79,14 @@ module _ (ok : Envelope → Type 0) (up down : ℕ → List ℕ) where
   out_of n b s e = rw e refl
 
   pub taken_good : (n count : ℕ) (b : Server) → GoodServer ok up down b
-      → GoodServer ok up (at n (down n ++ take count (out_in (session_of n b))) down) (changing n (without_first count) b)
+      → GoodServer ok up (at n (down n ++ take count (out_in (session_of n b))) down)
+      (changing n (without_first count) b)
   taken_good n count b h =
       let low = down n ++ take count (out_in (session_of n b)) in
       record {
         book = h.book;
-        sessions = λ m t. found_changed (λ m s. GoodSession ok (up m) (at n low down m) s) n (without_first count) b.sessions m t
+        sessions = λ m t. found_changed (λ m s. GoodSession ok (up m) (at n low down m) s) n (without_first count)
+            b.sessions m t
             (λ s q. refl)
             (λ s q. session_texts ok _ _ _ _ (without_first count s) refl
             (here n n low down refl ∙ ap (λ l. down n ++ take count l) (out_of n b s q))
@@ -108,7 +117,8 @@ module _ (ok : Envelope → Type 0) (up down : ℕ → List ℕ) where
     sessions = λ m s found. at_step (λ x. GoodSession ok x (at n [] down m) s) [] (up m) (n == m)
         (λ q. no_session _ (find (is_session n) (others n b.sessions)) s (none_left n b.sessions)
         (ap (λ i. find (is_session i) (others n b.sessions)) (eqb-true n m q) ∙ found))
-        (λ q. session_texts ok _ _ _ _ s refl (apart n m [] down q) (h.sessions m s (sym (others_left n m b.sessions q) ∙ found)));
+        (λ q. session_texts ok _ _ _ _ s refl (apart n m [] down q) (h.sessions m s
+        (sym (others_left n m b.sessions q) ∙ found)));
     gone = λ m none. at_step (Spelled ok) [] (down m) (n == m) (λ q. nothing_spelled ok)
         (λ q. h.gone m (sym (others_left n m b.sessions q) ∙ none));
   }
@@ -119,14 +129,17 @@ module _ (ok : Envelope → Type 0) (up down : ℕ → List ℕ) where
   new_good : (k : ℕ) → GoodSession ok [] [] (new_session k)
   new_good k = record { waits = tt; comes = λ _ _. nothing_spelled ok; transactions = tt; goes = nothing_spelled ok }
 
-  is_new : (m k : ℕ) (t : Session) (b : Bool) → is_session m (new_session k) ≡ b → find (is_session m) (new_session k ∷ []) ≡ Some t
+  is_new : (m k : ℕ) (t : Session) (b : Bool) → is_session m (new_session k) ≡ b
+      → find (is_session m) (new_session k ∷ []) ≡ Some t
       → (k ≡ m) × (new_session k ≡ t)
   is_new m k t true e f = let z : Some (new_session k) ≡ Some t = rw e at f in (eqb-true k m e, cc)
   is_new m k t false e f = let z : None ≡ Some t = rw e at f in absurd cc
 
-  module _ (b : Server) (nothing_up : up (b.opened + 1) ≡ []) (nothing_down : down (b.opened + 1) ≡ []) (h : GoodServer ok up down b) where
+  module _ (b : Server) (nothing_up : up (b.opened + 1) ≡ []) (nothing_down : down (b.opened + 1) ≡ [])
+      (h : GoodServer ok up down b) where
     found_new : (m : ℕ) (t : Session) (o : Option Session) → find (is_session m) b.sessions ≡ o
-        → find (is_session m) (b.sessions ++ new_session (b.opened + 1) ∷ []) ≡ Some t → GoodSession ok (up m) (down m) t
+        → find (is_session m) (b.sessions ++ new_session (b.opened + 1) ∷ []) ≡ Some t
+        → GoodSession ok (up m) (down m) t
     found_new m t (Some s) e f =
         let z : Some s ≡ Some t = sym (old_found m (new_session (b.opened + 1)) s b.sessions e) ∙ f in
         h.sessions m t (e ∙ z)
@@ -138,7 +151,8 @@ module _ (ok : Envelope → Type 0) (up down : ℕ → List ℕ) where
         (ap down (sym z.0) ∙ nothing_down) (new_good (b.opened + 1)))
 
     none_new : (m : ℕ) (o : Option Session) → find (is_session m) b.sessions ≡ o
-        → find (is_session m) (b.sessions ++ new_session (b.opened + 1) ∷ []) ≡ None → find (is_session m) b.sessions ≡ None
+        → find (is_session m) (b.sessions ++ new_session (b.opened + 1) ∷ []) ≡ None
+        → find (is_session m) b.sessions ≡ None
     none_new m (Some s) e f = no_session _ _ s f (old_found m (new_session (b.opened + 1)) s b.sessions e)
     none_new m None e f = e
 

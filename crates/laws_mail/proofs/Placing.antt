@@ -10,7 +10,8 @@ use Rattle.laws_mail.proofs.Texts.{at_each, retold, retold_at, same_down, same_u
 abbrev pub AreEmpty : (up down : ℕ → List ℕ) → ℕ → Type 0
 AreEmpty up down last = (n : ℕ) → last < n → (up n ≡ []) × (down n ≡ [])
 
-pub above_at : (up down : ℕ → List ℕ) (n : ℕ) (rise fall : List ℕ) (last : ℕ) → AreEmpty up down last → (last < n → rise ≡ [])
+pub above_at : (up down : ℕ → List ℕ) (n : ℕ) (rise fall : List ℕ) (last : ℕ) → AreEmpty up down last
+    → (last < n → rise ≡ [])
     → (last < n → fall ≡ []) → AreEmpty (at n rise up) (at n fall down) last
 above_at up down n rise fall last h u d m lt = (
   at_each (λ i text. last < i → text ≡ []) n rise up u (λ i e k. (h i k).0) m lt,
@@ -32,12 +33,15 @@ module _ (ok : Envelope → Type 0) (up down : ℕ → List ℕ) where
   pub unchanged : (n : ℕ) (rise fall : List ℕ) (o : Office) → up n ≡ rise → down n ≡ fall → GoodOffice ok up down o
       → GoodOffice ok (at n rise up) (at n fall down) o
   unchanged n rise fall o u d h = record {
-    server = retold_at ok up down n rise fall o.broker (same_up ok (up n) rise (sym u)) (same_down ok (down n) fall (sym d)) h.server;
+    server = retold_at ok up down n rise fall o.broker (same_up ok (up n) rise (sym u))
+        (same_down ok (down n) fall (sym d)) h.server;
     earlier = h.earlier;
-    above = above_at up down n rise fall o.broker.opened h.above (λ lt. sym u ∙ (h.above n lt).0) (λ lt. sym d ∙ (h.above n lt).1);
+    above = above_at up down n rise fall o.broker.opened h.above (λ lt. sym u ∙ (h.above n lt).0)
+        (λ lt. sym d ∙ (h.above n lt).1);
   }
 
   -- the texts of one number are those of a connection
-  pub office_with : (n : ℕ) (rise fall : List ℕ) (c : Connection) (o : Office) → c.session ≡ n → going c ≡ rise → coming c ≡ fall
+  pub office_with : (n : ℕ) (rise fall : List ℕ) (c : Connection) (o : Office) → c.session ≡ n → going c ≡ rise
+      → coming c ≡ fall
       → GoodOffice ok (at n rise up) (at n fall down) o → GoodWith ok c up down o
   office_with n rise fall c o s u d h = rw (s, u, d) h

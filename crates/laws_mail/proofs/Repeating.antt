@@ -1,5 +1,6 @@
 -- What a repeat makes of what is good.
-use Rattle.std.proofs.Common.{◌≡◌, ℕ, zero, suc, ◌+◌, Bool, true, false, List, [], ◌∷◌, ◌++◌, codes, Option, Some, None, Result, Ok, Err}
+use Rattle.std.proofs.Common.{◌≡◌, ℕ, zero, suc, ◌+◌, Bool, true, false, List, [], ◌∷◌, ◌++◌, codes, Option, Some, None}
+use Rattle.std.proofs.Common.{Result, Ok, Err}
 use Rattle.std.proofs.Common.{refl, sym, ap, ◌∙◌, subst, append-nil, append_assoc, arith}
 use Rattle.std.specs.Prelude.{◌==◌, slice_get}
 use Rattle.std.specs.List.{AllByRecursion}
@@ -33,7 +34,8 @@ use Rattle.laws_mail.proofs.Rising.{again_opened, unsent_same}
 use Rattle.laws_mail.proofs.Spelling.{spelled_more}
 use Rattle.laws_mail.proofs.Texts.{apart, here, retold, retold_at, same_down, same_up}
 
-all_got : {X : Type 0} (P : X → Type 0) (xs : List X) (i : ℕ) (x : X) → AllByRecursion P xs → slice_get xs i ≡ Some x → P x
+all_got : {X : Type 0} (P : X → Type 0) (xs : List X) (i : ℕ) (x : X) → AllByRecursion P xs → slice_get xs i ≡ Some x
+    → P x
 all_got P [] i x h e = absurd cc
 all_got P (y ∷ ys) zero x h e = let k : y ≡ x = cc in subst P k h.0
 all_got P (y ∷ ys) (suc i) x h e = all_got P ys i x h.1 e
@@ -46,12 +48,14 @@ sent_own (x ∷ hs) h = (owned_alike Message Send x refl h.0, sent_own hs h.1)
 module _ (ok : Envelope → Type 0) where
   -- ---- what was accepted
 
-  sent_of_some : (o : Option Accepted) (sent : Sent) → ((a : Accepted) → o ≡ Some a → AcceptedFits (Brought ok) a) → sent_in o ≡ Some sent
+  sent_of_some : (o : Option Accepted) (sent : Sent) → ((a : Accepted) → o ≡ Some a → AcceptedFits (Brought ok) a)
+      → sent_in o ≡ Some sent
       → SentFits (Brought ok) sent
   sent_of_some None sent h e = absurd cc
   sent_of_some (Some a) sent h e = let k : a.sent ≡ sent = cc in subst (SentFits (Brought ok)) k (h a refl)
 
-  sent_found : (place : ℕ) (accepted : List Accepted) (sent : Sent) → AllByRecursion (AcceptedFits (Brought ok)) accepted
+  sent_found : (place : ℕ) (accepted : List Accepted) (sent : Sent)
+      → AllByRecursion (AcceptedFits (Brought ok)) accepted
       → sent_at place accepted ≡ Some sent → SentFits (Brought ok) sent
   sent_found zero accepted sent h e = absurd cc
   sent_found (suc index) accepted sent h e =
@@ -72,10 +76,12 @@ module _ (ok : Envelope → Type 0) where
         (sym (read_envelope-before (header (codes "destination") s.destination ∷ []) s.headers s.body (refl, tt)) ∙ k);
   }
 
-  again_spelled : (s : Sent) (held : List ℕ) → SentFits (Brought ok) s → Spelled ok held → Spelled ok (held ++ again_text s)
+  again_spelled : (s : Sent) (held : List ℕ) → SentFits (Brought ok) s → Spelled ok held
+      → Spelled ok (held ++ again_text s)
   again_spelled s held h k =
       subst (Spelled ok) (append_assoc held (canonical connect_frame) (canonical (send_frame s)))
-      (spelled_more ok (held ++ canonical connect_frame) (send_frame s) (spelled_more ok held connect_frame k (connect_good ok))
+      (spelled_more ok (held ++ canonical connect_frame) (send_frame s) (spelled_more ok held connect_frame k
+      (connect_good ok))
       (send_frame_good s h))
 
   taken_from_good : (up down : ℕ → List ℕ) (b : Server) → GoodServer ok up down b → GoodServer ok up down (taken_from b)
@@ -105,7 +111,8 @@ module _ (ok : Envelope → Type 0) (up down : ℕ → List ℕ) where
 
     text_there : (m : ℕ) (text : List ℕ) (on : ℕ → List ℕ) → ((n == m) ≡ false → text ≡ on m) → on n ≡ []
         → (b : Bool) → (n == m) ≡ b → at n [] (λ k. text) m ≡ on m
-    text_there m text on other none true e = here n m [] (λ k. text) (eqb-true n m e) ∙ sym (ap on (sym (eqb-true n m e)) ∙ none)
+    text_there m text on other none true e =
+        here n m [] (λ k. text) (eqb-true n m e) ∙ sym (ap on (sym (eqb-true n m e)) ∙ none)
     text_there m text on other none false e = apart n m [] (λ k. text) e ∙ other e
 
     -- it is dropped, with whatever was on its way
@@ -121,9 +128,12 @@ module _ (ok : Envelope → Type 0) (up down : ℕ → List ℕ) where
     others_same : (m : ℕ) (text : List ℕ) → (n == m) ≡ false → at n [] (at n text up) m ≡ up m
     others_same m text e = apart n m [] (at n text up) e ∙ apart n m text up e
 
-    pub again_good : (s : Sent) (b fed : Server) (r : Result ℕ BrokerFault) → SentFits (Brought ok) s → GoodServer ok up down b
-        → FeedAnswer MAX_QUEUED b n (again_text s) fed r → GoodServer ok up down (dropped n (taken_from fed) (session_of n fed))
-    again_good s b fed r h g a = by_answer r (feed_good ok (at n (again_text s) up) (at n (down n) down) MAX_QUEUED b n (again_text s) []
+    pub again_good : (s : Sent) (b fed : Server) (r : Result ℕ BrokerFault) → SentFits (Brought ok) s
+        → GoodServer ok up down b
+        → FeedAnswer MAX_QUEUED b n (again_text s) fed r
+        → GoodServer ok up down (dropped n (taken_from fed) (session_of n fed))
+    again_good s b fed r h g a =
+        by_answer r (feed_good ok (at n (again_text s) up) (at n (down n) down) MAX_QUEUED b n (again_text s) []
         fed r
         (here n n (again_text s) up refl ∙ sym (append-nil (again_text s))) a (asked_good s b h g))
       where
@@ -135,7 +145,8 @@ module _ (ok : Envelope → Type 0) (up down : ℕ → List ℕ) where
 
         stays : GoodServer ok (at n (again_text s) up) (at n (down n) down) fed
             → GoodServer ok up down (dropped n (taken_from fed) (session_of n fed))
-        stays k = again_dropped (at n (again_text s) up) (at n (down n) down) (taken_from fed) (λ m e. apart n m (again_text s) up e)
+        stays k = again_dropped (at n (again_text s) up) (at n (down n) down) (taken_from fed)
+            (λ m e. apart n m (again_text s) up e)
             (λ m e. apart n m (down n) down e) (taken_from_good ok _ _ fed k)
 
         by_answer : (r : Result ℕ BrokerFault) → GoodFed ok (at n (again_text s) up) (at n (down n) down) n [] fed r
@@ -154,7 +165,8 @@ module _ (ok : Envelope → Type 0) (up down : ℕ → List ℕ) where
       let n = h.session in
       let none = g.above n (omega (arith, h.opens.next)) in
       let next = g.above (old.broker.opened + 1) (omega arith) in
-      let opened = subst (GoodServer ok up down) (sym h.opens.changed) (new_session_good ok up down old.broker next.0 next.1 g.server) in
+      let opened = subst (GoodServer ok up down) (sym h.opens.changed) (new_session_good ok up down old.broker next.0
+      next.1 g.server) in
       let last = again_opened sent old new r h in
       let server = again_good n none.0 none.1 sent h.opened.broker h.feeds.fed h.feeds.answer s opened h.feeds.feeds in
       record {
@@ -164,10 +176,12 @@ module _ (ok : Envelope → Type 0) (up down : ℕ → List ℕ) where
         above = λ m lt. g.above m (omega (arith, last, lt));
       }
 
-  fails_good : (place : ℕ) (old new : Office) (fault : RepeatFault) → Fails place old new fault → GoodOffice ok up down old
+  fails_good : (place : ℕ) (old new : Office) (fault : RepeatFault) → Fails place old new fault
+      → GoodOffice ok up down old
       → GoodOffice ok up down new
   fails_good place old new fault (uncollected e k) g = subst (GoodOffice ok up down) (sym k) g
-  fails_good place old new fault (unfound e k) g = subst (GoodOffice ok up down) (sym k) (collected_good ok up down old g)
+  fails_good place old new fault (unfound e k) g =
+      subst (GoodOffice ok up down) (sym k) (collected_good ok up down old g)
   fails_good place old new fault (unsent sent found k) g =
       subst (GoodOffice ok up down) (sym (unsent_same (collected old) new fault k)) (collected_good ok up down old g)
   fails_good place old new fault (refused sent found k) g =
@@ -179,7 +193,8 @@ module _ (ok : Envelope → Type 0) (up down : ℕ → List ℕ) where
       → GoodOffice ok up down old → GoodOffice ok up down new
   repeated_good place old new (Ok (Some number)) h g =
       sent_again_good h.sent (collected old) new (Ok (Some number)) h.again
-      (sent_found ok place (old.earlier ++ old.broker.book.accepted) h.sent (all_accepted_good ok up down old g) h.found)
+      (sent_found ok place (old.earlier ++ old.broker.book.accepted) h.sent (all_accepted_good ok up down old g)
+      h.found)
       (collected_good ok up down old g)
   repeated_good place old new (Ok None) h g = subst (GoodOffice ok up down) (sym h.1) (collected_good ok up down old g)
   repeated_good place old new (Err fault) h g = fails_good place old new fault h g

@@ -1,13 +1,16 @@
 -- The last number that was given to a session.
-use Rattle.std.proofs.Common.{◌≡◌, ℕ, ◌+◌, ◌≤◌, true, false, List, [], ◌∷◌, Option, Some, None, Result, Ok, Err, refl, ap, ◌∙◌, arith}
+use Rattle.std.proofs.Common.{◌≡◌, ℕ, ◌+◌, ◌≤◌, true, false, List, [], ◌∷◌, Option, Some, None, Result, Ok, Err, refl}
+use Rattle.std.proofs.Common.{ap, ◌∙◌, arith}
 use Rattle.base.specs.declared.limits.TheConstants.{MAX_QUEUED}
 use Rattle.stomp_frame.specs.declared.fault.FrameFault.{FrameFault}
 use Rattle.broker_book.specs.Steps.{Handed, Taken}
 use Rattle.broker_book.specs.declared.parts.Sent.{Sent}
 use Rattle.broker_core.specs.Calls.{dropped}
-use Rattle.broker_core.specs.Feeding.{Dealing, DispatchAnswer, Ends, FeedAnswer, Feeds, FeedsPart, Hands, HandlesAll, Stops, at_end}
+use Rattle.broker_core.specs.Feeding.{Dealing, DispatchAnswer, Ends, FeedAnswer, Feeds, FeedsPart, Hands, HandlesAll}
+use Rattle.broker_core.specs.Feeding.{Stops, at_end}
 use Rattle.broker_core.specs.Feeding.{at_fault, at_frame, awaits, closed, faulty, in_deals, in_step, with_incoming}
-use Rattle.broker_core.specs.Serving.{Decided, Part, Roster, Server, changing, changing_part, refused, roster_of, served, session_of, step}
+use Rattle.broker_core.specs.Serving.{Decided, Part, Roster, Server, changing, changing_part, refused, roster_of}
+use Rattle.broker_core.specs.Serving.{served, session_of, step}
 use Rattle.broker_core.specs.Serving.{with_fault}
 use Rattle.broker_core.specs.declared.fault.BrokerFault.{BrokerFault}
 use Rattle.broker_core.specs.declared.fault.BrokerFault.TheVariants.{Memory, NoSession, TooMany}
@@ -15,7 +18,8 @@ use Rattle.broker_core.specs.declared.fault.FrameRefusal.TheVariants.{BadFrame}
 use Rattle.broker_core.specs.declared.session.Session.{Session}
 use Rattle.schedule_mail.specs.Connecting.{CarriesDown, CarriesUp, Cuts, Opens, without_session}
 use Rattle.schedule_mail.specs.Offices.{Office, collected, taken_from}
-use Rattle.schedule_mail.specs.Repeating.{Fails, Repeats, SentAgain, Unsent, refused as wasnt_sent, uncollected, unfound, unsent}
+use Rattle.schedule_mail.specs.Repeating.{Fails, Repeats, SentAgain, Unsent, refused as wasnt_sent, uncollected}
+use Rattle.schedule_mail.specs.Repeating.{unfound, unsent}
 use Rattle.schedule_mail.specs.declared.connection.Connection.{Connection}
 use Rattle.schedule_mail.specs.declared.repeat_fault.RepeatFault.{RepeatFault}
 use Rattle.schedule_mail.specs.declared.repeat_fault.RepeatFault.TheVariants as repeat_fault
@@ -32,11 +36,13 @@ taken_last from to (d ∷ ds) h = taken_last h.0 to ds h.2 ∙ ap (λ (r : Roste
 dealing_last : (old new : Server) → Dealing old new → new.opened ≡ old.opened
 dealing_last old new h = taken_last (roster_of old) (roster_of new) h.handed h.taken
 
-dispatch_last : {E : Type 0} (old new : Server) (r : Result (Unit {0}) E) → DispatchAnswer old new r → new.opened ≡ old.opened
+dispatch_last : {E : Type 0} (old new : Server) (r : Result (Unit {0}) E) → DispatchAnswer old new r
+    → new.opened ≡ old.opened
 dispatch_last old new (Ok _) h = dealing_last old new h.0
 dispatch_last old new (Err _) h = dealing_last old new h
 
-part_last : (n : ℕ) (change : Part → Part) (b : Server) (o : Option Session) → (changing_part n change b o).opened ≡ b.opened
+part_last : (n : ℕ) (change : Part → Part) (b : Server) (o : Option Session)
+    → (changing_part n change b o).opened ≡ b.opened
 part_last n change b None = refl
 part_last n change b (Some s) = refl
 
@@ -66,14 +72,19 @@ stops_last full n old new (in_deals d taken takes deals) =
 stops_last full n old new (at_fault s left o meets e) = ap last e
 stops_last full n old new (at_end ended ends deals) = dealing_last ended new deals ∙ ends_last old ended n ends
 
-pub feeds_last : (full n : ℕ) (old new : Server) (piece : List ℕ) (count : ℕ) → Feeds full old n piece new count → new.opened ≡ old.opened
+pub feeds_last : (full n : ℕ) (old new : Server) (piece : List ℕ) (count : ℕ) → Feeds full old n piece new count
+    → new.opened ≡ old.opened
 feeds_last full n old new piece count h =
-    dealing_last h.ended new h.settles.0 ∙ ends_last h.handled h.ended n h.ends ∙ all_last full n _ h.handled h.frames h.handles
+    dealing_last h.ended new h.settles.0 ∙ ends_last h.handled h.ended n h.ends
+    ∙ all_last full n _ h.handled h.frames h.handles
 
-pub part_feeds_last : (full n : ℕ) (old new : Server) (piece : List ℕ) → FeedsPart full old n piece new → new.opened ≡ old.opened
-part_feeds_last full n old new piece h = stops_last full n h.handled new h.stops ∙ all_last full n _ h.handled h.frames h.handles
+pub part_feeds_last : (full n : ℕ) (old new : Server) (piece : List ℕ) → FeedsPart full old n piece new
+    → new.opened ≡ old.opened
+part_feeds_last full n old new piece h =
+    stops_last full n h.handled new h.stops ∙ all_last full n _ h.handled h.frames h.handles
 
-pub feed_last : (full n : ℕ) (old new : Server) (piece : List ℕ) (r : Result ℕ BrokerFault) → FeedAnswer full old n piece new r
+pub feed_last : (full n : ℕ) (old new : Server) (piece : List ℕ) (r : Result ℕ BrokerFault)
+    → FeedAnswer full old n piece new r
     → new.opened ≡ old.opened
 feed_last full n old new piece (Ok count) h = feeds_last full n old new piece count h
 feed_last full n old new piece (Err (Memory true)) h = part_feeds_last full n old new piece h
@@ -96,24 +107,30 @@ pub opened_number : (from : Office) (c : Connection) (to : Office) → Opens fro
     → (c.session ≡ last_of from + 1) × (last_of to ≡ last_of from + 1)
 opened_number from c to h = (h.session.next, ap last h.session.changed)
 
-pub carried_up_opened : (most : ℕ) (old : Connection) (from : Office) (new : Connection) (to : Office) (r : Result ℕ BrokerFault)
+pub carried_up_opened : (most : ℕ) (old : Connection) (from : Office) (new : Connection) (to : Office)
+    (r : Result ℕ BrokerFault)
     → CarriesUp most old from new to r → last_of to ≡ last_of from
-carried_up_opened most old from new to (Ok count) h = feeds_last MAX_QUEUED old.session from.broker to.broker _ h.handled h.feeds
-carried_up_opened most old from new to (Err (Memory true)) h = part_feeds_last MAX_QUEUED old.session from.broker to.broker _ h.feeds
+carried_up_opened most old from new to (Ok count) h =
+    feeds_last MAX_QUEUED old.session from.broker to.broker _ h.handled h.feeds
+carried_up_opened most old from new to (Err (Memory true)) h =
+    part_feeds_last MAX_QUEUED old.session from.broker to.broker _ h.feeds
 carried_up_opened most old from new to (Err (Memory false)) h = ap last_of h.1
 carried_up_opened most old from new to (Err NoSession) h = ap last_of h.1
 carried_up_opened most old from new to (Err TooMany) h = ap last_of h.1
 
-pub carried_down_opened : (most : ℕ) (old : Connection) (from : Office) (new : Connection) (to : Office) (r : Result ℕ FrameFault)
+pub carried_down_opened : (most : ℕ) (old : Connection) (from : Office) (new : Connection) (to : Office)
+    (r : Result ℕ FrameFault)
     → CarriesDown most old from new to r → last_of to ≡ last_of from
 carried_down_opened most old from new to (Ok count) h = ap last_of h.left
 carried_down_opened most old from new to (Err fault) h = ap last_of h.1
 
-pub dispatched_opened : {E : Type 0} (from to : Office) (r : Result (Unit {0}) E) → DispatchAnswer from.broker to.broker r
+pub dispatched_opened : {E : Type 0} (from to : Office) (r : Result (Unit {0}) E)
+    → DispatchAnswer from.broker to.broker r
     → last_of to ≡ last_of from
 dispatched_opened from to r h = dispatch_last from.broker to.broker r h
 
-pub cut_opened : {E : Type 0} (c : Connection) (from to : Office) (r : Result (Unit {0}) E) → Cuts c from to r → last_of to ≡ last_of from
+pub cut_opened : {E : Type 0} (c : Connection) (from to : Office) (r : Result (Unit {0}) E) → Cuts c from to r
+    → last_of to ≡ last_of from
 cut_opened c from to r h =
     dispatch_last (without_session c.session from).broker to.broker r h.deals
     ∙ dropped_last c.session from.broker (session_of c.session from.broker)
@@ -124,7 +141,8 @@ pub again_opened : (sent : Sent) (old new : Office) (r : Result (Option ℕ) Rep
     → last_of new ≡ last_of old + 1
 again_opened sent old new r h =
     ap last_of h.feeds.left ∙ dropped_last h.session (taken_from h.feeds.fed) (session_of h.session h.feeds.fed)
-    ∙ feed_last MAX_QUEUED h.session h.opened.broker h.feeds.fed _ h.feeds.answer h.feeds.feeds ∙ ap last h.opens.changed
+    ∙ feed_last MAX_QUEUED h.session h.opened.broker h.feeds.fed _ h.feeds.answer h.feeds.feeds
+    ∙ ap last h.opens.changed
 
 pub unsent_same : (old new : Office) (fault : RepeatFault) → Unsent old new fault → new ≡ old
 unsent_same old new repeat_fault.Memory h = h
@@ -137,14 +155,18 @@ not_less n m e = omega (arith, e)
 one_more : (n m : ℕ) → m ≡ n + 1 → n ≤ m
 one_more n m e = omega (arith, e)
 
-fails_opened : (place : ℕ) (old new : Office) (fault : RepeatFault) → Fails place old new fault → last_of old ≤ last_of new
+fails_opened : (place : ℕ) (old new : Office) (fault : RepeatFault) → Fails place old new fault
+    → last_of old ≤ last_of new
 fails_opened place old new fault (uncollected e k) = not_less _ _ (ap last_of k)
 fails_opened place old new fault (unfound e k) = not_less _ _ (ap last_of k)
-fails_opened place old new fault (unsent sent found k) = not_less _ _ (ap last_of (unsent_same (collected old) new fault k))
-fails_opened place old new fault (wasnt_sent sent found k) = one_more _ _ (again_opened sent (collected old) new (Err fault) k)
+fails_opened place old new fault (unsent sent found k) =
+    not_less _ _ (ap last_of (unsent_same (collected old) new fault k))
+fails_opened place old new fault (wasnt_sent sent found k) =
+    one_more _ _ (again_opened sent (collected old) new (Err fault) k)
 
 pub repeated_opened : (place : ℕ) (old new : Office) (r : Result (Option ℕ) RepeatFault) → Repeats place old new r
     → last_of old ≤ last_of new
-repeated_opened place old new (Ok (Some number)) h = one_more _ _ (again_opened h.sent (collected old) new (Ok (Some number)) h.again)
+repeated_opened place old new (Ok (Some number)) h =
+    one_more _ _ (again_opened h.sent (collected old) new (Ok (Some number)) h.again)
 repeated_opened place old new (Ok None) h = not_less _ _ (ap last_of h.1)
 repeated_opened place old new (Err fault) h = fails_opened place old new fault h

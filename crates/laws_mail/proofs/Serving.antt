@@ -1,5 +1,6 @@
 -- What the step of a frame makes of what is good.
-use Rattle.std.proofs.Common.{◌≡◌, ℕ, Bool, true, false, cond, List, ◌++◌, Option, Some, None, Result, Ok, Err, refl, ap, ◌∙◌, subst}
+use Rattle.std.proofs.Common.{◌≡◌, ℕ, Bool, true, false, cond, List, ◌++◌, Option, Some, None, Result, Ok, Err, refl}
+use Rattle.std.proofs.Common.{ap, ◌∙◌, subst}
 use Rattle.std.proofs.Common.{append-nil, sym}
 use Rattle.std.specs.List.{find}
 use Rattle.base.specs.declared.limits.TheConstants.{MAX_BODY}
@@ -8,7 +9,8 @@ use Rattle.stomp_session.specs.Fitting.{Fits}
 use Rattle.stomp_session.specs.Replies.{IsEchoedIfAny, connected_frame, error_frame, receipt_told}
 use Rattle.stomp_session.specs.Requests.{receipt_of}
 use Rattle.stomp_session.specs.declared.request.Request.{Request}
-use Rattle.stomp_session.specs.declared.request.Request.TheVariants.{Connect, Send, Subscribe, Unsubscribe, Ack, Nack, Begin, Commit, Abort}
+use Rattle.stomp_session.specs.declared.request.Request.TheVariants.{Connect, Send, Subscribe, Unsubscribe, Ack, Nack}
+use Rattle.stomp_session.specs.declared.request.Request.TheVariants.{Begin, Commit, Abort}
 use Rattle.stomp_session.specs.declared.request.Request.TheVariants.{Disconnect}
 use Rattle.stomp_session.proofs.Accepting.{told_receipts_fit}
 use Rattle.stomp_session.proofs.Framing.{connected_is_a_frame, receipt_is_a_frame}
@@ -16,8 +18,10 @@ use Rattle.broker_book.specs.Books.{Book}
 use Rattle.broker_book.specs.Steps.{ended}
 use Rattle.broker_core.specs.Faults.{refusal_number, refusal_name}
 use Rattle.broker_core.specs.Performing.{Reach, performed}
-use Rattle.broker_core.specs.Serving.{Decided, Part, Server, changing_part, closing, closing_if, confirmed, finished, is_connect}
-use Rattle.broker_core.specs.Serving.{is_last, is_session, part, reached, receipt_reply, refused, reply_of, served, session_of, step}
+use Rattle.broker_core.specs.Serving.{Decided, Part, Server, changing_part, closing, closing_if, confirmed, finished}
+use Rattle.broker_core.specs.Serving.{is_connect}
+use Rattle.broker_core.specs.Serving.{is_last, is_session, part, reached, receipt_reply, refused, reply_of, served}
+use Rattle.broker_core.specs.Serving.{session_of, step}
 use Rattle.broker_core.specs.Serving.{text_of, with_fault, writing}
 use Rattle.broker_core.specs.declared.fault.FrameRefusal.{FrameRefusal}
 use Rattle.broker_core.specs.declared.fault.FrameRefusal.TheVariants.{BadFrame, Unaccepted}
@@ -26,7 +30,8 @@ use Rattle.broker_core.proofs.Left.{served_number}
 use Rattle.laws_broker.proofs.Fitting.{Brings, DoneFits, book_weaker, ended_fits, performed_fits}
 use Rattle.laws_broker.proofs.Replies.{error_fits, receipt_fits}
 use Rattle.envelope.specs.declared.message.Envelope.{Envelope}
-use Rattle.laws_mail.specs.Passing.{carries, Brought, HasName, GoodBook, GoodDecided, GoodFrame, GoodNext, GoodRequest, GoodServer}
+use Rattle.laws_mail.specs.Passing.{carries, Brought, HasName, GoodBook, GoodDecided, GoodFrame, GoodNext, GoodRequest}
+use Rattle.laws_mail.specs.Passing.{GoodServer}
 use Rattle.laws_mail.specs.Passing.{GoodSession, Spelled}
 use Rattle.laws_mail.proofs.Sessions.{EachAt, each_changed, same_some}
 use Rattle.laws_mail.proofs.Spelling.{behind_both, spelled_more}
@@ -50,9 +55,11 @@ module _ (ok : Envelope → Type 0) where
   reply_if false o h = h
 
   reply_good : (q : Request) → Fits q → GoodNext ok (reply_of q)
-  reply_good q h = reply_if (is_connect q) (receipt_reply (receipt_of q)) (receipt_good (receipt_of q) (receipt_fits q h))
+  reply_good q h =
+      reply_if (is_connect q) (receipt_reply (receipt_of q)) (receipt_good (receipt_of q) (receipt_fits q h))
 
-  spelled_reply : (text : List ℕ) (o : Option Content) → Spelled ok text → GoodNext ok o → Spelled ok (text ++ text_of o)
+  spelled_reply : (text : List ℕ) (o : Option Content) → Spelled ok text → GoodNext ok o
+      → Spelled ok (text ++ text_of o)
   spelled_reply text None h g = subst (Spelled ok) (sym (append-nil text)) h
   spelled_reply text (Some f) h g = spelled_more ok text f h g
 
@@ -89,7 +96,8 @@ module _ (ok : Envelope → Type 0) where
   -- ---- a session and the book
 
   pub ended_good : (b : Book) (n : ℕ) → GoodBook ok b → GoodBook ok (ended b n)
-  ended_good b n h = book_weaker (Brought ok) _ (HasName ok) (ended b n) (λ s g. g.0) (ended_fits (Brought ok) (HasName ok) b n h)
+  ended_good b n h =
+      book_weaker (Brought ok) _ (HasName ok) (ended b n) (λ s g. g.0) (ended_fits (Brought ok) (HasName ok) b n h)
 
   pub writes_good : (up down : List ℕ) (s : Session) (f : Content) → GoodSession ok up down s → GoodFrame ok f
       → GoodSession ok up down (writing f s)
@@ -114,13 +122,18 @@ module _ (ok : Envelope → Type 0) where
   closing_step up down p true h = closing_good up down p h
   closing_step up down p false h = h
 
-  refused_good : (up down : List ℕ) (p : Part) (x : FrameRefusal) (receipt : Option (List ℕ)) → IsEchoedIfAny receipt → GoodPart up down p
+  refused_good : (up down : List ℕ) (p : Part) (x : FrameRefusal) (receipt : Option (List ℕ)) → IsEchoedIfAny receipt
+      → GoodPart up down p
       → GoodPart up down (refused x receipt p)
   refused_good up down p x receipt e h =
-      closing_good up down (record p { session = writing (error_frame (refusal_number x) (refusal_name x) receipt) p.session })
+      closing_good up down (record p {
+        session =
+            writing (error_frame (refusal_number x) (refusal_name x) receipt) p.session;
+      })
       (record { book = h.book; session = writes_good up down p.session _ h.session (error_good x receipt e) })
 
-  confirmed_good : (up down : List ℕ) (q : Request) (p : Part) (r : Reach) → Fits q → DoneFits (Brought ok) (HasName ok) (Ok r)
+  confirmed_good : (up down : List ℕ) (q : Request) (p : Part) (r : Reach) → Fits q
+      → DoneFits (Brought ok) (HasName ok) (Ok r)
       → GoodPart up down p → GoodPart up down (confirmed q p r)
   confirmed_good up down q p r fits g h = record {
     book = g.book;
@@ -136,7 +149,8 @@ module _ (ok : Envelope → Type 0) where
   finished_good : (up down : List ℕ) (q : Request) (p : Part) (o : Result Reach FrameRefusal) → Fits q
       → DoneFits (Brought ok) (HasName ok) o
       → GoodPart up down p → GoodPart up down (finished q p o)
-  finished_good up down q p (Ok r) fits g h = closing_step up down (confirmed q p r) (is_last q) (confirmed_good up down q p r fits g h)
+  finished_good up down q p (Ok r) fits g h =
+      closing_step up down (confirmed q p r) (is_last q) (confirmed_good up down q p r fits g h)
   finished_good up down q p (Err x) fits g h = refused_good up down p x (receipt_of q) (receipt_fits q fits) h
 
   served_good : (up down : List ℕ) (full : ℕ) (d : Decided) (p : Part) → GoodDecided ok d → GoodPart up down p
@@ -166,7 +180,8 @@ module _ (ok : Envelope → Type 0) where
     part_good n change b (Some s) e number keeps h =
         let g = keeps (part b.book s) (record { book = h.book; session = h.sessions n s e }) in
         let all = each_changed _ _ n (λ _. (change (part b.book s)).session) b.sessions
-        (λ x found. number (part b.book s) ∙ ap (λ (y : Session). y.number) (same_some (find (is_session n) b.sessions) s x e found))
+        (λ x found. number (part b.book s)
+        ∙ ap (λ (y : Session). y.number) (same_some (find (is_session n) b.sessions) s x e found))
         (sessions_of b h) (λ x found. g.session) in
         record { book = g.book; sessions = all.found; gone = all.none }
 

@@ -22,7 +22,8 @@ module _ (ok : Envelope → Type 0) where
   spelled_more text f h g = record {
     frames = h.frames ++ f ∷ [];
     each = all_append (GoodFrame ok) h.frames (f ∷ []) h.each (g, tt);
-    spelled = all_and_one MAX_BODY h.frames f text (canonical f) h.spelled (0, canon_spells MAX_BODY (omega arith) f g.fits);
+    spelled =
+        all_and_one MAX_BODY h.frames f text (canonical f) h.spelled (0, canon_spells MAX_BODY (omega arith) f g.fits);
   }
 
   pub spelled_all : (text : List ℕ) (fs : List Content) → Spelled ok text → AllByRecursion (GoodFrame ok) fs
@@ -37,7 +38,8 @@ module _ (ok : Envelope → Type 0) where
 
   -- ---- the first of the frames
 
-  pub first_good : (f : Content) (front rest text : List ℕ) → Spelled ok text → SpellsAfterGap MAX_BODY f front → text ≡ front ++ rest
+  pub first_good : (f : Content) (front rest text : List ℕ) → Spelled ok text → SpellsAfterGap MAX_BODY f front
+      → text ≡ front ++ rest
       → GoodFrame ok f × Spelled ok rest
   first_good f front rest text h s e =
       let g = first_given MAX_BODY h.frames f front rest text h.spelled s e in

@@ -17,7 +17,8 @@ here n m text on e = rw (eq-eqb n m e) refl
 pub apart : (n m : ℕ) (text : List ℕ) (on : ℕ → List ℕ) → (n == m) ≡ false → at n text on m ≡ on m
 apart n m text on e = rw e refl
 
-pub at_step : (P : List ℕ → Type 0) (text other : List ℕ) (b : Bool) → (b ≡ true → P text) → (b ≡ false → P other) → P (cond b text other)
+pub at_step : (P : List ℕ → Type 0) (text other : List ℕ) (b : Bool) → (b ≡ true → P text) → (b ≡ false → P other)
+    → P (cond b text other)
 at_step P text other true h k = h refl
 at_step P text other false h k = k refl
 
@@ -40,7 +41,8 @@ module _ (ok : Envelope → Type 0) where
   abbrev pub ServesDown : (old new : List ℕ) → Type 0
   ServesDown old new = (out : List ℕ) → Spelled ok (old ++ out) → Spelled ok (new ++ out)
 
-  session_served : (up up' down down' : List ℕ) (s : Session) → ServesUp up up' → ServesDown down down' → GoodSession ok up down s
+  session_served : (up up' down down' : List ℕ) (s : Session) → ServesUp up up' → ServesDown down down'
+      → GoodSession ok up down s
       → GoodSession ok up' down' s
   session_served up up' down down' s u d h = record {
     waits = h.waits;
@@ -56,7 +58,8 @@ module _ (ok : Envelope → Type 0) where
   retold up up' down down' b u d h = record {
     book = h.book;
     sessions = λ m s found. session_served (up m) (up' m) (down m) (down' m) s (u m) (d m) (h.sessions m s found);
-    gone = λ m none. subst (Spelled ok) (append-nil (down' m)) (d m [] (subst (Spelled ok) (sym (append-nil (down m))) (h.gone m none)));
+    gone = λ m none. subst (Spelled ok) (append-nil (down' m)) (d m [] (subst (Spelled ok) (sym (append-nil (down m)))
+        (h.gone m none)));
   }
 
   pub same_up : (old new : List ℕ) → new ≡ old → ServesUp old new
@@ -66,7 +69,8 @@ module _ (ok : Envelope → Type 0) where
   same_down old new e out k = rw e k
 
   -- those of one number
-  pub retold_at : (up down : ℕ → List ℕ) (n : ℕ) (rise fall : List ℕ) (b : Server) → ServesUp (up n) rise → ServesDown (down n) fall
+  pub retold_at : (up down : ℕ → List ℕ) (n : ℕ) (rise fall : List ℕ) (b : Server) → ServesUp (up n) rise
+      → ServesDown (down n) fall
       → GoodServer ok up down b → GoodServer ok (at n rise up) (at n fall down) b
   retold_at up down n rise fall b u d h = retold up (at n rise up) down (at n fall down) b
       (at_each (λ m text. ServesUp (up m) text) n rise up u (λ m e held k. k))

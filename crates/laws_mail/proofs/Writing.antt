@@ -43,7 +43,8 @@ less_written out count h = record {
   gone = h.gone ++ take count out;
   wrote = record {
     each = h.wrote.each;
-    whole = append_assoc h.gone (take count out) (drop count out) ∙ ap (λ l. h.gone ++ l) (take-append-drop count out) ∙ h.wrote.whole;
+    whole = append_assoc h.gone (take count out) (drop count out) ∙ ap (λ l. h.gone ++ l) (take-append-drop count out)
+        ∙ h.wrote.whole;
   };
 }
 
@@ -56,7 +57,10 @@ adds_written old new more adds h =
     w.whole ∙ flat_map-append canonical h.frames more ∙ ap (λ l. l ++ canonical_texts more) (sym h.wrote.whole)
     ∙ append_assoc h.gone old (canonical_texts more) in (
       append_cancel_left h.gone new (old ++ canonical_texts more) text,
-      ((all_split (IsFrame MAX_BODY) h.frames more w.each).1, record { frames = h.frames ++ more; gone = h.gone; wrote = w }),
+      (
+        (all_split (IsFrame MAX_BODY) h.frames more w.each).1,
+        record { frames = h.frames ++ more; gone = h.gone; wrote = w },
+      ),
     )
 
 -- ---- good frames were written
@@ -71,17 +75,20 @@ module _ (ok : Envelope → Type 0) (up down : ℕ → List ℕ) where
       → GoodOffice ok (at n (up n ++ canonical_texts frames) up) (at n fall down) o
   more_at n fall frames o there low all h = record {
     server = retold_at ok up down n (up n ++ canonical_texts frames) fall o.broker
-        (λ held k. subst (Spelled ok) (append_assoc held (up n) (canonical_texts frames)) (spelled_all ok (held ++ up n) frames k all))
+        (λ held k. subst (Spelled ok) (append_assoc held (up n) (canonical_texts frames))
+        (spelled_all ok (held ++ up n) frames k all))
         (same_down ok (down n) fall (sym low)) h.server;
     earlier = h.earlier;
-    above = above_at up down n (up n ++ canonical_texts frames) fall o.broker.opened h.above (λ lt. not_above _ n o.broker.opened there lt)
+    above = above_at up down n (up n ++ canonical_texts frames) fall o.broker.opened h.above
+        (λ lt. not_above _ n o.broker.opened there lt)
         (λ lt. not_above _ n o.broker.opened there lt);
   }
 
   -- a client wrote them
   pub client_written_good : (old new : Connection) (frames : List Content) (o : Office) → old.session ≤ o.broker.opened
       → new.session ≡ old.session → new.channel.decoder ≡ old.channel.decoder
-      → new.channel.client.client.out ≡ old.channel.client.client.out ++ canonical_texts frames → AllByRecursion (GoodFrame ok) frames → AreOf old up down
+      → new.channel.client.client.out ≡ old.channel.client.client.out ++ canonical_texts frames
+      → AllByRecursion (GoodFrame ok) frames → AreOf old up down
       → GoodOffice ok up down o → GoodWith ok new up down o
   client_written_good old new frames o there session decoder out all are h =
       office_with ok up down old.session (up old.session ++ canonical_texts frames) (coming old) new o session
@@ -89,12 +96,16 @@ module _ (ok : Envelope → Type 0) (up down : ℕ → List ℕ) where
       (more_at old.session (coming old) frames o there are.1 all h)
 
   -- it wrote nothing
-  pub client_same_good : (old new : Connection) (o : Office) → new.session ≡ old.session → new.channel.decoder ≡ old.channel.decoder
-      → new.channel.client.client.out ≡ old.channel.client.client.out → AreOf old up down → GoodOffice ok up down o → GoodWith ok new up down o
+  pub client_same_good : (old new : Connection) (o : Office) → new.session ≡ old.session
+      → new.channel.decoder ≡ old.channel.decoder
+      → new.channel.client.client.out ≡ old.channel.client.client.out → AreOf old up down → GoodOffice ok up down o
+      → GoodWith ok new up down o
   client_same_good old new o session decoder out are h =
-      office_with ok up down old.session (going old) (coming old) new o session out (ap (λ (d : Held). d.octets) decoder)
+      office_with ok up down old.session (going old) (coming old) new o session out
+      (ap (λ (d : Held). d.octets) decoder)
       (unchanged ok up down old.session (going old) (coming old) o are.0 are.1 h)
 
-  pub written_good : (n : ℕ) (frames : List Content) (o : Office) → n ≤ o.broker.opened → AllByRecursion (GoodFrame ok) frames
+  pub written_good : (n : ℕ) (frames : List Content) (o : Office) → n ≤ o.broker.opened
+      → AllByRecursion (GoodFrame ok) frames
       → GoodOffice ok up down o → GoodOffice ok (at n (up n ++ canonical_texts frames) up) (at n (down n) down) o
   written_good n frames o there all h = more_at n (down n) frames o there refl all h

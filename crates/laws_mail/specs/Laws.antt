@@ -21,9 +21,10 @@ use Rattle.laws_mail.specs.Passing.{AreOf, GoodConnection, GoodFrame, GoodOffice
 
 -- ---- what the next frame's answer leaves
 
--- A given frame is good and all is kept. For want of memory nothing has changed; behind another fault the connection is to be cut, and the
--- mail is as good as it was.
-abbrev pub TakenGood : (Envelope → Type 0) → (up down : ℕ → List ℕ) → (old new : Connection) → Office → Result (Option Content) FrameFault
+-- A given frame is good and all is kept. For want of memory nothing has changed; behind another fault the connection is
+-- to be cut, and the mail is as good as it was.
+abbrev pub TakenGood : (Envelope → Type 0) → (up down : ℕ → List ℕ) → (old new : Connection) → Office
+    → Result (Option Content) FrameFault
     → Type 0
 TakenGood ok up down old new o (Ok (Some f)) = GoodFrame ok f × (GoodConnection ok new × GoodWith ok new up down o)
 TakenGood ok up down old new o (Ok None) = GoodConnection ok new × GoodWith ok new up down o
@@ -46,20 +47,25 @@ module _ (test : Envelope → Bool) (up down : ℕ → List ℕ) where
       → GoodConnection (passing test) c × IsGoodWith c to
 
   abbrev pub CarryingUpIsGood : Type 0
-  CarryingUpIsGood = (most : ℕ) (old : Connection) (from : Office) (new : Connection) (to : Office) (r : Result ℕ BrokerFault)
+  CarryingUpIsGood =
+      (most : ℕ) (old : Connection) (from : Office) (new : Connection) (to : Office) (r : Result ℕ BrokerFault)
       → CarriesUp most old from new to r → AreOf old up down → IsGood from → IsGoodWith new to
 
   abbrev pub CarryingDownIsGood : Type 0
-  CarryingDownIsGood = (most : ℕ) (old : Connection) (from : Office) (new : Connection) (to : Office) (r : Result ℕ FrameFault)
-      → CarriesDown most old from new to r → old.session ≤ from.broker.opened → AreOf old up down → IsGood from → IsGoodWith new to
+  CarryingDownIsGood =
+      (most : ℕ) (old : Connection) (from : Office) (new : Connection) (to : Office) (r : Result ℕ FrameFault)
+      → CarriesDown most old from new to r → old.session ≤ from.broker.opened → AreOf old up down → IsGood from
+      → IsGoodWith new to
 
   abbrev pub TakingIsGood : Type 0
-  TakingIsGood = (old new : Connection) (o : Office) (r : Result (Option Content) FrameFault) → TakesNext old new r → AreOf old up down
+  TakingIsGood = (old new : Connection) (o : Office) (r : Result (Option Content) FrameFault) → TakesNext old new r
+      → AreOf old up down
       → GoodConnection (passing test) old → IsGood o → TakenGood (passing test) up down old new o r
 
   -- what a client writes behind its text
   abbrev pub WritingIsGood : Type 0
-  WritingIsGood = (n : ℕ) (frames : List Content) (o : Office) → n ≤ o.broker.opened → AllByRecursion (GoodFrame (passing test)) frames
+  WritingIsGood = (n : ℕ) (frames : List Content) (o : Office) → n ≤ o.broker.opened
+      → AllByRecursion (GoodFrame (passing test)) frames
       → IsGood o
       → GoodOffice (passing test) (at n (up n ++ canonical_texts frames) up) (at n (down n) down) o
 
@@ -73,7 +79,8 @@ module _ (test : Envelope → Bool) (up down : ℕ → List ℕ) where
       → to.earlier ≡ from.earlier → IsGood from → IsGood to
 
   abbrev pub RepeatingIsGood : Type 0
-  RepeatingIsGood = (place : ℕ) (from to : Office) (r : Result (Option ℕ) RepeatFault) → Repeats place from to r → IsGood from → IsGood to
+  RepeatingIsGood = (place : ℕ) (from to : Office) (r : Result (Option ℕ) RepeatFault) → Repeats place from to r
+      → IsGood from → IsGood to
 
   abbrev pub RestartingIsGood : Type 0
   RestartingIsGood = (o : Office) → IsGood o → GoodOffice (passing test) (λ _. []) (λ _. []) (restarted o)
@@ -88,21 +95,25 @@ NothingIsGood test = GoodOffice (passing test) (λ _. []) (λ _. []) new_office
 abbrev pub SendsAreGood : Type 0
 SendsAreGood = (test : Envelope → Bool) (e : Envelope) → IsEnvelope e → test e ≡ true
     → (IsFrame MAX_BODY (send_of e) → GoodFrame (passing test) (send_of e))
-    × ((number : ℕ) → IsFrame MAX_BODY (with_receipt number (send_of e)) → GoodFrame (passing test) (with_receipt number (send_of e)))
+    × ((number : ℕ) → IsFrame MAX_BODY (with_receipt number (send_of e))
+    → GoodFrame (passing test) (with_receipt number (send_of e)))
     × ((number : ℕ) → IsFrame MAX_BODY (in_transaction (Some number) (send_of e))
     → GoodFrame (passing test) (in_transaction (Some number) (send_of e)))
 
 -- each frame that is no SEND and no MESSAGE
 abbrev pub OthersAreGood : Type 0
-OthersAreGood = (test : Envelope → Bool) (f : Content) → carries f.command ≡ false → IsFrame MAX_BODY f → GoodFrame (passing test) f
+OthersAreGood =
+    (test : Envelope → Bool) (f : Content) → carries f.command ≡ false → IsFrame MAX_BODY f → GoodFrame (passing test) f
 
 -- what is read of a good MESSAGE passes
 abbrev pub ReadingPasses : Type 0
-ReadingPasses = (test : Envelope → Bool) (f : Content) (e : Envelope) → GoodFrame (passing test) f → read_frame f ≡ Some e → test e ≡ true
+ReadingPasses = (test : Envelope → Bool) (f : Content) (e : Envelope) → GoodFrame (passing test) f
+    → read_frame f ≡ Some e → test e ≡ true
 
 -- ---- another test
 
 -- where more envelopes pass, what was good is
 abbrev pub MoreMayPass : Type 0
-MoreMayPass = (test other : Envelope → Bool) → ((e : Envelope) → test e ≡ true → other e ≡ true) → (up down : ℕ → List ℕ) (o : Office)
+MoreMayPass = (test other : Envelope → Bool) → ((e : Envelope) → test e ≡ true → other e ≡ true)
+    → (up down : ℕ → List ℕ) (o : Office)
     → GoodOffice (passing test) up down o → GoodOffice (passing other) up down o

@@ -1,5 +1,6 @@
 -- Which envelopes are on their way: in a broker, in what it kept, and in the octets to and from its sessions.
-use Rattle.std.specs.Prelude.{◌≡◌, ◌==◌, ℕ, ◌<◌, Bool, true, false, if◌then◌else◌, List, [], ◌++◌, Option, Some, None, Ok, Err}
+use Rattle.std.specs.Prelude.{◌≡◌, ◌==◌, ℕ, ◌<◌, Bool, true, false, if◌then◌else◌, List, [], ◌++◌, Option, Some, None}
+use Rattle.std.specs.Prelude.{Ok, Err}
 use Rattle.std.specs.List.{AllByRecursion}
 use Rattle.base.specs.declared.limits.TheConstants.{MAX_BODY}
 use Rattle.stomp_frame.specs.Frames.{Content, Header, IsFrame}
@@ -79,15 +80,16 @@ module _ (ok : Envelope → Type 0) where
   GoodWaiting None = Unit {0}
   GoodWaiting (Some decided) = GoodDecided decided
 
-  -- A session, to which these octets are on their way, and which these have left. What comes to one that is closed, or that has met a
-  -- fault, is thrown away.
+  -- A session, to which these octets are on their way, and which these have left. What comes to one that is closed, or
+  -- that has met a fault, is thrown away.
   pub record GoodSession (up down : List ℕ) (s : Session) : Type 0 where
     pub waits : GoodWaiting s.incoming.waiting
     pub comes : s.closed ≡ false → s.incoming.decoder.failed ≡ false → Spelled (s.incoming.decoder.octets ++ up)
     pub transactions : AllByRecursion (TransactionFits Brought) s.transactions
     pub goes : Spelled (down ++ s.out)
 
-  -- a broker with what is on its way to and from the session of each number; what left one that is away is still spelled
+  -- a broker with what is on its way to and from the session of each number; what left one that is away is still
+  -- spelled
   pub record GoodServer (up down : ℕ → List ℕ) (b : Server) : Type 0 where
     pub book : GoodBook b.book
     pub sessions : (n : ℕ) (s : Session) → session_of n b ≡ Some s → GoodSession (up n) (down n) s

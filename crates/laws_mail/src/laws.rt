@@ -2,8 +2,10 @@
 
 ghost use Rattle.std.specs.Prelude.{ℕ, Bool, List};
 ghost use Rattle.envelope.specs.declared.message.Envelope.{Envelope};
-ghost use Rattle.laws_mail.specs.Laws.{OpeningIsGood, CarryingUpIsGood, CarryingDownIsGood, TakingIsGood, WritingIsGood, CuttingIsGood};
-ghost use Rattle.laws_mail.specs.Laws.{DealingIsGood, RepeatingIsGood, RestartingIsGood, NothingIsGood, SendsAreGood, OthersAreGood};
+ghost use Rattle.laws_mail.specs.Laws.{OpeningIsGood, CarryingUpIsGood, CarryingDownIsGood, TakingIsGood};
+ghost use Rattle.laws_mail.specs.Laws.{WritingIsGood, CuttingIsGood};
+ghost use Rattle.laws_mail.specs.Laws.{DealingIsGood, RepeatingIsGood, RestartingIsGood, NothingIsGood, SendsAreGood};
+ghost use Rattle.laws_mail.specs.Laws.{OthersAreGood};
 ghost use Rattle.laws_mail.specs.Laws.{ReadingPasses, MoreMayPass};
 
 /// In a new mail nothing is on its way, so each envelope there passes any test.
@@ -11,9 +13,10 @@ pub fn nothing_is_on_its_way_at_first()
     ensures { (test : Envelope → Bool) → NothingIsGood test }
 {}
 
-/// Whatever texts are on their way to and from the sessions: where each envelope among them and in the mail passes a test, the same is so
-/// behind each call of the mail and of a connection, whatever it answers, with the texts that the connection has then. A frame that a
-/// connection gives is good. `E` is the type of what a call answers that was refused memory.
+/// Whatever texts are on their way to and from the sessions: where each envelope among them and in the mail passes a
+/// test, the same is so behind each call of the mail and of a connection, whatever it answers, with the texts that the
+/// connection has then. A frame that a connection gives is good. `E` is the type of what a call answers that was
+/// refused memory.
 pub fn each_call_makes_nothing_up<E>()
     ensures open { (test : Envelope → Bool) (up down : ℕ → List ℕ) → OpeningIsGood test up down }
     ensures carry_up { (test : Envelope → Bool) (up down : ℕ → List ℕ) → CarryingUpIsGood test up down }
@@ -26,8 +29,8 @@ pub fn each_call_makes_nothing_up<E>()
     ensures restarts { (test : Envelope → Bool) (up down : ℕ → List ℕ) → RestartingIsGood test up down }
 {}
 
-/// The SEND of an envelope that passes is good, also with the number of a receipt or of a transaction behind its headers, and so is each
-/// frame that is no SEND and no MESSAGE.
+/// The SEND of an envelope that passes is good, also with the number of a receipt or of a transaction behind its
+/// headers, and so is each frame that is no SEND and no MESSAGE.
 pub fn what_is_written_is_good()
     ensures sends { SendsAreGood }
     ensures others { OthersAreGood }

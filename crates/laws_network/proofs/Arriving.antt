@@ -43,7 +43,8 @@ or_else-some : (a : Option Message) (m : Message) → IsSome (or_else a (Some m)
 or_else-some (Some x) m = refl
 or_else-some None m = refl
 
-put_some : (q : Pair) (k : ℕ) (o : Option Message) (held : Messages) (p : Pair) (n : ℕ) (b : Bool) → (same_pair q p && k == n) ≡ b
+put_some : (q : Pair) (k : ℕ) (o : Option Message) (held : Messages) (p : Pair) (n : ℕ) (b : Bool)
+    → (same_pair q p && k == n) ≡ b
     → IsSome o → IsSome (held p n) → IsSome (set_message q k o held p n)
 put_some q k o held p n true e new old = rw e new
 put_some q k o held p n false e new old = rw e old
@@ -60,7 +61,8 @@ left_held : (q : Pair) (k : ℕ) (held : Messages) (p : Pair) (n : ℕ) (b : Boo
 left_held q k held p n true e apart h = let s = both_same q p k n (same_pair q p) refl e in absurd (apart s.0 s.1)
 left_held q k held p n false e apart h = rw e h
 
-row_arrived : {C : Type 0} (rows : List (JournalRow C)) (e : Name) (input : Input C) (held : Messages) (p : Pair) (n : ℕ)
+row_arrived : {C : Type 0} (rows : List (JournalRow C)) (e : Name) (input : Input C) (held : Messages) (p : Pair)
+    (n : ℕ)
     → HasNextNumber rows e input → handled_of rows p ≤ handled_of (rows ++ record { entity = e; input = input } ∷ []) p
     → (handled_of rows p < n → IsSome (held p n)) → handled_of (rows ++ record { entity = e; input = input } ∷ []) p < n
     → IsSome (held_after e input held p n)
@@ -73,7 +75,8 @@ row_arrived rows e (FromEntity s k m) held p n next more h lt =
     absurd (omega (arith, here, number, lt)))
     (h (omega (arith, more, lt)))
 
-pub did_arrived : {S C : Type 0} (s : Service S C) (x y : Kept C) (d : Deed C) → Did s x d y → (p : Pair) (n : ℕ) → HasArrived x p n
+pub did_arrived : {S C : Type 0} (s : Service S C) (x y : Kept C) (d : Deed C) → Did s x d y → (p : Pair) (n : ℕ)
+    → HasArrived x p n
     → HasArrived y p n
 did_arrived s x y Nothing did p n h = subst (λ k. HasArrived k p n) (sym did) h
 did_arrived s x y (TakesIn row) did p n h = λ lt.
@@ -119,7 +122,8 @@ module _ {S C D : Type 0} (reactions : Reactions S C) (x : Kept C) (z : Kept D) 
   There = letters_of z.journal p
 
   no_more : (rest : List (ℕ × Message)) → There ++ rest ≡ numbered 0 Sent
-      → ((n : ℕ) (m : Message) → nth Sent n ≡ Some m → HasArrived z p n) → z.held p (suc (handled_of z.journal p)) ≡ None
+      → ((n : ℕ) (m : Message) → nth Sent n ≡ Some m → HasArrived z p n)
+      → z.held p (suc (handled_of z.journal p)) ≡ None
       → HandledAll reactions x.journal z.journal p
   no_more [] is all none = sym (append-nil There) ∙ is
   no_more ((a, m) ∷ rest) is all none =
@@ -157,5 +161,6 @@ module _ {S C D : Type 0} (reactions : Reactions S C) (x : Kept C) (z : Kept D) 
       absurd (omega (arith, long, a, b, count))
 
   -- where as many were handled as were sent, all were
-  pub full_is_all : Follows reactions x z → handled_of z.journal p ≡ length Sent → HandledAll reactions x.journal z.journal p
+  pub full_is_all : Follows reactions x z → handled_of z.journal p ≡ length Sent
+      → HandledAll reactions x.journal z.journal p
   full_is_all f count = let prefix = f.handled p in full prefix.0 prefix.1 count

@@ -38,5 +38,9 @@ module _ {E F S C T D : Type 0} (seen : E → Seen (Tables S C)) (other_seen : F
     right = t.before;
     left_was = a;
     right_was = t.was;
-    path = (record { left = x; right = y; network = record network { from_right = later } }, (t.turn, refl, refl), refl);
+    path = (
+      record { left = x; right = y; network = record network { from_right = later } },
+      (t.turn, refl, refl),
+      refl,
+    );
   })

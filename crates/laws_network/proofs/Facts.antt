@@ -32,9 +32,11 @@ are_authentic-prop reactions journal sent = hlevel (authentic-prop reactions jou
 follows-prop : {S C D : Type 0} (reactions : Reactions S C) (x : Kept C) (y : Kept D) → IsProp (Follows reactions x y)
 follows-prop reactions x y = hlevel (props, message-set, prefix-prop letters-set)
 
-pub fair-prop : {S C T D : Type 0} (one : Service S C) (other : Service T D) (z : Sides S C T D) → IsProp (IsFair one other z)
+pub fair-prop : {S C T D : Type 0} (one : Service S C) (other : Service T D) (z : Sides S C T D)
+    → IsProp (IsFair one other z)
 fair-prop one other z = hlevel (follows-prop, are_authentic-prop)
 
-pub taken-prop : {S C T D : Type 0} (one : Service S C) (other : Service T D) (deliveries : List (Delivery C D)) (outcomes : List Outcome)
+pub taken-prop : {S C T D : Type 0} (one : Service S C) (other : Service T D) (deliveries : List (Delivery C D))
+    (outcomes : List Outcome)
     (z : Sides S C T D) → IsProp (TakenAreHandledIn one other deliveries outcomes z)
 taken-prop one other deliveries outcomes z = hlevel (props, letters-set)

@@ -30,7 +30,8 @@ use Rattle.laws_network.proofs.Founded.{may_do_is}
 
 -- ---- the side that acts, as a sender and as a receiver; its partner keeps `z`
 
-module _ {S C T D : Type 0} (s : Service S C) (partner : Reactions T D) (x y : Kept C) (z : Kept D) (d : Deed C) (did : Did s x d y)
+module _ {S C T D : Type 0} (s : Service S C) (partner : Reactions T D) (x y : Kept C) (z : Kept D) (d : Deed C)
+    (did : Did s x d y)
     (is : DeedIs (IsTrueIn partner z.journal) d) where
   pub partner_follows : Follows s.reactions x z → Follows s.reactions y z
   partner_follows f = record {
@@ -45,8 +46,10 @@ module _ {S C T D : Type 0} (s : Service S C) (partner : Reactions T D) (x y : K
   follows_partner f = record {
     handled = λ p. either (did_letters s (IsTrueIn partner z.journal) x y d did is p)
         (λ e. rw e (f.handled p))
-        (λ e. rw e.1 (numbered_prefix-next (letters_of x.journal p) (sent_of partner z.journal p) e.0 (f.handled p) e.2));
-    held = λ p n m h. either (did_held s (IsTrueIn partner z.journal) x y d did is p n m h) (λ old. f.held p n m old) (λ new. new);
+        (λ e. rw e.1 (numbered_prefix-next (letters_of x.journal p) (sent_of partner z.journal p) e.0 (f.handled p)
+        e.2));
+    held = λ p n m h. either (did_held s (IsTrueIn partner z.journal) x y d did is p n m h) (λ old. f.held p n m old)
+        (λ new. new);
     settled = λ p. let old = f.settled p in let more = did_handled s x y d did p in omega (arith, old, more);
   }
 
@@ -77,7 +80,8 @@ module _ {S C : Type 0} (s : Service S C) (y : Kept C) where
   with_more : (sent more : List Envelope) → Authentic sent → Authentic more → Authentic (sent ++ more)
   with_more sent more h new i e at = either (get_append sent more i e at) (λ old. h i e old) (λ j. new j.0 e j.1)
 
-  letters_authentic : (limit : ℕ) (ls : List Letter) → AreFirst (unsettled_of s.reactions y.journal y.settled) None limit ls
+  letters_authentic : (limit : ℕ) (ls : List Letter)
+      → AreFirst (unsettled_of s.reactions y.journal y.settled) None limit ls
       → Authentic (map envelope.Letter ls)
   letters_authentic limit ls first i e at =
       let l = get_map ls i e at in
@@ -104,7 +108,8 @@ module _ {S C : Type 0} (s : Service S C) (y : Kept C) where
   sends_authentic _ _ sent later h m = same_authentic sent later h m
 
   -- nothing that was sent is taken back
-  pub sends_grow : (event : Event C) (outcome : Outcome) (sent later : List Envelope) → MaySend s event outcome y sent later
+  pub sends_grow : (event : Event C) (outcome : Outcome) (sent later : List Envelope)
+      → MaySend s event outcome y sent later
       → IsPrefixOf sent later
   sends_grow (Send limit) (Sent (Ok n)) sent later m = (map envelope.Letter m.0, sym m.3)
   sends_grow (Tell p) (Told (Ok n)) sent later m = (envelope.Settle p n ∷ [], sym m.1)
@@ -117,7 +122,8 @@ module _ {S C T D : Type 0} (s : Service S C) (partner : Reactions T D) (event :
     (arrives : AreAuthentic partner z.journal arriving) (follows : Follows partner z x)
     (turn : Turn s event outcome arriving sent later x y) where
   founded : DeedIs (IsTrueIn partner z.journal) turn.deed
-  founded = may_do_is s (IsTrueIn partner z.journal) arriving arrives event outcome x turn.deed (λ p n m h. follows.held p n m h)
+  founded = may_do_is s (IsTrueIn partner z.journal) arriving arrives event outcome x turn.deed
+      (λ p n m h. follows.held p n m h)
       turn.may
 
   pub turn_right : Follows s.reactions x z → Follows s.reactions y z

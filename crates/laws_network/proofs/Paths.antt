@@ -36,12 +36,14 @@ module _ {S C T D : Type 0} (one : Service S C) (other : Service T D) where
       let turn = step.0 in
       let x = kept a.left in let y = kept b.left in let z = kept a.right in
       let arriving = a.network.from_right in let sent = a.network.from_left in let later = b.network.from_left in
-      let right = turn_right one other.reactions event outcome arriving sent later x y z fair.from_right fair.left turn fair.right in
+      let right = turn_right one other.reactions event outcome arriving sent later x y z fair.from_right fair.left turn
+      fair.right in
       let left = turn_left one other.reactions event outcome arriving sent later x y z fair.from_right fair.left turn in
       record {
         right = subst (λ t. Follows one.reactions y (kept t)) (sym step.1) right;
         left = subst (λ t. Follows other.reactions (kept t) y) (sym step.1) left;
-        from_left = turn_authentic one other.reactions event outcome arriving sent later x y z fair.from_right fair.left turn
+        from_left =
+            turn_authentic one other.reactions event outcome arriving sent later x y z fair.from_right fair.left turn
             fair.from_left;
         from_right = subst (λ t. AreAuthentic other.reactions t.journal b.network.from_right) (sym step.1)
             (subst (AreAuthentic other.reactions a.right.journal) (sym step.2) fair.from_right);
@@ -50,14 +52,17 @@ module _ {S C T D : Type 0} (one : Service S C) (other : Service T D) where
       let turn = step.0 in
       let x = kept a.right in let y = kept b.right in let z = kept a.left in
       let arriving = a.network.from_left in let sent = a.network.from_right in let later = b.network.from_right in
-      let right = turn_left other one.reactions event outcome arriving sent later x y z fair.from_left fair.right turn in
-      let left = turn_right other one.reactions event outcome arriving sent later x y z fair.from_left fair.right turn fair.left in
+      let right =
+      turn_left other one.reactions event outcome arriving sent later x y z fair.from_left fair.right turn in
+      let left = turn_right other one.reactions event outcome arriving sent later x y z fair.from_left fair.right turn
+      fair.left in
       record {
         right = subst (λ t. Follows one.reactions (kept t) y) (sym step.1) right;
         left = subst (λ t. Follows other.reactions y (kept t)) (sym step.1) left;
         from_left = subst (λ t. AreAuthentic one.reactions t.journal b.network.from_left) (sym step.1)
             (subst (AreAuthentic one.reactions a.left.journal) (sym step.2) fair.from_left);
-        from_right = turn_authentic other one.reactions event outcome arriving sent later x y z fair.from_left fair.right turn
+        from_right =
+            turn_authentic other one.reactions event outcome arriving sent later x y z fair.from_left fair.right turn
             fair.from_right;
       }
 
@@ -96,22 +101,27 @@ module _ {S C T D : Type 0} (one : Service S C) (other : Service T D) where
   step_right : (delivery : Delivery C D) (outcome : Outcome) (a b : Sides S C T D) → Step one other delivery outcome a b
       → (p : Pair) (n : ℕ) → HasArrived (kept a.right) p n → HasArrived (kept b.right) p n
   step_right (Left event) outcome a b step p n h = subst (λ t. HasArrived (kept t) p n) (sym step.1) h
-  step_right (Right event) outcome a b step p n h = did_arrived other (kept a.right) (kept b.right) step.0.deed step.0.did p n h
+  step_right (Right event) outcome a b step p n h =
+      did_arrived other (kept a.right) (kept b.right) step.0.deed step.0.did p n h
 
   step_left : (delivery : Delivery C D) (outcome : Outcome) (a b : Sides S C T D) → Step one other delivery outcome a b
       → (p : Pair) (n : ℕ) → HasArrived (kept a.left) p n → HasArrived (kept b.left) p n
-  step_left (Left event) outcome a b step p n h = did_arrived one (kept a.left) (kept b.left) step.0.deed step.0.did p n h
+  step_left (Left event) outcome a b step p n h =
+      did_arrived one (kept a.left) (kept b.left) step.0.deed step.0.did p n h
   step_left (Right event) outcome a b step p n h = subst (λ t. HasArrived (kept t) p n) (sym step.1) h
 
   path_right : (deliveries : List (Delivery C D)) (outcomes : List Outcome) (a b : Sides S C T D)
-      → IsPath one other deliveries outcomes a b → (p : Pair) (n : ℕ) → HasArrived (kept a.right) p n → HasArrived (kept b.right) p n
+      → IsPath one other deliveries outcomes a b → (p : Pair) (n : ℕ) → HasArrived (kept a.right) p n
+      → HasArrived (kept b.right) p n
   path_right [] [] a b path p n h = subst (λ (z : Sides S C T D). HasArrived (kept z.right) p n) (sym path) h
   path_right [] (o ∷ os) a b path p n h = absurd path
   path_right (d ∷ ds) [] a b path p n h = absurd path
-  path_right (d ∷ ds) (o ∷ os) a b path p n h = path_right ds os path.0 b path.2 p n (step_right d o a path.0 path.1 p n h)
+  path_right (d ∷ ds) (o ∷ os) a b path p n h =
+      path_right ds os path.0 b path.2 p n (step_right d o a path.0 path.1 p n h)
 
   path_left : (deliveries : List (Delivery C D)) (outcomes : List Outcome) (a b : Sides S C T D)
-      → IsPath one other deliveries outcomes a b → (p : Pair) (n : ℕ) → HasArrived (kept a.left) p n → HasArrived (kept b.left) p n
+      → IsPath one other deliveries outcomes a b → (p : Pair) (n : ℕ) → HasArrived (kept a.left) p n
+      → HasArrived (kept b.left) p n
   path_left [] [] a b path p n h = subst (λ (z : Sides S C T D). HasArrived (kept z.left) p n) (sym path) h
   path_left [] (o ∷ os) a b path p n h = absurd path
   path_left (d ∷ ds) [] a b path p n h = absurd path
@@ -120,11 +130,13 @@ module _ {S C T D : Type 0} (one : Service S C) (other : Service T D) where
   -- ---- what was taken has arrived
 
   -- the letter that was taken is the one at this index at the end
-  same_letter : (early late : List Envelope) (i : ℕ) (l k : Letter) → IsPrefixOf early late → slice_get early i ≡ Some (envelope.Letter l)
+  same_letter : (early late : List Envelope) (i : ℕ) (l k : Letter) → IsPrefixOf early late
+      → slice_get early i ≡ Some (envelope.Letter l)
       → slice_get late i ≡ Some (envelope.Letter k) → l ≡ k
   same_letter early late i l k prefix before now =
       let kept : slice_get late i ≡ Some (envelope.Letter l) =
-      subst (λ es. slice_get es i ≡ Some (envelope.Letter l)) prefix.1 (get-prefix i (envelope.Letter l) early prefix.0 before) in
+      subst (λ es. slice_get es i ≡ Some (envelope.Letter l)) prefix.1 (get-prefix i (envelope.Letter l) early prefix.0
+      before) in
       cc
 
   first_is : {A : Type 0} (x y : A) → Some x ≡ Some y → x ≡ y
@@ -142,11 +154,13 @@ module _ {S C T D : Type 0} (one : Service S C) (other : Service T D) where
       (subst (λ e. Step one other d e a path.0) (first_is o (Taken (Ok answer)) told) path.1) in
       let may = step.0.may in
       let arrived = ingest_arrived other may.0 answer (kept a.right) (kept path.0.right) step.0.deed may.2 step.0.did in
-      let grows = prefix_trans _ _ _ (step_sent (Right (Take i)) (Taken (Ok answer)) a path.0 step).0 (path_sent ds os path.0 b path.2).0 in
+      let grows = prefix_trans _ _ _ (step_sent (Right (Take i)) (Taken (Ok answer)) a path.0 step).0
+      (path_sent ds os path.0 b path.2).0 in
       let same = same_letter a.network.from_left b.network.from_left i may.0 l grows may.1 at in
       subst (λ (v : Letter). HasArrived (kept b.right) v.pair v.number) same
       (path_right ds os path.0 b path.2 may.0.pair may.0.number arrived)
-  taken_right (d ∷ ds) (o ∷ os) a b path (suc k) i answer l was told at = taken_right ds os path.0 b path.2 k i answer l was told at
+  taken_right (d ∷ ds) (o ∷ os) a b path (suc k) i answer l was told at =
+      taken_right ds os path.0 b path.2 k i answer l was told at
 
   taken_left : (deliveries : List (Delivery C D)) (outcomes : List Outcome) (a b : Sides S C T D)
       → IsPath one other deliveries outcomes a b → (k i : ℕ) (answer : Ingested) (l : Letter)
@@ -160,14 +174,17 @@ module _ {S C T D : Type 0} (one : Service S C) (other : Service T D) where
       (subst (λ e. Step one other d e a path.0) (first_is o (Taken (Ok answer)) told) path.1) in
       let may = step.0.may in
       let arrived = ingest_arrived one may.0 answer (kept a.left) (kept path.0.left) step.0.deed may.2 step.0.did in
-      let grows = prefix_trans _ _ _ (step_sent (Left (Take i)) (Taken (Ok answer)) a path.0 step).1 (path_sent ds os path.0 b path.2).1 in
+      let grows = prefix_trans _ _ _ (step_sent (Left (Take i)) (Taken (Ok answer)) a path.0 step).1
+      (path_sent ds os path.0 b path.2).1 in
       let same = same_letter a.network.from_right b.network.from_right i may.0 l grows may.1 at in
       subst (λ (v : Letter). HasArrived (kept b.left) v.pair v.number) same
       (path_left ds os path.0 b path.2 may.0.pair may.0.number arrived)
-  taken_left (d ∷ ds) (o ∷ os) a b path (suc k) i answer l was told at = taken_left ds os path.0 b path.2 k i answer l was told at
+  taken_left (d ∷ ds) (o ∷ os) a b path (suc k) i answer l was told at =
+      taken_left ds os path.0 b path.2 k i answer l was told at
 
   path_taken : (deliveries : List (Delivery C D)) (outcomes : List Outcome) (a b : Sides S C T D)
-      → IsPath one other deliveries outcomes a b → IsFair one other a → TakenAreHandledIn one other deliveries outcomes b
+      → IsPath one other deliveries outcomes a b → IsFair one other a
+      → TakenAreHandledIn one other deliveries outcomes b
   path_taken ds os a b path fair p =
       let now = path_fair ds os a b path fair in (
         λ all none. all_arrived one.reactions (kept b.left) (kept b.right) p now.right
@@ -185,14 +202,16 @@ module _ {S C T D : Type 0} (one : Service S C) (other : Service T D) where
   runs_fair ds os old new runs clean good fair x y a b = ∥∥₁_elim (runs clean good x y a b)
       (fair-prop one other (record { left = x; right = y; network = new.network }))
       (λ led. path_fair ds os (record { left = led.left; right = led.right; network = old.network })
-      (record { left = x; right = y; network = new.network }) led.path (fair led.left led.right led.left_was led.right_was))
+      (record { left = x; right = y; network = new.network }) led.path (fair led.left led.right led.left_was
+      led.right_was))
 
   pub runs_taken : (deliveries : List (Delivery C D)) (outcomes : List Outcome) (old new : Contents S C T D)
       → Runs one other deliveries outcomes old new → TakenAreHandled one other deliveries outcomes old new
   runs_taken ds os old new runs clean good fair x y a b = ∥∥₁_elim (runs clean good x y a b)
       (taken-prop one other ds os (record { left = x; right = y; network = new.network }))
       (λ led. path_taken ds os (record { left = led.left; right = led.right; network = old.network })
-      (record { left = x; right = y; network = new.network }) led.path (fair led.left led.right led.left_was led.right_was))
+      (record { left = x; right = y; network = new.network }) led.path (fair led.left led.right led.left_was
+      led.right_was))
 
   -- ---- one more delivery
 
@@ -208,26 +227,31 @@ module _ {S C T D : Type 0} (one : Service S C) (other : Service T D) where
   runs_none c clean good x y a b = ∣ record { left = x; right = y; left_was = a; right_was = b; path = refl } ∣₁
 
   -- what was led to, and one step more
-  led_more : (ds : List (Delivery C D)) (os : List Outcome) (d : Delivery C D) (o : Outcome) (old mid : Contents S C T D)
+  led_more : (ds : List (Delivery C D)) (os : List Outcome) (d : Delivery C D) (o : Outcome)
+      (old mid : Contents S C T D)
       (z : Sides S C T D)
       → Led one other (d ∷ []) (o ∷ []) mid z
       → ((x : Tables S C) (y : Tables T D) → mid.left.may_leave x → mid.right.may_leave y
       → ∥ Led one other ds os old (record { left = x; right = y; network = mid.network }) ∥₁)
       → ∥ Led one other (ds ++ d ∷ []) (os ++ o ∷ []) old z ∥₁
-  led_more ds os d o old mid z last before = ∥∥₁_map (before last.left last.right last.left_was last.right_was) (λ led. record {
-    left = led.left;
-    right = led.right;
-    left_was = led.left_was;
-    right_was = led.right_was;
-    path = path_more ds os d o (record { left = led.left; right = led.right; network = old.network })
-        (record { left = last.left; right = last.right; network = mid.network }) z led.path
-        (subst (λ c. Step one other d o (record { left = last.left; right = last.right; network = mid.network }) c) (sym last.path.2)
-        last.path.1);
-  })
+  led_more ds os d o old mid z last before =
+      ∥∥₁_map (before last.left last.right last.left_was last.right_was) (λ led. record {
+        left = led.left;
+        right = led.right;
+        left_was = led.left_was;
+        right_was = led.right_was;
+        path = path_more ds os d o (record { left = led.left; right = led.right; network = old.network })
+            (record { left = last.left; right = last.right; network = mid.network }) z led.path
+            (subst (λ c. Step one other d o (record { left = last.left; right = last.right; network = mid.network }) c)
+            (sym last.path.2)
+            last.path.1);
+      })
 
-  pub runs_more : (ds : List (Delivery C D)) (os : List Outcome) (d : Delivery C D) (o : Outcome) (old mid new : Contents S C T D)
+  pub runs_more : (ds : List (Delivery C D)) (os : List Outcome) (d : Delivery C D) (o : Outcome)
+      (old mid new : Contents S C T D)
       → (AreClean new → AreClean mid) → (AreClean mid → AreMatching one other old → AreMatching one other mid)
-      → Runs one other ds os old mid → Runs one other (d ∷ []) (o ∷ []) mid new → Runs one other (ds ++ d ∷ []) (os ++ o ∷ []) old new
+      → Runs one other ds os old mid → Runs one other (d ∷ []) (o ∷ []) mid new
+      → Runs one other (ds ++ d ∷ []) (os ++ o ∷ []) old new
   runs_more ds os d o old mid new clean matching before last c good x y a b =
       let was = clean c in
       ∥∥₁_elim (last c (matching was good) x y a b) (hlevel props)

@@ -15,7 +15,8 @@ use Rattle.laws_network.specs.declared.event.Event.{Event}
 use Rattle.laws_network.specs.declared.event.Outcome.{Outcome}
 use Rattle.laws_network.specs.Turns.{MayDo, MaySend, Turns}
 
-module _ {E S C : Type 0} (seen : E → Seen (Tables S C)) (old new : E) (service : Service S C) (event : Event C) (outcome : Outcome)
+module _ {E S C : Type 0} (seen : E → Seen (Tables S C)) (old new : E) (service : Service S C) (event : Event C)
+    (outcome : Outcome)
     (arriving sent later : List Envelope) where
   -- a deed was done
   pub comes_turns : (allowed : Kept C → Deed C → Type 0)

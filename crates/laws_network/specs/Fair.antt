@@ -11,15 +11,18 @@ use Rattle.endpoint.specs.Deeds.{Kept, kept}
 use Rattle.laws_network.specs.Envelopes.{AreAuthentic}
 use Rattle.laws_network.specs.Sides.{Sides}
 
--- One side follows the other: of each pair it has handled a beginning of what the other's journal sends, once each and in its order; what
--- it holds the other sends under that number; and what the other marks as settled it has handled.
+-- One side follows the other: of each pair it has handled a beginning of what the other's journal sends, once each and
+-- in its order; what it holds the other sends under that number; and what the other marks as settled it has handled.
 pub record Follows {S C D : Type 0} (reactions : Reactions S C) (sender : Kept C) (receiver : Kept D) : Type 0 where
-  pub handled : (p : Pair) → IsPrefixOf (letters_of receiver.journal p) (numbered 0 (sent_of reactions sender.journal p))
-  pub held : (p : Pair) (n : ℕ) (m : Message) → receiver.held p n ≡ Some m → nth (sent_of reactions sender.journal p) n ≡ Some m
+  pub handled : (p : Pair) → IsPrefixOf (letters_of receiver.journal p) (numbered 0
+      (sent_of reactions sender.journal p))
+  pub held : (p : Pair) (n : ℕ) (m : Message) → receiver.held p n ≡ Some m
+      → nth (sent_of reactions sender.journal p) n ≡ Some m
   pub settled : (p : Pair) → sender.settled p ≤ handled_of receiver.journal p
 
 -- of this pair the receiver has handled all that the sender's journal sends
-abbrev pub HandledAll : {S C D : Type 0} → Reactions S C → (sender : List (JournalRow C)) → (receiver : List (JournalRow D)) → Pair → Type 0
+abbrev pub HandledAll : {S C D : Type 0} → Reactions S C → (sender : List (JournalRow C))
+    → (receiver : List (JournalRow D)) → Pair → Type 0
 HandledAll reactions sender receiver p = letters_of receiver p ≡ numbered 0 (sent_of reactions sender p)
 
 -- each side follows the other, and all that they ever sent is authentic

@@ -26,7 +26,8 @@ module _ {S C T D : Type 0} (one : Service S C) (other : Service T D) where
       Turn one event outcome a.network.from_right a.network.from_left b.network.from_left (kept a.left) (kept b.left)
       × (b.right ≡ a.right) × (b.network.from_right ≡ a.network.from_right)
   Step (Right event) outcome a b =
-      Turn other event outcome a.network.from_left a.network.from_right b.network.from_right (kept a.right) (kept b.right)
+      Turn other event outcome a.network.from_left a.network.from_right b.network.from_right (kept a.right)
+      (kept b.right)
       × (b.left ≡ a.left) × (b.network.from_left ≡ a.network.from_left)
 
   -- one step for each delivery, with its outcome, leads from the first sides to the last
@@ -38,7 +39,8 @@ module _ {S C T D : Type 0} (one : Service S C) (other : Service T D) where
   IsPath (_ ∷ _) [] a b = ⊥
 
   -- the sides now come of some that a stop might leave before, by such a path
-  pub record Led (deliveries : List (Delivery C D)) (outcomes : List Outcome) (old : Contents S C T D) (now : Sides S C T D) : Type 0 where
+  pub record Led (deliveries : List (Delivery C D)) (outcomes : List Outcome) (old : Contents S C T D)
+      (now : Sides S C T D) : Type 0 where
     pub left : Tables S C
     pub right : Tables T D
     pub left_was : old.left.may_leave left
@@ -47,15 +49,18 @@ module _ {S C T D : Type 0} (one : Service S C) (other : Service T D) where
 
   -- so do all that a stop may leave now
   abbrev pub Runs : List (Delivery C D) → List Outcome → (old new : Contents S C T D) → Type 0
-  Runs deliveries outcomes old new = AreClean new → AreMatching one other old → Everywhere new (λ z. ∥ Led deliveries outcomes old z ∥₁)
+  Runs deliveries outcomes old new =
+      AreClean new → AreMatching one other old → Everywhere new (λ z. ∥ Led deliveries outcomes old z ∥₁)
 
   -- where the sides were fair, they are
   abbrev pub StaysFair : (old new : Contents S C T D) → Type 0
-  StaysFair old new = AreClean new → AreMatching one other old → Everywhere old (IsFair one other) → Everywhere new (IsFair one other)
+  StaysFair old new =
+      AreClean new → AreMatching one other old → Everywhere old (IsFair one other) → Everywhere new (IsFair one other)
 
   -- this letter of the other side arrived in one of these deliveries, and was taken
   abbrev pub IsTaken : ((i : ℕ) → Delivery C D) → List (Delivery C D) → List Outcome → List Envelope → Letter → Type 0
-  IsTaken arrival deliveries outcomes sent letter = (k i : ℕ) × (answer : Ingested) × (slice_get deliveries k ≡ Some (arrival i))
+  IsTaken arrival deliveries outcomes sent letter =
+      (k i : ℕ) × (answer : Ingested) × (slice_get deliveries k ≡ Some (arrival i))
       × (slice_get outcomes k ≡ Some (Taken (Ok answer))) × (slice_get sent i ≡ Some (envelope.Letter letter))
 
   -- each letter that a side sent on the pair, and that isn't settled, was taken by the other
@@ -73,14 +78,18 @@ module _ {S C T D : Type 0} (one : Service S C) (other : Service T D) where
   abbrev pub NoneWaits : {A B : Type 0} → Tables A B → Pair → Type 0
   NoneWaits t p = t.held p (suc (handled_of t.journal p)) ≡ None
 
-  -- where each unsettled letter of a pair was taken, in whatever order, and the next one doesn't wait, all that was sent was handled
+  -- where each unsettled letter of a pair was taken, in whatever order, and the next one doesn't wait, all that was
+  -- sent was handled
   abbrev pub TakenAreHandledIn : List (Delivery C D) → List Outcome → Sides S C T D → Type 0
   TakenAreHandledIn deliveries outcomes z = (p : Pair)
-      → (AllTakenRight deliveries outcomes z p → NoneWaits z.right p → HandledAll one.reactions z.left.journal z.right.journal p)
-      × (AllTakenLeft deliveries outcomes z p → NoneWaits z.left p → HandledAll other.reactions z.right.journal z.left.journal p)
+      → (AllTakenRight deliveries outcomes z p → NoneWaits z.right p
+      → HandledAll one.reactions z.left.journal z.right.journal p)
+      × (AllTakenLeft deliveries outcomes z p → NoneWaits z.left p
+      → HandledAll other.reactions z.right.journal z.left.journal p)
 
   abbrev pub TakenAreHandled : List (Delivery C D) → List Outcome → (old new : Contents S C T D) → Type 0
-  TakenAreHandled deliveries outcomes old new = AreClean new → AreMatching one other old → Everywhere old (IsFair one other)
+  TakenAreHandled deliveries outcomes old new =
+      AreClean new → AreMatching one other old → Everywhere old (IsFair one other)
       → Everywhere new (TakenAreHandledIn deliveries outcomes)
 
 -- doubt never falls

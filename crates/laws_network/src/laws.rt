@@ -11,7 +11,11 @@ use activities::Handler;
 
 /// Two sides that did nothing yet, and sent nothing, are fair.
 pub fn nothing_was_exchanged<H: Handler, G: Handler>()
-    ensures { IsFair H.service G.service (record { left = empty; right = empty; network = record { from_left = []; from_right = [] } }) }
+    ensures { IsFair H.service G.service (record {
+      left = empty;
+      right = empty;
+      network = record { from_left = []; from_right = [] };
+    }) }
 {}
 
 /// Of fair sides the one that handled as many letters of a pair as the other sent has handled all of them, in order.

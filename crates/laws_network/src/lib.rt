@@ -1,9 +1,10 @@
 //! Two services that give each other letters and settles over a network that loses, repeats and reorders them.
 //!
-//! Whatever list of deliveries is carried out, and whatever the stores answer: each side has handled, pair by pair, a beginning of what the
-//! other's journal sends, once each and in its order; what a side marks as settled the other has handled; and a pair of which each
-//! unsettled letter was taken, in some order, and no next one waits, was handled to its end. It holds of any two handlers and stores, by
-//! the contracts of [`Endpoint`](endpoint::Endpoint) alone; where a store failed, of each content that a stop may leave.
+//! Whatever list of deliveries is carried out, and whatever the stores answer: each side has handled, pair by pair, a
+//! beginning of what the other's journal sends, once each and in its order; what a side marks as settled the other has
+//! handled; and a pair of which each unsettled letter was taken, in some order, and no next one waits, was handled to
+//! its end. It holds of any two handlers and stores, by the contracts of [`Endpoint`](endpoint::Endpoint) alone; where
+//! a store failed, of each content that a stop may leave.
 //!
 //! ```rust
 //! pub fn what_comes_early_waits<H, K, G, L>(
@@ -29,9 +30,9 @@
 //! }
 //! ```
 //!
-//! Where an order was placed and cancelled at the left, and the pair is its own with its stock at the right, a request and a cancel
-//! go there. The cancel comes first and is held, the request is handled, is known when it comes again, and then the cancel is handled:
-//! all that the pair sent.
+//! Where an order was placed and cancelled at the left, and the pair is its own with its stock at the right, a request
+//! and a cancel go there. The cancel comes first and is held, the request is handled, is known when it comes again, and
+//! then the cancel is handled: all that the pair sent.
 #![tactic(auto)]
 
 mod both;

@@ -1,4 +1,5 @@
-//! What two sides have sent each other: nothing is forged, and all of it may arrive at any time, again and again, or never.
+//! What two sides have sent each other: nothing is forged, and all of it may arrive at any time, again and again, or
+//! never.
 
 ghost use Rattle.std.specs.Prelude.{◌≡◌, ◌++◌, ◌∷◌, [], map, length, IfOk, OnOk, OnErr};
 ghost use Rattle.envelope.specs.declared.message.Envelope.TheVariants.{Letter as letter_of};

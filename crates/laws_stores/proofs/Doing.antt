@@ -1,5 +1,6 @@
 -- What one deed leaves as it was, and what it changes, whichever service does it.
-use Rattle.std.proofs.Common.{◌≡◌, ℕ, suc, ◌≤◌, List, [], ◌∷◌, ◌++◌, Bool, true, false, ◌⊎◌, refl, ap, arith, sym, ◌∙◌, inl, inr}
+use Rattle.std.proofs.Common.{◌≡◌, ℕ, suc, ◌≤◌, List, [], ◌∷◌, ◌++◌, Bool, true, false, ◌⊎◌, refl, ap, arith, sym, ◌∙◌}
+use Rattle.std.proofs.Common.{inl, inr}
 use Rattle.std.proofs.Common.{Option, Some, None, length, subst}
 use Rattle.std.specs.Prelude.{max, ◌&&◌, ◌==◌}
 use Rattle.std.proofs.lemmas.Bool.Decides.{nat_tests}
@@ -49,9 +50,11 @@ abbrev pub HandlesNext : (Envelope → Type 0) → Pair → (before later : List
 HandlesNext P p before later = (later ≡ before) ⊎ ((m : Message) × (later ≡ before ++ (suc (length before), m) ∷ [])
     × P (Letter (record { pair = p; number = suc (length before); message = m })))
 
-row_letters : {C : Type 0} (P : Envelope → Type 0) (rows : List (JournalRow C)) (e : Name) (input : Input C) → HasNextNumber rows e input
+row_letters : {C : Type 0} (P : Envelope → Type 0) (rows : List (JournalRow C)) (e : Name) (input : Input C)
+    → HasNextNumber rows e input
     → IsFrom P e input
-    → (p : Pair) → HandlesNext P p (letters_of rows p) (letters_of (rows ++ record { entity = e; input = input } ∷ []) p)
+    → (p : Pair) → HandlesNext P p (letters_of rows p) (letters_of (rows ++ record { entity = e; input = input } ∷ [])
+    p)
 row_letters P rows e (FromSeat seat c) next from p = inl (letters_of-command rows e seat c p)
 row_letters {C} P rows e (FromEntity s n m) next from p =
     either (letters_of-cases rows (pair_between s e) n m p) inl (λ h. let o = own h.0 h.1 h.2 in inr (m, o.0, o.1))
@@ -65,10 +68,14 @@ row_letters {C} P rows e (FromEntity s n m) next from p =
         let same : pair_between s e ≡ p = λ i. record { from = sym f i; to = sym t i } in
         let number : n ≡ suc (handled_of rows p) = subst (λ q. n ≡ suc (handled_of rows q)) same next in
         let here : P (Letter (record { pair = p; number = n; message = m })) =
-        subst (λ q. P (Letter (record { pair = q; number = n; message = m }))) same from in
-        (rw (← number) letters, subst (λ (k : ℕ). P (Letter (record { pair = p; number = k; message = m }))) number here)
+        subst (λ q. P (Letter (record { pair = q; number = n; message = m }))) same from in (
+          rw (← number) letters,
+          subst (λ (k : ℕ). P (Letter (record { pair = p; number = k; message = m }))) number
+              here,
+        )
 
-pub did_letters : {S C : Type 0} (s : Service S C) (P : Envelope → Type 0) (x y : Kept C) (d : Deed C) → Did s x d y → DeedIs P d
+pub did_letters : {S C : Type 0} (s : Service S C) (P : Envelope → Type 0) (x y : Kept C) (d : Deed C) → Did s x d y
+    → DeedIs P d
     → (p : Pair) → HandlesNext P p (letters_of x.journal p) (letters_of y.journal p)
 did_letters s P x y Nothing did a p = inl (ap (λ (k : Kept _). letters_of k.journal p) did)
 did_letters s P x y (TakesIn row) did a p =
@@ -84,7 +91,8 @@ mark_is q v marks p true e = inr ((same_pair-Decides q p).0 e, rw e refl)
 mark_is q v marks p false e = inl (rw e refl)
 
 -- a mark stays, or is raised to a number that has this property
-pub did_settled : {S C : Type 0} (s : Service S C) (P : Envelope → Type 0) (x y : Kept C) (d : Deed C) → Did s x d y → DeedIs P d
+pub did_settled : {S C : Type 0} (s : Service S C) (P : Envelope → Type 0) (x y : Kept C) (d : Deed C) → Did s x d y
+    → DeedIs P d
     → (p : Pair) → (y.settled p ≡ x.settled p) ⊎ ((n : ℕ) × (y.settled p ≡ max (x.settled p) n) × P (Settle p n))
 did_settled s P x y Nothing did a p = inl (ap (λ (k : Kept _). k.settled p) did)
 did_settled s P x y (TakesIn row) did a p = inl (ap (λ marks. marks p) did.1)
@@ -98,7 +106,8 @@ did_settled s P x y (Settles q n) did a p =
 -- ---- held letters
 
 -- the tests for one pair and one number, both passed
-pub both_same : (q p : Pair) (k n : ℕ) (b : Bool) → same_pair q p ≡ b → (same_pair q p && k == n) ≡ true → (q ≡ p) × (k ≡ n)
+pub both_same : (q p : Pair) (k n : ℕ) (b : Bool) → same_pair q p ≡ b → (same_pair q p && k == n) ≡ true → (q ≡ p)
+    × (k ≡ n)
 both_same q p k n true s e = ((same_pair-Decides q p).0 s, grind (arith, nat_tests, e, s))
 both_same q p k n false s e = let z : false ≡ true = rw s at e in cc
 
@@ -121,7 +130,8 @@ held_input e (FromEntity s k g) held p n m h = either (message_is (pair_between 
     (λ none. let z : None ≡ Some m = none.2 in cc)
 
 -- what is held was held before, or has this property
-pub did_held : {S C : Type 0} (s : Service S C) (P : Envelope → Type 0) (x y : Kept C) (d : Deed C) → Did s x d y → DeedIs P d
+pub did_held : {S C : Type 0} (s : Service S C) (P : Envelope → Type 0) (x y : Kept C) (d : Deed C) → Did s x d y
+    → DeedIs P d
     → (p : Pair) (n : ℕ) (m : Message) → y.held p n ≡ Some m
     → (x.held p n ≡ Some m) ⊎ P (Letter (record { pair = p; number = n; message = m }))
 did_held s P x y Nothing did a p n m h = inl (sym (ap (λ (k : Kept _). k.held p n) did) ∙ h)

@@ -1,5 +1,6 @@
 -- Examples: tables of three services, what a stop may leave of them, what is true of that and what isn't, and deeds.
-use Rattle.std.proofs.Common.{◌≡◌, ◌∙◌, ◌⊎◌, ℕ, zero, suc, [], ◌∷◌, ◌&&◌, ◌==◌, Bool, true, false, length, Option, Some, None}
+use Rattle.std.proofs.Common.{◌≡◌, ◌∙◌, ◌⊎◌, ℕ, zero, suc, [], ◌∷◌, ◌&&◌, ◌==◌, Bool, true, false, length, Option, Some}
+use Rattle.std.proofs.Common.{None}
 use Rattle.std.proofs.Common.{refl, sym, ap, subst, arith, inl, inr}
 use Rattle.std.proofs.Math.Logic.{∥∥₁_elim}
 use Rattle.std.specs.Prelude.{nat_lt, ⊤, if◌then◌else◌}
@@ -35,8 +36,10 @@ use Rattle.endpoint.specs.Deeds.{Kept, kept, Did, Deed, Nothing, TakesIn, Holds,
 use Rattle.endpoint.specs.Matches.{AllMatch, TablesMatchJournal}
 use Rattle.endpoint.proofs.Examples.{o1, bolts, acme}
 use Rattle.laws_stores.specs.Deeds.{DeedIs, Moves, Turns, OfPurchasing, OfWarehouse, OfBilling, ComesOf}
-use Rattle.laws_stores.specs.Good.{journals_of, settled_by, settled_in, held_by, IsHeldIn, HoldsAuthentic, IsGenuine, IsGood, AllAgree}
-use Rattle.laws_stores.specs.Sight.{AllTables, Sight, MayLeave, AreClean, AreMatching, OrderTables, StockTables, AccountTables, all_empty}
+use Rattle.laws_stores.specs.Good.{journals_of, settled_by, settled_in, held_by, IsHeldIn, HoldsAuthentic, IsGenuine}
+use Rattle.laws_stores.specs.Good.{IsGood, AllAgree}
+use Rattle.laws_stores.specs.Sight.{AllTables, Sight, MayLeave, AreClean, AreMatching, OrderTables, StockTables}
+use Rattle.laws_stores.specs.Sight.{AccountTables, all_empty}
 use Rattle.laws_stores.specs.Sight.{orders_service, stocks_service, accounts_service}
 use Rattle.laws_stores.specs.Writing.{IsTrueIn}
 use Rattle.laws_stores.proofs.Beginning.{empty_good}
@@ -66,7 +69,8 @@ stocks_hold l = record empty { held = set_message l.pair l.number (Some l.messag
 abbrev tables : OrderTables → StockTables → AllTables
 tables purchasing warehouse = record { purchasing = purchasing; warehouse = warehouse; billing = empty }
 
--- what is marked as settled is that of the service whose entity sends, and what is held that of the service that is named
+-- what is marked as settled is that of the service whose entity sends, and what is held that of the service that is
+-- named
 abbrev marked : AllTables
 marked = record {
   purchasing = record empty { settled = λ _. 1 };
@@ -74,9 +78,12 @@ marked = record {
   billing = record empty { settled = λ _. 3 };
 }
 
-each_service_has_its_own : (settled_by marked Order (from_to bolts o1) ≡ 1) × (settled_by marked Account (from_to bolts o1) ≡ 3)
-    × (settled_in marked (from_to o1 bolts) ≡ 1) × (settled_in marked (from_to bolts o1) ≡ 2) × (settled_in marked (from_to acme o1) ≡ 3)
-    × (held_by marked Stock (from_to o1 bolts) 1 ≡ Some (Request 3)) × (held_by marked Order (from_to o1 bolts) 1 ≡ None)
+each_service_has_its_own : (settled_by marked Order (from_to bolts o1) ≡ 1)
+    × (settled_by marked Account (from_to bolts o1) ≡ 3)
+    × (settled_in marked (from_to o1 bolts) ≡ 1) × (settled_in marked (from_to bolts o1) ≡ 2)
+    × (settled_in marked (from_to acme o1) ≡ 3)
+    × (held_by marked Stock (from_to o1 bolts) 1 ≡ Some (Request 3))
+    × (held_by marked Order (from_to o1 bolts) 1 ≡ None)
     × (held_by marked Account (from_to o1 bolts) 1 ≡ None)
 unfolding same_entity same_pair
 each_service_has_its_own = (refl, refl, refl, refl, refl, refl, refl, refl)
@@ -107,7 +114,8 @@ unfolding same_entity
 sent_letters_are_held Order (Letter l) h = absurd (cc)
 sent_letters_are_held Account (Letter l) h = absurd (cc)
 sent_letters_are_held Stock (Letter l) h =
-    subst (λ x. IsAuthentic (journals_of (tables orders_placed (stocks_hold request))) (Letter x)) (put request l _ refl h) refl
+    subst (λ x. IsAuthentic (journals_of (tables orders_placed (stocks_hold request))) (Letter x))
+    (put request l _ refl h) refl
 sent_letters_are_held kind (Settle p n) h = absurd h
 
 -- a held letter isn't authentic where nobody sent it, or where something else was sent
@@ -126,17 +134,21 @@ abbrev only : {T : Type 0} → T → Seen T
 only t = record { tables = t; may_leave = λ x. x ≡ t; failures = 0; usable = true; doubt = 0; armed = None }
 
 abbrev either : {T : Type 0} → T → T → Seen T
-either t u = record { tables = t; may_leave = λ x. (x ≡ t) ⊎ (x ≡ u); failures = 1; usable = false; doubt = 0; armed = None }
+either t u =
+    record { tables = t; may_leave = λ x. (x ≡ t) ⊎ (x ≡ u); failures = 1; usable = false; doubt = 0; armed = None }
 
 abbrev sees : Seen OrderTables → Seen StockTables → Sight
 sees purchasing warehouse = record { purchasing = purchasing; warehouse = warehouse; billing = only empty }
 
--- of each service one content of its own: where two stores failed, the old of one and the new of the other too; no content of no service
+-- of each service one content of its own: where two stores failed, the old of one and the new of the other too; no
+-- content of no service
 each_leaves_its_own : MayLeave (sees (only orders_placed) (only empty)) (tables orders_placed empty)
-    × MayLeave (sees (either empty orders_placed) (either empty (stocks_hold request))) (tables empty (stocks_hold request))
+    × MayLeave (sees (either empty orders_placed) (either empty (stocks_hold request)))
+    (tables empty (stocks_hold request))
     × MayLeave (sees (either empty orders_placed) (either empty (stocks_hold request))) (tables orders_placed empty)
     × (MayLeave (sees (only orders_placed) (only empty)) all_empty → ⊥)
-    × (MayLeave (sees (either empty orders_placed) (only empty)) (tables orders_placed (record empty { settled = λ _. 1 })) → ⊥)
+    × (MayLeave (sees (either empty orders_placed) (only empty)) (tables orders_placed
+    (record empty { settled = λ _. 1 })) → ⊥)
 each_leaves_its_own = (
   record { purchasing = refl; warehouse = refl; billing = refl },
   record { purchasing = inl refl; warehouse = inr refl; billing = refl },
@@ -183,9 +195,10 @@ a_row_alone_does_not_match : TablesMatchJournal orders_service orders_placed →
 unfolding same_entity
 a_row_alone_does_not_match h = let row = h.entities o1 in absurd (cc)
 
--- a placed order's tables match where its state and its letters stand beside the journal's row, and not with the row alone, also where
--- only a stop leaves that
-the_tables_match : AreMatching (sees (either before after) (only empty)) × (AreMatching (sees (only orders_placed) (only empty)) → ⊥)
+-- a placed order's tables match where its state and its letters stand beside the journal's row, and not with the row
+-- alone, also where only a stop leaves that
+the_tables_match : AreMatching (sees (either before after) (only empty))
+    × (AreMatching (sees (only orders_placed) (only empty)) → ⊥)
     × (AreMatching (sees (either after orders_placed) (only empty)) → ⊥)
 unfolding same_entity
 the_tables_match = (
@@ -204,17 +217,24 @@ the_tables_match = (
 
 -- ---- what is true of them
 
--- what the order sent is genuine; it isn't while the failed store may have lost the order, nor is what warehouse holds in its name
+-- what the order sent is genuine; it isn't while the failed store may have lost the order, nor is what warehouse holds
+-- in its name
 sent_letters_are_genuine : IsGenuine (sees (only orders_placed) (only empty)) (Letter request)
     × (IsGenuine (sees (only orders_placed) (only empty)) (Letter forged) → ⊥)
     × (IsGenuine (sees (either orders_placed empty) (only empty)) (Letter request) → ⊥)
     × (IsGenuine (sees (only empty) (only (stocks_hold request))) (Letter request) → ⊥)
 unfolding same_entity
 sent_letters_are_genuine = (
-  λ t may. subst (λ (x : OrderTables). IsAuthentic (journals_of (record t { purchasing = x })) (Letter request)) (sym may.purchasing) refl,
-  λ h. let sent = h (tables orders_placed empty) (record { purchasing = refl; warehouse = refl; billing = refl }) in absurd (cc),
+  λ t may. subst (λ (x : OrderTables). IsAuthentic (journals_of (record t { purchasing = x })) (Letter request))
+      (sym may.purchasing) refl,
+  λ h. let sent =
+      h (tables orders_placed empty) (record { purchasing = refl; warehouse = refl; billing = refl }) in absurd (cc),
   λ h. let sent = h all_empty (record { purchasing = inr refl; warehouse = refl; billing = refl }) in absurd (cc),
-  λ h. let sent = h (tables empty (stocks_hold request)) (record { purchasing = refl; warehouse = refl; billing = refl }) in absurd (cc),
+  λ h. let sent = h (tables empty (stocks_hold request)) (record {
+    purchasing = refl;
+    warehouse = refl;
+    billing = refl;
+  }) in absurd (cc),
 )
 
 -- a settle is genuine up to what was handled, and that is nothing yet
@@ -222,17 +242,19 @@ settles_are_genuine : IsGenuine (sees (only orders_placed) (only empty)) (Settle
     × (IsGenuine (sees (only orders_placed) (only empty)) (Settle (from_to o1 bolts) 1) → ⊥)
 settles_are_genuine = (
   λ t may. omega arith,
-  λ h. let ahead = h (tables orders_placed empty) (record { purchasing = refl; warehouse = refl; billing = refl }) in omega (arith, ahead),
+  λ h. let ahead = h (tables orders_placed empty) (record { purchasing = refl; warehouse = refl; billing = refl })
+      in omega (arith, ahead),
 )
 
 abbrev tables_of : AllTables → AllTables
 tables_of t = record { purchasing = t.purchasing; warehouse = t.warehouse; billing = t.billing }
 
--- services that did nothing are good; they aren't with a mark ahead of the handling, with a letter held that nobody sent, or where the
--- stock handled a letter that nobody sent, also if only a stop may leave it
+-- services that did nothing are good; they aren't with a mark ahead of the handling, with a letter held that nobody
+-- sent, or where the stock handled a letter that nobody sent, also if only a stop may leave it
 abbrev handled_unsent : StockTables
 handled_unsent = record empty {
-  journal = record { entity = bolts; input = FromSeat 0 (Receive 10) } ∷ record { entity = bolts; input = FromEntity o1 1 (Request 3) }
+  journal = record { entity = bolts; input = FromSeat 0 (Receive 10) } ∷ record
+      { entity = bolts; input = FromEntity o1 1 (Request 3) }
       ∷ [];
 }
 
@@ -246,8 +268,13 @@ others_are_not_good = (
       let same : tables_of t ≡ tables_of all_empty = cc in same),
   λ h. let ahead = h.settled (tables (record orders_placed { settled = λ _. 1 }) empty)
       (record { purchasing = refl; warehouse = refl; billing = refl }) (from_to o1 bolts) in omega (arith, ahead),
-  λ h. let sent = h.held (tables empty (stocks_hold request)) (record { purchasing = refl; warehouse = refl; billing = refl }) Stock
-      (Letter request) refl (tables empty (stocks_hold request)) (record { purchasing = refl; warehouse = refl; billing = refl }) in
+  λ h. let sent =
+      h.held (tables empty (stocks_hold request)) (record { purchasing = refl; warehouse = refl; billing = refl }) Stock
+      (Letter request) refl (tables empty (stocks_hold request)) (record {
+        purchasing = refl;
+        warehouse = refl;
+        billing = refl;
+      }) in
       absurd (cc),
   λ h. let lost = (h.lawful (tables empty handled_unsent)
       (record { purchasing = refl; warehouse = inr refl; billing = refl })).prefixes (from_to o1 bolts) in absurd (cc),
@@ -264,25 +291,32 @@ confirmed = record empty {
 
 abbrev stocks_told : Message → StockTables
 stocks_told message = record empty {
-  journal = record { entity = bolts; input = FromSeat 0 (Receive 10) } ∷ record { entity = bolts; input = FromEntity o1 1 (Request 3) }
+  journal = record { entity = bolts; input = FromSeat 0 (Receive 10) } ∷ record
+      { entity = bolts; input = FromEntity o1 1 (Request 3) }
       ∷ record { entity = bolts; input = FromEntity o1 2 message } ∷ [];
 }
 
 abbrev billed : AccountTables
 billed = record empty {
-  journal = record { entity = acme; input = FromSeat 0 (SetLimit 500) } ∷ record { entity = acme; input = FromEntity o1 1 (Request 500) }
+  journal = record { entity = acme; input = FromSeat 0 (SetLimit 500) } ∷ record
+      { entity = acme; input = FromEntity o1 1 (Request 500) }
       ∷ record { entity = acme; input = FromEntity o1 2 Confirm } ∷ [];
 }
 
 abbrev at_end : StockTables → AllTables
 at_end warehouse = record { purchasing = confirmed; warehouse = warehouse; billing = billed }
 
--- where the stock shipped, these are the journals of the schedule by which an order comes to be confirmed, and so all agree
+-- where the stock shipped, these are the journals of the schedule by which an order comes to be confirmed, and so all
+-- agree
 it_was_reached : journals_of (at_end (stocks_told Confirm)) ≡ (act_all schedule start).journals
 unfolding same_entity same_pair is_before
 it_was_reached = refl
 
-all_agree_at_the_end : AllAgree (record { purchasing = only confirmed; warehouse = only (stocks_told Confirm); billing = only billed })
+all_agree_at_the_end : AllAgree (record {
+  purchasing = only confirmed;
+  warehouse = only (stocks_told Confirm);
+  billing = only billed;
+})
 all_agree_at_the_end t may = let one = may.purchasing in let two = may.warehouse in let three = may.billing in
     let same : tables_of t ≡ tables_of (at_end (stocks_told Confirm)) = cc in
     subst (λ js. AreSound (states_in js)) (sym (ap journals_of same ∙ it_was_reached))
@@ -290,7 +324,11 @@ all_agree_at_the_end t may = let one = may.purchasing in let two = may.warehouse
     (reached_good start (act_all schedule start) (acts_reach schedule start) start_good).lawful.prefixes)
 
 -- billed and released don't agree, also where the tables now do and only a stop may leave these
-released_and_billed : (AllAgree (record { purchasing = only confirmed; warehouse = only (stocks_told Cancel); billing = only billed }) → ⊥)
+released_and_billed : (AllAgree (record {
+  purchasing = only confirmed;
+  warehouse = only (stocks_told Cancel);
+  billing = only billed;
+}) → ⊥)
     × (AllAgree (record {
       purchasing = only confirmed;
       warehouse = either (stocks_told Confirm) (stocks_told Cancel);
@@ -315,10 +353,11 @@ a_service_writes_what_is_true : IsTrueIn order_reactions (placing ∷ []) (Lette
     × (IsTrueIn order_reactions confirmed.journal (Settle (from_to bolts o1) 2) → ⊥)
     × (IsTrueIn order_reactions confirmed.journal (Settle (from_to o1 bolts) 1) → ⊥)
 unfolding same_entity
-a_service_writes_what_is_true = (refl, λ h. absurd (cc), λ h. absurd (cc), omega arith, λ h. omega (arith, h), λ h. omega (arith, h))
+a_service_writes_what_is_true =
+    (refl, λ h. absurd (cc), λ h. absurd (cc), omega arith, λ h. omega (arith, h), λ h. omega (arith, h))
 
--- a row of a command needs nothing; one of a letter, a letter that is held and a settle need to be known, here as what the placed order
--- makes authentic
+-- a row of a command needs nothing; one of a letter, a letter that is held and a settle need to be known, here as what
+-- the placed order makes authentic
 abbrev asked : JournalRow StockCommand
 asked = record { entity = bolts; input = FromEntity o1 1 (Request 3) }
 
@@ -366,8 +405,10 @@ nothing_is_taken_back moves = back moves.deed moves.did
     back : (deed : Deed StockCommand) → Did stocks_service (kept stocked) deed (kept no_stocks) → ⊥
     back Nothing did = let none : 0 ≡ 1 = ap (λ (k : Kept StockCommand). length k.journal) did in omega (arith, none)
     back (TakesIn row) did = let none : 0 ≡ 2 = ap length did.0.appended in omega (arith, none)
-    back (Holds l) did = let none : 0 ≡ 1 = ap (λ (k : Kept StockCommand). length k.journal) did.2 in omega (arith, none)
-    back (Settles p n) did = let none : 0 ≡ 1 = ap (λ (k : Kept StockCommand). length k.journal) did.2 in omega (arith, none)
+    back (Holds l) did =
+        let none : 0 ≡ 1 = ap (λ (k : Kept StockCommand). length k.journal) did.2 in omega (arith, none)
+    back (Settles p n) did =
+        let none : 0 ≡ 1 = ap (λ (k : Kept StockCommand). length k.journal) did.2 in omega (arith, none)
 
 -- one service turns, and the other two stay; two don't in one turn
 one_service_turns : Turns (λ e. ⊥) all_empty (tables empty stocked)
@@ -383,7 +424,8 @@ one_service_turns = (OfWarehouse bolts_come_in refl refl, two)
         let more : 1 ≡ 0 = ap (λ (t : OrderTables). length t.journal) purchasing in omega (arith, more)
 
 -- where warehouse's store failed while the bolts came in, each content that it may leave comes of the empty one
-contents_come_of_turns : ComesOf (Turns (λ e. ⊥)) (sees (only empty) (only empty)) (sees (only empty) (either empty stocked))
+contents_come_of_turns : ComesOf (Turns (λ e. ⊥)) (sees (only empty) (only empty))
+    (sees (only empty) (either empty stocked))
 contents_come_of_turns y may =
     ∣ (
       all_empty,
@@ -396,8 +438,10 @@ contents_come_of_turns y may =
     moved t (inr new) = subst (Moves stocks_service (λ e. ⊥) empty) (sym new) bolts_come_in
 
 -- tables that lost what a store has kept come of nothing
-lost_rows_come_of_nothing : ComesOf (Turns (λ e. ⊤)) (sees (only empty) (only stocked)) (sees (only empty) (only empty)) → ⊥
-lost_rows_come_of_nothing h = ∥∥₁_elim (h all_empty (record { purchasing = refl; warehouse = refl; billing = refl })) (λ a b. absurd a)
+lost_rows_come_of_nothing : ComesOf (Turns (λ e. ⊤)) (sees (only empty) (only stocked)) (sees (only empty) (only empty))
+    → ⊥
+lost_rows_come_of_nothing h =
+    ∥∥₁_elim (h all_empty (record { purchasing = refl; warehouse = refl; billing = refl })) (λ a b. absurd a)
     (λ led. lost led.0 led.1 led.2)
   where
     lost : (x : AllTables) → MayLeave (sees (only empty) (only stocked)) x → Turns (λ e. ⊤) x all_empty → ⊥

@@ -18,7 +18,8 @@ use Rattle.laws_stores.specs.Sight.{orders_service, stocks_service, accounts_ser
 use Rattle.laws_stores.specs.Writing.{IsTrueIn}
 use Rattle.laws_stores.proofs.Writing.{sender-kind, receiver-kind}
 
-orders_true : (t : AllTables) → AreOf Order t.purchasing.journal → (e : Envelope) → IsTrueIn order_reactions t.purchasing.journal e
+orders_true : (t : AllTables) → AreOf Order t.purchasing.journal → (e : Envelope)
+    → IsTrueIn order_reactions t.purchasing.journal e
     → IsAuthentic (journals_of t) e
 orders_true t all (Letter l) h = subst (λ kind. nth (sent_by (journals_of t) kind l.pair) l.number ≡ Some l.message)
     (sym (sender-kind order_reactions Order t.purchasing.journal l.pair l.number l.message all h)) h
@@ -26,7 +27,8 @@ orders_true t all (Settle p n) h = either (receiver-kind Order t.purchasing.jour
     (λ none. omega (arith, none, h))
     (λ same. subst (λ kind. n ≤ length (letters_by (journals_of t) kind p)) (sym same) h)
 
-stocks_true : (t : AllTables) → AreOf Stock t.warehouse.journal → (e : Envelope) → IsTrueIn stock_reactions t.warehouse.journal e
+stocks_true : (t : AllTables) → AreOf Stock t.warehouse.journal → (e : Envelope)
+    → IsTrueIn stock_reactions t.warehouse.journal e
     → IsAuthentic (journals_of t) e
 stocks_true t all (Letter l) h = subst (λ kind. nth (sent_by (journals_of t) kind l.pair) l.number ≡ Some l.message)
     (sym (sender-kind stock_reactions Stock t.warehouse.journal l.pair l.number l.message all h)) h
@@ -34,7 +36,8 @@ stocks_true t all (Settle p n) h = either (receiver-kind Stock t.warehouse.journ
     (λ none. omega (arith, none, h))
     (λ same. subst (λ kind. n ≤ length (letters_by (journals_of t) kind p)) (sym same) h)
 
-accounts_true : (t : AllTables) → AreOf Account t.billing.journal → (e : Envelope) → IsTrueIn account_reactions t.billing.journal e
+accounts_true : (t : AllTables) → AreOf Account t.billing.journal → (e : Envelope)
+    → IsTrueIn account_reactions t.billing.journal e
     → IsAuthentic (journals_of t) e
 accounts_true t all (Letter l) h = subst (λ kind. nth (sent_by (journals_of t) kind l.pair) l.number ≡ Some l.message)
     (sym (sender-kind account_reactions Account t.billing.journal l.pair l.number l.message all h)) h
@@ -45,12 +48,15 @@ accounts_true t all (Settle p n) h = either (receiver-kind Account t.billing.jou
 module _ (s : Sight) (e : Envelope) where
   pub orders_genuine : AllMatch orders_service s.purchasing.may_leave
       → ((t : OrderTables) → s.purchasing.may_leave t → IsTrueIn order_reactions t.journal e) → IsGenuine s e
-  orders_genuine match all t may = orders_true t (match t.purchasing may.purchasing).legal.kinds e (all t.purchasing may.purchasing)
+  orders_genuine match all t may =
+      orders_true t (match t.purchasing may.purchasing).legal.kinds e (all t.purchasing may.purchasing)
 
   pub stocks_genuine : AllMatch stocks_service s.warehouse.may_leave
       → ((t : StockTables) → s.warehouse.may_leave t → IsTrueIn stock_reactions t.journal e) → IsGenuine s e
-  stocks_genuine match all t may = stocks_true t (match t.warehouse may.warehouse).legal.kinds e (all t.warehouse may.warehouse)
+  stocks_genuine match all t may =
+      stocks_true t (match t.warehouse may.warehouse).legal.kinds e (all t.warehouse may.warehouse)
 
   pub accounts_genuine : AllMatch accounts_service s.billing.may_leave
       → ((t : AccountTables) → s.billing.may_leave t → IsTrueIn account_reactions t.journal e) → IsGenuine s e
-  accounts_genuine match all t may = accounts_true t (match t.billing may.billing).legal.kinds e (all t.billing may.billing)
+  accounts_genuine match all t may =
+      accounts_true t (match t.billing may.billing).legal.kinds e (all t.billing may.billing)

@@ -23,7 +23,8 @@ genuine-prop s e = hlevel (λ (t : AllTables). authentic-prop (journals_of t) e)
 -- ---- journals that stay, or have one row more
 
 lawful_after : (js later : Journals) → (later ≡ js) ⊎ AddsRow js later → AreLawful js → AreLawful later
-lawful_after js later h lawful = either h (λ same. subst AreLawful (sym same) lawful) (λ adds. lawful-later js later adds lawful)
+lawful_after js later h lawful =
+    either h (λ same. subst AreLawful (sym same) lawful) (λ adds. lawful-later js later adds lawful)
 
 grows_after : (js later : Journals) → (later ≡ js) ⊎ AddsRow js later → Grows js later
 grows_after js later h = either h (λ same. subst (Grows js) (sym same) (grows-same js)) (λ adds. grows js later adds)
@@ -54,7 +55,8 @@ module _ (known : Envelope → Type 0) (x y : AllTables) (turn : Turns known x y
   pub turn_settled : SettledAreHandled (journals_of x) (settled_in x) → SettledAreHandled (journals_of y) (settled_in y)
   turn_settled h p = mark_after (journals_of y) p (settled_in x p) (settled_in y p)
       (settled-later (journals_of x) (journals_of y) more (settled_in x) h p)
-      (turn_marks known (IsAuthentic (journals_of y)) x y (λ e k. turn_authentic e (all e k)) (λ kind e i. turn_authentic e (held kind e i))
+      (turn_marks known (IsAuthentic (journals_of y)) x y (λ e k. turn_authentic e (all e k))
+      (λ kind e i. turn_authentic e (held kind e i))
       turn p.from.kind p)
 
   pub turn_holds : HoldsAuthentic y
@@ -78,11 +80,14 @@ module _ (old new : Sight) (good : IsGood old) (comes : ComesOf (Turns (IsGenuin
   pub good_later : IsGood new
   good_later = record {
     lawful = λ y may. ∥∥₁_elim (comes y may) (lawful-prop (journals_of y)) (λ led.
-        turn_lawful (IsGenuine old) led.0 y led.2 (known_at led.0 led.1) (held_at led.0 led.1) (good.lawful led.0 led.1));
+        turn_lawful (IsGenuine old) led.0 y led.2 (known_at led.0 led.1) (held_at led.0 led.1)
+        (good.lawful led.0 led.1));
     settled = λ y may. ∥∥₁_elim (comes y may) (settled-prop (journals_of y) (settled_in y)) (λ led.
-        turn_settled (IsGenuine old) led.0 y led.2 (known_at led.0 led.1) (held_at led.0 led.1) (good.settled led.0 led.1));
+        turn_settled (IsGenuine old) led.0 y led.2 (known_at led.0 led.1) (held_at led.0 led.1)
+        (good.settled led.0 led.1));
     held = λ y may kind e h. ∥∥₁_elim (comes y may) (genuine-prop new e) (λ led.
-        turn_held (IsGenuine old) (IsGenuine new) led.0 y genuine_later (λ k x i. genuine_later x (good.held led.0 led.1 k x i)) led.2
+        turn_held (IsGenuine old) (IsGenuine new) led.0 y genuine_later (λ k x i. genuine_later x
+        (good.held led.0 led.1 k x i)) led.2
         kind e h);
   }
 

@@ -39,7 +39,8 @@ placing = record { entity = o1; input = FromSeat 0 (Place (item (codes "bolts") 
 abbrev pub placed : OrderState
 placed = record {
   status = Open;
-  partners = record { entity = bolts; n = 3; phase = Requested } ∷ record { entity = acme; n = 500; phase = Requested } ∷ [];
+  partners =
+      record { entity = bolts; n = 3; phase = Requested } ∷ record { entity = acme; n = 500; phase = Requested } ∷ [];
 }
 
 -- what that asks its partners
@@ -75,7 +76,8 @@ a_placed_order_is_committed = (
 )
 
 -- placing it again is refused, and the journal stays
-pub it_is_placed_once : CommitAt order_reactions Order (placing ∷ []) placing (Err (Business AlreadyPlaced)) (placing ∷ [])
+pub it_is_placed_once : CommitAt order_reactions Order (placing ∷ []) placing (Err (Business AlreadyPlaced))
+    (placing ∷ [])
 unfolding same_entity
 it_is_placed_once = (refl, omega arith, refl, refl)
 
@@ -95,11 +97,13 @@ pub before_matches : TablesMatchJournal orders_service before
 before_matches = empty-matches HELD_WINDOW orders_service
 
 prepared : Prepares HELD_WINDOW Order before placing []
-prepared = command-prepares HELD_WINDOW orders_service before o1 0 (Place (item (codes "bolts") 3 ∷ []) (codes "acme") 500) []
+prepared =
+    command-prepares HELD_WINDOW orders_service before o1 0 (Place (item (codes "bolts") 3 ∷ []) (codes "acme") 500) []
     before_matches (omega arith) refl
 
 -- so `o1` was taken in: the tables after it match their journal
 pub taken_in : Appends HELD_WINDOW orders_service before placing before.held after
 unfolding same_entity
-taken_in = taken-appends HELD_WINDOW orders_service before 1 placing [] (Some placed, requests) before_matches refl prepared
+taken_in =
+    taken-appends HELD_WINDOW orders_service before 1 placing [] (Some placed, requests) before_matches refl prepared
     (omega arith) refl (a_placed_order_is_committed.0.fits (Some placed, requests) refl)

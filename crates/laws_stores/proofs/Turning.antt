@@ -35,7 +35,8 @@ module _ {S C : Type 0} (s : Service S C) where
   Continues P journal later = (later ≡ journal) ⊎ ((row : JournalRow C) × MayFollow s.reactions s.kind journal row
       × IsFrom P row.entity row.input × (later ≡ journal ++ row ∷ []))
 
-  did_journal : (P : Envelope → Type 0) (x y : Kept C) (d : Deed C) → Did s x d y → DeedIs P d → Continues P x.journal y.journal
+  did_journal : (P : Envelope → Type 0) (x y : Kept C) (d : Deed C) → Did s x d y → DeedIs P d
+      → Continues P x.journal y.journal
   did_journal P x y Nothing did a = inl (ap (λ (k : Kept _). k.journal) did)
   did_journal P x y (TakesIn row) did a = inr (row, did.0.follows, a, did.0.appended)
   did_journal P x y (Holds l) did a = inl (ap (λ (k : Kept _). k.journal) did.2)
@@ -45,14 +46,16 @@ module _ {S C : Type 0} (s : Service S C) where
     journal_moves : Continues (Founds known x) x.journal y.journal
     journal_moves = did_journal (Founds known x) (kept x) (kept y) m.deed m.did m.founded
 
-    -- where what is known and what is held has a property, marks are raised to what has it alone, and so is what is held then
+    -- where what is known and what is held has a property, marks are raised to what has it alone, and so is what is
+    -- held then
     mark_moves : ((e : Envelope) → Founds known x e → P e) → (p : Pair) → Raises P p (x.settled p) (y.settled p)
     mark_moves all p = either (did_settled s (Founds known x) (kept x) (kept y) m.deed m.did m.founded p)
         inl
         (λ up. inr (up.0, up.1, all (Settle p up.0) up.2))
 
     held_moves : (e : Envelope) → IsHeldIn y.held e → Founds known x e
-    held_moves (Letter l) h = either (did_held s (Founds known x) (kept x) (kept y) m.deed m.did m.founded l.pair l.number l.message h)
+    held_moves (Letter l) h =
+        either (did_held s (Founds known x) (kept x) (kept y) m.deed m.did m.founded l.pair l.number l.message h)
         inr
         (λ f. f)
     held_moves (Settle p n) h = absurd h
@@ -69,27 +72,42 @@ module _ (known P : Envelope → Type 0) (x y : AllTables) (all : (e : Envelope)
   turn_journals (OfPurchasing m w b) = either (journal_moves orders_service known P x.purchasing y.purchasing m)
       (λ same. inl (λ i. record { orders = same i; stocks = (w i).journal; accounts = (b i).journal }))
       (λ more. inr (adds-known (Founds known x.purchasing) P (journals_of x) (journals_of y) (founds_all Order)
-      (AddsOrder more.0 more.1 more.2 (λ i. record { orders = more.3 i; stocks = (w i).journal; accounts = (b i).journal }))))
+      (AddsOrder more.0 more.1 more.2 (λ i. record {
+        orders = more.3 i;
+        stocks = (w i).journal;
+        accounts = (b i).journal;
+      }))))
   turn_journals (OfWarehouse m p b) = either (journal_moves stocks_service known P x.warehouse y.warehouse m)
       (λ same. inl (λ i. record { orders = (p i).journal; stocks = same i; accounts = (b i).journal }))
       (λ more. inr (adds-known (Founds known x.warehouse) P (journals_of x) (journals_of y) (founds_all Stock)
-      (AddsStock more.0 more.1 more.2 (λ i. record { orders = (p i).journal; stocks = more.3 i; accounts = (b i).journal }))))
+      (AddsStock more.0 more.1 more.2 (λ i. record {
+        orders = (p i).journal;
+        stocks = more.3 i;
+        accounts = (b i).journal;
+      }))))
   turn_journals (OfBilling m p w) = either (journal_moves accounts_service known P x.billing y.billing m)
       (λ same. inl (λ i. record { orders = (p i).journal; stocks = (w i).journal; accounts = same i }))
       (λ more. inr (adds-known (Founds known x.billing) P (journals_of x) (journals_of y) (founds_all Account)
-      (AddsAccount more.0 more.1 more.2 (λ i. record { orders = (p i).journal; stocks = (w i).journal; accounts = more.3 i }))))
+      (AddsAccount more.0 more.1 more.2 (λ i. record {
+        orders = (p i).journal;
+        stocks = (w i).journal;
+        accounts = more.3 i;
+      }))))
 
   -- a mark stays, or is raised to a number that has the property
   pub turn_marks : Turns known x y → (kind : Kind) (p : Pair) → Raises P p (settled_by x kind p) (settled_by y kind p)
-  turn_marks (OfPurchasing m w b) Order p = mark_moves orders_service known P x.purchasing y.purchasing m (founds_all Order) p
+  turn_marks (OfPurchasing m w b) Order p =
+      mark_moves orders_service known P x.purchasing y.purchasing m (founds_all Order) p
   turn_marks (OfPurchasing m w b) Stock p = inl (λ i. (w i).settled p)
   turn_marks (OfPurchasing m w b) Account p = inl (λ i. (b i).settled p)
   turn_marks (OfWarehouse m o b) Order p = inl (λ i. (o i).settled p)
-  turn_marks (OfWarehouse m o b) Stock p = mark_moves stocks_service known P x.warehouse y.warehouse m (founds_all Stock) p
+  turn_marks (OfWarehouse m o b) Stock p =
+      mark_moves stocks_service known P x.warehouse y.warehouse m (founds_all Stock) p
   turn_marks (OfWarehouse m o b) Account p = inl (λ i. (b i).settled p)
   turn_marks (OfBilling m o w) Order p = inl (λ i. (o i).settled p)
   turn_marks (OfBilling m o w) Stock p = inl (λ i. (w i).settled p)
-  turn_marks (OfBilling m o w) Account p = mark_moves accounts_service known P x.billing y.billing m (founds_all Account) p
+  turn_marks (OfBilling m o w) Account p =
+      mark_moves accounts_service known P x.billing y.billing m (founds_all Account) p
 
   -- what is held in tables that stayed has the property
   still_held : (kind : Kind) (e : Envelope) → held_by y kind ≡ held_by x kind → IsHeldIn (held_by y kind) e → P e
@@ -97,12 +115,15 @@ module _ (known P : Envelope → Type 0) (x y : AllTables) (all : (e : Envelope)
 
   -- and so has all that is held then
   pub turn_held : Turns known x y → (kind : Kind) (e : Envelope) → IsHeldIn (held_by y kind) e → P e
-  turn_held (OfPurchasing m w b) Order e h = founds_all Order e (held_moves orders_service known P x.purchasing y.purchasing m e h)
+  turn_held (OfPurchasing m w b) Order e h =
+      founds_all Order e (held_moves orders_service known P x.purchasing y.purchasing m e h)
   turn_held (OfPurchasing m w b) Stock e h = still_held Stock e (λ i. (w i).held) h
   turn_held (OfPurchasing m w b) Account e h = still_held Account e (λ i. (b i).held) h
   turn_held (OfWarehouse m o b) Order e h = still_held Order e (λ i. (o i).held) h
-  turn_held (OfWarehouse m o b) Stock e h = founds_all Stock e (held_moves stocks_service known P x.warehouse y.warehouse m e h)
+  turn_held (OfWarehouse m o b) Stock e h =
+      founds_all Stock e (held_moves stocks_service known P x.warehouse y.warehouse m e h)
   turn_held (OfWarehouse m o b) Account e h = still_held Account e (λ i. (b i).held) h
   turn_held (OfBilling m o w) Order e h = still_held Order e (λ i. (o i).held) h
   turn_held (OfBilling m o w) Stock e h = still_held Stock e (λ i. (w i).held) h
-  turn_held (OfBilling m o w) Account e h = founds_all Account e (held_moves accounts_service known P x.billing y.billing m e h)
+  turn_held (OfBilling m o w) Account e h =
+      founds_all Account e (held_moves accounts_service known P x.billing y.billing m e h)

@@ -1,5 +1,6 @@
 -- What a service writes of what it did is true.
-use Rattle.std.proofs.Common.{◌≡◌, ℕ, zero, suc, ◌+◌, ◌≤◌, List, [], ◌∷◌, ◌++◌, ◌⊎◌, Bool, true, false, refl, ap, arith, sym, ◌∙◌}
+use Rattle.std.proofs.Common.{◌≡◌, ℕ, zero, suc, ◌+◌, ◌≤◌, List, [], ◌∷◌, ◌++◌, ◌⊎◌, Bool, true, false, refl, ap, arith}
+use Rattle.std.proofs.Common.{sym, ◌∙◌}
 use Rattle.std.proofs.Common.{Option, Some, None, Ok, inl, inr, length, subst}
 use Rattle.std.specs.Prelude.{nat_lt, slice_get}
 use Rattle.base.specs.Entity.{Name}
@@ -37,14 +38,16 @@ pub handled-now : {C : Type 0} (rows : List (JournalRow C)) (s e : Name) (n : �
     → n ≡ suc (handled_of rows (pair_between s e))
     → handled_of (rows ++ record { entity = e; input = FromEntity s n m } ∷ []) (pair_between s e) ≡ n
 handled-now rows s e n m next =
-    let same : same_pair (pair_between s e) (pair_between s e) ≡ true = (same_pair-Decides (pair_between s e) (pair_between s e)).1 refl in
+    let same : same_pair (pair_between s e) (pair_between s e) ≡ true =
+    (same_pair-Decides (pair_between s e) (pair_between s e)).1 refl in
     let more : handled_of (rows ++ record { entity = e; input = FromEntity s n m } ∷ []) (pair_between s e)
     ≡ handled_of rows (pair_between s e) + 1
     = rw same at (handled_of-letter rows (pair_between s e) n m (pair_between s e)) in
     omega (arith, more, next)
 
 module _ {S C : Type 0} (s : Service S C) (x y : Kept C) (d : Deed C) (did : Did s x d y) where
-  taken_true : (l : Letter) → d ≡ TakesIn (row_of_letter l) → IsTrueIn s.reactions y.journal (envelope.Settle l.pair l.number)
+  taken_true : (l : Letter) → d ≡ TakesIn (row_of_letter l)
+      → IsTrueIn s.reactions y.journal (envelope.Settle l.pair l.number)
   taken_true l is =
       let h = subst (λ e. Did s x e y) is did in
       let now = handled-now x.journal l.pair.from l.pair.to l.number l.message h.0.follows.next in
@@ -57,24 +60,28 @@ module _ {S C : Type 0} (s : Service S C) (x y : Kept C) (d : Deed C) (did : Did
   handled_true l position may = taken_true l may.0
 
   -- so may what was handled before
-  pub repeated_true : (p : Pair) (count : ℕ) → count ≤ handled_of x.journal p → IsTrueIn s.reactions y.journal (envelope.Settle p count)
+  pub repeated_true : (p : Pair) (count : ℕ) → count ≤ handled_of x.journal p
+      → IsTrueIn s.reactions y.journal (envelope.Settle p count)
   repeated_true p count behind = let more = did_handled s x y d did p in omega (arith, more, behind)
 
   -- and a letter that was held and is handled
-  pub drained_true : (p : Pair) (n : ℕ) → DrainMay s p (Ok (Some n)) x d → IsTrueIn s.reactions y.journal (envelope.Settle p n)
+  pub drained_true : (p : Pair) (n : ℕ) → DrainMay s p (Ok (Some n)) x d
+      → IsTrueIn s.reactions y.journal (envelope.Settle p n)
   drained_true p n may = subst (λ k. IsTrueIn s.reactions y.journal (envelope.Settle p k)) (sym may.0)
       (taken_true (next_letter x p may.1.0) may.1.2)
 
 -- ---- letters
 
 -- a listing gives what stands there
-pub listed_stands : (messages : Messages) (after : Option Place) (limit : ℕ) (ls : List Letter) → AreFirst messages after limit ls
+pub listed_stands : (messages : Messages) (after : Option Place) (limit : ℕ) (ls : List Letter)
+    → AreFirst messages after limit ls
     → (i : ℕ) (l : Letter) → slice_get ls i ≡ Some l → messages l.pair l.number ≡ Some l.message
 listed_stands messages after limit [] h i l at = absurd (cc)
 listed_stands messages after zero (k ∷ ls) h i l at = absurd h
 listed_stands messages after (suc n) (k ∷ ls) h zero l at =
     let same : k ≡ l = cc in subst (λ (v : Letter). messages v.pair v.number ≡ Some v.message) same h.0.stands
-listed_stands messages after (suc n) (k ∷ ls) h (suc i) l at = listed_stands messages (Some (place_of k)) n ls h.1 i l at
+listed_stands messages after (suc n) (k ∷ ls) h (suc i) l at =
+    listed_stands messages (Some (place_of k)) n ls h.1 i l at
 
 above-some : (mark : ℕ) (ms : List Message) (n : ℕ) (m : Message) (b : Bool) → nat_lt mark n ≡ b
     → above mark ms n ≡ Some m → nth ms n ≡ Some m
@@ -82,9 +89,12 @@ above-some mark ms n m true e h = rw e at h
 above-some mark ms n m false e h = let z : None ≡ Some m = rw e at h in cc
 
 -- what isn't settled is what the journal sends
-pub unsettled_true : {S C : Type 0} (reactions : Reactions S C) (journal : List (JournalRow C)) (settled : Pair → ℕ) (l : Letter)
-    → unsettled_of reactions journal settled l.pair l.number ≡ Some l.message → IsTrueIn reactions journal (envelope.Letter l)
-unsettled_true reactions journal settled l h = above-some (settled l.pair) (sent_of reactions journal l.pair) l.number l.message _ refl h
+pub unsettled_true : {S C : Type 0} (reactions : Reactions S C) (journal : List (JournalRow C)) (settled : Pair → ℕ)
+    (l : Letter)
+    → unsettled_of reactions journal settled l.pair l.number ≡ Some l.message
+    → IsTrueIn reactions journal (envelope.Letter l)
+unsettled_true reactions journal settled l h =
+    above-some (settled l.pair) (sent_of reactions journal l.pair) l.number l.message _ refl h
 
 -- so a row of the outbox is, where the tables match their journal
 pub outbox_true : {S C : Type 0} (s : Service S C) (t : Tables S C) → TablesMatchJournal s t → (l : Letter)
@@ -94,7 +104,8 @@ outbox_true s t match l h = unsettled_true s.reactions t.journal t.settled l (sy
 -- ---- whose letters they are
 
 -- who has a part in a journal is of its kind
-part-kind : {C : Type 0} (kind : Kind) (e : Name) (rows : List (JournalRow C)) → AreOf kind rows → (part e rows ≡ []) ⊎ (e.kind ≡ kind)
+part-kind : {C : Type 0} (kind : Kind) (e : Name) (rows : List (JournalRow C)) → AreOf kind rows → (part e rows ≡ [])
+    ⊎ (e.kind ≡ kind)
 part-kind kind e [] all = inl refl
 part-kind kind e (row ∷ rows) all = either (same_entity-tells e row.entity)
     (λ h. inr (ap (λ (x : Name). x.kind) h.1 ∙ all.0))
@@ -105,7 +116,8 @@ nth-none zero m h = cc
 nth-none (suc n) m h = cc
 
 -- a sender of letters is of the journal's kind
-pub sender-kind : {S C : Type 0} (reactions : Reactions S C) (kind : Kind) (rows : List (JournalRow C)) (p : Pair) (n : ℕ) (m : Message)
+pub sender-kind : {S C : Type 0} (reactions : Reactions S C) (kind : Kind) (rows : List (JournalRow C)) (p : Pair)
+    (n : ℕ) (m : Message)
     → AreOf kind rows → nth (sent_of reactions rows p) n ≡ Some m → p.from.kind ≡ kind
 sender-kind reactions kind rows p n m all h = either (part-kind kind p.from rows all)
     (λ none. absurd (nth-none n m (subst (λ inputs. nth (sent reactions inputs p.to) n ≡ Some m) none h)))

@@ -24,7 +24,8 @@ pub record Moves {S C : Type 0} (service : Service S C) (known : Envelope → Ty
 
 -- one of three services does so, and the tables of the other two stay as they are
 pub data Turns (known : Envelope → Type 0) (x y : AllTables) : Type 0 where
-  OfPurchasing : Moves orders_service known x.purchasing y.purchasing → y.warehouse ≡ x.warehouse → y.billing ≡ x.billing
+  OfPurchasing : Moves orders_service known x.purchasing y.purchasing → y.warehouse ≡ x.warehouse
+      → y.billing ≡ x.billing
       → Turns known x y
   OfWarehouse : Moves stocks_service known x.warehouse y.warehouse → y.purchasing ≡ x.purchasing → y.billing ≡ x.billing
       → Turns known x y

@@ -40,18 +40,19 @@ IsHeldIn held (Settle pair count) = ⊥
 abbrev pub HoldsAuthentic : AllTables → Type 0
 HoldsAuthentic t = (kind : Kind) (e : Envelope) → IsHeldIn (held_by t kind) e → IsAuthentic (journals_of t) e
 
--- The envelope is authentic, whatever a stop leaves: a letter is what its sender's journal sends under that number, and a settle isn't
--- ahead of what its receiver's journal handled.
+-- The envelope is authentic, whatever a stop leaves: a letter is what its sender's journal sends under that number, and
+-- a settle isn't ahead of what its receiver's journal handled.
 abbrev pub IsGenuine : Sight → Envelope → Type 0
 IsGenuine s e = (t : AllTables) → MayLeave s t → IsAuthentic (journals_of t) e
 
--- Whatever a stop leaves: the journals are lawful, what a sender marks as settled its receiver has handled, and a letter that one service
--- may hold is genuine.
+-- Whatever a stop leaves: the journals are lawful, what a sender marks as settled its receiver has handled, and a
+-- letter that one service may hold is genuine.
 pub record IsGood (s : Sight) : Type 0 where
   pub lawful : (t : AllTables) → MayLeave s t → AreLawful (journals_of t)
   pub settled : (t : AllTables) → MayLeave s t → SettledAreHandled (journals_of t) (settled_in t)
   pub held : (t : AllTables) → MayLeave s t → (kind : Kind) (e : Envelope) → IsHeldIn (held_by t kind) e → IsGenuine s e
 
--- Whatever a stop leaves: the partners of each order agree, and of each stock and each account nothing is lost or used twice.
+-- Whatever a stop leaves: the partners of each order agree, and of each stock and each account nothing is lost or used
+-- twice.
 abbrev pub AllAgree : Sight → Type 0
 AllAgree s = (t : AllTables) → MayLeave s t → AreSound (states_in (journals_of t))

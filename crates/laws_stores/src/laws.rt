@@ -8,8 +8,8 @@ ghost use Rattle.laws_stores.specs.Deeds.{Turns};
 ghost use Rattle.laws_stores.specs.Good.{journals_of, settled_in, HoldsAuthentic};
 ghost use Rattle.laws_stores.specs.Sight.{AllTables, all_empty};
 
-/// A deed of one service that takes in, holds or settles only what is authentic, or was held, keeps the journals of all three lawful, the
-/// settled marks behind the handling, and what is held and what was sent authentic.
+/// A deed of one service that takes in, holds or settles only what is authentic, or was held, keeps the journals of all
+/// three lawful, the settled marks behind the handling, and what is held and what was sent authentic.
 pub fn a_turn_keeps_the_laws()
     ensures lawful { (x y : AllTables) → Turns (IsAuthentic (journals_of x)) x y → HoldsAuthentic x →
         AreLawful (journals_of x) → AreLawful (journals_of y) }
@@ -27,7 +27,8 @@ pub fn empty_tables_keep_the_laws()
     ensures held { HoldsAuthentic all_empty }
 {}
 
-/// Where the journals are lawful the partners of each order agree, and nothing of a stock or of an account's limit is lost or used twice.
+/// Where the journals are lawful the partners of each order agree, and nothing of a stock or of an account's limit is
+/// lost or used twice.
 pub fn lawful_tables_agree()
     ensures { (t : AllTables) → AreLawful (journals_of t) → AreSound (states_in (journals_of t)) }
 {}

@@ -1,9 +1,10 @@
 //! Three services, as their stores show them, and what holds of them together, whatever a stop leaves of each.
 //!
-//! A turn of one service, which takes in only letters and settles that are authentic or were held, keeps the three journals lawful, what is
-//! marked as settled behind what was handled, and every envelope that was authentic. So the partners of each order agree, and nothing of a
-//! stock or of an account's limit is lost or used twice. The definitions, in `specs/`, speak of each combination of contents that a stop
-//! may leave, of a store that failed of either content; the laws are the contracts of functions with nothing to do.
+//! A turn of one service, which takes in only letters and settles that are authentic or were held, keeps the three
+//! journals lawful, what is marked as settled behind what was handled, and every envelope that was authentic. So the
+//! partners of each order agree, and nothing of a stock or of an account's limit is lost or used twice. The
+//! definitions, in `specs/`, speak of each combination of contents that a stop may leave, of a store that failed of
+//! either content; the laws are the contracts of functions with nothing to do.
 //!
 //! ```rust
 //! pub fn lawful_journals_stay_lawful()

@@ -50,7 +50,8 @@ fn run_broker<R: Net + Wait + Clock + Print + Eprint + AllocGlobal>(
     }
 }
 
-/// The port that the words of the command line ask for; or the status, where they ask for something else, which is told then.
+/// The port that the words of the command line ask for; or the status, where they ask for something else, which is told
+/// then.
 fn read_words(rt: &HostRuntime) -> io::Result<Result<u16, u8>> {
     let words: Vec<String> = env::args(rt)?.collect(rt.alloc())?;
     match read_port(rt.alloc(), words.as_slice()) {

@@ -62,10 +62,11 @@ fn make_command<'a>(alloc: Global) -> Result<Command<'a>, AllocError>
     Ok(command)
 }
 
-/// Reads the words of the command line, the program's name first: `--port` with a number is all that they may be, but for `--help` and
-/// `--version`.
+/// Reads the words of the command line, the program's name first: `--port` with a number is all that they may be, but
+/// for `--help` and `--version`.
 pub fn read_port<'a, S: AsStr>(alloc: Global, words: &'a [S]) -> Result<u16, Error>
-    ensures takes { IfErr result (λ e. takes command_line (map S.text words.now) ≡ true → kind_of e ≡ ErrorKind.OutOfMemory) }
+    ensures takes { IfErr result (λ e. takes command_line (map S.text words.now) ≡ true
+        → kind_of e ≡ ErrorKind.OutOfMemory) }
     ensures fails { FailsBy (fault_of command_line (map S.text words.now)) result }
 {
     let command: Command<'a> = make_command(alloc)?;

@@ -6,8 +6,8 @@ use std::io::{BufReader, BufWriter, ErrorKind, Write};
 use std::process::ExitCode;
 use std::{env, io};
 
-/// Runs the program over the words of its command line and the standard streams. The answer is the status. Words that aren't UTF-8 are
-/// `InvalidData`, which nothing else here is.
+/// Runs the program over the words of its command line and the standard streams. The answer is the status. Words that
+/// aren't UTF-8 are `InvalidData`, which nothing else here is.
 fn run<E: Write>(rt: &HostRuntime, err: &mut E) -> io::Result<u8> {
     let words: Vec<String> = env::args(rt)?.collect(rt.alloc())?;
     let mut input = BufReader::new(rt.alloc(), rt.reader())?;

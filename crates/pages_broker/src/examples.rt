@@ -8,13 +8,12 @@ use base::{Entity, EntityFault, Key, Kind};
 use broker_book::{Action, Mode, QueueFault, Sent, Shared};
 use broker_core::{Broker, BrokerFault};
 use broker_index::Destinations;
-use laws_broker::{each_message_was_sent, no_message_is_lost};
 use broker_queues::Queues;
 use broker_server::Stop;
 use broker_tx::{TransactionFault, Transactions};
 use channel::Channel;
 use command_line::tell_bad_words;
-use test_script::{LineFault, read_octets};
+use laws_broker::{each_message_was_sent, no_message_is_lost};
 use receipts::{ReceiptFault, Receipts};
 use std::alloc::Global;
 use std::io;
@@ -22,6 +21,7 @@ use stomp_client::{ClientFault, ClientSession};
 use stomp_frame::{Command, Decoder, Frame, FrameFault};
 use stomp_session::{Headers, Octets, ServerSession, Text};
 use stomp_wire::{Link, LinkFault, MemoryWire, Way, pump_out};
+use test_script::{LineFault, read_octets};
 use text::{push_octets, read_number, unescape};
 
 pub fn an_entity_is_named_again(alloc: Global) -> Result<bool, EntityFault> {

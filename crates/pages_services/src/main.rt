@@ -18,11 +18,11 @@ use examples::{
     services_without_orders_agree, so_much_is_on_hand, so_much_is_the_limit,
     tables_hold_nothing_at_first, what_comes_early_waits,
 };
-use laws_network::{Delivery, Event, Network, Outcome, exchange};
 use hotel::{RoomCommand, Rooms};
 use hotel_day::a_day_at_the_hotel;
 use keep::{Faulty, Keep, KeepFault, Leaves};
 use keep_plain::PlainKeep;
+use laws_network::{Delivery, Event, Network, Outcome, exchange};
 use purchasing::Orders;
 use std::alloc::Global;
 use std::error::Error;

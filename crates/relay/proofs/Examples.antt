@@ -1,5 +1,6 @@
 -- Examples: what is due on a connection, and cursors that are right of an outbox and others that aren't.
-use Rattle.std.proofs.Common.{◌≡◌, ◌≤◌, ℕ, zero, suc, ◌^◌, ◌-◌, [], ◌∷◌, Bool, true, false, Option, Some, None, Ok, Err, refl, ap}
+use Rattle.std.proofs.Common.{◌≡◌, ◌≤◌, ℕ, zero, suc, ◌^◌, ◌-◌, [], ◌∷◌, Bool, true, false, Option, Some, None, Ok, Err}
+use Rattle.std.proofs.Common.{refl, ap}
 use Rattle.std.proofs.Common.{arith, inl, inr}
 use Rattle.std.specs.Prelude.{IsSome, if◌then◌else◌}
 use Rattle.base.specs.Entity.{Name}
@@ -36,31 +37,38 @@ abbrev letter : Name → ℕ → Letter
 letter receiver number = record { pair = from_order receiver; number = number; message = Cancel }
 
 -- the first that are due up to the limit; a letter that stands twice is due once, and one that was sent isn't
-letters_are_due_once : (due 2 (λ _. 0) (letter bolts 1 ∷ letter acme 1 ∷ letter acme 2 ∷ []) ≡ letter bolts 1 ∷ letter acme 1 ∷ [])
+letters_are_due_once : (due 2 (λ _. 0) (letter bolts 1 ∷ letter acme 1 ∷ letter acme 2 ∷ [])
+    ≡ letter bolts 1 ∷ letter acme 1 ∷ [])
     × (due 9 (λ _. 0) (letter bolts 1 ∷ letter bolts 1 ∷ letter acme 1 ∷ []) ≡ letter bolts 1 ∷ letter acme 1 ∷ [])
-    × (due 9 (λ _. 1) (letter bolts 1 ∷ letter acme 2 ∷ []) ≡ letter acme 2 ∷ []) × (due 0 (λ _. 0) (letter bolts 1 ∷ []) ≡ [])
+    × (due 9 (λ _. 1) (letter bolts 1 ∷ letter acme 2 ∷ []) ≡ letter acme 2 ∷ [])
+    × (due 0 (λ _. 0) (letter bolts 1 ∷ []) ≡ [])
 unfolding same_entity same_pair
 letters_are_due_once = (refl, refl, refl, refl)
 
 -- before CONNECTED nothing is sent, and none after the end; only the last receipt number stops a relay that has memory
 relays_are_idle : (idle_answer stage.Fresh ≡ Some (Ok 0)) × (idle_answer stage.Connected ≡ None)
     × (idle_answer stage.Closed ≡ Some (Err (fault.Client client.Closed)))
-    × StopsSending (2 ^ 64 - 1) (fault.Client client.NumbersUsed) × (StopsSending 7 (fault.Client client.NumbersUsed) → ⊥)
-    × StopsSending 7 (fault.Envelope envelope_fault.Memory) × (StopsSending (2 ^ 64 - 1) (fault.Client client.Memory) → ⊥)
+    × StopsSending (2 ^ 64 - 1) (fault.Client client.NumbersUsed)
+    × (StopsSending 7 (fault.Client client.NumbersUsed) → ⊥)
+    × StopsSending 7 (fault.Envelope envelope_fault.Memory)
+    × (StopsSending (2 ^ 64 - 1) (fault.Client client.Memory) → ⊥)
     × (StopsSending 7 (fault.Endpoint StoreFailed) → ⊥)
     × (store_end {R = ℕ} (Err (fault.Endpoint StoreFailed)) ≡ Err failed)
     × (store_end {R = ℕ} (Err (fault.Client client.Closed)) ≡ Err no_memory)
-relays_are_idle = (refl, refl, refl, refl, λ h. omega (arith, h), omega arith, λ h. omega (arith, h), λ h. h, refl, refl)
+relays_are_idle =
+    (refl, refl, refl, refl, λ h. omega (arith, h), omega arith, λ h. omega (arith, h), λ h. h, refl, refl)
 
 -- ---- what a cursor tells
 
 abbrev at : Name → ℕ → Place
 at receiver number = record { pair = from_order receiver; number = number }
 
--- a place stands up to itself, and what comes before it does: a lower number, a receiver before in order; nothing stands up to none
+-- a place stands up to itself, and what comes before it does: a lower number, a receiver before in order; nothing
+-- stands up to none
 places_stand_up_to : IsUpto (Some (at bolts 2)) (at bolts 2) × IsUpto (Some (at bolts 2)) (at bolts 1)
     × IsUpto (Some (at bolts 2)) (at acme 7)
-    × (IsUpto (Some (at bolts 2)) (at bolts 3) → ⊥) × (IsUpto (Some (at acme 7)) (at bolts 1) → ⊥) × (IsUpto None (at bolts 1) → ⊥)
+    × (IsUpto (Some (at bolts 2)) (at bolts 3) → ⊥) × (IsUpto (Some (at acme 7)) (at bolts 1) → ⊥)
+    × (IsUpto None (at bolts 1) → ⊥)
 places_stand_up_to = (inr refl, inl refl, inl refl, higher, behind, λ h. h)
   where
     higher : IsUpto (Some (at bolts 2)) (at bolts 3) → ⊥
@@ -82,7 +90,8 @@ ones_are_first p zero some = omega arith
 ones_are_first p (suc zero) some = omega arith
 ones_are_first p (suc (suc n)) some = let none : false ≡ true = some in absurd (cc)
 
--- they were sent where each mark is 1; where none is, no place that such a message stands up to is right, and no place is always right
+-- they were sent where each mark is 1; where none is, no place that such a message stands up to is right, and no place
+-- is always right
 all_was_sent : AllSent (λ _. 1) ones (Some (at bolts 2)) × AllSent (λ _. 0) ones None
     × (AllSent (λ _. 0) ones (Some (at bolts 1)) → ⊥)
 all_was_sent = (
@@ -99,14 +108,17 @@ module _ (fresh : Relay) (nothing : (p : Pair) → marks_of fresh p ≡ 0) where
   abbrev cursor : Option Place → ℕ → Relay
   cursor behind rows = record fresh { behind = behind; rows = rows }
 
-  -- with no place it is right of any messages; it isn't of rows that there aren't, nor with a place that an unsent message stands up to
-  rows_are_known : KnowsRows (cursor None 1) 1 ones × KnowsRows (cursor None 1) 2 ones × (KnowsRows (cursor None 2) 1 ones → ⊥)
+  -- with no place it is right of any messages; it isn't of rows that there aren't, nor with a place that an unsent
+  -- message stands up to
+  rows_are_known : KnowsRows (cursor None 1) 1 ones × KnowsRows (cursor None 1) 2 ones
+      × (KnowsRows (cursor None 2) 1 ones → ⊥)
       × (KnowsRows (cursor (Some (at bolts 1)) 1) 1 ones → ⊥)
   rows_are_known = (
     (omega arith, λ x upto some. absurd upto),
     (omega arith, λ x upto some. absurd upto),
     λ h. let rows = h.0 in omega (arith, rows),
-    λ h. let none = nothing (from_order bolts) in let sent = h.1 (at bolts 1) (inr refl) refl in omega (arith, none, sent),
+    λ h. let none =
+        nothing (from_order bolts) in let sent = h.1 (at bolts 1) (inr refl) refl in omega (arith, none, sent),
   )
 
   -- what was kept after the order was placed, with nothing settled
@@ -119,7 +131,8 @@ module _ (fresh : Relay) (nothing : (p : Pair) → marks_of fresh p ≡ 0) where
   nothing_stands (suc n) true some = let none : false ≡ true = some in absurd (cc)
   nothing_stands n false some = let none : false ≡ true = some in absurd (cc)
 
-  -- a cursor of no row tells nothing of the row that came later; one that had the row, and passed over its letter unsent, isn't right
+  -- a cursor of no row tells nothing of the row that came later; one that had the row, and passed over its letter
+  -- unsent, isn't right
   cursors_are_right_or_not : Knows orders (cursor None 1) placed × Knows orders (cursor (Some (at bolts 1)) 0) placed
       × (Knows orders (cursor (Some (at bolts 1)) 1) placed → ⊥)
       × (Knows orders (cursor None 2) placed → ⊥)
@@ -127,6 +140,7 @@ module _ (fresh : Relay) (nothing : (p : Pair) → marks_of fresh p ≡ 0) where
   cursors_are_right_or_not = (
     (omega arith, λ x upto some. absurd upto),
     (omega arith, λ x upto some. absurd (nothing_stands x.number _ some)),
-    λ h. let none = nothing (from_order bolts) in let sent = h.1 (at bolts 1) (inr refl) refl in omega (arith, none, sent),
+    λ h. let none =
+        nothing (from_order bolts) in let sent = h.1 (at bolts 1) (inr refl) refl in omega (arith, none, sent),
     λ h. let rows = h.0 in omega (arith, rows),
   )

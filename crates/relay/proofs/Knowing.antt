@@ -1,7 +1,9 @@
 -- What a cursor tells stays true.
-use Rattle.std.proofs.Common.{◌≡◌, ◌⊎◌, inl, inr, ℕ, zero, suc, ◌+◌, ◌<◌, ◌≤◌, Bool, true, false, List, [], ◌∷◌, length, take, drop}
+use Rattle.std.proofs.Common.{◌≡◌, ◌⊎◌, inl, inr, ℕ, zero, suc, ◌+◌, ◌<◌, ◌≤◌, Bool, true, false, List, [], ◌∷◌, length}
+use Rattle.std.proofs.Common.{take, drop}
 use Rattle.std.proofs.Common.{length-drop, ◌++◌}
-use Rattle.std.proofs.Common.{Option, Some, None, Ordering, Less, Equal, Greater, refl, sym, ap, subst, ◌∙◌, arith, length-append}
+use Rattle.std.proofs.Common.{Option, Some, None, Ordering, Less, Equal, Greater, refl, sym, ap, subst, ◌∙◌, arith}
+use Rattle.std.proofs.Common.{length-append}
 use Rattle.std.proofs.Common.{add-one, get_or}
 use Rattle.std.specs.Prelude.{IsSome, max, nat_lt, if◌then◌else◌}
 use Rattle.std.proofs.lemmas.Bool.{cases_Bool, cases_lt, lt-ltb, le-ltb}
@@ -61,7 +63,8 @@ never_some None h = refl
 never_some (Some m) h = absurd (h refl)
 
 module _ (messages : Messages) (m : Pair → ℕ) where
-  not_unsent : (x : Place) → (IsSome (messages x.pair x.number) → x.number ≤ m x.pair) → unsent m messages x.pair x.number ≡ None
+  not_unsent : (x : Place) → (IsSome (messages x.pair x.number) → x.number ≤ m x.pair)
+      → unsent m messages x.pair x.number ≡ None
   not_unsent x low = elim (cases_Bool (nat_lt (m x.pair) x.number)) [
     | inl more ↦
         let late : m x.pair < x.number = (Decides-ltb (m x.pair) x.number).0 more in
@@ -72,14 +75,17 @@ module _ (messages : Messages) (m : Pair → ℕ) where
   ]
 
   -- what is due behind the cursor is all that is due
-  pub from_cursor : (after : Option Place) (n : ℕ) (ls : List Letter) → AllSent m messages after → AreFirst (unsent m messages) after n ls
+  pub from_cursor : (after : Option Place) (n : ℕ) (ls : List Letter) → AllSent m messages after
+      → AreFirst (unsent m messages) after n ls
       → AreFirst (unsent m messages) None n ls
   from_cursor None n ls sent are = are
   from_cursor (Some a) n ls sent are = gap (unsent m messages) None a n ls (λ x h. tt)
-      (λ x h. elim (is_after (Some a) x) [ inl up ↦ inr (not_unsent x (λ some. sent x up some)) | inr late ↦ inl late ]) are
+      (λ x h. elim (is_after (Some a) x) [ inl up ↦ inr (not_unsent x (λ some. sent x up some)) | inr late ↦ inl late ])
+      are
 
   -- behind the next row that was sent
-  row_sent : (after : Option Place) (l : Letter) → AllSent m messages after → IsNext messages after l → l.number ≤ m l.pair
+  row_sent : (after : Option Place) (l : Letter) → AllSent m messages after → IsNext messages after l
+      → l.number ≤ m l.pair
       → AllSent m messages (Some (place_of l))
   row_sent after l sent next low = λ x up some. elim up [
     | inl before ↦ elim (is_after after x) [
@@ -99,14 +105,16 @@ module _ (messages : Messages) (m : Pair → ℕ) where
   rows_sent (suc n) after (suc page) (l ∷ ls) are low sent =
       rows_sent n (Some (place_of l)) page ls are.1 low.1 (row_sent after l sent are.0 low.0)
 
-  pub page_sent : (after : Option Place) (page : ℕ) (rows : List Letter) → AreFirst messages after page rows → AreSent m rows
+  pub page_sent : (after : Option Place) (page : ℕ) (rows : List Letter) → AreFirst messages after page rows
+      → AreSent m rows
       → AllSent m messages after → AllSent m messages (place_behind after rows)
   page_sent after page [] are low sent = sent
   page_sent after zero (l ∷ ls) are low sent = absurd are
   page_sent after (suc page) (l ∷ ls) are low sent =
       page_sent (Some (place_of l)) page ls are.1 low.1 (row_sent after l sent are.0 low.0)
 
-  jumped : (here next : Place) → Jumps m (Some here) (Some next) → AllSent m messages (Some here) → AllSent m messages (Some next)
+  jumped : (here next : Place) → Jumps m (Some here) (Some next) → AllSent m messages (Some here)
+      → AllSent m messages (Some next)
   jumped here next (pair, least, which) sent = λ x up some. elim (is_after (Some here) x) [
     | inl old ↦ sent x old some
     | inr late ↦ elim up [
@@ -115,13 +123,21 @@ module _ (messages : Messages) (m : Pair → ℕ) where
           let rise : here.number < x.number = numbers_rise here x at late in
           let below : x.number < next.number = numbers_rise x next (sym at ∙ sym pair) before in
           let marks : m here.pair ≡ m x.pair = ap m at in
-          elim which [ inl same ↦ absurd (omega (arith, rise, below, same)) | inr mark ↦ omega (arith, below, mark, marks) ]
+          elim which [
+            | inl same ↦ absurd (omega (arith, rise, below, same))
+            | inr mark ↦ omega
+                (arith, below, mark, marks)
+          ]
       | inr is ↦
           let at : here.pair ≡ x.pair = sym pair ∙ sym (ap (λ (y : Place). y.pair) is) in
           let rise : here.number < x.number = numbers_rise here x at late in
           let there : x.number ≡ next.number = ap (λ (y : Place). y.number) is in
           let marks : m here.pair ≡ m x.pair = ap m at in
-          elim which [ inl same ↦ absurd (omega (arith, rise, there, same)) | inr mark ↦ omega (arith, there, mark, marks) ]
+          elim which [
+            | inl same ↦ absurd (omega (arith, rise, there, same))
+            | inr mark ↦ omega
+                (arith, there, mark, marks)
+          ]
     ]
   ]
 
@@ -139,18 +155,25 @@ module _ (messages : Messages) (m : Pair → ℕ) where
   pub skip_first : (after next : Option Place) (n : ℕ) (ls : List Letter) → Skips m messages after next
       → AreFirst (unsent m messages) next n ls → AreFirst (unsent m messages) after n ls
   skip_first after next n ls skips are = gap_over (unsent m messages) after next n ls skips.0
-      (λ x h. elim (is_after next x) [ inl up ↦ inr (not_unsent x (λ some. skips.1 x h up some)) | inr late ↦ inl late ]) are
+      (λ x h. elim (is_after next x) [
+        | inl up ↦ inr (not_unsent x (λ some. skips.1 x h up some))
+        | inr late ↦ inl
+            late
+      ]) are
 
-  pub skip_sent : (after next : Option Place) → Skips m messages after next → AllSent m messages after → AllSent m messages next
+  pub skip_sent : (after next : Option Place) → Skips m messages after next → AllSent m messages after
+      → AllSent m messages next
   skip_sent after next skips sent = λ x up some. elim (is_after after x) [
     | inl old ↦ sent x old some
     | inr late ↦ skips.1 x late up some
   ]
 
 -- marks that rise tell no less
-pub risen : (messages : Messages) (after : Option Place) (m n : Pair → ℕ) → ((p : Pair) → m p ≤ n p) → AllSent m messages after
+pub risen : (messages : Messages) (after : Option Place) (m n : Pair → ℕ) → ((p : Pair) → m p ≤ n p)
+    → AllSent m messages after
     → AllSent n messages after
-risen messages after m n rise sent = λ x up some. let low = sent x up some in let more = rise x.pair in omega (arith, low, more)
+risen messages after m n rise sent =
+    λ x up some. let low = sent x up some in let more = rise x.pair in omega (arith, low, more)
 
 -- ---- marks after a filling
 
@@ -158,7 +181,8 @@ if_rises : (b : Bool) (k n : ℕ) → (b ≡ true → n ≤ k) → n ≤ (if b t
 if_rises true k n h = h refl
 if_rises false k n h = omega arith
 
-set_rises : (m : Pair → ℕ) (l : Letter) → nat_lt (m l.pair) l.number ≡ true → (p : Pair) → m p ≤ set_mark l.pair l.number m p
+set_rises : (m : Pair → ℕ) (l : Letter) → nat_lt (m l.pair) l.number ≡ true → (p : Pair)
+    → m p ≤ set_mark l.pair l.number m p
 set_rises m l e p =
     let under : m l.pair < l.number = (Decides-ltb (m l.pair) l.number).0 e in
     if_rises (same_pair l.pair p) l.number (m p)
@@ -171,7 +195,8 @@ marks_rise (suc j) m (l ∷ ls) p = elim (cases_Bool (nat_lt (m l.pair) l.number
   | inl above ↦
       let first = set_rises m l above p in
       let rest = marks_rise j (set_mark l.pair l.number m) ls p in
-      let cut : marked m (due (suc j) m (l ∷ ls)) p ≡ marked (set_mark l.pair l.number m) (due j (set_mark l.pair l.number m) ls) p =
+      let cut : marked m (due (suc j) m (l ∷ ls)) p ≡ marked (set_mark l.pair l.number m)
+      (due j (set_mark l.pair l.number m) ls) p =
       ap (λ (x : List Letter). marked m x p) (due_yes j m l ls above) in
       omega (arith, first, rest, cut)
   | inr below ↦
@@ -191,7 +216,8 @@ not_above m l below = elim (cases_lt (m l.pair) l.number) [
 ]
 
 -- where fewer were due than might be sent, each letter was
-pub all_were_sent : (j : ℕ) (m : Pair → ℕ) (ls : List Letter) → length (due j m ls) < j → AreSent (marked m (due j m ls)) ls
+pub all_were_sent : (j : ℕ) (m : Pair → ℕ) (ls : List Letter) → length (due j m ls) < j
+    → AreSent (marked m (due j m ls)) ls
 all_were_sent zero m ls small = absurd (omega (arith, small))
 all_were_sent (suc j) m [] small = tt
 all_were_sent (suc j) m (l ∷ ls) small = elim (cases_Bool (nat_lt (m l.pair) l.number)) [
@@ -201,24 +227,28 @@ all_were_sent (suc j) m (l ∷ ls) small = elim (cases_Bool (nat_lt (m l.pair) l
       let short : length (due j m' ls) < j = omega (arith, small, ap length cut) in
       let own = own_mark m l in
       let rise = marks_rise j m' ls l.pair in
-      subst (λ (x : List Letter). AreSent (marked m x) (l ∷ ls)) (sym cut) (omega (arith, own, rise), all_were_sent j m' ls short)
+      subst (λ (x : List Letter). AreSent (marked m x) (l ∷ ls)) (sym cut)
+      (omega (arith, own, rise), all_were_sent j m' ls short)
   | inr below ↦
       let cut = due_no (suc j) m l ls below in
       let low : l.number ≤ m l.pair = not_above m l below in
       let rise = marks_rise (suc j) m ls l.pair in
       let short : length (due (suc j) m ls) < suc j = omega (arith, small, ap length cut) in
-      subst (λ (x : List Letter). AreSent (marked m x) (l ∷ ls)) (sym cut) (omega (arith, low, rise), all_were_sent (suc j) m ls short)
+      subst (λ (x : List Letter). AreSent (marked m x) (l ∷ ls)) (sym cut)
+      (omega (arith, low, rise), all_were_sent (suc j) m ls short)
 ]
 
 -- ---- the letters before the first one that is due
 
-one_sent : (m : Pair → ℕ) (letters : List Letter) (i : ℕ) (l : Letter) → i < length letters → l ≡ get_or letters i l → l.number ≤ m l.pair
+one_sent : (m : Pair → ℕ) (letters : List Letter) (i : ℕ) (l : Letter) → i < length letters → l ≡ get_or letters i l
+    → l.number ≤ m l.pair
     → AreSent m (take i letters) → AreSent m (take (suc i) letters)
 one_sent m [] i l lt at low sent = absurd (omega (arith, lt))
 one_sent m (x ∷ xs) zero l lt at low sent = (subst (λ (y : Letter). y.number ≤ m y.pair) at low, tt)
 one_sent m (x ∷ xs) (suc i) l lt at low sent = (sent.0, one_sent m xs i l (omega (arith, lt)) at low sent.1)
 
-pub counted_sent : (m : Pair → ℕ) (letters : List Letter) (n i : ℕ) (l : Letter) → i < length letters → l ≡ get_or letters i l
+pub counted_sent : (m : Pair → ℕ) (letters : List Letter) (n i : ℕ) (l : Letter) → i < length letters
+    → l ≡ get_or letters i l
     → l.number ≤ m l.pair → n ≡ i
     → AreSent m (take n letters) → (n + 1 ≡ i + 1) × AreSent m (take (n + 1) letters)
 counted_sent m letters n i l lt at low e sent = (
@@ -232,14 +262,16 @@ is_low a b x y e f h = omega (arith, e, f, h)
 
 -- ---- relays
 
-pub knows_start : (r : Relay) → r.rows ≡ 0 → r.behind ≡ None → (rows : ℕ) (messages : Messages) → KnowsRows r rows messages
+pub knows_start : (r : Relay) → r.rows ≡ 0 → r.behind ≡ None → (rows : ℕ) (messages : Messages)
+    → KnowsRows r rows messages
 knows_start r none start rows messages = (
   omega (arith, none),
   λ x up some. absurd (subst (λ (after : Option Place). IsUpto after x) start up),
 )
 
 -- the same cursor, and marks that rose
-pub knows_risen : (r s : Relay) → s.rows ≡ r.rows → s.behind ≡ r.behind → ((p : Pair) → marks_of r p ≤ marks_of s p) → (rows : ℕ)
+pub knows_risen : (r s : Relay) → s.rows ≡ r.rows → s.behind ≡ r.behind → ((p : Pair) → marks_of r p ≤ marks_of s p)
+    → (rows : ℕ)
     (messages : Messages) → KnowsRows r rows messages → KnowsRows s rows messages
 knows_risen r s same behind rise rows messages k =
     let least = k.0 in (
@@ -256,7 +288,8 @@ less_above mark more messages n h some = elim (cases_lt more n) [
       let far : nat_lt mark n ≡ true = lt-ltb mark n (omega (arith, h, less)) in
       let near : nat_lt more n ≡ true = lt-ltb more n less in
       subst IsSome (ap (λ b. if b then nth messages n else None) (near ∙ sym far)) some
-  | inr low ↦ absurd (none_some (above more messages n) (ap (λ b. if b then nth messages n else None) (le-ltb more n low)) some)
+  | inr low ↦ absurd (none_some (above more messages n) (ap (λ b. if b then nth messages n else None)
+      (le-ltb more n low)) some)
 ]
 
 raised : (marks : Pair → ℕ) (p : Pair) (n : ℕ) (q : Pair) → marks q ≤ set_mark p (max (marks p) n) marks q
@@ -269,14 +302,17 @@ module _ {S C : Type 0} (service : Service S C) (r : Relay) where
   deed_known x y Nothing k did = subst (λ (z : Kept C). Knows service r z) (sym did) k
   deed_known x y (TakesIn row) k did =
       let least = k.0 in
-      let long : length y.journal ≡ length x.journal + 1 = ap length did.0.appended ∙ length-append x.journal (row ∷ []) in
+      let long : length y.journal ≡ length x.journal + 1 =
+      ap length did.0.appended ∙ length-append x.journal (row ∷ []) in
       let front : take r.rows y.journal ≡ take r.rows x.journal = ap (take r.rows) did.0.appended
       ∙ take-append-le r.rows x.journal (row ∷ []) least in (
         omega (arith, least, long),
         λ q up some.
-            k.1 q up (subst (λ (marks : Pair → ℕ). IsSome (unsettled_of service.reactions (take r.rows x.journal) marks q.pair q.number))
+            k.1 q up (subst (λ (marks : Pair
+            → ℕ). IsSome (unsettled_of service.reactions (take r.rows x.journal) marks q.pair q.number))
             did.1
-            (subst (λ (j : List (JournalRow C)). IsSome (unsettled_of service.reactions j y.settled q.pair q.number)) front some)),
+            (subst (λ (j : List (JournalRow C)). IsSome (unsettled_of service.reactions j y.settled q.pair q.number))
+            front some)),
       )
   deed_known x y (Holds l) k did = subst (λ (z : Kept C). Knows service r z) (sym did.2) k
   deed_known x y (Settles p n) k did = subst (λ (z : Kept C). Knows service r z) (sym did.2) (
@@ -290,7 +326,8 @@ module _ {S C : Type 0} (service : Service S C) (r : Relay) where
   knows-prop k = hlevel props
 
   -- what a reopening finds is known
-  pub found_known : {E : Type 0} (seen : E → Seen (Tables S C)) (old new : E) → (seen new).doubt ≡ 0 → Finds seen old new
+  pub found_known : {E : Type 0} (seen : E → Seen (Tables S C)) (old new : E) → (seen new).doubt ≡ 0
+      → Finds seen old new
       → AllMatch service (seen new).may_leave
       → KnowsAll service r (seen old).may_leave → KnowsAll service r (seen new).may_leave
   found_known seen old new clean finds good known =
@@ -312,7 +349,8 @@ parted (suc n) [] = refl
 parted (suc n) (x ∷ xs) = ap (λ ys. x ∷ ys) (parted n xs)
 
 -- the rows behind so many, where they aren't more than were read
-pub behind_rows : {A : Type 0} (xs ys : List A) (r i limit : ℕ) → i ≡ r → length xs ≤ r + limit → ys ≡ take limit (drop i xs)
+pub behind_rows : {A : Type 0} (xs ys : List A) (r i limit : ℕ) → i ≡ r → length xs ≤ r + limit
+    → ys ≡ take limit (drop i xs)
     → xs ≡ take r xs ++ ys
 behind_rows {A} xs ys r i limit at small read =
     let long = length-drop r xs in
@@ -327,50 +365,62 @@ no_more_rows xs r all = sym (append-nil (take r xs) ∙ ap (λ n. take n xs) all
 sent_of_none : {S C : Type 0} (t : Reactions S C) (rows news : List (JournalRow C)) (p : Pair) → part p.from news ≡ []
     → sent_of t (rows ++ news) p ≡ sent_of t rows p
 sent_of_none {S} {C} t rows news p none = ap (λ (inputs : List (Input C)). sent t inputs p.to)
-    (part-append p.from rows news ∙ ap (λ (inputs : List (Input C)). part p.from rows ++ inputs) none ∙ append-nil (part p.from rows))
+    (part-append p.from rows news ∙ ap (λ (inputs : List (Input C)). part p.from rows ++ inputs) none
+    ∙ append-nil (part p.from rows))
 
-module _ {E S C : Type 0} (seen : E → Seen (Tables S C)) (sound : (k : E) → IsSound (seen k)) (service : Service S C) where
-  abbrev journal_of : E → ℕ
-  journal_of k = length (seen k).tables.journal
+module _ {E S C : Type 0} (seen : E → Seen (Tables S C)) (sound : (k : E) → IsSound (seen k)) (service : Service S C)
+  where
+    abbrev journal_of : E → ℕ
+    journal_of k = length (seen k).tables.journal
 
-  -- of what stands up to the cursor all was sent but what rows sent that the journal hasn't had then
-  pub known_but : (k : E) (r : Relay) (news : List (JournalRow C)) → (seen k).usable ≡ true → (seen k).doubt ≡ 0
-      → KnowsAll service r (seen k).may_leave
-      → (seen k).tables.journal ≡ take r.rows (seen k).tables.journal ++ news → SentBut news (marks_of r) (seen k).tables.unsettled r.behind
-  known_but k r news up clean known cut =
-      let t : Tables S C = (seen k).tables in
-      let here = (sound k).stays clean up in
-      let matches = known.0 t here in
-      λ x upto none some.
-      let front : sent_of service.reactions t.journal x.pair ≡ sent_of service.reactions (take r.rows t.journal) x.pair =
-      ap (λ (j : List (JournalRow C)). sent_of service.reactions j x.pair) cut
-      ∙ sent_of_none service.reactions (take r.rows t.journal) news x.pair none in
-      (known.1 t here).1 x upto (subst (λ (ms : List Message). IsSome (above (t.settled x.pair) ms x.number)) front
-      (subst IsSome (matches.unsettled x.pair x.number) some))
+    -- of what stands up to the cursor all was sent but what rows sent that the journal hasn't had then
+    pub known_but : (k : E) (r : Relay) (news : List (JournalRow C)) → (seen k).usable ≡ true → (seen k).doubt ≡ 0
+        → KnowsAll service r (seen k).may_leave
+        → (seen k).tables.journal ≡ take r.rows (seen k).tables.journal ++ news
+        → SentBut news (marks_of r) (seen k).tables.unsettled r.behind
+    known_but k r news up clean known cut =
+        let t : Tables S C = (seen k).tables in
+        let here = (sound k).stays clean up in
+        let matches = known.0 t here in
+        λ x upto none some.
+        let front : sent_of service.reactions t.journal x.pair ≡ sent_of service.reactions (take r.rows t.journal)
+        x.pair
+        =
+        ap (λ (j : List (JournalRow C)). sent_of service.reactions j x.pair) cut
+        ∙ sent_of_none service.reactions (take r.rows t.journal) news x.pair none in
+        (known.1 t here).1 x upto (subst (λ (ms : List Message). IsSome (above (t.settled x.pair) ms x.number)) front
+        (subst IsSome (matches.unsettled x.pair x.number) some))
 
-  -- the same cursor, with marks that rose, of what is left
-  pub known_still : (old new : E) (r s : Relay) → (seen new).doubt ≡ 0 → Stays seen old new → KnowsAll service r (seen old).may_leave
-      → s.rows ≡ r.rows → s.behind ≡ r.behind → ((p : Pair) → marks_of r p ≤ marks_of s p) → KnowsAll service s (seen new).may_leave
-  known_still old new r s clean stays known rows behind rise = (
-    λ t l. known.0 t (stays clean t l),
-    λ t l.
-        let k = known.1 t (stays clean t l) in
-        knows_risen r s rows behind rise (length t.journal) (unsettled_of service.reactions (take s.rows t.journal) t.settled)
-        (subst (λ n. KnowsRows r (length t.journal) (unsettled_of service.reactions (take n t.journal) t.settled)) (sym rows) k),
-  )
+    -- the same cursor, with marks that rose, of what is left
+    pub known_still : (old new : E) (r s : Relay) → (seen new).doubt ≡ 0 → Stays seen old new
+        → KnowsAll service r (seen old).may_leave
+        → s.rows ≡ r.rows → s.behind ≡ r.behind → ((p : Pair) → marks_of r p ≤ marks_of s p)
+        → KnowsAll service s (seen new).may_leave
+    known_still old new r s clean stays known rows behind rise = (
+      λ t l. known.0 t (stays clean t l),
+      λ t l.
+          let k = known.1 t (stays clean t l) in
+          knows_risen r s rows behind rise (length t.journal) (unsettled_of service.reactions (take s.rows t.journal)
+          t.settled)
+          (subst (λ n. KnowsRows r (length t.journal) (unsettled_of service.reactions (take n t.journal) t.settled))
+          (sym rows) k),
+    )
 
-  -- and the cursor is right again of each content
-  pub known_again : (old new : E) (r s : Relay) → (seen old).usable ≡ true → (seen old).doubt ≡ 0 → (seen new).doubt ≡ 0
-      → Stays seen old new → KnowsAll service r (seen old).may_leave → s.rows ≡ journal_of old
-      → AllSent (marks_of s) (seen old).tables.unsettled s.behind → KnowsAll service s (seen new).may_leave
-  known_again old new r s up clean0 clean stays known long sent = (
-    λ t l. known.0 t (stays clean t l),
-    λ t l.
-        subst (λ (z : Tables S C). Knows service s (kept z)) (sym ((sound old).only_now clean0 up t (stays clean t l))) (
-          omega (arith, long),
-          λ x upto some. sent x upto (subst IsSome (sym ((known.0 (seen old).tables ((sound old).stays clean0 up)).unsettled x.pair
-              x.number)) (subst (λ (j : List (JournalRow C)).
-              IsSome (unsettled_of service.reactions j (seen old).tables.settled x.pair x.number))
-              (ap (λ n. take n (seen old).tables.journal) long ∙ all_taken (seen old).tables.journal) some)),
-        ),
-  )
+    -- and the cursor is right again of each content
+    pub known_again : (old new : E) (r s : Relay) → (seen old).usable ≡ true → (seen old).doubt ≡ 0
+        → (seen new).doubt ≡ 0
+        → Stays seen old new → KnowsAll service r (seen old).may_leave → s.rows ≡ journal_of old
+        → AllSent (marks_of s) (seen old).tables.unsettled s.behind → KnowsAll service s (seen new).may_leave
+    known_again old new r s up clean0 clean stays known long sent = (
+      λ t l. known.0 t (stays clean t l),
+      λ t l.
+          subst (λ (z : Tables S C). Knows service s (kept z)) (sym ((sound old).only_now clean0 up t
+          (stays clean t l))) (
+            omega (arith, long),
+            λ x upto some. sent x upto (subst IsSome (sym ((known.0 (seen old).tables
+                ((sound old).stays clean0 up)).unsettled x.pair
+                x.number)) (subst (λ (j : List (JournalRow C)).
+                IsSome (unsettled_of service.reactions j (seen old).tables.settled x.pair x.number))
+                (ap (λ n. take n (seen old).tables.journal) long ∙ all_taken (seen old).tables.journal) some)),
+          ),
+    )

@@ -1,6 +1,8 @@
 -- A filling, page by page.
-use Rattle.std.proofs.Common.{◌≡◌, ◌≢◌, ◌⊎◌, inl, inr, ℕ, ◌+◌, ◌-◌, ◌<◌, ◌≤◌, List, [], ◌∷◌, ◌++◌, length, Option, Some, None}
-use Rattle.std.proofs.Common.{Ok, Err, Ordering, Less, Equal, Greater, refl, sym, ap, subst, ◌∙◌, arith, append_assoc, append-nil}
+use Rattle.std.proofs.Common.{◌≡◌, ◌≢◌, ◌⊎◌, inl, inr, ℕ, ◌+◌, ◌-◌, ◌<◌, ◌≤◌, List, [], ◌∷◌, ◌++◌, length, Option, Some}
+use Rattle.std.proofs.Common.{None}
+use Rattle.std.proofs.Common.{Ok, Err, Ordering, Less, Equal, Greater, refl, sym, ap, subst, ◌∙◌, arith, append_assoc}
+use Rattle.std.proofs.Common.{append-nil}
 use Rattle.std.proofs.Common.{length-append, add-one, take, true≢false, Bool, true, false, Result}
 use Rattle.std.specs.Prelude.{⊤}
 use Rattle.base.specs.declared.pair.Pair.{Pair}
@@ -31,7 +33,8 @@ use Rattle.relay.specs.Parts.Pages.{FillsPage, HasFilled, HasRead, Jumps, Moves,
 use Rattle.relay.proofs.Sending.{marked, marks_after, stage_after, sends_none, sends_append}
 use Rattle.relay.proofs.Places.{numbers_rise, gap, before_in_pair, pair_between_places}
 use Rattle.relay.proofs.Due.{first_due, all_due, none_behind, due_within, one_more, not_due}
-use Rattle.relay.proofs.Knowing.{from_cursor, skip_first, skip_sent, all_were_sent, marks_rise, risen, rows_sent, page_sent, moved_sent}
+use Rattle.relay.proofs.Knowing.{from_cursor, skip_first, skip_sent, all_were_sent, marks_rise, risen, rows_sent}
+use Rattle.relay.proofs.Knowing.{page_sent, moved_sent}
 use Rattle.relay.specs.declared.relay.Relay.{Relay}
 use Rattle.relay.specs.Marks.{mark_in}
 use Rattle.std.specs.BTreeMap.{BTreeMap}
@@ -40,14 +43,17 @@ use Rattle.stomp_client.specs.Clients.{Client as Client-state, ClientWithRoom}
 -- ---- one page
 
 -- what stops behind some letters, wherever these begin
-stops_behind : (clean : Type 0) (messages : Messages) (after : Option Place) (letters : List Letter) (last : ℕ) (fault : RelayFault)
-    → StopsSending last fault → (clean → (l : Letter) × AreFirst messages after (length letters + 1) (letters ++ l ∷ []))
+stops_behind : (clean : Type 0) (messages : Messages) (after : Option Place) (letters : List Letter) (last : ℕ)
+    (fault : RelayFault)
+    → StopsSending last fault → (clean → (l : Letter)
+    × AreFirst messages after (length letters + 1) (letters ++ l ∷ []))
     → StopsBehind clean messages after letters last fault
 stops_behind clean messages after letters last (Client cause) stops next = (stops, next)
 stops_behind clean messages after letters last (Envelope cause) stops next = (stops, next)
 stops_behind clean messages after letters last (Endpoint cause) stops next = tt
 
-module _ (clean : Type 0) (messages : Messages) (after next : Option Place) (page limit : ℕ) (rows : List Letter) (old new : SendState)
+module _ (clean : Type 0) (messages : Messages) (after next : Option Place) (page limit : ℕ) (rows : List Letter)
+    (old new : SendState)
     (are : clean → AreFirst messages after page rows) where
   abbrev now_due : List Letter
   now_due = due limit old.marks rows
@@ -65,10 +71,15 @@ module _ (clean : Type 0) (messages : Messages) (after next : Option Place) (pag
     letters = now_due;
     sends = f.1;
     within = due_within limit old.marks rows;
-    ends = (f.0, λ c. subst (λ (n : ℕ). AreFirst (unsent old.marks messages) after n now_due) (sym f.0 ∙ full) (first c));
+    ends = (
+      f.0,
+      λ c. subst (λ (n : ℕ). AreFirst (unsent old.marks messages) after n now_due) (sym f.0 ∙ full)
+          (first c),
+    );
   }
 
-  behind_all : (count : ℕ) (f : FillsLetters limit rows old new (Ok count)) → count < limit → clean → (k : ℕ) (more : List Letter)
+  behind_all : (count : ℕ) (f : FillsLetters limit rows old new (Ok count)) → count < limit → clean
+      → (k : ℕ) (more : List Letter)
       → AreFirst (unsent new.marks messages) (place_behind after rows) k more
       → AreFirst (unsent old.marks messages) after (length now_due + k) (now_due ++ more)
   behind_all count f small c k more behind =
@@ -121,23 +132,28 @@ module _ (clean : Type 0) (messages : Messages) (after next : Option Place) (pag
         within = omega (arith, long, small);
         ends = (
           λ c. first_due messages page after rows (are c) count old.marks,
-          stops_behind clean (unsent old.marks messages) after (due count old.marks rows) new.client.receipts.last fault f.4 (λ c. (
-            some.0,
-            subst (λ (n : ℕ). AreFirst (unsent old.marks messages) after n (due count old.marks rows ++ some.0 ∷ []))
-                (number ∙ ap (λ n. n + 1) (sym long))
-                (subst (λ (x : List Letter). AreFirst (unsent old.marks messages) after (length (due (count + 1) old.marks rows)) x) cut
-                (first_due messages page after rows (are c) (count + 1) old.marks)),
-          )),
+          stops_behind clean (unsent old.marks messages) after (due count old.marks rows) new.client.receipts.last fault
+              f.4 (λ c. (
+                some.0,
+                subst (λ (n : ℕ). AreFirst (unsent old.marks messages) after n
+                    (due count old.marks rows ++ some.0 ∷ []))
+                    (number ∙ ap (λ n. n + 1) (sym long))
+                    (subst (λ (x : List Letter). AreFirst (unsent old.marks messages) after
+                    (length (due (count + 1) old.marks rows)) x) cut
+                    (first_due messages page after rows (are c) (count + 1) old.marks)),
+              )),
         );
       }
 
 -- the outbox couldn't be read
-pub page_unread : (clean : Type 0) (messages : Messages) (after next : Option Place) (limit : ℕ) (old : SendState) (fault : EndFault)
+pub page_unread : (clean : Type 0) (messages : Messages) (after next : Option Place) (limit : ℕ) (old : SendState)
+    (fault : EndFault)
     → FillsPage clean messages after next limit old old (Err (Endpoint fault))
 page_unread clean messages after next limit old fault =
     record { letters = []; sends = sends_none old; within = omega arith; ends = (λ c. tt, tt) }
 
-pub page_unread_of : (clean : Type 0) (messages : Messages) (after next : Option Place) (limit : ℕ) (old : SendState) (cause : EndFault)
+pub page_unread_of : (clean : Type 0) (messages : Messages) (after next : Option Place) (limit : ℕ) (old : SendState)
+    (cause : EndFault)
     (result : Result (ℕ × Bool) RelayFault) (fault : RelayFault) → result ≡ Err fault → fault ≡ Endpoint cause
     → FillsPage clean messages after next limit old old result
 page_unread_of clean messages after next limit old cause result fault e f =
@@ -151,13 +167,15 @@ place_is : (x y : Place) → x.pair ≡ y.pair → x.number ≡ y.number → x �
 place_is x y pair number = ap (λ p. place p x.number) pair ∙ ap (λ n. place y.pair n) number
 
 -- between a place and that of its pair's mark nothing is due
-not_due_upto : (messages : Messages) (m : Pair → ℕ) (here next : Place) → next.pair ≡ here.pair → next.number ≡ m here.pair
+not_due_upto : (messages : Messages) (m : Pair → ℕ) (here next : Place) → next.pair ≡ here.pair
+    → next.number ≡ m here.pair
     → (x : Place) → IsBefore here x → (o : Ordering) → place_cmp x next ≡ o
     → IsBefore next x ⊎ (unsent m messages x.pair x.number ≡ None)
 not_due_upto messages m here next pair mark x h Greater o = inl (place_cmp-Greater x next o)
 not_due_upto messages m here next pair mark x h Equal o =
     let same = place_cmp-Equal x next o in
-    let number : x.number ≡ m x.pair = ap (λ (y : Place). y.number) same ∙ mark ∙ ap m (sym (ap (λ (y : Place). y.pair) same ∙ pair)) in
+    let number : x.number ≡ m x.pair =
+    ap (λ (y : Place). y.number) same ∙ mark ∙ ap m (sym (ap (λ (y : Place). y.pair) same ∙ pair)) in
     inr (not_due messages m x (omega (arith, number)))
 not_due_upto messages m here next pair mark x h Less o =
     let at : here.pair ≡ x.pair = pair_between_places here x next (sym pair) h o in
@@ -166,38 +184,45 @@ not_due_upto messages m here next pair mark x h Less o =
     inr (not_due messages m x (omega (arith, number, mark, marks)))
 
 -- what is due behind a place to which the relay jumps is what is due behind the page
-pub jump_over : (messages : Messages) (m : Pair → ℕ) (here next : Place) → Jumps m (Some here) (Some next) → (k : ℕ) (more : List Letter)
+pub jump_over : (messages : Messages) (m : Pair → ℕ) (here next : Place) → Jumps m (Some here) (Some next)
+    → (k : ℕ) (more : List Letter)
     → AreFirst (unsent m messages) (Some next) k more → AreFirst (unsent m messages) (Some here) k more
 jump_over messages m here next (pair, least, inl same) k more are =
     subst (λ (x : Place). AreFirst (unsent m messages) (Some x) k more) (place_is next here pair same) are
 jump_over messages m here next (pair, least, inr mark) k more are = elim (cases_eq here.number next.number) [
-  | inl same ↦ subst (λ (x : Place). AreFirst (unsent m messages) (Some x) k more) (place_is next here pair (sym same)) are
+  | inl same ↦ subst (λ (x : Place). AreFirst (unsent m messages) (Some x) k more) (place_is next here pair (sym same))
+      are
   | inr other ↦
       let before : IsBefore here next = before_in_pair here next (sym pair) (omega (arith, least, other)) in
       gap (unsent m messages) (Some here) next k more (λ x h. place_cmp-total.trans here next x before h)
       (λ x h. not_due_upto messages m here next pair mark x h (place_cmp x next) refl) are
 ]
 
-jump_behind : (messages : Messages) (m : Pair → ℕ) (here next : Option Place) → Jumps m here next → (k : ℕ) (more : List Letter)
+jump_behind : (messages : Messages) (m : Pair → ℕ) (here next : Option Place) → Jumps m here next
+    → (k : ℕ) (more : List Letter)
     → AreFirst (unsent m messages) next k more → AreFirst (unsent m messages) here k more
 jump_behind messages m None next jumps k more are = absurd jumps
 jump_behind messages m (Some here) None jumps k more are = absurd jumps
 jump_behind messages m (Some here) (Some next) jumps k more are = jump_over messages m here next jumps k more are
 
 -- or from that page's own place
-move_behind : (messages : Messages) (m : Pair → ℕ) (here next : Option Place) → Moves m here next → (k : ℕ) (more : List Letter)
+move_behind : (messages : Messages) (m : Pair → ℕ) (here next : Option Place) → Moves m here next
+    → (k : ℕ) (more : List Letter)
     → AreFirst (unsent m messages) next k more → AreFirst (unsent m messages) here k more
-move_behind messages m here next (inl same) k more are = subst (λ (x : Option Place). AreFirst (unsent m messages) x k more) same are
+move_behind messages m here next (inl same) k more are =
+    subst (λ (x : Option Place). AreFirst (unsent m messages) x k more) same are
 move_behind messages m here next (inr jumps) k more are = jump_behind messages m here next jumps k more are
 
-module _ (clean : Type 0) (messages : Messages) (after next : Option Place) (page limit : ℕ) (rows : List Letter) (old new : SendState)
+module _ (clean : Type 0) (messages : Messages) (after next : Option Place) (page limit : ℕ) (rows : List Letter)
+    (old new : SendState)
     (are : clean → AreFirst messages after page rows) (count : ℕ) (f : FillsLetters limit rows old new (Ok count))
     (other : count ≢ limit) where
   small : count < limit
   small = not_full clean messages after next page limit rows old new are count f other
 
   -- the page is followed by others, which are read behind a place to which the relay moves
-  pub page_more : Moves new.marks (place_behind after rows) next → FillsPage clean messages after next limit old new (Ok (count, true))
+  pub page_more : Moves new.marks (place_behind after rows) next
+      → FillsPage clean messages after next limit old new (Ok (count, true))
   page_more moves = record {
     letters = due limit old.marks rows;
     sends = f.1;
@@ -214,7 +239,8 @@ module _ (clean : Type 0) (messages : Messages) (after next : Option Place) (pag
   pub page_was_sent : AreSent new.marks rows
   page_was_sent =
       let number = f.0 in
-      subst (λ (m : Pair → ℕ). AreSent m rows) (sym (marks_are clean messages after next page limit rows old new are f.1))
+      subst (λ (m : Pair → ℕ). AreSent m rows) (sym (marks_are clean messages after next page limit rows old new are
+      f.1))
       (all_were_sent limit old.marks rows (omega (arith, number, small)))
 
 -- whatever was sent, marks only rise
@@ -235,13 +261,15 @@ seen_as marks client = record { marks = marks; client = client }
 pub same_connection : (r s : Relay) (c : ClientWithRoom ℕ) → s.marks ≡ r.marks → send_state s c ≡ send_state r c
 same_connection r s c e = ap (λ (m : BTreeMap Pair ℕ). seen_as (λ p. mark_in m p) c.client) e
 
-pub page_moved : {clean : Type 0} {messages : Messages} {after next : Option Place} {limit : ℕ} {old mid new : SendState}
+pub page_moved : {clean : Type 0} {messages : Messages} {after next : Option Place} {limit : ℕ}
+    {old mid new : SendState}
     {result : Result (ℕ × Bool) RelayFault} → new ≡ mid → FillsPage clean messages after next limit old mid result
     → FillsPage clean messages after next limit old new result
 page_moved {clean} {messages} {after} {next} {limit} {old} {mid} {new} {result} e f =
     subst (λ (x : SendState). FillsPage clean messages after next limit old x result) (sym e) f
 
-module _ (messages : Messages) (page limit : ℕ) (rows : List Letter) (r s t : Relay) (c d : ClientWithRoom ℕ) (same : s.behind ≡ r.behind)
+module _ (messages : Messages) (page limit : ℕ) (rows : List Letter) (r s t : Relay) (c d : ClientWithRoom ℕ)
+    (same : s.behind ≡ r.behind)
     (are : AreFirst messages r.behind page rows) (sent : AllSent (marks_of r) messages r.behind) where
   still_first : AreFirst messages s.behind page rows
   still_first = subst (λ (x : Option Place). AreFirst messages x page rows) (sym same) are
@@ -249,11 +277,13 @@ module _ (messages : Messages) (page limit : ℕ) (rows : List Letter) (r s t : 
   still_sent : (result : Result ℕ RelayFault) → FillsLetters limit rows (send_state r c) (send_state s d) result
       → AllSent (marks_of s) messages s.behind
   still_sent result f = subst (λ (x : Option Place). AllSent (marks_of s) messages x) (sym same)
-      (risen messages r.behind (marks_of r) (marks_of s) (filling_rises limit rows (send_state r c) (send_state s d) result f) sent)
+      (risen messages r.behind (marks_of r) (marks_of s) (filling_rises limit rows (send_state r c) (send_state s d)
+      result f) sent)
 
   -- the cursor goes behind what was sent of a page
   pub goes_part : (result : Result ℕ RelayFault) → FillsLetters limit rows (send_state r c) (send_state s d) result
-      → ((ms : Messages) (n : ℕ) → AreFirst ms s.behind n rows → AllSent (marks_of s) ms s.behind → AllSent (marks_of t) ms t.behind)
+      → ((ms : Messages) (n : ℕ) → AreFirst ms s.behind n rows → AllSent (marks_of s) ms s.behind
+      → AllSent (marks_of t) ms t.behind)
       → AllSent (marks_of t) messages t.behind
   goes_part result f goes = goes messages page still_first (still_sent result f)
 
@@ -261,36 +291,45 @@ module _ (messages : Messages) (page limit : ℕ) (rows : List Letter) (r s t : 
   pub goes_whole : (count : ℕ) → FillsLetters limit rows (send_state r c) (send_state s d) (Ok count) → count ≢ limit
       → Moves (marks_of s) (place_behind s.behind rows) t.behind → t.marks ≡ s.marks
       → AllSent (marks_of t) messages t.behind
-  goes_whole count f other moves marks = subst (λ (m : BTreeMap Pair ℕ). AllSent (λ p. mark_in m p) messages t.behind) (sym marks)
+  goes_whole count f other moves marks =
+      subst (λ (m : BTreeMap Pair ℕ). AllSent (λ p. mark_in m p) messages t.behind) (sym marks)
       (moved_sent messages (marks_of s) (place_behind s.behind rows) t.behind moves
       (page_sent messages (marks_of s) s.behind page rows still_first
-      (page_was_sent (AreFirst messages r.behind page rows) messages r.behind r.behind page limit rows (send_state r c) (send_state s d)
+      (page_was_sent (AreFirst messages r.behind page rows) messages r.behind r.behind page limit rows (send_state r c)
+      (send_state s d)
       (λ x. x) count f other)
       (still_sent (Ok count) f)))
 
 pub sent_on : (m n : Pair → ℕ) (b d : Option Place) (here there : Messages) → there ≡ here
     → (AllSent m there b → AllSent n there d) → AllSent m here b → AllSent n here d
-sent_on m n b d here there e f s = subst (λ (x : Messages). AllSent n x d) e (f (subst (λ (x : Messages). AllSent m x b) (sym e) s))
+sent_on m n b d here there e f s =
+    subst (λ (x : Messages). AllSent n x d) e (f (subst (λ (x : Messages). AllSent m x b) (sym e) s))
 
 -- the cursor goes behind some rows that stand first, and were sent
-pub goes_behind : (messages : Messages) (r t : Relay) (n page : ℕ) (rows : List Letter) → AreSent (marks_of r) (take n rows)
+pub goes_behind : (messages : Messages) (r t : Relay) (n page : ℕ) (rows : List Letter)
+    → AreSent (marks_of r) (take n rows)
     → Moves (marks_of r) (place_behind r.behind (take n rows)) t.behind
     → t.marks ≡ r.marks
-    → AreFirst messages r.behind page rows → AllSent (marks_of r) messages r.behind → AllSent (marks_of t) messages t.behind
+    → AreFirst messages r.behind page rows → AllSent (marks_of r) messages r.behind
+    → AllSent (marks_of t) messages t.behind
 goes_behind messages r t n page rows low moves marks are sent =
     subst (λ (m : BTreeMap Pair ℕ). AllSent (λ p. mark_in m p) messages t.behind) (sym marks)
     (moved_sent messages (marks_of r) (place_behind r.behind (take n rows)) t.behind moves
     (rows_sent messages (marks_of r) n r.behind page rows are low sent))
 
-behind_last : (after : Option Place) (front : List Letter) (last : Letter) → place_behind after (front ++ last ∷ []) ≡ Some (place_of last)
+behind_last : (after : Option Place) (front : List Letter) (last : Letter)
+    → place_behind after (front ++ last ∷ []) ≡ Some (place_of last)
 behind_last after [] last = refl
 behind_last after (l ∷ ls) last = behind_last (Some (place_of l)) ls last
 
 -- the place behind the last row of a page, or the one to which its pair's mark goes
-pub jumps_behind : (m : Pair → ℕ) (after : Option Place) (rows front : List Letter) (last : Letter) (n mark : ℕ) → rows ≡ front ++ last ∷ []
-    → last.number ≤ n → (n ≡ last.number) ⊎ (n ≡ mark) → mark ≡ m last.pair → Moves m (place_behind after rows) (Some (place last.pair n))
+pub jumps_behind : (m : Pair → ℕ) (after : Option Place) (rows front : List Letter) (last : Letter) (n mark : ℕ)
+    → rows ≡ front ++ last ∷ []
+    → last.number ≤ n → (n ≡ last.number) ⊎ (n ≡ mark) → mark ≡ m last.pair
+    → Moves m (place_behind after rows) (Some (place last.pair n))
 jumps_behind m after rows front last n mark cut least which is = inr (
-    subst (λ (x : Option Place). Jumps m x (Some (place last.pair n))) (sym (ap (λ (x : List Letter). place_behind after x) cut
+    subst (λ (x : Option Place). Jumps m x (Some (place last.pair n))) (sym
+    (ap (λ (x : List Letter). place_behind after x) cut
     ∙ behind_last after front last))
     (refl, least, elim which [ inl same ↦ inl same | inr far ↦ inr (far ∙ is) ]))
 
@@ -303,7 +342,8 @@ rest_of : (a count limit : ℕ) → count ≡ a → count ≤ limit → a + (lim
 rest_of a count limit e h = omega (arith, e, h)
 
 module _ (messages : Messages) (limit : ℕ) (old : SendState) where
-  pub none_filled : (clean : Type 0) (after : Option Place) → (clean → AllSent old.marks messages after) → old.client.stage ≡ Connected
+  pub none_filled : (clean : Type 0) (after : Option Place) → (clean → AllSent old.marks messages after)
+      → old.client.stage ≡ Connected
       → HasFilled clean messages limit old old 0 after
   none_filled clean after sent stage = record {
     letters = [];
@@ -316,16 +356,19 @@ module _ (messages : Messages) (limit : ℕ) (old : SendState) where
         (from_cursor messages old.marks after k more (sent c) behind);
   }
 
-  module _ (clean clean' clean'' : Type 0) (messages' : Messages) (mid new : SendState) (count : ℕ) (after next : Option Place)
+  module _ (clean clean' clean'' : Type 0) (messages' : Messages) (mid new : SendState) (count : ℕ)
+      (after next : Option Place)
       (f : HasFilled clean messages limit old mid count after) (earlier : clean' → clean) (there : clean' → clean'')
       (same : clean' → messages' ≡ messages) where
     -- what is due behind the pages so far, as the next page found it
     behind : clean' → (n : ℕ) (ls : List Letter) → AreFirst (unsent mid.marks messages') after n ls
         → AreFirst (unsent old.marks messages) None (length f.letters + n) (f.letters ++ ls)
-    behind c n ls are = f.goes_on (earlier c) n ls (subst (λ (ms : Messages). AreFirst (unsent mid.marks ms) after n ls) (same c) are)
+    behind c n ls are =
+        f.goes_on (earlier c) n ls (subst (λ (ms : Messages). AreFirst (unsent mid.marks ms) after n ls) (same c) are)
 
     -- what was sent of a page is within the limit
-    pub page_within : (sent : ℕ) (more : Bool) → FillsPage clean'' messages' after next (limit - count) mid new (Ok (sent, more))
+    pub page_within : (sent : ℕ) (more : Bool)
+        → FillsPage clean'' messages' after next (limit - count) mid new (Ok (sent, more))
         → sent ≤ limit - count
     page_within sent false p =
         let number = p.ends.0 in
@@ -351,12 +394,14 @@ module _ (messages : Messages) (limit : ℕ) (old : SendState) where
           within = omega (arith, within, within', number');
           stage = ap (λ (x : SendState). x.client.stage) p.sends.all ∙ stage_after mid p.letters ∙ f.stage;
           goes_on = λ c k more are.
-              subst (λ (x : List Letter). AreFirst (unsent old.marks messages) None (length (f.letters ++ p.letters) + k) x)
+              subst (λ (x : List Letter). AreFirst (unsent old.marks messages) None
+              (length (f.letters ++ p.letters) + k) x)
               (sym (append_assoc f.letters p.letters more))
               (subst (λ (n : ℕ). AreFirst (unsent old.marks messages) None n (f.letters ++ (p.letters ++ more)))
               (all_of (length f.letters) (length p.letters) k (length (f.letters ++ p.letters)) long)
               (behind c (length p.letters + k) (p.letters ++ more)
-              (p.ends.1 (there c) k more (subst (λ (ms : Messages). AreFirst (unsent new.marks ms) next k more) (sym (same c)) are))));
+              (p.ends.1 (there c) k more (subst (λ (ms : Messages). AreFirst (unsent new.marks ms) next k more)
+              (sym (same c)) are))));
         }
 
     page_at_end : (sent : ℕ) → FillsPage clean'' messages' after next (limit - count) mid new (Ok (sent, false))
@@ -394,7 +439,8 @@ module _ (messages : Messages) (limit : ℕ) (old : SendState) where
 
     joined : clean' → (letters : List Letter)
         → (l : Letter) × AreFirst (unsent mid.marks messages') after (length letters + 1) (letters ++ l ∷ [])
-        → (l : Letter) × AreFirst (unsent old.marks messages) None (length (f.letters ++ letters) + 1) ((f.letters ++ letters) ++ l ∷ [])
+        → (l : Letter) × AreFirst (unsent old.marks messages) None (length (f.letters ++ letters) + 1)
+        ((f.letters ++ letters) ++ l ∷ [])
     joined c letters s =
         let long = length-append f.letters letters in (
           s.0,
@@ -431,22 +477,28 @@ module _ (messages : Messages) (limit : ℕ) (old : SendState) where
         }
 
 -- the cursor skips what was sent, and what is due behind it comes next
-pub passed_filled : (clean : Type 0) (messages : Messages) (limit : ℕ) (old : SendState) (r t : Relay) (c : ClientWithRoom ℕ) (count : ℕ)
+pub passed_filled : (clean : Type 0) (messages : Messages) (limit : ℕ) (old : SendState) (r t : Relay)
+    (c : ClientWithRoom ℕ) (count : ℕ)
     → HasFilled clean messages limit old (send_state r c) count r.behind → t.marks ≡ r.marks
-    → (clean → Skips (marks_of r) messages r.behind t.behind) → HasFilled clean messages limit old (send_state t c) count t.behind
+    → (clean → Skips (marks_of r) messages r.behind t.behind)
+    → HasFilled clean messages limit old (send_state t c) count t.behind
 passed_filled clean messages limit old r t c count f marks skips =
-    subst (λ (x : SendState). HasFilled clean messages limit old x count t.behind) (sym (same_connection r t c marks)) (record {
+    subst (λ (x : SendState). HasFilled clean messages limit old x count t.behind) (sym (same_connection r t c marks))
+    (record {
       letters = f.letters;
       sends = f.sends;
       number = f.number;
       within = f.within;
       stage = f.stage;
-      goes_on = λ is k more are. f.goes_on is k more (skip_first messages (marks_of r) r.behind t.behind k more (skips is) are);
+      goes_on = λ is k more are. f.goes_on is k more (skip_first messages (marks_of r) r.behind t.behind k more
+          (skips is) are);
     })
 
-pub passed_sent : (messages : Messages) (r t : Relay) → t.marks ≡ r.marks → Skips (marks_of r) messages r.behind t.behind
+pub passed_sent : (messages : Messages) (r t : Relay) → t.marks ≡ r.marks
+    → Skips (marks_of r) messages r.behind t.behind
     → AllSent (marks_of r) messages r.behind → AllSent (marks_of t) messages t.behind
-passed_sent messages r t marks skips sent = subst (λ (m : BTreeMap Pair ℕ). AllSent (λ p. mark_in m p) messages t.behind) (sym marks)
+passed_sent messages r t marks skips sent =
+    subst (λ (m : BTreeMap Pair ℕ). AllSent (λ p. mark_in m p) messages t.behind) (sym marks)
     (skip_sent messages (marks_of r) r.behind t.behind skips sent)
 
 -- marks that rise tell no less
@@ -465,7 +517,8 @@ rise_on r s t u first same last p =
     let e = ap (λ (m : BTreeMap Pair ℕ). mark_in m p) same in
     omega (arith, a, b, e)
 
-pub rises_with : {m : Pair → ℕ} (r s : Relay) → s.marks ≡ r.marks → ((p : Pair) → m p ≤ marks_of r p) → (p : Pair) → m p ≤ marks_of s p
+pub rises_with : {m : Pair → ℕ} (r s : Relay) → s.marks ≡ r.marks → ((p : Pair) → m p ≤ marks_of r p) → (p : Pair)
+    → m p ≤ marks_of s p
 rises_with {m} r s same rise p =
     let a = rise p in
     let e = ap (λ (x : BTreeMap Pair ℕ). mark_in x p) same in
@@ -473,8 +526,10 @@ rises_with {m} r s same rise p =
 
 -- ---- what is told where less is in doubt
 
-stops_where : (clean clean' : Type 0) → (clean' → clean) → (messages : Messages) (after : Option Place) (letters : List Letter) (last : ℕ)
-    (fault : RelayFault) → StopsBehind clean messages after letters last fault → StopsBehind clean' messages after letters last fault
+stops_where : (clean clean' : Type 0) → (clean' → clean)
+    → (messages : Messages) (after : Option Place) (letters : List Letter) (last : ℕ)
+    (fault : RelayFault) → StopsBehind clean messages after letters last fault
+    → StopsBehind clean' messages after letters last fault
 stops_where clean clean' less messages after letters last (Endpoint cause) s = tt
 stops_where clean clean' less messages after letters last (Client cause) s = (s.0, λ c. s.1 (less c))
 stops_where clean clean' less messages after letters last (Envelope cause) s = (s.0, λ c. s.1 (less c))
@@ -498,7 +553,8 @@ fills_where clean clean' less messages limit old new (Err fault) f = record {
   );
 }
 
-pub fills_from : {clean : Type 0} {messages : Messages} {limit : ℕ} {start old new : SendState} {result : Result ℕ RelayFault}
+pub fills_from : {clean : Type 0} {messages : Messages} {limit : ℕ} {start old new : SendState}
+    {result : Result ℕ RelayFault}
     → start ≡ old
     → Fills clean messages limit start new result → Fills clean messages limit old new result
 fills_from {clean} {messages} {limit} {start} {old} {new} {result} e f =
@@ -524,7 +580,8 @@ twice a b c h k = omega (arith, h, k)
 
 module _ {E S C : Type 0} (seen : E → Seen (Tables S C)) (old new : E) where
   -- a read that was done, whatever it gave
-  pub some_read : (R Q : Type 0) (gives : Tables S C → R → Type 0) (r : R) (q : Q) → Reads seen old new {F = EndFault} gives (Ok r)
+  pub some_read : (R Q : Type 0) (gives : Tables S C → R → Type 0) (r : R) (q : Q)
+      → Reads seen old new {F = EndFault} gives (Ok r)
       → Reads seen old new {R = Q} {F = EndFault} Any (Ok q)
   some_read R Q gives r q h = record { call = h.call; doubt = h.doubt; clean = λ c. (tt, (h.clean c).1) }
 
@@ -540,24 +597,30 @@ module _ {E S C : Type 0} (seen : E → Seen (Tables S C)) (old new : E) where
   same_end R Q (Endpoint cause) h = same_cause R Q (end_cause cause) h
 
   -- a read, and then a letter that couldn't be sent
-  pub read_and_stopped : (R Q : Type 0) (gives : Tables S C → R → Type 0) (r : R) (last : ℕ) (fault : RelayFault) → StopsSending last fault
+  pub read_and_stopped : (R Q : Type 0) (gives : Tables S C → R → Type 0) (r : R) (last : ℕ) (fault : RelayFault)
+      → StopsSending last fault
       → Reads seen old new {F = EndFault} gives (Ok r) → Reads seen old new {R = Q} Any (store_end (Err fault))
-  read_and_stopped R Q gives r last (Client cause) stops h = record { call = h.call; doubt = h.doubt; clean = λ c. (h.clean c).1 }
-  read_and_stopped R Q gives r last (Envelope cause) stops h = record { call = h.call; doubt = h.doubt; clean = λ c. (h.clean c).1 }
+  read_and_stopped R Q gives r last (Client cause) stops h =
+      record { call = h.call; doubt = h.doubt; clean = λ c. (h.clean c).1 }
+  read_and_stopped R Q gives r last (Envelope cause) stops h =
+      record { call = h.call; doubt = h.doubt; clean = λ c. (h.clean c).1 }
   read_and_stopped R Q gives r last (Endpoint cause) stops h = absurd stops
 
-  told : (R Q : Type 0) (gives : Tables S C → R → Type 0) (cause : Cause EndFault) → Reads seen old new gives (Err cause)
+  told : (R Q : Type 0) (gives : Tables S C → R → Type 0) (cause : Cause EndFault)
+      → Reads seen old new gives (Err cause)
       → Reads seen old new {R = Q} Any (Err cause)
   told R Q gives cause h = record { call = h.call; doubt = h.doubt; clean = h.clean }
 
   -- the outbox couldn't be read
   pub not_read : (R Q : Type 0) (gives : Tables S C → R → Type 0) (fault : EndFault)
-      → Reads seen old new gives (end_of {R = R} (Err fault)) → Reads seen old new {R = Q} Any (store_end (Err (Endpoint fault)))
+      → Reads seen old new gives (end_of {R = R} (Err fault))
+      → Reads seen old new {R = Q} Any (store_end (Err (Endpoint fault)))
   not_read R Q gives fault h = told R Q gives (end_cause fault) h
 
 module _ {E S C : Type 0} (seen : E → Seen (Tables S C)) (old mid new : E) where
   -- reads one after another are as one
-  pub read_again : (R : Type 0) (end : End R EndFault) → HasRead seen old mid → Reads seen mid new Any end → Reads seen old new Any end
+  pub read_again : (R : Type 0) (end : End R EndFault) → HasRead seen old mid → Reads seen mid new Any end
+      → Reads seen old new Any end
   read_again R end (inl same) h = subst (λ (k : E). Reads seen k new Any end) same h
   read_again R (Ok r) (inr had) h = record {
     call = then_served seen old mid new had.0.call h.call;

@@ -18,10 +18,12 @@ use Rattle.relay.specs.Parts.News.{SentBut, IsFrom, IsFirstFrom, IsClear, Skips}
 -- ---- senders and places
 
 sender_less : (x y : Place) → entity_cmp x.pair.from y.pair.from ≡ Less → IsBefore x y
-sender_less x y h = ap (λ o. ordering_then (ordering_then o (entity_cmp x.pair.to y.pair.to)) (nat_cmp x.number y.number)) h
+sender_less x y h =
+    ap (λ o. ordering_then (ordering_then o (entity_cmp x.pair.to y.pair.to)) (nat_cmp x.number y.number)) h
 
 sender_greater : (x y : Place) → entity_cmp x.pair.from y.pair.from ≡ Greater → place_cmp x y ≡ Greater
-sender_greater x y h = ap (λ o. ordering_then (ordering_then o (entity_cmp x.pair.to y.pair.to)) (nat_cmp x.number y.number)) h
+sender_greater x y h =
+    ap (λ o. ordering_then (ordering_then o (entity_cmp x.pair.to y.pair.to)) (nat_cmp x.number y.number)) h
 
 less_greater : Less ≡ Greater → ⊥
 less_greater e = absurd cc
@@ -53,12 +55,14 @@ upto_upto place reach x near up = by (place_cmp place reach) refl
     ]
 
 -- the cursor passes over what no new row's entity sent
-pub passes : {C : Type 0} (news : List (JournalRow C)) (m : Pair → ℕ) (messages : Messages) (behind : Option Place) (place reach : Place)
+pub passes : {C : Type 0} (news : List (JournalRow C)) (m : Pair → ℕ) (messages : Messages) (behind : Option Place)
+    (place reach : Place)
     → SentBut news m messages (Some reach) → IsClear news behind place → place_cmp place reach ≢ Greater
     → ((x : Place) → IsAfter (Some place) x → IsAfter behind x) → Skips m messages behind (Some place)
 passes news m messages behind place reach sent clear near ahead = (
   ahead,
-  λ x late up some. sent x (upto_upto place reach x near up) (clear x.pair.from (after_from behind x late) (upto_from place x up)) some,
+  λ x late up some. sent x (upto_upto place reach x near up) (clear x.pair.from (after_from behind x late)
+      (upto_from place x up)) some,
 )
 
 -- it stays
@@ -80,7 +84,8 @@ upto_less f p e near less = by (entity_cmp f p) refl
     by Equal h = entity_cmp-total.congr f p e h ∙ less
     by Less h = entity_cmp-total.trans f p e h less
 
-pub clear_none : {C : Type 0} (news : List (JournalRow C)) (behind : Option Place) (place : Place) → IsFirstFrom news behind None
+pub clear_none : {C : Type 0} (news : List (JournalRow C)) (behind : Option Place) (place : Place)
+    → IsFirstFrom news behind None
     → IsClear news behind place
 clear_none news behind place none = λ f from near. none f from
 

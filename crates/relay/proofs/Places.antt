@@ -1,5 +1,6 @@
 -- The first messages behind a place.
-use Rattle.std.proofs.Common.{◌≡◌, ◌⊎◌, inl, inr, ℕ, zero, suc, ◌<◌, List, [], ◌∷◌, Option, Some, None, Ordering, Less, Equal, Greater}
+use Rattle.std.proofs.Common.{◌≡◌, ◌⊎◌, inl, inr, ℕ, zero, suc, ◌<◌, List, [], ◌∷◌, Option, Some, None, Ordering, Less}
+use Rattle.std.proofs.Common.{Equal, Greater}
 use Rattle.std.proofs.Common.{refl, sym, ap, subst, ◌∙◌, arith}
 use Rattle.std.specs.Ordering.{nat_cmp, ordering_then}
 use Rattle.std.specs.Cmp.{tied_itself, nat_cmp_is}
@@ -29,7 +30,8 @@ tie p q e = subst (λ x. pair_cmp p x ≡ Equal) e (tied_itself pair_cmp-total p
 -- within a pair places are in order of their numbers
 pub numbers_rise : (x y : Place) → x.pair ≡ y.pair → IsBefore x y → x.number < y.number
 numbers_rise x y e h =
-    number_less x.number y.number (ap (λ o. ordering_then o (nat_cmp x.number y.number)) (sym (tie x.pair y.pair e)) ∙ h)
+    number_less x.number y.number (ap (λ o. ordering_then o (nat_cmp x.number y.number)) (sym (tie x.pair y.pair e))
+    ∙ h)
 
 pub before_in_pair : (x y : Place) → x.pair ≡ y.pair → x.number < y.number → IsBefore x y
 before_in_pair x y e h = ap (λ o. ordering_then o (nat_cmp x.number y.number)) (tie x.pair y.pair e)
@@ -59,7 +61,8 @@ pair_between_places x y z e h k = elim (pairs_rise x y h) [
 
 -- they are the same of messages that are the same behind the place
 pub alike : (d e : Messages) (after : Option Place) (n : ℕ) (ls : List Letter)
-    → ((x : Place) → IsAfter after x → e x.pair x.number ≡ d x.pair x.number) → AreFirst d after n ls → AreFirst e after n ls
+    → ((x : Place) → IsAfter after x → e x.pair x.number ≡ d x.pair x.number) → AreFirst d after n ls
+    → AreFirst e after n ls
 alike d e after zero [] same are = tt
 alike d e after zero (l ∷ ls) same are = absurd are
 alike d e after (suc n) [] same are = λ x h. same x h ∙ are x h
@@ -75,10 +78,12 @@ alike d e after (suc n) (l ∷ ls) same are = (
 -- and they are those behind an earlier place, where none stands between
 pub gap_over : (d : Messages) (after here : Option Place) (n : ℕ) (ls : List Letter)
     → ((x : Place) → IsAfter here x → IsAfter after x)
-    → ((x : Place) → IsAfter after x → IsAfter here x ⊎ (d x.pair x.number ≡ None)) → AreFirst d here n ls → AreFirst d after n ls
+    → ((x : Place) → IsAfter after x → IsAfter here x ⊎ (d x.pair x.number ≡ None)) → AreFirst d here n ls
+    → AreFirst d after n ls
 gap_over d after here zero [] wide none are = tt
 gap_over d after here zero (l ∷ ls) wide none are = absurd are
-gap_over d after here (suc n) [] wide none are = λ x h. elim (none x h) [ inl later ↦ are x later | inr none_here ↦ none_here ]
+gap_over d after here (suc n) [] wide none are =
+    λ x h. elim (none x h) [ inl later ↦ are x later | inr none_here ↦ none_here ]
 gap_over d after here (suc n) (l ∷ ls) wide none are = (
   record {
     stands = are.0.stands;
@@ -90,5 +95,6 @@ gap_over d after here (suc n) (l ∷ ls) wide none are = (
 
 pub gap : (d : Messages) (after : Option Place) (here : Place) (n : ℕ) (ls : List Letter)
     → ((x : Place) → IsBefore here x → IsAfter after x)
-    → ((x : Place) → IsAfter after x → IsBefore here x ⊎ (d x.pair x.number ≡ None)) → AreFirst d (Some here) n ls → AreFirst d after n ls
+    → ((x : Place) → IsAfter after x → IsBefore here x ⊎ (d x.pair x.number ≡ None)) → AreFirst d (Some here) n ls
+    → AreFirst d after n ls
 gap d after here n ls = gap_over d after (Some here) n ls

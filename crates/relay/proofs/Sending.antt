@@ -34,13 +34,16 @@ sent_append : (c : SendState) (xs ys : List Letter) → with_all_sent c (xs ++ y
 sent_append c [] ys = refl
 sent_append c (x ∷ xs) ys = sent_append (with_sent c x) xs ys
 
-frames_append : (c : SendState) (xs ys : List Letter) → sends_of c (xs ++ ys) ≡ sends_of c xs ++ sends_of (with_all_sent c xs) ys
+frames_append : (c : SendState) (xs ys : List Letter)
+    → sends_of c (xs ++ ys) ≡ sends_of c xs ++ sends_of (with_all_sent c xs) ys
 frames_append c [] ys = refl
 frames_append c (x ∷ xs) ys = ap
-    (λ fs. with_receipt (c.client.receipts.last + 1) (send_of (envelope.Letter x)) ∷ fs) (frames_append (with_sent c x) xs ys)
+    (λ fs. with_receipt (c.client.receipts.last + 1) (send_of (envelope.Letter x)) ∷ fs)
+    (frames_append (with_sent c x) xs ys)
 
 -- both of two parts
-all_append : {A : Type 0} (P : A → Type 0) (xs ys : List A) → AllByRecursion P xs → AllByRecursion P ys → AllByRecursion P (xs ++ ys)
+all_append : {A : Type 0} (P : A → Type 0) (xs ys : List A) → AllByRecursion P xs → AllByRecursion P ys
+    → AllByRecursion P (xs ++ ys)
 all_append P [] ys a b = b
 all_append P (x ∷ xs) ys a b = (a.0, all_append P xs ys a.1 b)
 
@@ -53,7 +56,8 @@ sends_none c = record {
 }
 
 -- some were sent, and then others
-pub sends_append : (xs ys : List Letter) (a b c : SendState) → SendsLetters xs a b → SendsLetters ys b c → SendsLetters (xs ++ ys) a c
+pub sends_append : (xs ys : List Letter) (a b c : SendState) → SendsLetters xs a b → SendsLetters ys b c
+    → SendsLetters (xs ++ ys) a c
 sends_append xs ys a b c s t =
     let more : sends_of b ys ≡ sends_of (with_all_sent a xs) ys = ap (λ (x : SendState). sends_of x ys) s.all in
     record {
@@ -71,12 +75,14 @@ sends_append xs ys a b c s t =
 abbrev made : (Pair → ℕ) → Client ℕ → SendState
 made marks client = record { marks = marks; client = client }
 
-pub sends_one : (l : Letter) (m m' : Pair → ℕ) (c c' : Client ℕ) (f : Content) (tag : ℕ) → m' ≡ set_mark l.pair l.number m
+pub sends_one : (l : Letter) (m m' : Pair → ℕ) (c c' : Client ℕ) (f : Content) (tag : ℕ)
+    → m' ≡ set_mark l.pair l.number m
     → IsEnvelope (envelope.Letter l) → f ≡ send_of (envelope.Letter l) → tag ≡ l.number → c' ≡ receipted f tag c
     → Adds (with_receipt (c.receipts.last + 1) f ∷ []) c.out c'.out → SendsLetters (l ∷ []) (made m c) (made m' c')
 sends_one l m m' c c' f tag marks is frame number client wrote = record {
   each = (is, tt);
   all = ap (λ (x : Pair → ℕ). made x c') marks ∙ ap (λ (x : Client ℕ). made (set_mark l.pair l.number m) x)
-      (client ∙ ap (λ (x : Content). receipted x tag c) frame ∙ ap (λ n. receipted (send_of (envelope.Letter l)) n c) number);
+      (client ∙ ap (λ (x : Content). receipted x tag c) frame
+      ∙ ap (λ n. receipted (send_of (envelope.Letter l)) n c) number);
   wrote = subst (λ (x : Content). Adds (with_receipt (c.receipts.last + 1) x ∷ []) c.out c'.out) frame wrote;
 }

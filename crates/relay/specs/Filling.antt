@@ -46,7 +46,8 @@ due (suc limit) marks (l ∷ ls) = if nat_lt (marks l.pair) l.number
 
 -- ---- what sending does
 
--- a letter was sent, with the next receipt number; its number is the receipt's tag, and the last that was sent of its pair
+-- a letter was sent, with the next receipt number; its number is the receipt's tag, and the last that was sent of its
+-- pair
 abbrev pub with_sent : SendState → Letter → SendState
 with_sent c l = record {
   marks = set_mark l.pair l.number c.marks;
@@ -61,7 +62,8 @@ with_all_sent c (l ∷ ls) = with_all_sent (with_sent c l) ls
 -- the frames that are written then
 abbrev pub sends_of : SendState → List Letter → List Content
 sends_of c [] = []
-sends_of c (l ∷ ls) = with_receipt (c.client.receipts.last + 1) (send_of (envelope.Letter l)) ∷ sends_of (with_sent c l) ls
+sends_of c (l ∷ ls) =
+    with_receipt (c.client.receipts.last + 1) (send_of (envelope.Letter l)) ∷ sends_of (with_sent c l) ls
 
 -- exactly these letters were sent, each of which can be written, and so these frames were written
 pub record SendsLetters (letters : List Letter) (old new : SendState) : Type 0 where

@@ -18,10 +18,11 @@ IsUpto (Some a) x = IsBefore x a ⊎ (x ≡ a)
 
 -- what stands up to a place isn't above what was sent of its pair
 abbrev pub AllSent : (Pair → ℕ) → Messages → Option Place → Type 0
-AllSent marks messages behind = (x : Place) → IsUpto behind x → IsSome (messages x.pair x.number) → x.number ≤ marks x.pair
+AllSent marks messages behind =
+    (x : Place) → IsUpto behind x → IsSome (messages x.pair x.number) → x.number ≤ marks x.pair
 
--- The cursor is right of a journal of so many rows, whose first rows sent these messages, as many rows as there were then: it had no more
--- then, and all that stands up to the cursor's place was sent.
+-- The cursor is right of a journal of so many rows, whose first rows sent these messages, as many rows as there were
+-- then: it had no more then, and all that stands up to the cursor's place was sent.
 abbrev pub KnowsRows : Relay → (rows : ℕ) → Messages → Type 0
 KnowsRows r rows messages = (r.rows ≤ rows) × AllSent (marks_of r) messages r.behind
 

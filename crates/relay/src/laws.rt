@@ -21,6 +21,7 @@ pub fn a_reopening_is_known<H, K>()
 where
     H: Handler,
     K: Keep<State = H::State, Command = H::Command>,
-    ensures { (r : Relay) (old new : K) → (K.seen new).doubt ≡ 0 → Finds K.seen old new → AllMatch H.service (K.seen new).may_leave
+    ensures { (r : Relay) (old new : K) → (K.seen new).doubt ≡ 0 → Finds K.seen old new
+        → AllMatch H.service (K.seen new).may_leave
         → KnowsAll H.service r (K.seen old).may_leave → KnowsAll H.service r (K.seen new).may_leave }
 {}

@@ -67,7 +67,8 @@ fn put(marks: &mut BTreeMap<Pair, u64>, pair: Pair) -> Result<(), AllocError>
 
 /// Puts the mark 0 for a pair, or changes nothing.
 fn insert(marks: &mut BTreeMap<Pair, u64>, pair: Pair) -> Result<(), AllocError>
-    ensures ok { OnOk result ((q : Pair) → get pair_cmp marks.new q ≡ cond (is_at (pair_cmp pair) q) (Some 0) (get pair_cmp marks.old q)) }
+    ensures ok { OnOk result ((q : Pair)
+        → get pair_cmp marks.new q ≡ cond (is_at (pair_cmp pair) q) (Some 0) (get pair_cmp marks.old q)) }
     ensures place { OnOk result (IsSome (get pair_cmp marks.new pair)) }
     ensures err { OnErr result (marks.new.entries ≡ marks.old.entries) }
 {
@@ -80,7 +81,8 @@ fn insert(marks: &mut BTreeMap<Pair, u64>, pair: Pair) -> Result<(), AllocError>
 /// Sets the mark of a pair that has a place. It takes no memory.
 pub fn set(marks: &mut BTreeMap<Pair, u64>, pair: &Pair, number: Number)
     requires { IsSome (get pair_cmp marks.old pair.now) }
-    ensures { (q : Pair) → get pair_cmp marks.new q ≡ cond (is_at (pair_cmp pair.now) q) (Some number) (get pair_cmp marks.old q) }
+    ensures { (q : Pair) → get pair_cmp marks.new q ≡ cond (is_at (pair_cmp pair.now) q) (Some number)
+        (get pair_cmp marks.old q) }
 {
     if let Some(mark) = marks.get_mut(pair) {
         *mark = number.get();

@@ -1,4 +1,5 @@
-//! Where the rows may stand that new rows of the journal put into the outbox: among those of the new rows' entities alone.
+//! Where the rows may stand that new rows of the journal put into the outbox: among those of the new rows' entities
+//! alone.
 
 ghost use Rattle.std.specs.Prelude.{◌≡◌, ◌≢◌, false, true, IfSome, MatchOption, Some, None};
 ghost use Rattle.base.specs.Entity.{Name};
@@ -40,7 +41,8 @@ fn is_before(entity: &Entity, other: Option<&Entity>) -> bool
 
 /// The first entity of these rows that doesn't come before the sender of a place.
 pub fn first_from<'a, C>(news: &'a [JournalRow<C>], behind: &Option<Place>) -> Option<&'a Entity>
-    ensures { MatchOption result (IsFirstFrom news.now behind.now None) (λ e. IsFirstFrom news.now behind.now (Some e.now)) }
+    ensures { MatchOption result (IsFirstFrom news.now behind.now None) (λ e. IsFirstFrom news.now behind.now
+        (Some e.now)) }
 {
     let mut first: Option<&'a Entity> = None;
     for row in news {
@@ -51,7 +53,8 @@ pub fn first_from<'a, C>(news: &'a [JournalRow<C>], behind: &Option<Place>) -> O
     first
 }
 
-/// The place of the last letter sent of the pairs before those of an entity, where it is known and memory isn't refused.
+/// The place of the last letter sent of the pairs before those of an entity, where it is known and memory isn't
+/// refused.
 fn place_before(alloc: Global, marks: &BTreeMap<Pair, u64>, entity: &Entity) -> Option<Place>
     ensures { IfSome result (λ p. entity_cmp p.pair.from entity.now ≡ Less) }
 {
@@ -80,7 +83,8 @@ fn copy_place(alloc: Global, place: &Place) -> Option<Place>
     })
 }
 
-/// How far all was sent where no letter comes from these rows' entities: the place itself, or one before the rows of the first of them.
+/// How far all was sent where no letter comes from these rows' entities: the place itself, or one before the rows of
+/// the first of them.
 pub fn clear_place<C>(
     alloc: Global,
     marks: &BTreeMap<Pair, u64>,

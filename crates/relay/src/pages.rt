@@ -1,6 +1,7 @@
 //! A filling, page by page: the outbox isn't held in memory, and of a pair's rows those that were sent are passed over.
 
-ghost use Rattle.std.specs.Prelude.{◌≡◌, ◌≢◌, ◌<◌, ◌≤◌, ◌^◌, ◌⊎◌, None, Some, Err, false, true, ⊤, length, ℕ, Option, IfOk, IfErr};
+ghost use Rattle.std.specs.Prelude.{◌≡◌, ◌≢◌, ◌<◌, ◌≤◌, ◌^◌, ◌⊎◌, None, Some, Err, false, true, ⊤, length, ℕ, Option};
+ghost use Rattle.std.specs.Prelude.{IfOk, IfErr};
 ghost use Rattle.keep.specs.declared.change.Place.{Place};
 ghost use Rattle.keep.specs.Law.{Reads};
 ghost use Rattle.keep.specs.Listing.{AreFirst};
@@ -33,7 +34,8 @@ use stomp_client::ClientSession;
 /// How many rows are read at once: few enough to be held, and so many that finding the first of them costs little.
 const PAGE: usize = 64;
 
-/// How many new rows of the journal are read, and no more: where there are more, they pay for a look from the first row on.
+/// How many new rows of the journal are read, and no more: where there are more, they pay for a look from the first row
+/// on.
 const NEWS: usize = 256;
 
 impl Relay {
@@ -50,9 +52,12 @@ impl Relay {
         requires { client.old.client.stage ≡ Connected }
         ensures read { Reads K.seen endpoint.old endpoint.new (λ _ _. ⊤) (store_end result) }
         ensures stays { Stays K.seen endpoint.old endpoint.new }
-        ensures fills { Fills (((K.seen endpoint.new).doubt ≡ 0) × KnowsAll H.service self.old (K.seen endpoint.old).may_leave)
-            (K.seen endpoint.old).tables.unsettled limit (send_state self.old client.old) (send_state self.new client.new) result }
-        ensures unused { (K.seen endpoint.old).usable ≡ false → send_state self.new client.new ≡ send_state self.old client.old }
+        ensures fills { Fills (((K.seen endpoint.new).doubt ≡ 0)
+            × KnowsAll H.service self.old (K.seen endpoint.old).may_leave)
+            (K.seen endpoint.old).tables.unsettled limit (send_state self.old client.old)
+            (send_state self.new client.new) result }
+        ensures unused { (K.seen endpoint.old).usable ≡ false
+            → send_state self.new client.new ≡ send_state self.old client.old }
         ensures knows { (K.seen endpoint.new).doubt ≡ 0 → KnowsAll H.service self.old (K.seen endpoint.old).may_leave
             → KnowsAll H.service self.new (K.seen endpoint.new).may_leave }
     {
@@ -84,8 +89,8 @@ impl Relay {
         self.behind.take()
     }
 
-    /// The rows that the journal has more than it had at the last filling. Where they are too many, or all are, the cursor is taken away
-    /// instead.
+    /// The rows that the journal has more than it had at the last filling. Where they are too many, or all are, the
+    /// cursor is taken away instead.
     fn read_news<H, K>(
         &mut self,
         endpoint: &mut Endpoint<H, K>,
@@ -95,12 +100,15 @@ impl Relay {
         H: Handler,
         K: Keep<State = H::State, Command = H::Command> + Drop,
         ensures read { IfOk result (λ _. HasRead K.seen endpoint.old endpoint.new) }
-        ensures unread { IfErr result (λ fault. Reads K.seen endpoint.old endpoint.new {R = ℕ} (λ _ _. ⊤) (Err (end_cause fault))) }
+        ensures unread { IfErr result (λ fault. Reads K.seen endpoint.old endpoint.new {R = ℕ} (λ _ _. ⊤)
+            (Err (end_cause fault))) }
         ensures stays { Stays K.seen endpoint.old endpoint.new }
         ensures doubt { (K.seen endpoint.old).doubt ≤ (K.seen endpoint.new).doubt }
         ensures news { (K.seen endpoint.new).doubt ≡ 0 → (K.seen endpoint.old).usable ≡ true
-            → rows ≡ length (K.seen endpoint.old).tables.journal → KnowsAll H.service self.old (K.seen endpoint.old).may_leave
-            → IfOk result (λ news. SentBut news.items (marks_of self.old) (K.seen endpoint.old).tables.unsettled self.new.behind) }
+            → rows ≡ length (K.seen endpoint.old).tables.journal
+            → KnowsAll H.service self.old (K.seen endpoint.old).may_leave
+            → IfOk result (λ news. SentBut news.items (marks_of self.old) (K.seen endpoint.old).tables.unsettled
+            self.new.behind) }
         ensures marks { self.new.marks ≡ self.old.marks }
         ensures rows { self.new.rows ≡ self.old.rows }
         ensures behind { (self.new.behind ≡ None) ⊎ (self.new.behind ≡ self.old.behind) }
@@ -123,7 +131,8 @@ impl Relay {
         }
     }
 
-    /// Takes the cursor back to a place, and to the rows of the journal that it knew there, where it hasn't come so far again.
+    /// Takes the cursor back to a place, and to the rows of the journal that it knew there, where it hasn't come so far
+    /// again.
     fn stay_at(&mut self, reach: Option<Place>, since: u64)
         ensures marks { self.new.marks ≡ self.old.marks }
         ensures cursor { ((self.new.behind ≡ self.old.behind) × (self.new.rows ≡ self.old.rows))
@@ -156,7 +165,8 @@ impl Relay {
         }
     }
 
-    /// Sends what is due behind the cursor, page by page, where up to a place all was sent but letters that these rows' entities sent.
+    /// Sends what is due behind the cursor, page by page, where up to a place all was sent but letters that these rows'
+    /// entities sent.
     fn fill_pages<H, K>(
         &mut self,
         client: &mut ClientSession<u64>,
@@ -174,8 +184,10 @@ impl Relay {
         ensures fills { Fills (((K.seen endpoint.new).doubt ≡ 0)
             × AllSent (marks_of self.old) (K.seen endpoint.old).tables.unsettled self.old.behind
             × SentBut news.now (marks_of self.old) (K.seen endpoint.old).tables.unsettled reach.now)
-            (K.seen endpoint.old).tables.unsettled limit (send_state self.old client.old) (send_state self.new client.new) result }
-        ensures sent { (K.seen endpoint.new).doubt ≡ 0 → AllSent (marks_of self.old) (K.seen endpoint.old).tables.unsettled self.old.behind
+            (K.seen endpoint.old).tables.unsettled limit (send_state self.old client.old)
+            (send_state self.new client.new) result }
+        ensures sent { (K.seen endpoint.new).doubt ≡ 0
+            → AllSent (marks_of self.old) (K.seen endpoint.old).tables.unsettled self.old.behind
             → SentBut news.now (marks_of self.old) (K.seen endpoint.old).tables.unsettled reach.now
             → AllSent (marks_of self.new) (K.seen endpoint.old).tables.unsettled self.new.behind }
         ensures rows { self.new.rows ≡ self.old.rows }
@@ -201,7 +213,8 @@ impl Relay {
         Ok(count + sent)
     }
 
-    /// Sends what is due of a page of rows behind the cursor, moves the cursor, and answers how many were sent and whether it goes on.
+    /// Sends what is due of a page of rows behind the cursor, moves the cursor, and answers how many were sent and
+    /// whether it goes on.
     fn fill_page<H, K>(
         &mut self,
         client: &mut ClientSession<u64>,
@@ -216,9 +229,11 @@ impl Relay {
         requires page { 0 < page }
         ensures read { Reads K.seen endpoint.old endpoint.new (λ _ _. ⊤) (store_end result) }
         ensures stays { Stays K.seen endpoint.old endpoint.new }
-        ensures fills { FillsPage ((K.seen endpoint.new).doubt ≡ 0) (K.seen endpoint.old).tables.unsettled self.old.behind self.new.behind
+        ensures fills { FillsPage ((K.seen endpoint.new).doubt ≡ 0) (K.seen endpoint.old).tables.unsettled
+            self.old.behind self.new.behind
             limit (send_state self.old client.old) (send_state self.new client.new) result }
-        ensures sent { (K.seen endpoint.new).doubt ≡ 0 → AllSent (marks_of self.old) (K.seen endpoint.old).tables.unsettled self.old.behind
+        ensures sent { (K.seen endpoint.new).doubt ≡ 0
+            → AllSent (marks_of self.old) (K.seen endpoint.old).tables.unsettled self.old.behind
             → AllSent (marks_of self.new) (K.seen endpoint.old).tables.unsettled self.new.behind }
         ensures rows { self.new.rows ≡ self.old.rows }
         ensures rises { (p : Pair) → marks_of self.old p ≤ marks_of self.new p }
@@ -247,7 +262,8 @@ impl Relay {
     /// Moves the cursor behind those of these rows that stand before the first one that is due.
     fn go_behind_sent(&mut self, mut rows: Vec<Letter>)
         ensures sent { (messages : Messages) (page : ℕ) → AreFirst messages self.old.behind page rows.items
-            → AllSent (marks_of self.old) messages self.old.behind → AllSent (marks_of self.new) messages self.new.behind }
+            → AllSent (marks_of self.old) messages self.old.behind
+            → AllSent (marks_of self.new) messages self.new.behind }
         ensures marks { self.new.marks ≡ self.old.marks }
         ensures rows { self.new.rows ≡ self.old.rows }
     {

@@ -22,8 +22,8 @@ use std::alloc::Global;
 use std::collections::BTreeMap;
 use stomp_client::{ClientFault, ClientSession, Stage};
 
-/// What was sent of each pair on a connection: contracts see the last number of each pair, 0 where nothing was sent. And a cursor: up to
-/// a place all that stood in the outbox was sent, when the journal had so many rows.
+/// What was sent of each pair on a connection: contracts see the last number of each pair, 0 where nothing was sent.
+/// And a cursor: up to a place all that stood in the outbox was sent, when the journal had so many rows.
 #[derive(Drop)]
 pub struct Relay {
     pub(crate) alloc: Global,
@@ -60,8 +60,8 @@ impl Relay {
         self.rows = 0;
     }
 
-    /// Lets the next filling look from the first row of the outbox on, for whichever service it is. What was sent stays known, so that
-    /// nothing is sent twice. It takes no memory.
+    /// Lets the next filling look from the first row of the outbox on, for whichever service it is. What was sent stays
+    /// known, so that nothing is sent twice. It takes no memory.
     #[tactic(auto, using(crate::proofs::Knowing::knows_start))]
     pub fn look_anew(&mut self)
         ensures marks { self.new.marks ≡ self.old.marks }
@@ -79,7 +79,8 @@ impl Relay {
         letter: &Letter,
     ) -> Result<(), RelayFault>
         requires { client.old.client.stage ≡ Connected }
-        ensures sends { OnOk result (SendsLetters (letter.now ∷ []) (send_state self.old client.old) (send_state self.new client.new)) }
+        ensures sends { OnOk result (SendsLetters (letter.now ∷ []) (send_state self.old client.old)
+            (send_state self.new client.new)) }
         ensures same { OnErr result (send_state self.new client.new ≡ send_state self.old client.old) }
         ensures fault { IfErr result (StopsSending client.old.client.receipts.last) }
         ensures behind { self.new.behind ≡ self.old.behind }
@@ -97,13 +98,14 @@ impl Relay {
         Ok(())
     }
 
-    /// Sends of these letters, in their order, those that are above what was sent of their pairs on this connection, at most `limit`, and
-    /// answers how many. Each SEND has the next receipt number, with the letter's number as its tag. Before CONNECTED it sends none.
-    /// The cursor stays where it is.
+    /// Sends of these letters, in their order, those that are above what was sent of their pairs on this connection, at
+    /// most `limit`, and answers how many. Each SEND has the next receipt number, with the letter's number as its tag.
+    /// Before CONNECTED it sends none. The cursor stays where it is.
     ///
     /// # Errors
-    /// `Closed` after the end of the session, and nothing is sent. Where a letter is due: `NumbersUsed` where the last receipt number is
-    /// 2^64 - 1; else `Memory` of the client or of the envelope where a growth was refused. The letters before that one were sent.
+    /// `Closed` after the end of the session, and nothing is sent. Where a letter is due: `NumbersUsed` where the last
+    /// receipt number is 2^64 - 1; else `Memory` of the client or of the envelope where a growth was refused. The
+    /// letters before that one were sent.
     pub fn fill_rows(
         &mut self,
         client: &mut ClientSession<u64>,
@@ -114,7 +116,8 @@ impl Relay {
             (λ answer. (result ≡ answer) × (send_state self.new client.new ≡ send_state self.old client.old)) }
         ensures fills { client.old.client.stage ≡ Connected
             → FillsLetters limit letters.now (send_state self.old client.old) (send_state self.new client.new) result }
-        ensures knows { (rows : ℕ) (messages : Messages) → KnowsRows self.old rows messages → KnowsRows self.new rows messages }
+        ensures knows { (rows : ℕ) (messages : Messages) → KnowsRows self.old rows messages
+            → KnowsRows self.new rows messages }
         ensures cursor { (self.new.behind ≡ self.old.behind) × (self.new.rows ≡ self.old.rows) }
     {
         match client.stage() {
@@ -132,7 +135,8 @@ impl Relay {
         limit: usize,
     ) -> Result<usize, RelayFault>
         requires { client.old.client.stage ≡ Connected }
-        ensures fills { FillsLetters limit letters.now (send_state self.old client.old) (send_state self.new client.new) result }
+        ensures fills { FillsLetters limit letters.now (send_state self.old client.old) (send_state self.new client.new)
+            result }
         ensures behind { self.new.behind ≡ self.old.behind }
         ensures rows { self.new.rows ≡ self.old.rows }
     {
@@ -152,21 +156,23 @@ impl Relay {
         Ok(count)
     }
 
-    /// Sends of the outbox's rows, by pair and then by number, those that are above what was sent of their pairs on this connection, at
-    /// most `limit`, and answers how many. Each SEND has the next receipt number, with the letter's number as its tag. Before CONNECTED it
-    /// sends none, and the store isn't called.
+    /// Sends of the outbox's rows, by pair and then by number, those that are above what was sent of their pairs on
+    /// this connection, at most `limit`, and answers how many. Each SEND has the next receipt number, with the letter's
+    /// number as its tag. Before CONNECTED it sends none, and the store isn't called.
     ///
-    /// Calls of the store: one `unsettled` or more, each for a page of rows. It begins behind the last row that was sent. Where the journal
-    /// has grown since the last filling, one `journal` comes first, and of what stands before that row it looks at what the new rows'
-    /// entities sent; where more than 256 rows came, it looks from the first row on. What it sends is told where the cursor is right: of
-    /// each content of this service's store that it went over ([`each_deed_is_known`]).
+    /// Calls of the store: one `unsettled` or more, each for a page of rows. It begins behind the last row that was
+    /// sent. Where the journal has grown since the last filling, one `journal` comes first, and of what stands before
+    /// that row it looks at what the new rows' entities sent; where more than 256 rows came, it looks from the first
+    /// row on. What it sends is told where the cursor is right: of each content of this service's store that it went
+    /// over ([`each_deed_is_known`]).
     ///
     /// [`each_deed_is_known`]: crate::each_deed_is_known
     ///
     /// # Errors
-    /// `Closed` after the end of the session: nothing is sent, and the store isn't called. `StoreFailed`, `Memory` and `Unusable` of the
-    /// endpoint, as every read. Where a row is due: `NumbersUsed` where the last receipt number is 2^64 - 1; else `Memory` of the client or
-    /// of the envelope where a growth was refused. The rows that were sent are the first that were due, and stay sent.
+    /// `Closed` after the end of the session: nothing is sent, and the store isn't called. `StoreFailed`, `Memory` and
+    /// `Unusable` of the endpoint, as every read. Where a row is due: `NumbersUsed` where the last receipt number is
+    /// 2^64 - 1; else `Memory` of the client or of the envelope where a growth was refused. The rows that were sent are
+    /// the first that were due, and stay sent.
     pub fn fill<H, K>(
         &mut self,
         client: &mut ClientSession<u64>,
@@ -176,14 +182,18 @@ impl Relay {
     where
         H: Handler,
         K: Keep<State = H::State, Command = H::Command> + Drop,
-        ensures idle { IfSome (idle_answer client.old.client.stage) (λ answer. (result ≡ answer) × (endpoint.new ≡ endpoint.old)
+        ensures idle { IfSome (idle_answer client.old.client.stage) (λ answer. (result ≡ answer)
+            × (endpoint.new ≡ endpoint.old)
             × (send_state self.new client.new ≡ send_state self.old client.old)) }
-        ensures read { client.old.client.stage ≡ Connected → Reads K.seen endpoint.old endpoint.new (λ _ _. ⊤) (store_end result) }
+        ensures read { client.old.client.stage ≡ Connected
+            → Reads K.seen endpoint.old endpoint.new (λ _ _. ⊤) (store_end result) }
         ensures stays { Stays K.seen endpoint.old endpoint.new }
         ensures fills { client.old.client.stage ≡ Connected
             → Fills (((K.seen endpoint.new).doubt ≡ 0) × KnowsAll H.service self.old (K.seen endpoint.old).may_leave)
-            (K.seen endpoint.old).tables.unsettled limit (send_state self.old client.old) (send_state self.new client.new) result }
-        ensures unused { (K.seen endpoint.old).usable ≡ false → send_state self.new client.new ≡ send_state self.old client.old }
+            (K.seen endpoint.old).tables.unsettled limit (send_state self.old client.old)
+            (send_state self.new client.new) result }
+        ensures unused { (K.seen endpoint.old).usable ≡ false
+            → send_state self.new client.new ≡ send_state self.old client.old }
         ensures knows { (K.seen endpoint.new).doubt ≡ 0 → KnowsAll H.service self.old (K.seen endpoint.old).may_leave
             → KnowsAll H.service self.new (K.seen endpoint.new).may_leave }
     {

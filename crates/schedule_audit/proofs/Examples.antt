@@ -1,5 +1,6 @@
 -- Examples: lines that go one way and others, by the tables of three services, and what looking at them does.
-use Rattle.std.proofs.Common.{◌≡◌, ℕ, List, [], ◌∷◌, Bool, true, false, Option, Some, None, Ok, Err, refl, ap, arith, inl, inr}
+use Rattle.std.proofs.Common.{◌≡◌, ℕ, List, [], ◌∷◌, Bool, true, false, Option, Some, None, Ok, Err, refl, ap, arith}
+use Rattle.std.proofs.Common.{inl, inr}
 use Rattle.std.specs.Prelude.{codes}
 use Rattle.base.specs.Entity.{Name, order_of}
 use Rattle.base.specs.Order.{same_entity}
@@ -12,7 +13,8 @@ use Rattle.keep.specs.Tables.{empty, set_entity}
 use Rattle.endpoint.specs.declared.fault.EndFault.TheVariants.{StoreFailed, Memory, Unusable}
 use Rattle.endpoint.proofs.Examples.{o1, bolts, acme}
 use Rattle.laws_stores.specs.Sight.{OrderTables, StockTables, AccountTables}
-use Rattle.schedule_audit.specs.Agree.{phase_in, stock_lines, account_lines, is_taken, is_given_back, go_one_way, phase_by, phases_at}
+use Rattle.schedule_audit.specs.Agree.{phase_in, stock_lines, account_lines, is_taken, is_given_back, go_one_way}
+use Rattle.schedule_audit.specs.Agree.{phase_by, phases_at}
 use Rattle.schedule_audit.specs.Agree.{order_agrees, row_agrees, rows_agree, partners_agree}
 use Rattle.schedule_audit.specs.Looks.{StandsFor, Rests, Fails, LooksAtPartners, Looks}
 use Rattle.schedule_audit.specs.declared.fault.AuditFault.TheVariants.{Purchasing, Warehouse, Billing}
@@ -24,17 +26,20 @@ o2 = order_of (codes "o2")
 
 -- ---- phases
 
--- what is shipped or billed is done, what is given back is released or refused, and what is held is neither, nor is what isn't there
+-- what is shipped or billed is done, what is given back is released or refused, and what is held is neither, nor is
+-- what isn't there
 phases_are_told_apart : (is_taken (Some Done) ≡ true) × (is_given_back (Some Done) ≡ false)
     × (is_taken (Some Released) ≡ false) × (is_given_back (Some Released) ≡ true)
     × (is_taken (Some Refused) ≡ false) × (is_given_back (Some Refused) ≡ true)
-    × (is_taken (Some Held) ≡ false) × (is_given_back (Some Held) ≡ false) × (is_taken None ≡ false) × (is_given_back None ≡ false)
+    × (is_taken (Some Held) ≡ false) × (is_given_back (Some Held) ≡ false) × (is_taken None ≡ false)
+    × (is_given_back None ≡ false)
 phases_are_told_apart = (refl, refl, refl, refl, refl, refl, refl, refl, refl, refl)
 
 -- all may be done, or all given back, with others still held; done and given back isn't one way, in either order
 some_ways_are_one : (go_one_way (Some Done ∷ Some Held ∷ None ∷ Some Done ∷ []) ≡ true)
     × (go_one_way (Some Released ∷ Some Refused ∷ Some Held ∷ []) ≡ true) × (go_one_way [] ≡ true)
-    × (go_one_way (Some Done ∷ Some Refused ∷ []) ≡ false) × (go_one_way (Some Released ∷ Some Held ∷ Some Done ∷ []) ≡ false)
+    × (go_one_way (Some Done ∷ Some Refused ∷ []) ≡ false)
+    × (go_one_way (Some Released ∷ Some Held ∷ Some Done ∷ []) ≡ false)
 some_ways_are_one = (refl, refl, refl, refl, refl)
 
 -- ---- lines
@@ -52,7 +57,13 @@ each_order_has_its_line = (refl, refl, refl, refl)
 -- tables of a stock and an account with these lines, and of the order that asked both
 abbrev stocks_with : LinePhase → StockTables
 stocks_with phase = record empty {
-  entity = set_entity bolts (Some (record { on_hand = 7; held = 1; shipped = 3; received = 10; lines = lines_with phase })) (λ _. None);
+  entity = set_entity bolts (Some (record {
+    on_hand = 7;
+    held = 1;
+    shipped = 3;
+    received = 10;
+    lines = lines_with phase;
+  })) (λ _. None);
 }
 
 abbrev accounts_with : LinePhase → AccountTables
@@ -63,7 +74,8 @@ accounts_with phase = record empty {
 abbrev orders_placed : OrderTables
 orders_placed = record empty { journal = placing ∷ []; entity = set_entity o1 (Some (Some placed)) (λ _. None) }
 
--- a row's lines are read, and where there is no row there is none; a stock is asked at warehouse and an account at billing
+-- a row's lines are read, and where there is no row there is none; a stock is asked at warehouse and an account at
+-- billing
 lines_stand_in_rows : (stock_lines ((stocks_with Done).entity bolts) ≡ lines_with Done) × (stock_lines None ≡ [])
     × (account_lines ((accounts_with Done).entity acme) ≡ lines_with Done) × (account_lines None ≡ [])
     × (phase_by (stocks_with Done) (accounts_with Released) o1 Stock bolts ≡ Some Done)
@@ -75,7 +87,8 @@ lines_stand_in_rows = (refl, refl, refl, refl, refl, refl, refl, refl)
 
 -- ---- orders
 
--- an order that shipped and wasn't billed yet agrees, one that shipped and released doesn't; nor does one that was refused and billed
+-- an order that shipped and wasn't billed yet agrees, one that shipped and released doesn't; nor does one that was
+-- refused and billed
 orders_agree_or_not : (order_agrees (stocks_with Done) (accounts_with Held) o1 (Some (Some placed)) ≡ true)
     × (order_agrees (stocks_with Done) empty o1 (Some (Some placed)) ≡ true)
     × (order_agrees (stocks_with Done) (accounts_with Released) o1 (Some (Some placed)) ≡ false)
@@ -90,8 +103,10 @@ partners_agree_or_not : (partners_agree empty (stocks_with Done) (accounts_with 
     × (partners_agree orders_placed (stocks_with Done) (accounts_with Done) ≡ true)
     × (partners_agree orders_placed (stocks_with Done) (accounts_with Released) ≡ false)
     × (row_agrees orders_placed (stocks_with Done) (accounts_with Released) (record placing { entity = bolts }) ≡ true)
-    × (rows_agree orders_placed (stocks_with Done) (accounts_with Released) (record placing { entity = bolts } ∷ placing ∷ []) ≡ false)
-    × (rows_agree orders_placed (stocks_with Done) (accounts_with Released) (record placing { entity = o2 } ∷ []) ≡ true)
+    × (rows_agree orders_placed (stocks_with Done) (accounts_with Released)
+    (record placing { entity = bolts } ∷ placing ∷ []) ≡ false)
+    × (rows_agree orders_placed (stocks_with Done) (accounts_with Released) (record placing { entity = o2 } ∷ [])
+    ≡ true)
 unfolding same_entity
 partners_agree_or_not = (refl, refl, refl, refl, refl, refl)
 
@@ -127,7 +142,8 @@ stores_rest = (inl refl, counted, changed)
     line t = phase_in o1 (stock_lines (t.entity bolts))
 
     changed : Rests seen stocks (true, 4, stocks_with Held) → ⊥
-    changed (inl same) = let phase : Some Held ≡ Some Done = ap (λ (s : Store StockTables). line s.2) same in absurd (cc)
+    changed (inl same) =
+        let phase : Some Held ≡ Some Done = ap (λ (s : Store StockTables). line s.2) same in absurd (cc)
     changed (inr reads) = let phase : Some Held ≡ Some Done = ap line (reads.clean refl).1 in absurd (cc)
 
 -- a read that fails counts a failure and leaves the store unusable; want of memory doesn't
@@ -153,13 +169,15 @@ unfolding same_entity
 any_stand_where_none_can_be_asked = (λ usable. absurd (cc), λ usable. refl, λ h. other (h refl))
   where
     other : stocks_with Held ≡ stocks_with Done → ⊥
-    other same = let phase : Some Held ≡ Some Done = ap (λ (t : StockTables). phase_in o1 (stock_lines (t.entity bolts)))
+    other same =
+        let phase : Some Held ≡ Some Done = ap (λ (t : StockTables). phase_in o1 (stock_lines (t.entity bolts)))
         same in absurd (cc)
 
 abbrev agreement : OrderTables → StockTables → AccountTables → Bool → Type 0
 agreement o s a agree = agree ≡ partners_agree o s a
 
--- the answer is what the tables give, and all rest; a fault is told at the service whose read wasn't done, and the others rest
+-- the answer is what the tables give, and all rest; a fault is told at the service whose read wasn't done, and the
+-- others rest
 looks_are_told : Looks seen seen seen agreement (Ok false) orders orders stocks stocks accounts accounts
     × (Looks seen seen seen agreement (Ok true) orders orders stocks stocks accounts accounts → ⊥)
     × Looks seen seen seen agreement (Err (Warehouse StoreFailed)) orders orders stocks down accounts accounts
@@ -168,7 +186,8 @@ looks_are_told : Looks seen seen seen agreement (Ok false) orders orders stocks 
 unfolding same_entity
 looks_are_told = (
   (inl refl, inl refl, inl refl, λ _ _ _ x y z xo ys za. let told = stands_told x y z xo ys za in told),
-  λ h. let agrees = h.3 refl refl refl orders_placed (stocks_with Done) (accounts_with Released) (λ _. refl) (λ _. refl) (λ _. refl)
+  λ h. let agrees =
+      h.3 refl refl refl orders_placed (stocks_with Done) (accounts_with Released) (λ _. refl) (λ _. refl) (λ _. refl)
       in absurd (cc),
   (inl refl, reads_fail.0, inl refl),
   λ h. let usable = h.2.call.1 in absurd (cc),
@@ -176,6 +195,7 @@ looks_are_told = (
 )
   where
     -- what stands for the tables of usable stores are these
-    stands_told : (x : OrderTables) (y : StockTables) (z : AccountTables) → StandsFor seen orders x → StandsFor seen stocks y
+    stands_told : (x : OrderTables) (y : StockTables) (z : AccountTables) → StandsFor seen orders x
+        → StandsFor seen stocks y
         → StandsFor seen accounts z → false ≡ partners_agree x y z
     stands_told x y z xo ys za = rw (xo refl, ys refl, za refl) refl

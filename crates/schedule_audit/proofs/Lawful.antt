@@ -1,5 +1,6 @@
 -- Where the journals are lawful the partners agree: from what is said of states to what is read of rows.
-use Rattle.std.proofs.Common.{◌≡◌, ◌⊎◌, inl, inr, List, [], ◌∷◌, Bool, true, false, ◌&&◌, ◌||◌, map, Some, None, refl, sym, ◌∙◌, ap}
+use Rattle.std.proofs.Common.{◌≡◌, ◌⊎◌, inl, inr, List, [], ◌∷◌, Bool, true, false, ◌&&◌, ◌||◌, map, Some, None, refl}
+use Rattle.std.proofs.Common.{sym, ◌∙◌, ap}
 use Rattle.std.specs.Prelude.{Option, not, is_none}
 use Rattle.std.specs.List.{list_all, list_any}
 use Rattle.std.specs.Option.{option_map}
@@ -25,12 +26,14 @@ use Rattle.laws_journals.specs.Agreement.{PartnersAgree, AreSound}
 use Rattle.laws_stores.specs.Good.{journals_of}
 use Rattle.laws_stores.specs.Sight.{AllTables, orders_service, stocks_service, accounts_service}
 use Rattle.endpoint.specs.Matches.{TablesMatchJournal}
-use Rattle.schedule_audit.specs.Agree.{phase_in, stock_lines, account_lines, is_taken, is_given_back, go_one_way, phase_by, phases_at}
+use Rattle.schedule_audit.specs.Agree.{phase_in, stock_lines, account_lines, is_taken, is_given_back, go_one_way}
+use Rattle.schedule_audit.specs.Agree.{phase_by, phases_at}
 use Rattle.schedule_audit.specs.Agree.{order_agrees, row_agrees, partners_agree}
 
 -- ---- rows and states
 
-lines_of_stock : (inputs : List (Input StockCommand)) → stock_lines (row_after stocks_service inputs) ≡ (state stock_reactions inputs).lines
+lines_of_stock : (inputs : List (Input StockCommand))
+    → stock_lines (row_after stocks_service inputs) ≡ (state stock_reactions inputs).lines
 lines_of_stock [] = refl
 lines_of_stock (input ∷ inputs) = refl
 
@@ -61,14 +64,16 @@ released : (l : Option Line) → is_given_back (option_map (λ (k : Line). k.pha
 released None e = absurd cc
 released (Some l) e = is_back l.phase e
 
-one_of_two : (test : Option LinePhase → Bool) (phase : Partner → Option LinePhase) (p : Partner) (ps : List Partner) (b : Bool)
+one_of_two : (test : Option LinePhase → Bool) (phase : Partner → Option LinePhase) (p : Partner) (ps : List Partner)
+    (b : Bool)
     → test (phase p) ≡ b → (b || list_any test (map phase ps)) ≡ true
     → (list_any test (map phase ps) ≡ true → (q : Partner) × IsAmong q.entity ps × (test (phase q) ≡ true))
     → (q : Partner) × IsAmong q.entity (p ∷ ps) × (test (phase q) ≡ true)
 one_of_two test phase p ps true is e rest = (p, inl refl, is)
 one_of_two test phase p ps false is e rest = let found = rest e in (found.0, inr found.1, found.2)
 
-one_of : (test : Option LinePhase → Bool) (phase : Partner → Option LinePhase) (ps : List Partner) → list_any test (map phase ps) ≡ true
+one_of : (test : Option LinePhase → Bool) (phase : Partner → Option LinePhase) (ps : List Partner)
+    → list_any test (map phase ps) ≡ true
     → (p : Partner) × IsAmong p.entity ps × (test (phase p) ≡ true)
 one_of test phase [] e = absurd cc
 one_of test phase (p ∷ ps) e = one_of_two test phase p ps (test (phase p)) refl e (one_of test phase ps)
@@ -84,7 +89,8 @@ every : {A : Type 0} (p : A → Bool) (xs : List A) → ((x : A) → p x ≡ tru
 every p [] each = refl
 every p (x ∷ xs) each = ap (λ b. b && list_all p xs) (each x) ∙ every p xs each
 
-module _ (t : AllTables) (orders : TablesMatchJournal orders_service t.purchasing) (stocks : TablesMatchJournal stocks_service t.warehouse)
+module _ (t : AllTables) (orders : TablesMatchJournal orders_service t.purchasing)
+    (stocks : TablesMatchJournal stocks_service t.warehouse)
     (accounts : TablesMatchJournal accounts_service t.billing) (sound : AreSound (states_in (journals_of t))) where
   -- what is read of a partner is its line's phase
   phase_is : (order : Name) (kind : Kind) (at : Name)
@@ -99,8 +105,10 @@ module _ (t : AllTables) (orders : TablesMatchJournal orders_service t.purchasin
   one_way : (order : Name) (o : OrderState) → PartnersAgree (Some o) (line_at (states_in (journals_of t)) order)
       → go_one_way (phases_at t.warehouse t.billing order o.partners) ≡ true
   one_way order o agree = never_both _ _ (λ taken given_back.
-      let p = one_of is_taken (λ (k : Partner). phase_by t.warehouse t.billing order k.entity.kind k.entity) o.partners taken in
-      let q = one_of is_given_back (λ (k : Partner). phase_by t.warehouse t.billing order k.entity.kind k.entity) o.partners given_back in
+      let p = one_of is_taken (λ (k : Partner). phase_by t.warehouse t.billing order k.entity.kind k.entity) o.partners
+      taken in
+      let q = one_of is_given_back (λ (k : Partner). phase_by t.warehouse t.billing order k.entity.kind k.entity)
+      o.partners given_back in
       agree.one_way p.0.entity q.0.entity p.1 q.1
       (shipped _ (ap is_taken (sym (phase_is order p.0.entity.kind p.0.entity)) ∙ p.2))
       (released _ (ap is_given_back (sym (phase_is order q.0.entity.kind q.0.entity)) ∙ q.2)))

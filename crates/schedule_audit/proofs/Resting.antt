@@ -44,7 +44,8 @@ module _ {E T : Type 0} (seen : E → Seen T) where
   rests_on old mid new had (inl same) = subst (λ (k : E). Rests seen old k) (sym same) had
   rests_on old mid new had (inr h) = inr (read_again old mid new (Ok tt) had h)
 
-  pub fails_on : (old mid new : E) (fault : EndFault) → Rests seen old mid → Fails seen mid new fault → Fails seen old new fault
+  pub fails_on : (old mid new : E) (fault : EndFault) → Rests seen old mid → Fails seen mid new fault
+      → Fails seen old new fault
   fails_on old mid new fault had h = read_again old mid new (Err (end_cause fault)) had h
 
   pub rests_clean : (old new : E) → Rests seen old new → (seen new).doubt ≡ 0 → (seen old).doubt ≡ 0
@@ -52,11 +53,13 @@ module _ {E T : Type 0} (seen : E → Seen T) where
   rests_clean old new (inr had) clean = earlier _ _ had.doubt clean
 
   -- what stands for its tables still does
-  pub rests_stands : (old new : E) (t : T) → Rests seen old new → (seen new).doubt ≡ 0 → StandsFor seen old t → StandsFor seen new t
+  pub rests_stands : (old new : E) (t : T) → Rests seen old new → (seen new).doubt ≡ 0 → StandsFor seen old t
+      → StandsFor seen new t
   rests_stands old new t (inl same) clean stands usable = subst (λ (k : E). StandsFor seen k t) (sym same) stands usable
   rests_stands old new t (inr had) clean stands usable = stands had.call.0 ∙ sym (had.clean clean).1
 
 -- what holds where a fault is told holds of an answer that tells it
-pub err_told : {R F : Type 0} (P : Result R F → Type 0) (r : Result R F) (fault : F) → IsErrAnd r (λ y. y ≡ fault) → P (Err fault) → P r
+pub err_told : {R F : Type 0} (P : Result R F → Type 0) (r : Result R F) (fault : F) → IsErrAnd r (λ y. y ≡ fault)
+    → P (Err fault) → P r
 err_told P (Ok x) fault said holds = absurd said
 err_told P (Err y) fault said holds = rw said holds

@@ -51,7 +51,8 @@ phase_by warehouse billing order Account at = phase_in order (account_lines (bil
 
 -- how far an order's line is at each of these partners
 abbrev pub phases_at : StockTables → AccountTables → Name → List Partner → List (Option LinePhase)
-phases_at warehouse billing order partners = map (λ (p : Partner). phase_by warehouse billing order p.entity.kind p.entity) partners
+phases_at warehouse billing order partners =
+    map (λ (p : Partner). phase_by warehouse billing order p.entity.kind p.entity) partners
 
 -- whether the lines of an order with this row go one way
 abbrev pub order_agrees : StockTables → AccountTables → Name → Option (Option OrderState) → Bool

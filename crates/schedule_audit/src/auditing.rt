@@ -2,7 +2,8 @@
 
 ghost use Rattle.std.specs.Prelude.{◌≡◌};
 ghost use Rattle.base.specs.declared.entity.Kind.TheVariants.{Order as OrderKind};
-ghost use Rattle.schedule_audit.specs.Agree.{phase_by, go_one_way, phases_at, order_agrees, row_agrees, rows_agree, partners_agree};
+ghost use Rattle.schedule_audit.specs.Agree.{phase_by, go_one_way, phases_at, order_agrees, row_agrees, rows_agree};
+ghost use Rattle.schedule_audit.specs.Agree.{partners_agree};
 ghost use Rattle.schedule_audit.specs.Looks.{LooksAtPartners, Looks};
 
 use crate::AuditFault;
@@ -28,7 +29,8 @@ fn phase_at<KS, KA>(
 where
     KS: Keep<State = Stock, Command = StockCommand> + Drop,
     KA: Keep<State = Account, Command = AccountCommand> + Drop,
-    ensures { LooksAtPartners KS.seen KA.seen (λ s a phase. phase ≡ phase_by s a order.now partner.now.kind partner.now) result
+    ensures { LooksAtPartners KS.seen KA.seen (λ s a phase. phase ≡ phase_by s a order.now partner.now.kind partner.now)
+        result
         warehouse.old warehouse.new billing.old billing.new }
 {
     match partner.kind() {
@@ -55,7 +57,8 @@ fn lines_agree<KS, KA>(
 where
     KS: Keep<State = Stock, Command = StockCommand> + Drop,
     KA: Keep<State = Account, Command = AccountCommand> + Drop,
-    ensures { LooksAtPartners KS.seen KA.seen (λ s a agrees. agrees ≡ go_one_way (phases_at s a order.now placed.now.partners)) result
+    ensures { LooksAtPartners KS.seen KA.seen (λ s a agrees. agrees
+        ≡ go_one_way (phases_at s a order.now placed.now.partners)) result
         warehouse.old warehouse.new billing.old billing.new }
 {
     let mut taken = false;
@@ -84,7 +87,8 @@ where
     KS: Keep<State = Stock, Command = StockCommand> + Drop,
     KA: Keep<State = Account, Command = AccountCommand> + Drop,
     requires { order.now.kind ≡ OrderKind }
-    ensures { Looks KO.seen KS.seen KA.seen (λ o s a agrees. agrees ≡ order_agrees s a order.now (o.entity order.now)) result
+    ensures { Looks KO.seen KS.seen KA.seen (λ o s a agrees. agrees ≡ order_agrees s a order.now (o.entity order.now))
+        result
         purchasing.old purchasing.new warehouse.old warehouse.new billing.old billing.new }
 {
     match order_row(alloc, purchasing, order) {
@@ -115,7 +119,8 @@ where
     order_agrees(alloc, purchasing, warehouse, billing, &row.entity)
 }
 
-/// Whether the partners of each order that has one of these rows agree. What is read of an order is read again at each of its rows.
+/// Whether the partners of each order that has one of these rows agree. What is read of an order is read again at each
+/// of its rows.
 fn rows_agree<KO, KS, KA>(
     alloc: Global,
     purchasing: &mut Endpoint<Orders, KO>,
@@ -138,13 +143,15 @@ where
     Ok(true)
 }
 
-/// Whether the partners of each order agree: of no order that has a row in purchasing's journal is one partner's line shipped or billed
-/// while another's is released or refused. Nothing changes.
+/// Whether the partners of each order agree: of no order that has a row in purchasing's journal is one partner's line
+/// shipped or billed while another's is released or refused. Nothing changes.
 ///
-/// It asks each store only reads: one of purchasing's journal, and for each of its rows one of the order and one at each partner.
+/// It asks each store only reads: one of purchasing's journal, and for each of its rows one of the order and one at
+/// each partner.
 ///
 /// # Errors
-/// Of the service whose read wasn't done: `Unusable`, `StoreFailed` or `Memory`, as its read tells it. The other stores stay as they are.
+/// Of the service whose read wasn't done: `Unusable`, `StoreFailed` or `Memory`, as its read tells it. The other stores
+/// stay as they are.
 pub fn agreement<KO, KS, KA>(
     alloc: Global,
     purchasing: &mut Endpoint<Orders, KO>,

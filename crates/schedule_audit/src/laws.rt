@@ -9,9 +9,11 @@ ghost use Rattle.schedule_audit.specs.Agree.{partners_agree};
 
 use laws_stores::lawful_tables_agree;
 
-/// Where the tables of each service match its journal, and the three journals are lawful, the partners of all orders agree.
+/// Where the tables of each service match its journal, and the three journals are lawful, the partners of all orders
+/// agree.
 pub fn lawful_services_agree()
-    ensures { (t : AllTables) → TablesMatchJournal orders_service t.purchasing → TablesMatchJournal stocks_service t.warehouse
+    ensures { (t : AllTables) → TablesMatchJournal orders_service t.purchasing
+        → TablesMatchJournal stocks_service t.warehouse
         → TablesMatchJournal accounts_service t.billing → AreLawful (journals_of t)
         → partners_agree t.purchasing t.warehouse t.billing ≡ true }
 {

@@ -1,7 +1,8 @@
 //! What is read of one entity.
 
 ghost use Rattle.std.specs.Prelude.{◌≡◌};
-ghost use Rattle.base.specs.declared.entity.Kind.TheVariants.{Order as OrderKind, Stock as StockKind, Account as AccountKind};
+ghost use Rattle.base.specs.declared.entity.Kind.TheVariants.{Order as OrderKind, Stock as StockKind};
+ghost use Rattle.base.specs.declared.entity.Kind.TheVariants.{Account as AccountKind};
 ghost use Rattle.keep.specs.Law.{Reads};
 ghost use Rattle.endpoint.specs.Faults.{end_of};
 ghost use Rattle.schedule_audit.specs.Agree.{phase_in, stock_lines, account_lines, is_taken, is_given_back};

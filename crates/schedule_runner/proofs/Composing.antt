@@ -19,7 +19,8 @@ use Rattle.schedule_runner.specs.Steps.{Happened}
 use Rattle.schedule_runner.proofs.Following.{leads_append, leads_none, leads_one}
 use Rattle.schedule_runner.proofs.Righting.{good_agree}
 
-module _ {KO KS KA : Type 0} (orders : KO → Seen OrderTables) (stocks : KS → Seen StockTables) (accounts : KA → Seen AccountTables) where
+module _ {KO KS KA : Type 0} (orders : KO → Seen OrderTables) (stocks : KS → Seen StockTables)
+    (accounts : KA → Seen AccountTables) where
   abbrev W : Type 0
   W = World KO KS KA
 
@@ -27,7 +28,8 @@ module _ {KO KS KA : Type 0} (orders : KO → Seen OrderTables) (stocks : KS →
   M = Moment KO KS KA
 
   -- what leads so leads thus too
-  pub goes_map : (R Q : M → M → Type 0) → ((a b : M) → R a b → Q a b) → (old new : W) → GoesBy orders stocks accounts R old new
+  pub goes_map : (R Q : M → M → Type 0) → ((a b : M) → R a b → Q a b) → (old new : W)
+      → GoesBy orders stocks accounts R old new
       → GoesBy orders stocks accounts Q old new
   goes_map R Q map old new goes clean good t may = ∥∥₁_map (goes clean good t may) (λ led. record {
     before = led.before;
@@ -38,10 +40,12 @@ module _ {KO KS KA : Type 0} (orders : KO → Seen OrderTables) (stocks : KS →
   -- and one part behind another
   pub goes_then : (R Q P : M → M → Type 0) → ((a b c : M) → R a b → Q b c → P a c) → (old mid new : W)
       → StaysClean orders stocks accounts mid new → StaysMatching orders stocks accounts old mid
-      → GoesBy orders stocks accounts R old mid → GoesBy orders stocks accounts Q mid new → GoesBy orders stocks accounts P old new
+      → GoesBy orders stocks accounts R old mid → GoesBy orders stocks accounts Q mid new
+      → GoesBy orders stocks accounts P old new
   goes_then R Q P join old mid new clean sound first next now good t may =
       let was = clean now in
-      ∥∥₁_elim (next now (sound was good) t may) (hlevel props) (λ led. ∥∥₁_map (first was good led.before led.was) (λ from. record {
+      ∥∥₁_elim (next now (sound was good) t may) (hlevel props) (λ led. ∥∥₁_map (first was good led.before led.was)
+      (λ from. record {
         before = from.before;
         was = from.was;
         leads = join (moment old from.before) (moment mid led.before) (moment new t) from.leads led.leads;
@@ -51,7 +55,8 @@ module _ {KO KS KA : Type 0} (orders : KO → Seen OrderTables) (stocks : KS →
   pub goes_none : (R : M → M → Type 0) → ((a : M) → R a a) → (w : W) → GoesBy orders stocks accounts R w w
   goes_none R same w clean good t may = ∣ record { before = t; was = may; leads = same (moment w t) } ∣₁
 
-  pub passes_map : (D E : W → W → Type 0) (R Q : M → M → Type 0) (old new : W) → (D old new → E old new) → ((a b : M) → R a b → Q a b)
+  pub passes_map : (D E : W → W → Type 0) (R Q : M → M → Type 0) (old new : W) → (D old new → E old new)
+      → ((a b : M) → R a b → Q a b)
       → Passes orders stocks accounts D R old new → Passes orders stocks accounts E Q old new
   passes_map D E R Q old new whole map p = record {
     clean = p.clean;
@@ -61,13 +66,16 @@ module _ {KO KS KA : Type 0} (orders : KO → Seen OrderTables) (stocks : KS →
     goes = goes_map R Q map old new p.goes;
   }
 
-  pub passes_then : (D E F : W → W → Type 0) (R Q P : M → M → Type 0) (old mid new : W) → (D old mid → E mid new → F old new)
+  pub passes_then : (D E F : W → W → Type 0) (R Q P : M → M → Type 0) (old mid new : W)
+      → (D old mid → E mid new → F old new)
       → ((a b c : M) → R a b → Q b c → P a c)
-      → Passes orders stocks accounts D R old mid → Passes orders stocks accounts E Q mid new → Passes orders stocks accounts F P old new
+      → Passes orders stocks accounts D R old mid → Passes orders stocks accounts E Q mid new
+      → Passes orders stocks accounts F P old new
   passes_then D E F R Q P old mid new whole join first next = record {
     clean = λ now. first.clean (next.clean now);
     matching = λ now good. next.matching now (first.matching (next.clean now) good);
-    good = λ now match good. next.good now (first.matching (next.clean now) match) (first.good (next.clean now) match good);
+    good = λ now match good. next.good now (first.matching (next.clean now) match)
+        (first.good (next.clean now) match good);
     did = whole first.did next.did;
     goes = goes_then R Q P join old mid new next.clean first.matching first.goes next.goes;
   }
@@ -86,7 +94,8 @@ module _ {KO KS KA : Type 0} (orders : KO → Seen OrderTables) (stocks : KS →
 
   pub passes_all : (es more : List Event) (old mid new : W) → PassesAll orders stocks accounts es old mid
       → PassesAll orders stocks accounts more mid new → PassesAll orders stocks accounts (es ++ more) old new
-  passes_all es more old mid new = passes_then (Leads H es) (Leads H more) (Leads H (es ++ more)) (Leads S es) (Leads S more)
+  passes_all es more old mid new =
+      passes_then (Leads H es) (Leads H more) (Leads H (es ++ more)) (Leads S es) (Leads S more)
       (Leads S (es ++ more)) old mid new (leads_append H es more old mid new) (leads_append S es more)
 
   pub passes_nothing : (w : W) → PassesAll orders stocks accounts [] w w
@@ -99,7 +108,8 @@ module _ {KO KS KA : Type 0} (orders : KO → Seen OrderTables) (stocks : KS →
   }
 
   -- an event that was made has passed
-  passed : (e : Event) (o : Outcome) (old new : W) → Passes orders stocks accounts (A e o) (S e o) old new → H e o old new
+  passed : (e : Event) (o : Outcome) (old new : W) → Passes orders stocks accounts (A e o) (S e o) old new
+      → H e o old new
   passed e o old new p = (p, good_agree orders stocks accounts old new p.good)
 
   pub passes_one : (e : Event) (o : Outcome) (old new : W) → Passes orders stocks accounts (A e o) (S e o) old new
@@ -108,7 +118,8 @@ module _ {KO KS KA : Type 0} (orders : KO → Seen OrderTables) (stocks : KS →
       (λ did. leads_one H e o old new (passed e o old new p)) (leads_one S e o) p
 
   -- one frame more, and one round more
-  pub takes_more : (n k : ℕ) (c : ConnectionName) (old mid new : W) → k ≡ suc n → PassesAll orders stocks accounts (takes n c) old mid
+  pub takes_more : (n k : ℕ) (c : ConnectionName) (old mid new : W) → k ≡ suc n
+      → PassesAll orders stocks accounts (takes n c) old mid
       → PassesAll orders stocks accounts (Take c ∷ []) mid new → PassesAll orders stocks accounts (takes k c) old new
   takes_more n k c old mid new more first next =
       subst (λ j. PassesAll orders stocks accounts (takes j c) old new) (sym more)
@@ -127,12 +138,14 @@ module _ {KO KS KA : Type 0} (orders : KO → Seen OrderTables) (stocks : KS →
       (Makes S (Pump n) Pumped) old new (λ did. (refl, did)) (λ a b leads. (refl, leads))
 
   -- any event, whichever it is: each step that it makes has passed
-  pub makes_passed : (e : Event) (o : Outcome) (old new : W) → Passes orders stocks accounts (MakesApart H A e o) (Makes S e o) old new
+  pub makes_passed : (e : Event) (o : Outcome) (old new : W)
+      → Passes orders stocks accounts (MakesApart H A e o) (Makes S e o) old new
       → Makes H e o old new
   makes_passed (Pump n) o old new p = p.did
   makes_passed e o old new p = passed e o old new p
 
-  pub passes_made : (e : Event) (o : Outcome) (old new : W) → Passes orders stocks accounts (MakesApart H A e o) (Makes S e o) old new
+  pub passes_made : (e : Event) (o : Outcome) (old new : W)
+      → Passes orders stocks accounts (MakesApart H A e o) (Makes S e o) old new
       → Passes orders stocks accounts (Makes H e o) (Makes S e o) old new
   passes_made e o old new p = passes_map (MakesApart H A e o) (Makes H e o) (Makes S e o) (Makes S e o) old new
       (λ did. makes_passed e o old new p) (λ a b leads. leads) p

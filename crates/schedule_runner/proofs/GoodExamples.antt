@@ -60,12 +60,14 @@ module _ (any : TheWorld) where
       nothing_done : IsGoodWorld seen seen seen new
       nothing_done = new_good seen seen seen new refl refl refl refl refl refl refl (only any before)
 
-      placed : ComesOf (Turns (IsGenuine (sight seen seen seen new))) (sight seen seen seen new) (sight seen seen seen done)
+      placed : ComesOf (Turns (IsGenuine (sight seen seen seen new))) (sight seen seen seen new)
+          (sight seen seen seen done)
       placed y may = ∣ (
         tables any before,
         record { purchasing = refl; warehouse = refl; billing = refl },
         subst (Turns (IsGenuine (sight seen seen seen new)) (tables any before)) (sym (only any after y may))
-            (OfPurchasing (record { deed = TakesIn placing; founded = tt; did = (taken_in.takes, refl, refl) }) refl refl),
+            (OfPurchasing (record { deed = TakesIn placing; founded = tt; did = (taken_in.takes, refl, refl) }) refl
+            refl),
       ) ∣₁
 
   -- ---- worlds that aren't
@@ -74,7 +76,8 @@ module _ (any : TheWorld) where
   leaves : (x : OrderTables) (y : StockTables) → MayLeave (sight seen seen seen (world any x y)) (with_stocks x y)
   leaves x y = record { purchasing = refl; warehouse = refl; billing = refl }
 
-  -- a mark ahead of the handling; a letter held that nobody sent; and where the order was placed one with another content
+  -- a mark ahead of the handling; a letter held that nobody sent; and where the order was placed one with another
+  -- content
   services_are_not_good : (IsGoodWorld seen seen seen (world any (record after { settled = λ _. 1 }) empty) → ⊥)
       × (IsGoodWorld seen seen seen (world any before (holding (asks 3))) → ⊥)
       × (IsGoodWorld seen seen seen (world any after (holding (asks 4))) → ⊥)
@@ -83,9 +86,11 @@ module _ (any : TheWorld) where
     λ h. let ahead = h.services.settled (with_stocks (record after { settled = λ _. 1 }) empty)
         (leaves (record after { settled = λ _. 1 }) empty) (from_order bolts) in omega (arith, ahead),
     λ h. let sent = h.services.held (with_stocks before (holding (asks 3))) (leaves before (holding (asks 3))) Stock
-        (OfLetter (asks 3)) refl (with_stocks before (holding (asks 3))) (leaves before (holding (asks 3))) in absurd (cc),
+        (OfLetter (asks 3)) refl (with_stocks before (holding (asks 3))) (leaves before (holding (asks 3)))
+        in absurd (cc),
     λ h. let sent = h.services.held (with_stocks after (holding (asks 4))) (leaves after (holding (asks 4))) Stock
-        (OfLetter (asks 4)) refl (with_stocks after (holding (asks 4))) (leaves after (holding (asks 4))) in absurd (cc),
+        (OfLetter (asks 4)) refl (with_stocks after (holding (asks 4))) (leaves after (holding (asks 4)))
+        in absurd (cc),
   )
 
   -- a broker that accepted a letter with another content than the order's journal sends
@@ -97,10 +102,12 @@ module _ (any : TheWorld) where
     mail_is_not_good = (forged_mail, λ h. forged_mail h.mail)
       where
         is_forged : IsGenuine (sight seen seen seen done) (OfLetter (asks 4)) → ⊥
-        is_forged h = let sent = h (tables any after) (record { purchasing = refl; warehouse = refl; billing = refl }) in absurd (cc)
+        is_forged h = let sent =
+            h (tables any after) (record { purchasing = refl; warehouse = refl; billing = refl }) in absurd (cc)
 
         forged_mail : MailIs (IsGenuine (sight seen seen seen done)) (record done { mail = mail }) → ⊥
-        forged_mail h = let all = subst (AllByRecursion _) accepted h.office.earlier in is_forged (all.0.brought _ reads)
+        forged_mail h =
+            let all = subst (AllByRecursion _) accepted h.office.earlier in is_forged (all.0.brought _ reads)
 
   -- a relay whose cursor stands behind more rows than the journal has
   module _ (l : SiteChannel) where
@@ -119,15 +126,16 @@ module _ (any : TheWorld) where
     )
       where
         one : (t : OrderTables) → t ≡ after → 1 ≤ length t.journal
-        one t left = let rows : length t.journal ≡ 1 = ap (λ (x : OrderTables). length x.journal) left in omega (arith, rows)
+        one t left =
+            let rows : length t.journal ≡ 1 = ap (λ (x : OrderTables). length x.journal) left in omega (arith, rows)
 
         ahead : AllRight seen seen seen (with_channel 2) → ⊥
         ahead h = let rows = (h.0.0 after refl).0 in omega (arith, rows)
 
   -- ---- what stays
 
-  -- the order is placed, and the world stays good and agrees; no event leaves a letter held that nobody sent, nor a line of an order at a
-  -- stock where the order wasn't placed
+  -- the order is placed, and the world stays good and agrees; no event leaves a letter held that nobody sent, nor a
+  -- line of an order at a stock where the order wasn't placed
   worlds_stay_good : StaysGood seen seen seen new done × Agrees seen seen seen new done
       × (StaysGood seen seen seen new (world any before (holding (asks 3))) → ⊥)
       × (Agrees seen seen seen new (world any before asked) → ⊥)

@@ -1,5 +1,6 @@
 -- What each event tells of the three journals.
-use Rattle.std.proofs.Common.{◌≡◌, ℕ, zero, suc, Option, List, [], ◌∷◌, ◌++◌, Some, None, refl, ap, sym, ◌∙◌, subst, inl, inr, length}
+use Rattle.std.proofs.Common.{◌≡◌, ℕ, zero, suc, Option, List, [], ◌∷◌, ◌++◌, Some, None, refl, ap, sym, ◌∙◌, subst}
+use Rattle.std.proofs.Common.{inl, inr, length}
 use Rattle.std.proofs.lemmas.List.{append-nil}
 use Rattle.activities.specs.declared.input.JournalRow.{JournalRow}
 use Rattle.activities.specs.Service.{Service}
@@ -22,7 +23,8 @@ use Rattle.schedule_service.specs.SiteEvents.{Commits}
 use Rattle.keep.specs.Seen.{Seen}
 use Rattle.keep.specs.Tables.{Tables}
 use Rattle.schedule_runner.specs.declared.acting.ServiceEvent.{ServiceEvent}
-use Rattle.schedule_runner.specs.declared.acting.ServiceEvent.TheVariants.{Open, Cut, Fill, Resend, Carry, Take, Drain, Fail, Reopen, Stop}
+use Rattle.schedule_runner.specs.declared.acting.ServiceEvent.TheVariants.{Open, Cut, Fill, Resend, Carry, Take, Drain}
+use Rattle.schedule_runner.specs.declared.acting.ServiceEvent.TheVariants.{Fail, Reopen, Stop}
 use Rattle.schedule_runner.specs.Events.{asked_of}
 use Rattle.schedule_runner.specs.Deeds.{Moment, In, Turn, Step, Goes}
 use Rattle.schedule_runner.specs.Paths.{IsPath, Leads, Makes}
@@ -30,7 +32,8 @@ use Rattle.schedule_runner.specs.Rounds.{takes, connection_events, service_event
 use Rattle.schedule_runner.specs.declared.world.World.{World}
 use Rattle.laws_stores.specs.Sight.{AllTables, OrderTables, StockTables, AccountTables}
 use Rattle.laws_stores.specs.Sight.{orders_service, stocks_service, accounts_service}
-use Rattle.schedule_runner.specs.Told.{commands_from, TellsCommand, RecordsTold, AllTold, Told, asks_orders, asks_stocks, asks_accounts}
+use Rattle.schedule_runner.specs.Told.{commands_from, TellsCommand, RecordsTold, AllTold, Told, asks_orders}
+use Rattle.schedule_runner.specs.Told.{asks_stocks, asks_accounts}
 use Rattle.schedule_runner.proofs.Composing.{goes_map}
 use Rattle.schedule_runner.proofs.Receiving.{frame_rests, held_rests}
 use Rattle.schedule_runner.proofs.Resting.{IsNoCommand, nothing_is}
@@ -38,14 +41,16 @@ use Rattle.schedule_runner.proofs.Telling.{RecordsOne, AskNothing, nothing_appen
 
 -- a journal that no command came to
 abbrev pub RecordsNone : {C : Type 0} → (old new : List (JournalRow C)) → Type 0
-RecordsNone {C} old new = (more : List (JournalRow C)) × (new ≡ old ++ more) × (commands_from (suc (length old)) more ≡ [])
+RecordsNone {C} old new =
+    (more : List (JournalRow C)) × (new ≡ old ++ more) × (commands_from (suc (length old)) more ≡ [])
 
 same_journal : {C : Type 0} (x y : List (JournalRow C)) → y ≡ x → RecordsNone x y
 same_journal x y e = ([], e ∙ sym (append-nil x), refl)
 
 -- ---- deeds
 
-no_command : {S C : Type 0} (s : Service S C) (x y : Kept C) (d : Deed C) → Did s x d y → IsNoCommand d → RecordsNone x.journal y.journal
+no_command : {S C : Type 0} (s : Service S C) (x y : Kept C) (d : Deed C) → Did s x d y → IsNoCommand d
+    → RecordsNone x.journal y.journal
 no_command s x y Nothing did h = same_journal x.journal y.journal (ap (λ (k : Kept _). k.journal) did)
 no_command s x y (TakesIn row) did h = (
   row ∷ [],
@@ -56,7 +61,8 @@ no_command s x y (Holds l) did h = same_journal x.journal y.journal (ap (λ (k :
 no_command s x y (Settles p n) did h = same_journal x.journal y.journal (ap (λ (k : Kept _). k.journal) did.2)
 
 -- what the site's event does is no command
-rests : {S C : Type 0} (s : Service S C) (channels : Channels) (e : ServiceEvent) (o : Outcome) (x : Kept C) (d : Deed C)
+rests : {S C : Type 0} (s : Service S C) (channels : Channels) (e : ServiceEvent) (o : Outcome) (x : Kept C)
+    (d : Deed C)
     → SiteMay s channels (asked_of e) o x d → IsNoCommand d
 rests s channels (Open c) o x d may = nothing_is d may
 rests s channels (Cut c) o x d may = nothing_is d may
@@ -74,7 +80,8 @@ abbrev CommitTells : {S C : Type 0} (s : Service S C) → SeatCommand C → Outc
 CommitTells {S} {C} s asked o x y = (more : List (JournalRow C)) × (y.journal ≡ x.journal ++ more)
     × TellsCommand (Some asked) o (commands_from (suc (length x.journal)) more)
 
-commit_tells : {S C : Type 0} (s : Service S C) (channels : Channels) (asked : SeatCommand C) (o : Outcome) (x y : Kept C) (d : Deed C)
+commit_tells : {S C : Type 0} (s : Service S C) (channels : Channels) (asked : SeatCommand C) (o : Outcome)
+    (x y : Kept C) (d : Deed C)
     → SiteMay s channels (Commits asked) o x d → Did s x d y → CommitTells s asked o x y
 commit_tells s channels asked (outcome.Committed pos) x y d may did =
     let h = subst (λ e. Did s x e y) may.0 did in
@@ -115,7 +122,8 @@ commit_tells s channels asked (outcome.Agreement agree) x y d may did = absurd m
 
 -- of all three journals
 abbrev AllNone : (x y : AllTables) → Type 0
-AllNone x y = RecordsNone x.purchasing.journal y.purchasing.journal × RecordsNone x.warehouse.journal y.warehouse.journal
+AllNone x y =
+    RecordsNone x.purchasing.journal y.purchasing.journal × RecordsNone x.warehouse.journal y.warehouse.journal
     × RecordsNone x.billing.journal y.billing.journal
 
 abbrev AllOne : Event → Outcome → (x y : AllTables) → Type 0
@@ -123,7 +131,8 @@ AllOne e o x y = RecordsOne asks_orders e o x.purchasing.journal y.purchasing.jo
     × RecordsOne asks_stocks e o x.warehouse.journal y.warehouse.journal
     × RecordsOne asks_accounts e o x.billing.journal y.billing.journal
 
-quiet_tables : {S C : Type 0} (s : Service S C) (channels : Channels) (e : ServiceEvent) (o : Outcome) (x y : Kept C) (d : Deed C)
+quiet_tables : {S C : Type 0} (s : Service S C) (channels : Channels) (e : ServiceEvent) (o : Outcome) (x y : Kept C)
+    (d : Deed C)
     → SiteMay s channels (asked_of e) o x d → Did s x d y → RecordsNone x.journal y.journal
 quiet_tables s channels e o x y d may did = no_command s x y d did (rests s channels e o x d may)
 
@@ -135,7 +144,8 @@ same_tables x y e = (
 )
 
 module _ {KO KS KA : Type 0} where
-  quiet : (service : ServiceName) (e : ServiceEvent) (o : Outcome) (a b : Moment KO KS KA) → In service e o a b → AllNone a.tables b.tables
+  quiet : (service : ServiceName) (e : ServiceEvent) (o : Outcome) (a b : Moment KO KS KA) → In service e o a b
+      → AllNone a.tables b.tables
   quiet Purchasing e o a b h = (
     quiet_tables orders_service (channels_of a.world.purchasing) e o (kept a.tables.purchasing)
         (kept b.tables.purchasing) h.0.0 h.0.1 h.0.2,
@@ -144,18 +154,21 @@ module _ {KO KS KA : Type 0} where
   )
   quiet Warehouse e o a b h = (
     same_journal a.tables.purchasing.journal b.tables.purchasing.journal (ap (λ (t : Tables _ _). t.journal) h.1),
-    quiet_tables stocks_service (channels_of a.world.warehouse) e o (kept a.tables.warehouse) (kept b.tables.warehouse) h.0.0 h.0.1 h.0.2,
+    quiet_tables stocks_service (channels_of a.world.warehouse) e o (kept a.tables.warehouse) (kept b.tables.warehouse)
+        h.0.0 h.0.1 h.0.2,
     same_journal a.tables.billing.journal b.tables.billing.journal (ap (λ (t : Tables _ _). t.journal) h.2),
   )
   quiet Billing e o a b h = (
     same_journal a.tables.purchasing.journal b.tables.purchasing.journal (ap (λ (t : Tables _ _). t.journal) h.1),
     same_journal a.tables.warehouse.journal b.tables.warehouse.journal (ap (λ (t : Tables _ _). t.journal) h.2),
-    quiet_tables accounts_service (channels_of a.world.billing) e o (kept a.tables.billing) (kept b.tables.billing) h.0.0 h.0.1 h.0.2,
+    quiet_tables accounts_service (channels_of a.world.billing) e o (kept a.tables.billing) (kept b.tables.billing)
+        h.0.0 h.0.1 h.0.2,
   )
 
   turn_told : (e : Event) (o : Outcome) (a b : Moment KO KS KA) → Turn e o a b → AllOne e o a.tables b.tables
   turn_told (event.Order asked) o a b h = (
-    commit_tells orders_service (channels_of a.world.purchasing) asked o (kept a.tables.purchasing) (kept b.tables.purchasing) h.0.0 h.0.1
+    commit_tells orders_service (channels_of a.world.purchasing) asked o (kept a.tables.purchasing)
+        (kept b.tables.purchasing) h.0.0 h.0.1
         h.0.2,
     same_journal a.tables.warehouse.journal b.tables.warehouse.journal (ap (λ (t : Tables _ _). t.journal) h.1),
     same_journal a.tables.billing.journal b.tables.billing.journal (ap (λ (t : Tables _ _). t.journal) h.2),
@@ -169,7 +182,8 @@ module _ {KO KS KA : Type 0} where
   turn_told (event.Account asked) o a b h = (
     same_journal a.tables.purchasing.journal b.tables.purchasing.journal (ap (λ (t : Tables _ _). t.journal) h.1),
     same_journal a.tables.warehouse.journal b.tables.warehouse.journal (ap (λ (t : Tables _ _). t.journal) h.2),
-    commit_tells accounts_service (channels_of a.world.billing) asked o (kept a.tables.billing) (kept b.tables.billing) h.0.0 h.0.1 h.0.2,
+    commit_tells accounts_service (channels_of a.world.billing) asked o (kept a.tables.billing) (kept b.tables.billing)
+        h.0.0 h.0.1 h.0.2,
   )
   turn_told (event.Open c) o a b h = quiet c.service (Open c.number) o a b h
   turn_told (event.Cut c) o a b h = quiet c.service (Cut c.number) o a b h
@@ -192,9 +206,11 @@ module _ {KO KS KA : Type 0} where
 
 -- ---- rounds ask for nothing
 
-module _ {C : Type 0} (asks : Event → Option (SeatCommand C)) (fill : (c : ConnectionName) (n : ℕ) → asks (event.Fill c n) ≡ None)
+module _ {C : Type 0} (asks : Event → Option (SeatCommand C)) (fill : (c : ConnectionName) (n : ℕ)
+    → asks (event.Fill c n) ≡ None)
     (carry : (c : ConnectionName) (way : Way) (n : ℕ) → asks (event.Carry c way n) ≡ None)
-    (take : (c : ConnectionName) → asks (event.Take c) ≡ None) (drain : (c : ConnectionName) → asks (event.Drain c) ≡ None) where
+    (take : (c : ConnectionName) → asks (event.Take c) ≡ None) (drain : (c : ConnectionName)
+    → asks (event.Drain c) ≡ None) where
   takes_nothing : (n : ℕ) (c : ConnectionName) → AskNothing asks (takes n c)
   takes_nothing zero c = tt
   takes_nothing (suc n) c = nothing_append asks (takes n c) (event.Take c ∷ []) (takes_nothing n c) (take c, tt)
@@ -203,14 +219,17 @@ module _ {C : Type 0} (asks : Event → Option (SeatCommand C)) (fill : (c : Con
   connection_nothing c = (fill c 64, (carry c Up 1048576, (carry c Down 1048576, takes_nothing 16 c)))
 
   service_nothing : (service : ServiceName) → AskNothing asks (service_events service)
-  service_nothing service = nothing_append asks (connection_events (named service Zero) ++ connection_events (named service One))
+  service_nothing service =
+      nothing_append asks (connection_events (named service Zero) ++ connection_events (named service One))
       (event.Drain (named service Zero) ∷ [])
       (nothing_append asks (connection_events (named service Zero)) (connection_events (named service One))
-      (connection_nothing (named service Zero)) (connection_nothing (named service One))) (drain (named service Zero), tt)
+      (connection_nothing (named service Zero)) (connection_nothing (named service One)))
+      (drain (named service Zero), tt)
 
   round_nothing : AskNothing asks round_events
   round_nothing = nothing_append asks (service_events Purchasing ++ service_events Warehouse) (service_events Billing)
-      (nothing_append asks (service_events Purchasing) (service_events Warehouse) (service_nothing Purchasing) (service_nothing Warehouse))
+      (nothing_append asks (service_events Purchasing) (service_events Warehouse) (service_nothing Purchasing)
+      (service_nothing Warehouse))
       (service_nothing Billing)
 
   rounds_nothing : (n : ℕ) → AskNothing asks (all_rounds n)
@@ -227,11 +246,13 @@ accounts_rest : (n : ℕ) → AskNothing asks_accounts (all_rounds n)
 accounts_rest n = rounds_nothing asks_accounts (λ c n. refl) (λ c way n. refl) (λ c. refl) (λ c. refl) n
 
 -- what is told of events that ask for nothing
-none_told : {C : Type 0} (asks : Event → Option (SeatCommand C)) (es : List Event) (os : List Outcome) (x y : List (JournalRow C))
+none_told : {C : Type 0} (asks : Event → Option (SeatCommand C)) (es : List Event) (os : List Outcome)
+    (x y : List (JournalRow C))
     → AskNothing asks es → RecordsTold asks es os x y → RecordsNone x y
 none_told asks es os x y none h = (h.0, h.1, told_nothing asks es os _ none h.2)
 
-module _ {KO KS KA : Type 0} (orders : KO → Seen OrderTables) (stocks : KS → Seen StockTables) (accounts : KA → Seen AccountTables) where
+module _ {KO KS KA : Type 0} (orders : KO → Seen OrderTables) (stocks : KS → Seen StockTables)
+    (accounts : KA → Seen AccountTables) where
   abbrev M : Type 0
   M = Moment KO KS KA
 
@@ -240,11 +261,14 @@ module _ {KO KS KA : Type 0} (orders : KO → Seen OrderTables) (stocks : KS →
 
   pumped : (n : ℕ) (a b : M) → Leads S (all_rounds n) a b → AllNone a.tables b.tables
   pumped n a b leads = (
-    none_told asks_orders (all_rounds n) leads.0 _ _ (orders_rest n) (path_told S asks_orders (λ m. m.tables.purchasing.journal)
+    none_told asks_orders (all_rounds n) leads.0 _ _ (orders_rest n) (path_told S asks_orders
+        (λ m. m.tables.purchasing.journal)
         (λ e o a b h. (turn_told e o a b h.1).0) (all_rounds n) leads.0 a b leads.1),
-    none_told asks_stocks (all_rounds n) leads.0 _ _ (stocks_rest n) (path_told S asks_stocks (λ m. m.tables.warehouse.journal)
+    none_told asks_stocks (all_rounds n) leads.0 _ _ (stocks_rest n) (path_told S asks_stocks
+        (λ m. m.tables.warehouse.journal)
         (λ e o a b h. (turn_told e o a b h.1).1) (all_rounds n) leads.0 a b leads.1),
-    none_told asks_accounts (all_rounds n) leads.0 _ _ (accounts_rest n) (path_told S asks_accounts (λ m. m.tables.billing.journal)
+    none_told asks_accounts (all_rounds n) leads.0 _ _ (accounts_rest n) (path_told S asks_accounts
+        (λ m. m.tables.billing.journal)
         (λ e o a b h. (turn_told e o a b h.1).2) (all_rounds n) leads.0 a b leads.1),
   )
 
@@ -274,13 +298,19 @@ module _ {KO KS KA : Type 0} (orders : KO → Seen OrderTables) (stocks : KS →
   makes_told event.Agreement o a b h = turn_told event.Agreement o a b h.1
 
   -- what a schedule's outcomes tell of all three journals
-  all_told : (es : List Event) (os : List Outcome) (a b : M) → IsPath (Makes S) es os a b → AllTold es os a.tables b.tables
+  all_told : (es : List Event) (os : List Outcome) (a b : M) → IsPath (Makes S) es os a b
+      → AllTold es os a.tables b.tables
   all_told es os a b path = record {
-    purchasing = path_told (Makes S) asks_orders (λ m. m.tables.purchasing.journal) (λ e o a b h. (makes_told e o a b h).0) es os a b path;
-    warehouse = path_told (Makes S) asks_stocks (λ m. m.tables.warehouse.journal) (λ e o a b h. (makes_told e o a b h).1) es os a b path;
-    billing = path_told (Makes S) asks_accounts (λ m. m.tables.billing.journal) (λ e o a b h. (makes_told e o a b h).2) es os a b path;
+    purchasing = path_told (Makes S) asks_orders (λ m. m.tables.purchasing.journal)
+        (λ e o a b h. (makes_told e o a b h).0) es os a b path;
+    warehouse = path_told (Makes S) asks_stocks (λ m. m.tables.warehouse.journal)
+        (λ e o a b h. (makes_told e o a b h).1) es os a b path;
+    billing = path_told (Makes S) asks_accounts (λ m. m.tables.billing.journal) (λ e o a b h. (makes_told e o a b h).2)
+        es os a b path;
   }
 
-  pub goes_told : (es : List Event) (os : List Outcome) (old new : World KO KS KA) → Goes orders stocks accounts es os old new
+  pub goes_told : (es : List Event) (os : List Outcome) (old new : World KO KS KA)
+      → Goes orders stocks accounts es os old new
       → Told orders stocks accounts es os old new
-  goes_told es os = goes_map orders stocks accounts (IsPath (Makes S) es os) (λ a b. AllTold es os a.tables b.tables) (all_told es os)
+  goes_told es os =
+      goes_map orders stocks accounts (IsPath (Makes S) es os) (λ a b. AllTold es os a.tables b.tables) (all_told es os)

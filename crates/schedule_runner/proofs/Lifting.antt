@@ -28,12 +28,15 @@ use Rattle.schedule_runner.specs.declared.world.World.{World}
 use Rattle.schedule_runner.specs.Deeds.{InPurchasing, InWarehouse, InBilling, Same}
 use Rattle.schedule_runner.specs.Good.{MailIs}
 use Rattle.schedule_runner.specs.Passing.{Both, Passes}
-use Rattle.laws_stores.specs.Sight.{OrderTables, StockTables, AccountTables, orders_service, stocks_service, accounts_service}
-use Rattle.schedule_runner.specs.Steps.{AtPurchasing, AtWarehouse, AtBilling, AtMail, SendsAgain, IsNewBroker, BeginsAnew}
+use Rattle.laws_stores.specs.Sight.{OrderTables, StockTables, AccountTables, orders_service, stocks_service}
+use Rattle.laws_stores.specs.Sight.{accounts_service}
+use Rattle.schedule_runner.specs.Steps.{AtPurchasing, AtWarehouse, AtBilling, AtMail, SendsAgain, IsNewBroker}
+use Rattle.schedule_runner.specs.Steps.{BeginsAnew}
 use Rattle.laws_events.proofs.Threes.{repeated_keeps, cut_all, restarted_keeps}
 use Rattle.schedule_runner.proofs.Righting.{purchasing_good, warehouse_good, billing_good, still_good}
 
-module _ {KO KS KA : Type 0} (orders : KO → Seen OrderTables) (stocks : KS → Seen StockTables) (accounts : KA → Seen AccountTables)
+module _ {KO KS KA : Type 0} (orders : KO → Seen OrderTables) (stocks : KS → Seen StockTables)
+    (accounts : KA → Seen AccountTables)
     (w : World KO KS KA) (mail : Office) where
   pub lift_purchasing : ((k : KO) → IsSound (orders k)) → (e : SiteEvent OrderCommand) (o : Outcome)
       (site : Site Orders KO (Option OrderState) OrderCommand)
@@ -46,7 +49,8 @@ module _ {KO KS KA : Type 0} (orders : KO → Seen OrderTables) (stocks : KS →
   lift_purchasing whole e o site doubt matches comes did = record {
     clean = λ now. let d = now.0 in (omega (arith, doubt, d), now.1, now.2);
     matching = λ now good. (matches now.0 good.0, good.1, good.2);
-    good = λ now match good. purchasing_good orders stocks accounts w mail whole e o site matches comes did now match good;
+    good = λ now match good. purchasing_good orders stocks accounts w mail whole e o site matches comes did now match
+        good;
     did = (did, refl, refl);
     goes = λ now good t m. ∥∥₁_map (comes now.0 good.0 t.purchasing m.purchasing) (λ came. record {
       before = record t { purchasing = came.before };
@@ -66,7 +70,8 @@ module _ {KO KS KA : Type 0} (orders : KO → Seen OrderTables) (stocks : KS →
   lift_warehouse whole e o site doubt matches comes did = record {
     clean = λ now. let d = now.1 in (now.0, omega (arith, doubt, d), now.2);
     matching = λ now good. (good.0, matches now.1 good.1, good.2);
-    good = λ now match good. warehouse_good orders stocks accounts w mail whole e o site matches comes did now match good;
+    good = λ now match good. warehouse_good orders stocks accounts w mail whole e o site matches comes did now match
+        good;
     did = (did, refl, refl);
     goes = λ now good t m. ∥∥₁_map (comes now.1 good.1 t.warehouse m.warehouse) (λ came. record {
       before = record t { warehouse = came.before };
@@ -80,7 +85,8 @@ module _ {KO KS KA : Type 0} (orders : KO → Seen OrderTables) (stocks : KS →
       → DoubtStays accounts w.billing site → Matches accounts w.billing site accounts_service
       → Goes accounts w.billing site accounts_service (SiteMay accounts_service (channels_of w.billing) e o)
       → Happens accounts accounts_service e o w.billing w.mail site mail
-      → Passes orders stocks accounts (AtBilling orders stocks accounts e o) (Both (AtBilling orders stocks accounts e o) (InBilling e o)) w
+      → Passes orders stocks accounts (AtBilling orders stocks accounts e o)
+      (Both (AtBilling orders stocks accounts e o) (InBilling e o)) w
       (record w { billing = site; mail = mail })
   lift_billing whole e o site doubt matches comes did = record {
     clean = λ now. let d = now.2 in (now.0, now.1, omega (arith, doubt, d));
@@ -95,7 +101,8 @@ module _ {KO KS KA : Type 0} (orders : KO → Seen OrderTables) (stocks : KS →
   }
 
 -- the world changes so, and no store does
-pub lift_same : {KO KS KA : Type 0} (orders : KO → Seen OrderTables) (stocks : KS → Seen StockTables) (accounts : KA → Seen AccountTables)
+pub lift_same : {KO KS KA : Type 0} (orders : KO → Seen OrderTables) (stocks : KS → Seen StockTables)
+    (accounts : KA → Seen AccountTables)
     (R : (a b : World KO KS KA) → Type 0) (old new : World KO KS KA) → new.purchasing.endpoint ≡ old.purchasing.endpoint
     → new.warehouse.endpoint ≡ old.warehouse.endpoint → new.billing.endpoint ≡ old.billing.endpoint
     → ((ok : Envelope → Type 0) → MailIs ok old → MailIs ok new)
@@ -135,11 +142,14 @@ lift_same orders stocks accounts R old new p q r mail x y z did = record {
   } ∣₁;
 }
 
-module _ {KO KS KA : Type 0} (orders : KO → Seen OrderTables) (stocks : KS → Seen StockTables) (accounts : KA → Seen AccountTables) where
+module _ {KO KS KA : Type 0} (orders : KO → Seen OrderTables) (stocks : KS → Seen StockTables)
+    (accounts : KA → Seen AccountTables) where
   -- an accepted message is sent again
   pub lift_again : (place : ℕ) (o : Outcome) (w : World KO KS KA) (mail : Office) → SendsAgain place o w.mail mail
-      → Passes orders stocks accounts (AtMail (SendsAgain place o)) (Both (AtMail (SendsAgain place o)) Same) w (record w { mail = mail })
-  lift_again place o w mail did = lift_same orders stocks accounts (AtMail (SendsAgain place o)) w (record w { mail = mail }) refl refl refl
+      → Passes orders stocks accounts (AtMail (SendsAgain place o)) (Both (AtMail (SendsAgain place o)) Same) w
+      (record w { mail = mail })
+  lift_again place o w mail did =
+      lift_same orders stocks accounts (AtMail (SendsAgain place o)) w (record w { mail = mail }) refl refl refl
       (λ ok good. repeated_keeps ok w.purchasing w.warehouse w.billing place w.mail mail did.0 did.1 good)
       (λ Is h. h) (λ Is h. h) (λ Is h. h) (did, refl, refl, refl)
 
@@ -150,10 +160,12 @@ module _ {KO KS KA : Type 0} (orders : KO → Seen OrderTables) (stocks : KS →
     anew_is : (o : Outcome) (later : Office) → IsNewBroker o three later → MailIs ok old
         → Genuine ok new.purchasing new.warehouse new.billing later
     anew_is Stopped later is good = subst (Genuine ok new.purchasing new.warehouse new.billing) (sym is)
-        (restarted_keeps ok old.purchasing new.purchasing old.warehouse new.warehouse old.billing new.billing old.mail one two three p q r
+        (restarted_keeps ok old.purchasing new.purchasing old.warehouse new.warehouse old.billing new.billing old.mail
+        one two three p q r
         good)
     anew_is (Refused n) later is good = subst (Genuine ok new.purchasing new.warehouse new.billing) (sym is.1)
-        (cut_all ok old.purchasing new.purchasing old.warehouse new.warehouse old.billing new.billing old.mail one two three p q r good)
+        (cut_all ok old.purchasing new.purchasing old.warehouse new.warehouse old.billing new.billing old.mail one two
+        three p q r good)
     anew_is _ later is good = absurd is
 
   -- a new broker begins
@@ -165,4 +177,5 @@ module _ {KO KS KA : Type 0} (orders : KO → Seen OrderTables) (stocks : KS →
       (ap (λ (s : Site Accounts KA AccountState AccountCommand). s.endpoint) did.5.site)
       (λ ok good. anew_is ok old new did.0 did.1 did.2 did.3 did.4 did.5 o new.mail did.6 good)
       (λ Is h. cut_has Is old.purchasing old.mail new.purchasing did.0 did.3)
-      (λ Is h. cut_has Is old.warehouse did.0 new.warehouse did.1 did.4) (λ Is h. cut_has Is old.billing did.1 new.billing did.2 did.5) did
+      (λ Is h. cut_has Is old.warehouse did.0 new.warehouse did.1 did.4) (λ Is h. cut_has Is old.billing did.1
+      new.billing did.2 did.5) did

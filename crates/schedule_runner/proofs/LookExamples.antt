@@ -42,7 +42,8 @@ marks_are_read = (refl, refl, refl, refl, λ h. omega (arith, h), λ h. omega (a
 
 -- an order that isn't there is shown as none; another line isn't its row
 rows_are_shown : IsRow (shown_or_none shown_order) o1 marked (codes "order/o1 none\n")
-    × (IsRow (shown_or_none shown_order) o1 marked (codes "none\n") → ⊥) × (IsRow (shown_or_none shown_order) o1 marked [] → ⊥)
+    × (IsRow (shown_or_none shown_order) o1 marked (codes "none\n") → ⊥)
+    × (IsRow (shown_or_none shown_order) o1 marked [] → ⊥)
 rows_are_shown = (refl, λ h. absurd (cc), λ h. absurd (cc))
 
 -- the journal's rows are listed, and of an outbox without letters none; a journal without rows has no line
@@ -56,11 +57,13 @@ lists_are_shown = (refl, ([], λ x after. refl, refl), λ h. let longer : 1 ≡ 
 -- what was read is passed on, and a fault by its outcome
 reads_are_told : (read_told {R = ℕ} (Ok 7) ≡ Ok 7) × (read_told {R = ℕ} (Err StoreFailed) ≡ Err (told.Refused 63))
     × (read_told {R = ℕ} (Err (Business NotOpen)) ≡ Err (told.NotDone NotOpen))
-    × (read_told {R = ℕ} (Err StoreFailed) ≡ Ok 63 → ⊥) × (read_told {R = ℕ} (Err (Business NotOpen)) ≡ Err (told.Refused 61) → ⊥)
+    × (read_told {R = ℕ} (Err StoreFailed) ≡ Ok 63 → ⊥)
+    × (read_told {R = ℕ} (Err (Business NotOpen)) ≡ Err (told.Refused 61) → ⊥)
 reads_are_told = (refl, refl, refl, λ h. absurd (cc), λ h. absurd (cc))
 
 -- lines are shown as they are, and an outcome is that
-shows_are_told : (lines : Vec ℕ) → (shown_told (Ok lines) ≡ told.Shown lines) × (shown_told (Err (told.Refused 63)) ≡ told.Refused 63)
+shows_are_told : (lines : Vec ℕ) → (shown_told (Ok lines) ≡ told.Shown lines)
+    × (shown_told (Err (told.Refused 63)) ≡ told.Refused 63)
     × (shown_told (Ok lines) ≡ told.Absent → ⊥) × (shown_told (Err (told.Refused 63)) ≡ told.Shown lines → ⊥)
 shows_are_told lines = (refl, refl, λ h. absurd (cc), λ h. absurd (cc))
 
@@ -87,7 +90,11 @@ gives t n = n ≡ length t.journal
 
 module _ {H : Type 0} where
   abbrev site : Store → Site H Store (Option OrderState) OrderCommand
-  site k = record { endpoint = record { keep = k; armed = None; is_down = false; failures = 0 }; zero = None; one = None }
+  site k = record {
+    endpoint = record { keep = k; armed = None; is_down = false; failures = 0 };
+    zero = None;
+    one = None;
+  }
 
   -- the journal's one row is counted; a store that isn't usable tells that; another number isn't told of it
   services_are_read : ReadsSite {H = H} seen gives (Ok 1) (site (true, 0)) new_office (site (true, 0)) new_office
@@ -122,7 +129,8 @@ module _ {H : Type 0} where
       unusable (Err fault) tells reads = absurd (cc)
 
   -- doubt may rise and never falls
-  stores_stay : StoreStays {H = H} seen (site (true, 0)) (site (true, 1)) × (StoreStays {H = H} seen (site (true, 1)) (site (true, 0)) → ⊥)
+  stores_stay : StoreStays {H = H} seen (site (true, 0)) (site (true, 1))
+      × (StoreStays {H = H} seen (site (true, 1)) (site (true, 0)) → ⊥)
   stores_stay = (
     record { doubt = omega arith; stays = λ clean t left. left },
     λ h. let doubt = h.doubt in omega (arith, doubt),

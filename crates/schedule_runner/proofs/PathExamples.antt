@@ -1,5 +1,7 @@
--- Examples: a world in which an order is placed, and then placed again; what the two events do to it, to the tables, and what is told.
-use Rattle.std.proofs.Common.{◌≡◌, ℕ, zero, suc, List, [], ◌∷◌, ◌++◌, length, Option, None, Result, Ok, Err, Bool, true, false}
+-- Examples: a world in which an order is placed, and then placed again; what the two events do to it, to the tables,
+-- and what is told.
+use Rattle.std.proofs.Common.{◌≡◌, ℕ, zero, suc, List, [], ◌∷◌, ◌++◌, length, Option, None, Result, Ok, Err, Bool, true}
+use Rattle.std.proofs.Common.{false}
 use Rattle.std.proofs.Common.{refl, sym, ap, subst, arith}
 use Rattle.std.proofs.Math.Logic.{∥∥₁_elim}
 use Rattle.std.specs.Prelude.{codes, nat_lt, if◌then◌else◌}
@@ -23,7 +25,8 @@ use Rattle.endpoint.specs.Calls.{Commits}
 use Rattle.endpoint.specs.Deeds.{Nothing, TakesIn}
 use Rattle.endpoint.specs.Matches.{TablesMatchJournal}
 use Rattle.endpoint.proofs.Examples.{o1}
-use Rattle.laws_stores.specs.Sight.{OrderTables, StockTables, AccountTables, AllTables, all_empty, orders_service, AreMatching, MayLeave}
+use Rattle.laws_stores.specs.Sight.{OrderTables, StockTables, AccountTables, AllTables, all_empty, orders_service}
+use Rattle.laws_stores.specs.Sight.{AreMatching, MayLeave}
 use Rattle.schedule_mail.specs.Offices.{new_office}
 use Rattle.schedule_text.specs.declared.event.Event.{Event}
 use Rattle.schedule_text.specs.declared.event.Event.TheVariants as event
@@ -38,7 +41,8 @@ use Rattle.schedule_runner.specs.Paths.{IsPath, Leads, Makes}
 use Rattle.schedule_runner.specs.Sight.{sight, StaysMatching}
 use Rattle.schedule_runner.specs.Steps.{Happened}
 use Rattle.schedule_runner.specs.Told.{asks_orders, commands_from, AreTold, RecordsTold, AllTold, Told}
-use Rattle.laws_stores.proofs.Placed.{placing, a_placed_order_is_committed, it_is_placed_once, before, after, before_matches, taken_in}
+use Rattle.laws_stores.proofs.Placed.{placing, a_placed_order_is_committed, it_is_placed_once, before, after}
+use Rattle.laws_stores.proofs.Placed.{before_matches, taken_in}
 
 -- ---- the world
 
@@ -108,7 +112,8 @@ module _ (any : TheWorld) where
   only x t may = let one = may.purchasing in let two = may.warehouse in let three = may.billing in
       let same : tables_of t ≡ tables_of (tables x) = cc in same
 
-  pub matches : (x : OrderTables) → TablesMatchJournal orders_service x → AreMatching (sight seen seen seen (world x empty))
+  pub matches : (x : OrderTables) → TablesMatchJournal orders_service x
+      → AreMatching (sight seen seen seen (world x empty))
   matches x match = (
     λ t here. subst (TablesMatchJournal orders_service) (sym here) match,
     λ t here. subst (TablesMatchJournal _) (sym here) (empty_matches _),
@@ -185,7 +190,8 @@ module _ (any : TheWorld) where
   nothing_is_lost (next, happened, end) = lost next happened.0.result happened.0.tells happened.0.commits end
     where
       lost : (next : TheWorld) (r : Result Position EndFault) → Committed 1 ≡ commit_told r
-          → Commits (through seen) new.purchasing.endpoint next.purchasing.endpoint orders_service (command_row asked) r → new ≡ next → ⊥
+          → Commits (through seen) new.purchasing.endpoint next.purchasing.endpoint orders_service (command_row asked) r
+          → new ≡ next → ⊥
       lost next (Ok c) tells commits end =
           let appended = (commits.clean refl (matches before before_matches).0).0.0.appended in
           let one : rows next ≡ 1 = ap length appended in
@@ -214,14 +220,16 @@ module _ (any : TheWorld) where
 
   -- a new broker loses no row: where a journal is shorter behind it, its content comes of none
   no_row_goes_away : Goes seen seen seen (event.StopBroker ∷ []) (Stopped ∷ []) done new → ⊥
-  no_row_goes_away h = ∥∥₁_elim (h (refl, refl, refl) (matches after taken_in.matches) (tables before) here) (λ a b. absurd a)
+  no_row_goes_away h =
+      ∥∥₁_elim (h (refl, refl, refl) (matches after taken_in.matches) (tables before) here) (λ a b. absurd a)
       (λ led. gone led.before led.was led.leads)
     where
       here : MayLeave (sight seen seen seen new) (tables before)
       here = record { purchasing = refl; warehouse = refl; billing = refl }
 
       gone : (t : AllTables) → MayLeave (sight seen seen seen done) t
-          → IsPath (Makes (Step seen seen seen)) (event.StopBroker ∷ []) (Stopped ∷ []) (moment done t) (moment new (tables before)) → ⊥
+          → IsPath (Makes (Step seen seen seen)) (event.StopBroker ∷ []) (Stopped ∷ []) (moment done t)
+          (moment new (tables before)) → ⊥
       gone t was (next, step, end) =
           let one : length t.purchasing.journal ≡ 1 = ap (λ (x : OrderTables). length x.journal) was.purchasing in
           let same : length next.tables.purchasing.journal ≡ length t.purchasing.journal =
@@ -230,8 +238,10 @@ module _ (any : TheWorld) where
           ap (λ (x : Moment _ _ _). length x.tables.purchasing.journal) end in omega (arith, one, same, none)
 
   -- one row is one step, at its position
-  a_row_is_a_step : Step seen seen seen (event.Order asked) (Committed 1) (moment new (tables before)) (moment done (tables after))
-      × (Step seen seen seen (event.Order asked) (Committed 2) (moment new (tables before)) (moment done (tables after)) → ⊥)
+  a_row_is_a_step : Step seen seen seen (event.Order asked) (Committed 1) (moment new (tables before))
+      (moment done (tables after))
+      × (Step seen seen seen (event.Order asked) (Committed 2) (moment new (tables before)) (moment done (tables after))
+      → ⊥)
   a_row_is_a_step = (
     (it_is_placed, ((TakesIn placing, (refl, refl), (taken_in.takes, refl, refl)), refl, refl)),
     λ h. let position = h.1.0.1.1 in omega (arith, position),
@@ -253,7 +263,8 @@ module _ (any : TheWorld) where
 
   -- where it isn't there it can't have been answered committed
   a_lost_row_is_not_told : Told seen seen seen (event.Order asked ∷ []) (Committed 1 ∷ []) new new → ⊥
-  a_lost_row_is_not_told h = ∥∥₁_elim (h (refl, refl, refl) (matches before before_matches) (tables before) here) (λ a b. absurd a)
+  a_lost_row_is_not_told h =
+      ∥∥₁_elim (h (refl, refl, refl) (matches before before_matches) (tables before) here) (λ a b. absurd a)
       (λ led. lost led.before led.leads.purchasing)
     where
       here : MayLeave (sight seen seen seen new) (tables before)
@@ -265,7 +276,8 @@ module _ (any : TheWorld) where
       none [] (row ∷ more) same told = absurd (cc)
       none (row ∷ old) more same told = absurd (cc)
 
-      lost : (t : AllTables) → RecordsTold asks_orders (event.Order asked ∷ []) (Committed 1 ∷ []) t.purchasing.journal [] → ⊥
+      lost : (t : AllTables) → RecordsTold asks_orders (event.Order asked ∷ []) (Committed 1 ∷ []) t.purchasing.journal
+          [] → ⊥
       lost t (more, same, told) = none t.purchasing.journal more same told
 
   -- ---- tables that match
@@ -274,9 +286,11 @@ module _ (any : TheWorld) where
   abbrev lost_state : OrderTables
   lost_state = record empty { journal = placing ∷ [] }
 
-  tables_stay_matching : StaysMatching seen seen seen new done × (StaysMatching seen seen seen new (world lost_state empty) → ⊥)
+  tables_stay_matching : StaysMatching seen seen seen new done
+      × (StaysMatching seen seen seen new (world lost_state empty) → ⊥)
   unfolding same_entity
   tables_stay_matching = (
     λ clean match. matches after taken_in.matches,
-    λ h. let row = ((h (refl, refl, refl) (matches before before_matches)).0 lost_state refl).entities o1 in absurd (cc),
+    λ h. let row =
+        ((h (refl, refl, refl) (matches before before_matches)).0 lost_state refl).entities o1 in absurd (cc),
   )

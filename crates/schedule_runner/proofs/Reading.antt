@@ -21,7 +21,8 @@ use Rattle.schedule_runner.specs.Looks.{shown_told, ReadsSite, StoreStays}
 use Rattle.schedule_runner.specs.Good.{MailIs}
 use Rattle.schedule_runner.specs.Passing.{Both, Passes}
 use Rattle.schedule_runner.specs.Shows.{Tells, Behind, Marks, MarkOf, RowOf, MayShow, ShowsLine}
-use Rattle.laws_stores.specs.Sight.{OrderTables, StockTables, AccountTables, orders_service, stocks_service, accounts_service}
+use Rattle.laws_stores.specs.Sight.{OrderTables, StockTables, AccountTables, orders_service, stocks_service}
+use Rattle.laws_stores.specs.Sight.{accounts_service}
 use Rattle.schedule_runner.proofs.Composing.{passes_map, passes_then}
 use Rattle.laws_events.proofs.Threes.{first_after, second_after, third_after}
 use Rattle.schedule_runner.proofs.Righting.{still_good}
@@ -30,7 +31,8 @@ module _ {H K S C : Type 0} (seen : K → Seen (Tables S C)) where
   same_store : (s : Site H K S C) → StoreStays seen s s
   same_store s = record { doubt = omega arith; stays = λ clean t m. m }
 
-module _ {KO KS KA : Type 0} (orders : KO → Seen OrderTables) (stocks : KS → Seen StockTables) (accounts : KA → Seen AccountTables) where
+module _ {KO KS KA : Type 0} (orders : KO → Seen OrderTables) (stocks : KS → Seen StockTables)
+    (accounts : KA → Seen AccountTables) where
   abbrev W : Type 0
   W = World KO KS KA
 
@@ -49,7 +51,8 @@ module _ {KO KS KA : Type 0} (orders : KO → Seen OrderTables) (stocks : KS →
       let a = p.doubt in
       let b = q.doubt in
       let c = r.doubt in record {
-        clean = λ now. let d = now.0 in let e = now.1 in let f = now.2 in (omega (arith, a, d), omega (arith, b, e), omega (arith, c, f));
+        clean = λ now. let d =
+            now.0 in let e = now.1 in let f = now.2 in (omega (arith, a, d), omega (arith, b, e), omega (arith, c, f));
         matching = λ now good. (
           λ t m. good.0 t (p.stays now.0 t m),
           λ t m. good.1 t (q.stays now.1 t m),
@@ -86,9 +89,11 @@ module _ {KO KS KA : Type 0} (orders : KO → Seen OrderTables) (stocks : KS →
       (subst (λ s. StoreStays accounts old.billing s) (sym r) (same_store accounts old.billing))
       (λ ok good. subst (λ b. Genuine ok new.purchasing b new.billing new.mail) (sym q)
       (subst (λ c. Genuine ok new.purchasing old.warehouse c new.mail) (sym r)
-      (first_after ok old.purchasing new.purchasing old.warehouse old.billing old.mail new.mail new.purchasing.endpoint reads.answer
+      (first_after ok old.purchasing new.purchasing old.warehouse old.billing old.mail new.mail new.purchasing.endpoint
+      reads.answer
       reads.after good)))
-      (λ Is h. after_has Is (with_store new.purchasing.endpoint old.purchasing) old.mail new.purchasing new.mail reads.answer reads.after h)
+      (λ Is h. after_has Is (with_store new.purchasing.endpoint old.purchasing) old.mail new.purchasing new.mail
+      reads.answer reads.after h)
       (λ Is h. subst (ChannelsHave Is) (sym q) h) (λ Is h. subst (ChannelsHave Is) (sym r) h) did
 
   pub lift_stock_read : {A : Type 0} {gives : StockTables → A → Type 0} {result : Result A Outcome} (R : W → W → Type 0)
@@ -101,36 +106,45 @@ module _ {KO KS KA : Type 0} (orders : KO → Seen OrderTables) (stocks : KS →
       (subst (λ s. StoreStays accounts old.billing s) (sym r) (same_store accounts old.billing))
       (λ ok good. subst (λ a. Genuine ok a new.warehouse new.billing new.mail) (sym p)
       (subst (λ c. Genuine ok old.purchasing new.warehouse c new.mail) (sym r)
-      (second_after ok old.purchasing old.warehouse old.billing new.warehouse old.mail new.mail new.warehouse.endpoint reads.answer
+      (second_after ok old.purchasing old.warehouse old.billing new.warehouse old.mail new.mail new.warehouse.endpoint
+      reads.answer
       reads.after good))) (λ Is h. subst (ChannelsHave Is) (sym p) h)
-      (λ Is h. after_has Is (with_store new.warehouse.endpoint old.warehouse) old.mail new.warehouse new.mail reads.answer reads.after h)
+      (λ Is h. after_has Is (with_store new.warehouse.endpoint old.warehouse) old.mail new.warehouse new.mail
+      reads.answer reads.after h)
       (λ Is h. subst (ChannelsHave Is) (sym r) h) did
 
-  pub lift_account_read : {A : Type 0} {gives : AccountTables → A → Type 0} {result : Result A Outcome} (R : W → W → Type 0)
+  pub lift_account_read : {A : Type 0} {gives : AccountTables → A → Type 0} {result : Result A Outcome}
+      (R : W → W → Type 0)
       (old new : W) → new.purchasing ≡ old.purchasing → new.warehouse ≡ old.warehouse
       → StoreStays accounts old.billing new.billing → R old new
-      → ReadsSite accounts gives result old.billing old.mail new.billing new.mail → Passes orders stocks accounts R (Both R Same) old new
+      → ReadsSite accounts gives result old.billing old.mail new.billing new.mail
+      → Passes orders stocks accounts R (Both R Same) old new
   lift_account_read R old new p q r did reads = lift_stays R old new
       (subst (λ s. StoreStays orders old.purchasing s) (sym p) (same_store orders old.purchasing))
       (subst (λ s. StoreStays stocks old.warehouse s) (sym q) (same_store stocks old.warehouse)) r
       (λ ok good. subst (λ a. Genuine ok a new.warehouse new.billing new.mail) (sym p)
       (subst (λ b. Genuine ok old.purchasing b new.billing new.mail) (sym q)
-      (third_after ok old.purchasing old.warehouse old.billing new.billing old.mail new.mail new.billing.endpoint reads.answer
+      (third_after ok old.purchasing old.warehouse old.billing new.billing old.mail new.mail new.billing.endpoint
+      reads.answer
       reads.after good))) (λ Is h. subst (ChannelsHave Is) (sym p) h) (λ Is h. subst (ChannelsHave Is) (sym q) h)
-      (λ Is h. after_has Is (with_store new.billing.endpoint old.billing) old.mail new.billing new.mail reads.answer reads.after h) did
+      (λ Is h. after_has Is (with_store new.billing.endpoint old.billing) old.mail new.billing new.mail reads.answer
+      reads.after h) did
 
   -- the row of an entity of that kind
   pub passes_row : (found kind : Kind) (e : Name) (result : Result (Vec ℕ) Outcome) (old new : W) → found ≡ kind
       → Passes orders stocks accounts (RowOf orders stocks accounts found e result)
       (Both (RowOf orders stocks accounts found e result) Same)
       old new
-      → Passes orders stocks accounts (RowOf orders stocks accounts kind e result) (Both (RowOf orders stocks accounts kind e result) Same)
+      → Passes orders stocks accounts (RowOf orders stocks accounts kind e result)
+      (Both (RowOf orders stocks accounts kind e result) Same)
       old new
-  passes_row found kind e result old new same = subst (λ k. Passes orders stocks accounts (RowOf orders stocks accounts k e result)
+  passes_row found kind e result old new same =
+      subst (λ k. Passes orders stocks accounts (RowOf orders stocks accounts k e result)
       (Both (RowOf orders stocks accounts k e result) Same) old new) same
 
   -- what was read is shown
-  pub passes_told : (D : Result (Vec ℕ) Outcome → W → W → Type 0) (result : Result (Vec ℕ) Outcome) (o : Outcome) (old new : W)
+  pub passes_told : (D : Result (Vec ℕ) Outcome → W → W → Type 0) (result : Result (Vec ℕ) Outcome) (o : Outcome)
+      (old new : W)
       → o ≡ shown_told result → Passes orders stocks accounts (D result) (Both (D result) Same) old new
       → Passes orders stocks accounts (Tells D o) (Both (Tells D o) Same) old new
   passes_told D result o old new is = passes_map orders stocks accounts (D result) (Tells D o) (Both (D result) Same)
@@ -140,7 +154,8 @@ module _ {KO KS KA : Type 0} (orders : KO → Seen OrderTables) (stocks : KS →
   -- a line is shown, and nothing changes
   pub passes_line : (line : List ℕ) (o : Outcome) (w : W) → MayShow line o
       → Passes orders stocks accounts (ShowsLine line o) (Both (ShowsLine line o) Same) w w
-  passes_line line o w may = lift_stays (ShowsLine line o) w w (same_store orders w.purchasing) (same_store stocks w.warehouse)
+  passes_line line o w may =
+      lift_stays (ShowsLine line o) w w (same_store orders w.purchasing) (same_store stocks w.warehouse)
       (same_store accounts w.billing) (λ ok good. good) (λ Is h. h) (λ Is h. h) (λ Is h. h) (may, refl)
 
   module _ (found kind : Kind) (same : found ≡ kind) (mark : Mark) (p : Pair) (Next : ℕ → Outcome → W → W → Type 0)
@@ -161,16 +176,22 @@ module _ {KO KS KA : Type 0} (orders : KO → Seen OrderTables) (stocks : KS →
         → Passes orders stocks accounts (Reading found) (Both (Reading found) Same) old mid
         → Passes orders stocks accounts (Next n o) (Both (Next n o) Same) mid new
         → Passes orders stocks accounts Whole (Both Whole Same) old new
-    passes_next n old mid new is first next = passes_then orders stocks accounts (Reading kind) (Next n o) Whole (Both (Reading kind) Same)
+    passes_next n old mid new is first next =
+        passes_then orders stocks accounts (Reading kind) (Next n o) Whole (Both (Reading kind) Same)
         (Both (Next n o) Same) (Both Whole Same) old mid new
         (λ did more. (result, mid, did, subst (λ r. Behind r Next o mid new) (sym is) more))
-        (λ a b c did more. ((result, b.world, did.0, subst (λ r. Behind r Next o b.world c.world) (sym is) more.0), more.1 ∙ did.1))
+        (λ a b c did more. (
+          (result, b.world, did.0, subst (λ r. Behind r Next o b.world c.world) (sym is) more.0),
+          more.1 ∙ did.1,
+        ))
         (of_kind old mid first) next
 
     -- or it wasn't, and that is told
-    pub passes_fault : (old new : W) → result ≡ Err o → Passes orders stocks accounts (Reading found) (Both (Reading found) Same) old new
+    pub passes_fault : (old new : W) → result ≡ Err o
+        → Passes orders stocks accounts (Reading found) (Both (Reading found) Same) old new
         → Passes orders stocks accounts Whole (Both Whole Same) old new
-    passes_fault old new is first = passes_map orders stocks accounts (Reading kind) Whole (Both (Reading kind) Same) (Both Whole Same)
+    passes_fault old new is first =
+        passes_map orders stocks accounts (Reading kind) Whole (Both (Reading kind) Same) (Both Whole Same)
         old new
         (λ did. (result, new, did, subst (λ r. Behind r Next o new new) (sym is) (refl, refl)))
         (λ a b h. ((result, b.world, h.0, subst (λ r. Behind r Next o b.world b.world) (sym is) (refl, refl)), h.1))

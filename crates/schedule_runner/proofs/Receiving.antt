@@ -18,7 +18,8 @@ use Rattle.schedule_service.specs.Deeds.{FrameMay, HeldMay}
 use Rattle.schedule_runner.proofs.Resting.{IsNoCommand, nothing_is, ingest_rests, settle_rests, drain_rests}
 
 module _ {S C : Type 0} (s : Service S C) where
-  reception_rests : (f : Content) (r : Result Taken ReceptionFault) (x : Kept C) (d : Deed C) → TakeMay s f r x d → IsNoCommand d
+  reception_rests : (f : Content) (r : Result Taken ReceptionFault) (x : Kept C) (d : Deed C) → TakeMay s f r x d
+      → IsNoCommand d
   reception_rests f (Ok (taken.Handled pos)) x d may = ingest_rests s may.0 (Ok (ingested.Handled pos)) x d may.2
   reception_rests f (Ok (taken.Repeated n)) x d may = ingest_rests s may.0 (Ok ingested.Repeated) x d may.2
   reception_rests f (Ok taken.Held) x d may = ingest_rests s may.0 (Ok ingested.Held) x d may.2
@@ -32,12 +33,14 @@ module _ {S C : Type 0} (s : Service S C) where
   reception_rests f (Err (Client fault)) x d may = nothing_is d may
   reception_rests f (Err (Envelope fault)) x d may = nothing_is d may
 
-  pub frame_rests : (Came : Content → Type 0) (o : Outcome) (x : Kept C) (d : Deed C) → FrameMay s Came o x d → IsNoCommand d
+  pub frame_rests : (Came : Content → Type 0) (o : Outcome) (x : Kept C) (d : Deed C) → FrameMay s Came o x d
+      → IsNoCommand d
   frame_rests Came (outcome.Handled pos) x d may = reception_rests may.0 (Ok (taken.Handled pos)) x d may.2
   frame_rests Came outcome.Repeated x d may = reception_rests may.0 (Ok (taken.Repeated may.1)) x d may.3
   frame_rests Came outcome.Held x d may = reception_rests may.0 (Ok taken.Held) x d may.2
   frame_rests Came (outcome.Settled mark) x d may = reception_rests may.0 (Ok (taken.Settled mark)) x d may.2
-  frame_rests Came (outcome.Refused n) x d may = either may (nothing_is d) (λ h. reception_rests h.0 (Err (End h.1)) x d h.4)
+  frame_rests Came (outcome.Refused n) x d may =
+      either may (nothing_is d) (λ h. reception_rests h.0 (Err (End h.1)) x d h.4)
   frame_rests Came (outcome.NotDone r) x d may = reception_rests may.0 (Err (End (Business r))) x d may.2
   frame_rests Came outcome.Opened x d may = nothing_is d may
   frame_rests Came outcome.Already x d may = nothing_is d may

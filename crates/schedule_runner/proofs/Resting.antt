@@ -28,7 +28,8 @@ letter_is l d e = subst IsNoCommand (sym e) (l, refl)
 held_is : {S C : Type 0} (s : Service S C) (p : Pair) (x : Kept C) (d : Deed C) → TakesHeld s p x d → IsNoCommand d
 held_is s p x d h = letter_is (next_letter x p h.0) d h.2
 
-pub ingest_rests : {S C : Type 0} (s : Service S C) (l : Letter) (r : Result Ingested EndFault) (x : Kept C) (d : Deed C)
+pub ingest_rests : {S C : Type 0} (s : Service S C) (l : Letter) (r : Result Ingested EndFault) (x : Kept C)
+    (d : Deed C)
     → IngestMay s l r x d → IsNoCommand d
 ingest_rests s l (Ok (ingested.Handled pos)) x d may = letter_is l d may.0
 ingest_rests s l (Ok ingested.Repeated) x d may = nothing_is d may.0

@@ -23,7 +23,8 @@ abbrev c : ConnectionName
 c = named Warehouse One
 
 -- two frames are taken by two events of that connection
-frames_are_taken : (takes 2 c ≡ event.Take c ∷ event.Take c ∷ []) × (takes 0 c ≡ []) × (c.service ≡ Warehouse) × (c.number ≡ One)
+frames_are_taken : (takes 2 c ≡ event.Take c ∷ event.Take c ∷ []) × (takes 0 c ≡ []) × (c.service ≡ Warehouse)
+    × (c.number ≡ One)
     × (takes 2 c ≡ event.Take c ∷ [] → ⊥) × (named Warehouse One ≡ named Billing One → ⊥)
 frames_are_taken = (
   refl,
@@ -34,10 +35,13 @@ frames_are_taken = (
   λ h. let service : Warehouse ≡ Billing = ap (λ (n : ConnectionName). n.service) h in absurd (cc),
 )
 
--- three events and sixteen frames for a connection; two connections and a held letter for a service; three services for a round
-rounds_have_lengths : (length (connection_events c) ≡ 19) × (length (service_events Purchasing) ≡ 39) × (length round_events ≡ 117)
+-- three events and sixteen frames for a connection; two connections and a held letter for a service; three services for
+-- a round
+rounds_have_lengths : (length (connection_events c) ≡ 19) × (length (service_events Purchasing) ≡ 39)
+    × (length round_events ≡ 117)
     × (length (all_rounds 2) ≡ 234) × (all_rounds 0 ≡ [])
-    × (length (connection_events c) ≡ 16 → ⊥) × (length (service_events Purchasing) ≡ 38 → ⊥) × (length round_events ≡ 39 → ⊥)
+    × (length (connection_events c) ≡ 16 → ⊥) × (length (service_events Purchasing) ≡ 38 → ⊥)
+    × (length round_events ≡ 39 → ⊥)
     × (length (all_rounds 2) ≡ 117 → ⊥)
 rounds_have_lengths = (
   refl,
@@ -60,8 +64,10 @@ abbrev first_of : List Event → Event
 first_of [] = event.StopBroker
 first_of (e ∷ events) = e
 
--- a connection begins by sending and ends by taking; a service ends with a held letter; purchasing is the first and billing the last
-rounds_are_in_order : (first_of (connection_events c) ≡ event.Fill c 64) × (last_of event.StopBroker (connection_events c) ≡ event.Take c)
+-- a connection begins by sending and ends by taking; a service ends with a held letter; purchasing is the first and
+-- billing the last
+rounds_are_in_order : (first_of (connection_events c) ≡ event.Fill c 64)
+    × (last_of event.StopBroker (connection_events c) ≡ event.Take c)
     × (last_of event.StopBroker (service_events Warehouse) ≡ event.Drain (named Warehouse Zero))
     × (first_of round_events ≡ event.Fill (named Purchasing Zero) 64)
     × (last_of event.StopBroker round_events ≡ event.Drain (named Billing Zero))
@@ -71,12 +77,17 @@ rounds_are_in_order = (refl, refl, refl, refl, refl, λ h. absurd (cc))
 -- ---- what a service is told
 
 -- each event is the one of its name, with its connection and its numbers
-services_are_told : (asked_of {C = OrderCommand} (asked.Open One) ≡ Opens One) × (asked_of {C = OrderCommand} (asked.Cut One) ≡ Cuts One)
-    × (asked_of {C = OrderCommand} (asked.Fill One 64) ≡ Fills One 64) × (asked_of {C = OrderCommand} (asked.Resend One) ≡ Resends One)
-    × (asked_of {C = OrderCommand} (asked.Carry One Up 9) ≡ Carries One Up 9) × (asked_of {C = OrderCommand} (asked.Take One) ≡ Takes One)
-    × (asked_of {C = OrderCommand} (asked.Drain One) ≡ Drains One) × (asked_of {C = OrderCommand} (asked.Fail 2 New) ≡ Arms 2 New)
+services_are_told : (asked_of {C = OrderCommand} (asked.Open One) ≡ Opens One)
+    × (asked_of {C = OrderCommand} (asked.Cut One) ≡ Cuts One)
+    × (asked_of {C = OrderCommand} (asked.Fill One 64) ≡ Fills One 64)
+    × (asked_of {C = OrderCommand} (asked.Resend One) ≡ Resends One)
+    × (asked_of {C = OrderCommand} (asked.Carry One Up 9) ≡ Carries One Up 9)
+    × (asked_of {C = OrderCommand} (asked.Take One) ≡ Takes One)
+    × (asked_of {C = OrderCommand} (asked.Drain One) ≡ Drains One)
+    × (asked_of {C = OrderCommand} (asked.Fail 2 New) ≡ Arms 2 New)
     × (asked_of {C = OrderCommand} asked.Reopen ≡ Reopens) × (asked_of {C = OrderCommand} asked.Stop ≡ Stops)
-    × (asked_of {C = OrderCommand} (asked.Open One) ≡ Opens Zero → ⊥) × (asked_of {C = OrderCommand} (asked.Cut One) ≡ Opens One → ⊥)
+    × (asked_of {C = OrderCommand} (asked.Open One) ≡ Opens Zero → ⊥)
+    × (asked_of {C = OrderCommand} (asked.Cut One) ≡ Opens One → ⊥)
     × (asked_of {C = OrderCommand} (asked.Carry One Up 9) ≡ Carries One Down 9 → ⊥)
 services_are_told = (
   refl,
@@ -102,7 +113,8 @@ Counts e o a b = b ≡ suc a
 
 -- two events are two steps, one outcome for each, and end where the second one does
 steps_make_paths : IsPath Counts (event.Take c ∷ event.Drain c ∷ []) (Held ∷ Idle ∷ []) 3 5 × IsPath Counts [] [] 3 3
-    × (IsPath Counts [] [] 3 4 → ⊥) × (IsPath Counts (event.Take c ∷ []) [] 3 3 → ⊥) × (IsPath Counts [] (Idle ∷ []) 3 3 → ⊥)
+    × (IsPath Counts [] [] 3 4 → ⊥) × (IsPath Counts (event.Take c ∷ []) [] 3 3 → ⊥)
+    × (IsPath Counts [] (Idle ∷ []) 3 3 → ⊥)
     × (IsPath Counts (event.Take c ∷ []) (Held ∷ []) 3 5 → ⊥)
 steps_make_paths = ((4, refl, (5, refl, refl)), refl, λ h. omega (arith, h), λ h. h, λ h. h, longer)
   where
@@ -110,7 +122,8 @@ steps_make_paths = ((4, refl, (5, refl, refl)), refl, λ h. omega (arith, h), λ
     longer (next, step, end) = omega (arith, step, end)
 
 -- with some outcomes or other
-events_lead : Leads Counts (event.Take c ∷ []) 3 4 × (Leads Counts (event.Take c ∷ []) 3 3 → ⊥) × (Leads Counts [] 3 4 → ⊥)
+events_lead : Leads Counts (event.Take c ∷ []) 3 4 × (Leads Counts (event.Take c ∷ []) 3 3 → ⊥)
+    × (Leads Counts [] 3 4 → ⊥)
 events_lead = ((Held ∷ [], (4, refl, refl)), stays, moves)
   where
     stays : Leads Counts (event.Take c ∷ []) 3 3 → ⊥

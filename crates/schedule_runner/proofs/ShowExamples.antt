@@ -6,7 +6,8 @@ use Rattle.std.specs.Global.{Vec}
 use Rattle.base.specs.Order.{same_entity, same_pair}
 use Rattle.base.specs.declared.entity.Kind.TheVariants.{Order, Stock, Account}
 use Rattle.endpoint.specs.declared.fault.EndFault.{EndFault}
-use Rattle.endpoint.specs.declared.fault.EndFault.TheVariants.{NotMine, Business, TooEarly, StoreFailed, Memory, Unusable, NumberLimit}
+use Rattle.endpoint.specs.declared.fault.EndFault.TheVariants.{NotMine, Business, TooEarly, StoreFailed, Memory}
+use Rattle.endpoint.specs.declared.fault.EndFault.TheVariants.{Unusable, NumberLimit}
 use Rattle.endpoint.specs.declared.fault.EndFault.TheVariants.{NotSent}
 use Rattle.endpoint.specs.Faults.{end_of}
 use Rattle.endpoint.proofs.Examples.{o1, bolts, acme, from_order}
@@ -19,13 +20,15 @@ use Rattle.schedule_text.specs.declared.event.Event.TheVariants as event
 use Rattle.schedule_text.specs.declared.event.ServiceName.TheVariants.{Purchasing, Warehouse, Billing}
 use Rattle.schedule_text.specs.declared.outcome.Outcome.{Outcome}
 use Rattle.schedule_text.specs.declared.outcome.Outcome.TheVariants as told
-use Rattle.schedule_shows.specs.Printed.{shown_or_none, shown_order, shown_order_command, shown_stock_command, pair_line}
+use Rattle.schedule_shows.specs.Printed.{shown_or_none, shown_order, shown_order_command, shown_stock_command}
+use Rattle.schedule_shows.specs.Printed.{pair_line}
 use Rattle.schedule_service.specs.Outcomes.{fault_told}
 use Rattle.schedule_service.specs.declared.site.Site.{Site}
 use Rattle.schedule_runner.specs.declared.looking.Listing.TheVariants.{Frames, Journal}
 use Rattle.schedule_runner.specs.declared.looking.Mark.TheVariants.{Sent, Settled, Handled}
 use Rattle.schedule_runner.specs.Looks.{mark_of, IsRow, AreListed, read_told, shown_told, ReadsSite}
-use Rattle.schedule_runner.specs.Shows.{Tells, Behind, ShowsLine, RowOf, ListOf, MarkOf, Marks, ShowsPair, ShowsSettled, ShowsHandled}
+use Rattle.schedule_runner.specs.Shows.{Tells, Behind, ShowsLine, RowOf, ListOf, MarkOf, Marks, ShowsPair, ShowsSettled}
+use Rattle.schedule_runner.specs.Shows.{ShowsHandled}
 use Rattle.schedule_runner.specs.Steps.{Happened}
 use Rattle.schedule_runner.proofs.PathExamples.{seen, store, TheWorld, world}
 use Rattle.laws_stores.proofs.Placed.{before, after}
@@ -63,16 +66,19 @@ module _ {H S C : Type 0} where
       → ReadsSite {H = H} seen gives (Ok r) (site t) new_office (site t) new_office → ⊥
   not_read {R} gives r t other h = by_answer h.answer h.tells h.reads
     where
-      by_answer : (a : Result R EndFault) → Ok r ≡ read_told a → Reads (through seen) (store t) (store t) gives (end_of a) → ⊥
+      by_answer : (a : Result R EndFault) → Ok r ≡ read_told a
+          → Reads (through seen) (store t) (store t) gives (end_of a) → ⊥
       by_answer (Ok x) tells reads = let is : x ≡ r = cc in other (subst (gives t) is (reads.clean refl).0)
       by_answer (Err fault) tells reads = absurd (cc)
 
   -- what was read the tables give
-  read_is : {R : Type 0} (gives : Tables S C → R → Type 0) (r : R) (t : Tables S C) (u : Site H (Tables S C) S C) (to : Office)
+  read_is : {R : Type 0} (gives : Tables S C → R → Type 0) (r : R) (t : Tables S C) (u : Site H (Tables S C) S C)
+      (to : Office)
       → ReadsSite {H = H} seen gives (Ok r) (site t) new_office u to → gives t r
   read_is {R} gives r t u to h = by_answer h.answer h.tells h.reads
     where
-      by_answer : (a : Result R EndFault) → Ok r ≡ read_told a → Reads (through seen) (store t) u.endpoint gives (end_of a) → gives t r
+      by_answer : (a : Result R EndFault) → Ok r ≡ read_told a
+          → Reads (through seen) (store t) u.endpoint gives (end_of a) → gives t r
       by_answer (Ok x) tells reads = let is : x ≡ r = cc in subst (gives t) is (reads.clean refl).0
       by_answer (Err fault) tells reads = absurd (cc)
 
@@ -87,7 +93,8 @@ not_shown lines Unusable h = absurd (cc)
 not_shown lines NumberLimit h = absurd (cc)
 not_shown lines NotSent h = absurd (cc)
 
-not_read_shows : {H R S C : Type 0} (gives : Tables S C → R → Type 0) (o : Outcome) (s t : Site H (Tables S C) S C) (from to : Office)
+not_read_shows : {H R S C : Type 0} (gives : Tables S C → R → Type 0) (o : Outcome) (s t : Site H (Tables S C) S C)
+    (from to : Office)
     (lines : Vec ℕ) → ReadsSite seen gives (Err o) s from t to → told.Shown lines ≡ o → ⊥
 not_read_shows {R} gives o s t from to lines h shown = by_answer h.answer h.tells
   where
@@ -105,7 +112,8 @@ module _ (any : TheWorld) where
 
   -- ---- marks
 
-  -- purchasing sent one letter to the stock, and nothing of it is settled; warehouse has handled none; no other number is read
+  -- purchasing sent one letter to the stock, and nothing of it is settled; warehouse has handled none; no other number
+  -- is read
   marks_are_read : MarkOf seen seen seen Order Sent (from_order bolts) (Ok 1) w w
       × MarkOf seen seen seen Order Settled (from_order bolts) (Ok 0) w w
       × MarkOf seen seen seen Stock Handled (from_order bolts) (Ok 0) w w
@@ -125,7 +133,8 @@ module _ (any : TheWorld) where
   )
 
   -- behind a mark comes what is to come; where it wasn't read its fault alone is told
-  faults_end_it : Behind {KO = OrderTables} {KS = StockTables} {KA = AccountTables} (Ok 1) (λ n. ShowsLine (n ∷ [])) (told.Refused 64) w w
+  faults_end_it : Behind {KO = OrderTables} {KS = StockTables} {KA = AccountTables} (Ok 1) (λ n. ShowsLine (n ∷ []))
+      (told.Refused 64) w w
       × Behind (Err (told.Refused 63)) (λ n. ShowsLine (n ∷ [])) (told.Refused 63) w w
       × (Behind (Err (told.Refused 63)) (λ n. ShowsLine (n ∷ [])) (told.Refused 64) w w → ⊥)
       × (Behind (Err (told.Refused 63)) (λ n. ShowsLine (n ∷ [])) (told.Refused 63) w earlier → ⊥)
@@ -135,12 +144,14 @@ module _ (any : TheWorld) where
       other h = let number : 64 ≡ 63 = ap number_of h in omega (arith, number)
 
       other_world : earlier ≡ w → ⊥
-      other_world h = let row : 0 ≡ 1 = ap (λ (v : TheWorld). length v.purchasing.endpoint.keep.journal) h in omega (arith, row)
+      other_world h =
+          let row : 0 ≡ 1 = ap (λ (v : TheWorld). length v.purchasing.endpoint.keep.journal) h in omega (arith, row)
 
   -- ---- lines
 
   -- the world stays where a line is shown, and no other line is
-  lines_are_shown : (line : Vec ℕ) → ShowsLine line.items (told.Shown line) w w × ShowsLine line.items (told.Refused 64) w w
+  lines_are_shown : (line : Vec ℕ) → ShowsLine line.items (told.Shown line) w w
+      × ShowsLine line.items (told.Refused 64) w w
       × (ShowsLine (10 ∷ line.items) (told.Shown line) w w → ⊥) × (ShowsLine line.items (told.Shown line) w earlier → ⊥)
   lines_are_shown line = (
     (refl, refl),
@@ -149,7 +160,8 @@ module _ (any : TheWorld) where
     λ h. let row : 0 ≡ 1 = ap (λ (v : TheWorld). length v.purchasing.endpoint.keep.journal) h.1 in omega (arith, row),
   )
 
-  -- the row of the placed order is shown, and it isn't shown as one that wasn't placed; a stock that did nothing has no row
+  -- the row of the placed order is shown, and it isn't shown as one that wasn't placed; a stock that did nothing has no
+  -- row
   abbrev Gives : OrderTables → Vec ℕ → Type 0
   Gives t lines = IsRow (shown_or_none shown_order) o1 t lines.items
 
@@ -174,14 +186,16 @@ module _ (any : TheWorld) where
       λ h. not_told h.0 h.1 h.2,
     )
       where
-        differ : codes "order/o1 none\n" ≡ codes "order/o1 open stock/bolts 3 requested account/acme 500 requested\n" → ⊥
+        differ : codes "order/o1 none\n" ≡ codes "order/o1 open stock/bolts 3 requested account/acme 500 requested\n"
+            → ⊥
         differ h = let shorter : 14 ≡ 65 = ap length h in omega (arith, shorter)
 
         lost : (v : Vec ℕ) → v.items ≡ codes "order/o1 none\n"
             → ReadsSite seen Gives (Ok v) w.purchasing new_office w.purchasing new_office → ⊥
         lost v says h = not_read Gives v after (λ given. differ (sym says ∙ given)) h
 
-        not_told : (r : Result (Vec ℕ) Outcome) → RowOf seen seen seen Order o1 r w w → told.Shown none ≡ shown_told r → ⊥
+        not_told : (r : Result (Vec ℕ) Outcome) → RowOf seen seen seen Order o1 r w w → told.Shown none ≡ shown_told r
+            → ⊥
         not_told (Ok v) h tells = let same : none ≡ v = cc in
             lost v (subst (λ (x : Vec ℕ). x.items ≡ codes "order/o1 none\n") same isnt) h.0
         not_told (Err o) h tells = of_fault h.0.answer h.0.tells
@@ -192,8 +206,10 @@ module _ (any : TheWorld) where
 
   -- ---- lists
 
-  -- purchasing's journal has the command, and warehouse's none; warehouse has nothing to send; the command isn't left out
-  module _ (row nothing : Vec ℕ) (is : row.items ≡ codes "1 order/o1 seat 0 place bolts 3 acme 500\n") (isnt : nothing.items ≡ []) where
+  -- purchasing's journal has the command, and warehouse's none; warehouse has nothing to send; the command isn't left
+  -- out
+  module _ (row nothing : Vec ℕ) (is : row.items ≡ codes "1 order/o1 seat 0 place bolts 3 acme 500\n")
+      (isnt : nothing.items ≡ []) where
     the_journal_is_shown : ListOf seen seen seen Purchasing Journal (Ok row) w w
         × ListOf seen seen seen Warehouse Journal (Ok nothing) w w
         × ListOf seen seen seen Billing Frames (Ok nothing) w w
@@ -232,7 +248,8 @@ module _ (any : TheWorld) where
   -- no line is shown that tells of two letters, whatever is read behind their mark
   module _ (line : Vec ℕ) (is : line.items ≡ codes "pair order/o1 stock/bolts sent 2 settled 0 handled 0\n") where
     no_other_pair_is_shown : (ShowsPair seen seen seen (from_order bolts) (told.Shown line) w w → ⊥)
-        × (Marks seen seen seen Order Sent (from_order bolts) (λ n. ShowsLine (pair_line (from_order bolts) n 0 0)) (told.Shown line) w w
+        × (Marks seen seen seen Order Sent (from_order bolts) (λ n. ShowsLine (pair_line (from_order bolts) n 0 0))
+        (told.Shown line) w w
         → ⊥)
     unfolding digits same_entity same_pair
     no_other_pair_is_shown = (by_pair, by_line)
@@ -244,21 +261,29 @@ module _ (any : TheWorld) where
         unlike n m k one same = differ m k (subst (λ x. line.items ≡ pair_line (from_order bolts) x m k) one same)
 
         sent_is : (n : ℕ) (mid : TheWorld) → MarkOf seen seen seen Order Sent (from_order bolts) (Ok n) w mid → n ≡ 1
-        sent_is n mid mark = read_is (λ t x. x ≡ mark_of Sent t (from_order bolts)) n after mid.purchasing mid.mail mark.0
+        sent_is n mid mark =
+            read_is (λ t x. x ≡ mark_of Sent t (from_order bolts)) n after mid.purchasing mid.mail mark.0
 
-        by_handled : (n m : ℕ) → n ≡ 1 → (a : TheWorld) → ShowsHandled seen seen seen (from_order bolts) n m (told.Shown line) a w → ⊥
+        by_handled : (n m : ℕ) → n ≡ 1 → (a : TheWorld)
+            → ShowsHandled seen seen seen (from_order bolts) n m (told.Shown line) a w → ⊥
         by_handled n m one a (Ok k, mid, mark, behind) = unlike n m k one behind.0
-        by_handled n m one a (Err o, mid, mark, behind) = not_read_shows _ o a.warehouse mid.warehouse a.mail mid.mail line mark.0 behind.0
+        by_handled n m one a (Err o, mid, mark, behind) =
+            not_read_shows _ o a.warehouse mid.warehouse a.mail mid.mail line mark.0 behind.0
 
-        by_settled : (n : ℕ) → n ≡ 1 → (a : TheWorld) → ShowsSettled seen seen seen (from_order bolts) n (told.Shown line) a w → ⊥
+        by_settled : (n : ℕ) → n ≡ 1 → (a : TheWorld)
+            → ShowsSettled seen seen seen (from_order bolts) n (told.Shown line) a w → ⊥
         by_settled n one a (Ok m, mid, mark, behind) = by_handled n m one mid behind
-        by_settled n one a (Err o, mid, mark, behind) = not_read_shows _ o a.purchasing mid.purchasing a.mail mid.mail line mark.0 behind.0
+        by_settled n one a (Err o, mid, mark, behind) =
+            not_read_shows _ o a.purchasing mid.purchasing a.mail mid.mail line mark.0 behind.0
 
         by_pair : ShowsPair seen seen seen (from_order bolts) (told.Shown line) w w → ⊥
         by_pair (Ok n, mid, mark, behind) = by_settled n (sent_is n mid mark) mid behind
-        by_pair (Err o, mid, mark, behind) = not_read_shows _ o w.purchasing mid.purchasing w.mail mid.mail line mark.0 behind.0
+        by_pair (Err o, mid, mark, behind) =
+            not_read_shows _ o w.purchasing mid.purchasing w.mail mid.mail line mark.0 behind.0
 
-        by_line : Marks seen seen seen Order Sent (from_order bolts) (λ n. ShowsLine (pair_line (from_order bolts) n 0 0))
+        by_line : Marks seen seen seen Order Sent (from_order bolts) (λ n. ShowsLine
+            (pair_line (from_order bolts) n 0 0))
             (told.Shown line) w w → ⊥
         by_line (Ok n, mid, mark, behind) = unlike n 0 0 (sent_is n mid mark) behind.0
-        by_line (Err o, mid, mark, behind) = not_read_shows _ o w.purchasing mid.purchasing w.mail mid.mail line mark.0 behind.0
+        by_line (Err o, mid, mark, behind) =
+            not_read_shows _ o w.purchasing mid.purchasing w.mail mid.mail line mark.0 behind.0

@@ -21,7 +21,8 @@ from_more pos (x ∷ xs) ys k e =
 -- ---- one step
 
 -- a step leaves this of one journal: rows behind it, of which the command is told
-abbrev pub RecordsOne : {C : Type 0} → (Event → Option (SeatCommand C)) → Event → Outcome → (old new : List (JournalRow C)) → Type 0
+abbrev pub RecordsOne : {C : Type 0} → (Event → Option (SeatCommand C)) → Event → Outcome
+    → (old new : List (JournalRow C)) → Type 0
 RecordsOne {C} asks e o old new = (more : List (JournalRow C)) × (new ≡ old ++ more)
     × TellsCommand (asks e) o (commands_from (suc (length old)) more)
 
@@ -59,7 +60,8 @@ abbrev pub AskNothing : {C : Type 0} → (Event → Option (SeatCommand C)) → 
 AskNothing asks [] = Unit {0}
 AskNothing asks (e ∷ es) = (asks e ≡ None) × AskNothing asks es
 
-tells_none : {C : Type 0} (asked : Option (SeatCommand C)) (o : Outcome) (told : List (ℕ × SeatCommand C)) → asked ≡ None
+tells_none : {C : Type 0} (asked : Option (SeatCommand C)) (o : Outcome) (told : List (ℕ × SeatCommand C))
+    → asked ≡ None
     → TellsCommand asked o told → told ≡ []
 tells_none None o told none h = h
 tells_none (Some a) o told none h = absurd (cc)
@@ -75,7 +77,8 @@ told_nothing asks (e ∷ es) (o ∷ os) told none h =
     let b = told_nothing asks es os h.1 none.1 h.3 in
     h.4 ∙ ap (λ l. l ++ h.1) a ∙ b
 
-pub nothing_append : {C : Type 0} (asks : Event → Option (SeatCommand C)) (es more : List Event) → AskNothing asks es → AskNothing asks more
+pub nothing_append : {C : Type 0} (asks : Event → Option (SeatCommand C)) (es more : List Event) → AskNothing asks es
+    → AskNothing asks more
     → AskNothing asks (es ++ more)
 nothing_append asks [] more a b = b
 nothing_append asks (e ∷ es) more a b = (a.0, nothing_append asks es more a.1 b)

@@ -17,7 +17,8 @@ use Rattle.laws_stores.specs.Sight.{AllTables, all_empty}
 use Rattle.schedule_text.specs.declared.event.Event.TheVariants.{Order, Stock, Account, StopBroker}
 use Rattle.schedule_text.specs.declared.event.SeatCommand.{SeatCommand}
 use Rattle.schedule_text.specs.declared.outcome.Outcome.TheVariants.{Committed, Refused, Stopped, Opened}
-use Rattle.schedule_runner.specs.Told.{command_at, commands_from, asks_orders, asks_stocks, asks_accounts, TellsCommand, AreTold}
+use Rattle.schedule_runner.specs.Told.{command_at, commands_from, asks_orders, asks_stocks, asks_accounts, TellsCommand}
+use Rattle.schedule_runner.specs.Told.{AreTold}
 use Rattle.schedule_runner.specs.Told.{RecordsTold}
 use Rattle.schedule_runner.specs.Told.{AllTold}
 use Rattle.laws_stores.proofs.Placed.{placing}
@@ -44,8 +45,10 @@ position [] = 0
 position (told ∷ more) = told.0
 
 -- a command has its row's position, and a letter is none; the rows are counted all the same
-commands_have_positions : (command_at 3 placing.entity placing.input ≡ (3, placed) ∷ []) × (command_at 3 answer.entity answer.input ≡ [])
-    × (commands_from 1 (placing ∷ answer ∷ placing ∷ []) ≡ (1, placed) ∷ (3, placed) ∷ []) × (commands_from {C = OrderCommand} 1 [] ≡ [])
+commands_have_positions : (command_at 3 placing.entity placing.input ≡ (3, placed) ∷ [])
+    × (command_at 3 answer.entity answer.input ≡ [])
+    × (commands_from 1 (placing ∷ answer ∷ placing ∷ []) ≡ (1, placed) ∷ (3, placed) ∷ [])
+    × (commands_from {C = OrderCommand} 1 [] ≡ [])
     × (command_at 3 placing.entity placing.input ≡ (2, placed) ∷ [] → ⊥)
     × (commands_from 1 (answer ∷ placing ∷ []) ≡ (1, placed) ∷ [] → ⊥)
 commands_have_positions = (
@@ -61,19 +64,25 @@ commands_have_positions = (
 
 -- each service is asked its own commands
 commands_are_asked : (asks_orders (Order placed) ≡ Some placed) × (asks_stocks (Stock received) ≡ Some received)
-    × (asks_accounts (Account limited) ≡ Some limited) × (asks_orders (Stock received) ≡ None) × (asks_stocks StopBroker ≡ None)
-    × (asks_orders (Order placed) ≡ None → ⊥) × (asks_stocks (Stock received) ≡ None → ⊥) × (asks_accounts (Account limited) ≡ None → ⊥)
+    × (asks_accounts (Account limited) ≡ Some limited) × (asks_orders (Stock received) ≡ None)
+    × (asks_stocks StopBroker ≡ None)
+    × (asks_orders (Order placed) ≡ None → ⊥) × (asks_stocks (Stock received) ≡ None → ⊥)
+    × (asks_accounts (Account limited) ≡ None → ⊥)
     × (asks_accounts (Order placed) ≡ Some limited → ⊥)
-commands_are_asked = (refl, refl, refl, refl, refl, λ h. absurd (cc), λ h. absurd (cc), λ h. absurd (cc), λ h. absurd (cc))
+commands_are_asked =
+    (refl, refl, refl, refl, refl, λ h. absurd (cc), λ h. absurd (cc), λ h. absurd (cc), λ h. absurd (cc))
 
 -- ---- what is told
 
 -- a committed command stands at its position; one that was refused for 63 may stand, and for another fault it doesn't
-commands_are_told : TellsCommand (Some placed) (Committed 1) ((1, placed) ∷ []) × TellsCommand (Some placed) (Refused 63) []
+commands_are_told : TellsCommand (Some placed) (Committed 1) ((1, placed) ∷ [])
+    × TellsCommand (Some placed) (Refused 63) []
     × TellsCommand (Some placed) (Refused 63) ((4, placed) ∷ []) × TellsCommand (Some placed) (Refused 64) []
     × TellsCommand {C = OrderCommand} None Stopped []
-    × (TellsCommand (Some placed) (Committed 1) [] → ⊥) × (TellsCommand (Some placed) (Committed 1) ((2, placed) ∷ []) → ⊥)
-    × (TellsCommand (Some placed) (Refused 64) ((4, placed) ∷ []) → ⊥) × (TellsCommand None Stopped ((1, placed) ∷ []) → ⊥)
+    × (TellsCommand (Some placed) (Committed 1) [] → ⊥)
+    × (TellsCommand (Some placed) (Committed 1) ((2, placed) ∷ []) → ⊥)
+    × (TellsCommand (Some placed) (Refused 64) ((4, placed) ∷ []) → ⊥)
+    × (TellsCommand None Stopped ((1, placed) ∷ []) → ⊥)
 commands_are_told = (
   refl,
   inl refl,
@@ -91,7 +100,8 @@ commands_are_told = (
     no_memory (inr failed) = let number = failed.0 in omega (arith, number)
 
 -- the commands of all events in order, one outcome for each
-commands_are_told_in_order : AreTold asks_orders (Order placed ∷ StopBroker ∷ []) (Committed 1 ∷ Stopped ∷ []) ((1, placed) ∷ [])
+commands_are_told_in_order : AreTold asks_orders (Order placed ∷ StopBroker ∷ []) (Committed 1 ∷ Stopped ∷ [])
+    ((1, placed) ∷ [])
     × AreTold asks_orders [] [] [] × AreTold asks_orders (StopBroker ∷ Order placed ∷ []) (Stopped ∷ Refused 64 ∷ []) []
     × (AreTold asks_orders (Order placed ∷ []) [] [] → ⊥) × (AreTold asks_orders [] (Stopped ∷ []) [] → ⊥)
     × (AreTold asks_orders (Order placed ∷ []) (Committed 1 ∷ []) [] → ⊥)
@@ -121,7 +131,8 @@ journals_are_told = (
 )
   where
     untold : RecordsTold asks_orders [] [] [] (placing ∷ []) → ⊥
-    untold (more, same, told) = let first : commands_from 1 (placing ∷ []) ≡ commands_from 1 more = ap (commands_from 1) same in
+    untold (more, same, told) =
+        let first : commands_from 1 (placing ∷ []) ≡ commands_from 1 more = ap (commands_from 1) same in
         let one : 1 ≡ 0 = ap length (first ∙ told) in omega (arith, one)
 
 -- the tables of purchasing with this journal, and of two services in which nothing was done

@@ -1,5 +1,6 @@
 -- Examples: what events do to a world of three services.
-use Rattle.std.proofs.Common.{◌≡◌, ℕ, [], ◌∷◌, length, Some, None, Result, Ok, Err, Bool, true, false, refl, sym, ap, arith}
+use Rattle.std.proofs.Common.{◌≡◌, ℕ, [], ◌∷◌, length, Some, None, Result, Ok, Err, Bool, true, false, refl, sym, ap}
+use Rattle.std.proofs.Common.{arith}
 use Rattle.std.proofs.Common.{inl}
 use Rattle.endpoint.specs.declared.fault.EndFault.{EndFault}
 use Rattle.endpoint.specs.declared.fault.EndFault.TheVariants.{StoreFailed, Memory, Unusable}
@@ -20,7 +21,8 @@ use Rattle.schedule_text.specs.declared.outcome.Outcome.TheVariants as told
 use Rattle.schedule_service.specs.SiteEvents.{Cuts}
 use Rattle.schedule_runner.specs.declared.acting.ServiceEvent.TheVariants.{Cut}
 use Rattle.schedule_runner.specs.declared.world.World.{World}
-use Rattle.schedule_runner.specs.Agreeing.{agreement_told, with_stores, fault_of, AfterFault, LooksAtAll, AsksAll, FindsAgreement}
+use Rattle.schedule_runner.specs.Agreeing.{agreement_told, with_stores, fault_of, AfterFault, LooksAtAll, AsksAll}
+use Rattle.schedule_runner.specs.Agreeing.{FindsAgreement}
 use Rattle.schedule_runner.specs.Agreeing.{TellsAgreement}
 use Rattle.schedule_runner.specs.Deeds.{moment, Moves, InPurchasing, In, Same, Turn}
 use Rattle.schedule_runner.specs.Sight.{StaysClean, StaysMatching}
@@ -29,15 +31,19 @@ use Rattle.laws_stores.proofs.Placed.{placing}
 
 -- ---- what is told
 
-agreements_are_told : (agreement_told (Ok true) ≡ told.Agreement true) × (agreement_told (Err StoreFailed) ≡ told.Refused 63)
-    × (agreement_told (Ok true) ≡ told.Agreement false → ⊥) × (agreement_told (Err StoreFailed) ≡ told.Agreement false → ⊥)
+agreements_are_told : (agreement_told (Ok true) ≡ told.Agreement true)
+    × (agreement_told (Err StoreFailed) ≡ told.Refused 63)
+    × (agreement_told (Ok true) ≡ told.Agreement false → ⊥)
+    × (agreement_told (Err StoreFailed) ≡ told.Agreement false → ⊥)
 agreements_are_told = (refl, refl, λ h. absurd (cc), λ h. absurd (cc))
 
-faults_are_of_services : (fault_of (at.Purchasing Memory) ≡ Memory) × (fault_of (at.Warehouse StoreFailed) ≡ StoreFailed)
+faults_are_of_services : (fault_of (at.Purchasing Memory) ≡ Memory)
+    × (fault_of (at.Warehouse StoreFailed) ≡ StoreFailed)
     × (fault_of (at.Billing Unusable) ≡ Unusable) × (fault_of (at.Billing Unusable) ≡ Memory → ⊥)
 faults_are_of_services = (refl, refl, refl, λ h. absurd (cc))
 
-repeats_are_told : (again (Ok (Some 5)) ≡ told.Again 5) × (again (Ok None) ≡ told.Absent) × (again (Err repeat.Memory) ≡ told.Refused 34)
+repeats_are_told : (again (Ok (Some 5)) ≡ told.Again 5) × (again (Ok None) ≡ told.Absent)
+    × (again (Err repeat.Memory) ≡ told.Refused 34)
     × (again (Ok None) ≡ told.Again 0 → ⊥) × (again (Err repeat.Memory) ≡ told.Absent → ⊥)
 repeats_are_told = (refl, refl, refl, λ h. absurd (cc), λ h. absurd (cc))
 
@@ -49,7 +55,8 @@ module _ (later : Office) (other : later.earlier ≡ [] → ⊥) where
   more_mail h = other (ap (λ (o : Office). o.earlier) h)
 
   -- where none was accepted none is sent again, and no number is told
-  none_is_sent_again : SendsAgain 1 told.Absent new_office new_office × (SendsAgain 1 told.Pumped new_office new_office → ⊥)
+  none_is_sent_again : SendsAgain 1 told.Absent new_office new_office
+      × (SendsAgain 1 told.Pumped new_office new_office → ⊥)
   none_is_sent_again = ((Ok None, (refl, refl), refl), pumped)
     where
       pumped : SendsAgain 1 told.Pumped new_office new_office → ⊥
@@ -127,14 +134,20 @@ module _ (later : Office) (other : later.earlier ≡ [] → ⊥) where
     -- all three tell that nothing disagrees, and nothing changes
     stores_are_asked : LooksAtAll seen seen seen (Ok true) w w × AsksAll seen seen seen (Ok true) w w
         × FindsAgreement seen seen seen (Ok true) w w × TellsAgreement seen seen seen (told.Agreement true) w w
-        × (LooksAtAll seen seen seen (Ok false) w w → ⊥) × (AsksAll seen seen seen (Ok true) w (world true empty 0 later) → ⊥)
+        × (LooksAtAll seen seen seen (Ok false) w w → ⊥)
+        × (AsksAll seen seen seen (Ok true) w (world true empty 0 later) → ⊥)
         × (FindsAgreement seen seen seen (Ok true) w (world true empty 0 later) → ⊥)
         × (TellsAgreement seen seen seen told.Pumped w w → ⊥)
     stores_are_asked = (
       (inl refl, inl refl, inl refl, λ _ _ _ x y z xo ys za. told_true x y z xo),
       ((inl refl, inl refl, inl refl, λ _ _ _ x y z xo ys za. told_true x y z xo), refl),
       ((inl refl, inl refl, inl refl, λ _ _ _ x y z xo ys za. told_true x y z xo), refl),
-      (Ok true, ((inl refl, inl refl, inl refl, λ _ _ _ x y z xo ys za. told_true x y z xo), refl), λ _ _ _. refl, refl),
+      (
+        Ok true,
+        ((inl refl, inl refl, inl refl, λ _ _ _ x y z xo ys za. told_true x y z xo), refl),
+        λ _ _ _. refl,
+        refl,
+      ),
       λ h. let agree = h.3 refl refl refl empty empty empty (λ _. refl) (λ _. refl) (λ _. refl) in absurd (cc),
       λ h. more_mail (ap (λ (v : TheWorld). v.mail) h.1),
       λ h. more_mail (ap (λ (v : TheWorld). v.mail) h.1),
@@ -142,7 +155,8 @@ module _ (later : Office) (other : later.earlier ≡ [] → ⊥) where
     )
       where
         -- no order is placed, whatever the partners have
-        told_true : (x : OrderTables) (y : StockTables) (z : AccountTables) → StandsFor (through seen) (store (true, 0, empty)) x
+        told_true : (x : OrderTables) (y : StockTables) (z : AccountTables)
+            → StandsFor (through seen) (store (true, 0, empty)) x
             → true ≡ partners_agree x y z
         told_true x y z xo = ap (λ (t : OrderTables). partners_agree t y z) (sym (xo refl))
 
@@ -151,13 +165,16 @@ module _ (later : Office) (other : later.earlier ≡ [] → ⊥) where
         no_pump (Err f) tells = absurd (cc)
 
     -- no file is in doubt that was, and tables match that did
-    worlds_stay_clean : StaysClean seen seen seen w w × (StaysClean seen seen seen (world true empty 1 new_office) w → ⊥)
+    worlds_stay_clean : StaysClean seen seen seen w w
+        × (StaysClean seen seen seen (world true empty 1 new_office) w → ⊥)
         × StaysMatching seen seen seen w w
-    worlds_stay_clean = (λ clean. clean, λ h. let doubt = (h (refl, refl, refl)).2 in omega (arith, doubt), λ clean matching. matching)
+    worlds_stay_clean =
+        (λ clean. clean, λ h. let doubt = (h (refl, refl, refl)).2 in omega (arith, doubt), λ clean matching. matching)
 
     -- ---- the mail alone, and one service
 
-    mail_changes_alone : AtMail (IsNewBroker told.Stopped) w w × (AtMail (IsNewBroker told.Stopped) w (world true empty 0 later) → ⊥)
+    mail_changes_alone : AtMail (IsNewBroker told.Stopped) w w
+        × (AtMail (IsNewBroker told.Stopped) w (world true empty 0 later) → ⊥)
         × (AtMail (IsNewBroker told.Stopped) w (world true placed 0 new_office) → ⊥)
     mail_changes_alone = (
       (refl, refl, refl, refl),
@@ -182,7 +199,8 @@ module _ (later : Office) (other : later.earlier ≡ [] → ⊥) where
     )
 
     -- a connection that isn't open isn't cut, and the other services and the mail stay
-    services_act_alone : AtPurchasing seen seen seen (Cuts Zero) told.Closed w w × At seen seen seen Warehouse (Cut Zero) told.Closed w w
+    services_act_alone : AtPurchasing seen seen seen (Cuts Zero) told.Closed w w
+        × At seen seen seen Warehouse (Cut Zero) told.Closed w w
         × Happened seen seen seen (event.Cut (record { service = Billing; number = Zero })) told.Closed w w
         × (AtPurchasing seen seen seen (Cuts Zero) told.Cut w w → ⊥)
         × (At seen seen seen Warehouse (Cut Zero) told.Closed w (world true placed 0 new_office) → ⊥)

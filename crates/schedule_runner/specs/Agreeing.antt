@@ -44,11 +44,14 @@ fault_of (Purchasing fault) = fault
 fault_of (Warehouse fault) = fault
 fault_of (Billing fault) = fault
 
-module _ {KO KS KA : Type 0} (orders : KO → Seen OrderTables) (stocks : KS → Seen StockTables) (accounts : KA → Seen AccountTables) where
+module _ {KO KS KA : Type 0} (orders : KO → Seen OrderTables) (stocks : KS → Seen StockTables)
+    (accounts : KA → Seen AccountTables) where
   -- all three stores were looked at, and tell whether partners agree
   abbrev pub LooksAtAll : Result Bool AuditFault → (a b : World KO KS KA) → Type 0
-  LooksAtAll result a b = Looks (through orders) (through stocks) (through accounts) (λ x y z agree. agree ≡ partners_agree x y z) result
-      a.purchasing.endpoint b.purchasing.endpoint a.warehouse.endpoint b.warehouse.endpoint a.billing.endpoint b.billing.endpoint
+  LooksAtAll result a b =
+      Looks (through orders) (through stocks) (through accounts) (λ x y z agree. agree ≡ partners_agree x y z) result
+      a.purchasing.endpoint b.purchasing.endpoint a.warehouse.endpoint b.warehouse.endpoint a.billing.endpoint
+      b.billing.endpoint
 
   -- and nothing but the stores changes
   abbrev pub AsksAll : Result Bool AuditFault → (a b : World KO KS KA) → Type 0
@@ -57,7 +60,8 @@ module _ {KO KS KA : Type 0} (orders : KO → Seen OrderTables) (stocks : KS →
   -- what they tell; or a read wasn't done, and its fault is told, behind which its service's connections may be cut
   abbrev pub FindsAgreement : Result Bool EndFault → (a b : World KO KS KA) → Type 0
   FindsAgreement (Ok agree) a b = AsksAll (Ok agree) a b
-  FindsAgreement (Err fault) a b = (at : AuditFault) × LooksAtAll (Err at) a b × (fault ≡ fault_of at) × AfterFault at (with_stores a b) b
+  FindsAgreement (Err fault) a b =
+      (at : AuditFault) × LooksAtAll (Err at) a b × (fault ≡ fault_of at) × AfterFault at (with_stores a b) b
 
   -- in a good world, whatever became of its stores, an answer is that partners agree
   abbrev pub AgreesWhereGood : Result Bool EndFault → (a b : World KO KS KA) → Type 0

@@ -15,7 +15,8 @@ use Rattle.schedule_text.specs.declared.outcome.Outcome.{Outcome}
 use Rattle.schedule_service.specs.Deeds.{Channels, SiteMay, channels_of}
 use Rattle.schedule_service.specs.SiteEvents.{SiteEvent, Commits}
 use Rattle.schedule_runner.specs.declared.acting.ServiceEvent.{ServiceEvent}
-use Rattle.schedule_runner.specs.declared.acting.ServiceEvent.TheVariants.{Open, Cut, Fill, Resend, Carry, Take, Drain, Fail, Reopen, Stop}
+use Rattle.schedule_runner.specs.declared.acting.ServiceEvent.TheVariants.{Open, Cut, Fill, Resend, Carry, Take, Drain}
+use Rattle.schedule_runner.specs.declared.acting.ServiceEvent.TheVariants.{Fail, Reopen, Stop}
 use Rattle.schedule_runner.specs.declared.world.World.{World}
 use Rattle.schedule_runner.specs.Events.{asked_of}
 use Rattle.schedule_runner.specs.Paths.{IsPath, Makes}
@@ -35,12 +36,14 @@ moment w t = record { world = w; tables = t }
 
 -- a deed that this event and its outcome allow leads from tables to these
 abbrev pub Moves : {S C : Type 0} → Service S C → Channels → SiteEvent C → Outcome → Tables S C → Tables S C → Type 0
-Moves {S} {C} service channels e o x y = (d : Deed C) × SiteMay service channels e o (kept x) d × Did service (kept x) d (kept y)
+Moves {S} {C} service channels e o x y =
+    (d : Deed C) × SiteMay service channels e o (kept x) d × Did service (kept x) d (kept y)
 
 module _ {KO KS KA : Type 0} where
   -- one service moves, and the tables of the others stay as they are
   abbrev pub InPurchasing : SiteEvent OrderCommand → Outcome → (a b : Moment KO KS KA) → Type 0
-  InPurchasing e o a b = Moves orders_service (channels_of a.world.purchasing) e o a.tables.purchasing b.tables.purchasing
+  InPurchasing e o a b =
+      Moves orders_service (channels_of a.world.purchasing) e o a.tables.purchasing b.tables.purchasing
       × (b.tables.warehouse ≡ a.tables.warehouse) × (b.tables.billing ≡ a.tables.billing)
 
   abbrev pub InWarehouse : SiteEvent StockCommand → Outcome → (a b : Moment KO KS KA) → Type 0
@@ -79,16 +82,18 @@ module _ {KO KS KA : Type 0} where
   Turn (event.Pump rounds) o = λ a b. ⊥
   Turn _ o = Same
 
-module _ {KO KS KA : Type 0} (orders : KO → Seen OrderTables) (stocks : KS → Seen StockTables) (accounts : KA → Seen AccountTables) where
+module _ {KO KS KA : Type 0} (orders : KO → Seen OrderTables) (stocks : KS → Seen StockTables)
+    (accounts : KA → Seen AccountTables) where
   -- what the event does to the world, and to the tables
   abbrev pub Step : Event → Outcome → (a b : Moment KO KS KA) → Type 0
   Step e o a b = Happened orders stocks accounts e o a.world b.world × Turn e o a b
 
   -- tables now come so of some that a stop might leave before
-  pub record LedBy (Leads : (a b : Moment KO KS KA) → Type 0) (old new : World KO KS KA) (now : AllTables) : Type 0 where
-    pub before : AllTables
-    pub was : MayLeave (sight orders stocks accounts old) before
-    pub leads : Leads (moment old before) (moment new now)
+  pub record LedBy (Leads : (a b : Moment KO KS KA) → Type 0) (old new : World KO KS KA) (now : AllTables) : Type 0
+    where
+      pub before : AllTables
+      pub was : MayLeave (sight orders stocks accounts old) before
+      pub leads : Leads (moment old before) (moment new now)
 
   -- so do all that a stop may leave now
   abbrev pub GoesBy : ((a b : Moment KO KS KA) → Type 0) → (old new : World KO KS KA) → Type 0

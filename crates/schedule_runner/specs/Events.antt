@@ -1,7 +1,9 @@
 -- What a service is told to do.
 use Rattle.schedule_runner.specs.declared.acting.ServiceEvent.{ServiceEvent}
-use Rattle.schedule_runner.specs.declared.acting.ServiceEvent.TheVariants.{Open, Cut, Fill, Resend, Carry, Take, Drain, Fail, Reopen, Stop}
-use Rattle.schedule_service.specs.SiteEvents.{SiteEvent, Opens, Cuts, Fills, Resends, Carries, Takes, Drains, Arms, Reopens, Stops}
+use Rattle.schedule_runner.specs.declared.acting.ServiceEvent.TheVariants.{Open, Cut, Fill, Resend, Carry, Take, Drain}
+use Rattle.schedule_runner.specs.declared.acting.ServiceEvent.TheVariants.{Fail, Reopen, Stop}
+use Rattle.schedule_service.specs.SiteEvents.{SiteEvent, Opens, Cuts, Fills, Resends, Carries, Takes, Drains, Arms}
+use Rattle.schedule_service.specs.SiteEvents.{Reopens, Stops}
 
 -- the event of a site
 abbrev pub asked_of : {C : Type 0} → ServiceEvent → SiteEvent C

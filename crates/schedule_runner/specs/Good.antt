@@ -9,12 +9,13 @@ use Rattle.schedule_service.specs.Cursors.{AreRight}
 use Rattle.schedule_runner.specs.Sight.{sight}
 use Rattle.schedule_runner.specs.declared.world.World.{World}
 
--- All envelopes on their way have this property: in what a client wrote and what was carried, in the broker's sessions, queues and open
--- transactions, and among all SENDs that were ever accepted.
+-- All envelopes on their way have this property: in what a client wrote and what was carried, in the broker's sessions,
+-- queues and open transactions, and among all SENDs that were ever accepted.
 abbrev pub MailIs : {KO KS KA : Type 0} → (Envelope → Type 0) → World KO KS KA → Type 0
 MailIs ok w = Genuine ok w.purchasing w.warehouse w.billing w.mail
 
-module _ {KO KS KA : Type 0} (orders : KO → Seen OrderTables) (stocks : KS → Seen StockTables) (accounts : KA → Seen AccountTables) where
+module _ {KO KS KA : Type 0} (orders : KO → Seen OrderTables) (stocks : KS → Seen StockTables)
+    (accounts : KA → Seen AccountTables) where
   -- what each relay knows of its service's outbox is right
   abbrev pub AllRight : World KO KS KA → Type 0
   AllRight w = AreRight orders orders_service w.purchasing × AreRight stocks stocks_service w.warehouse

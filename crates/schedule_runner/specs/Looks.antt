@@ -41,7 +41,8 @@ IsRow shown e t lines = lines ≡ show_line shown e (t.entity e)
 
 -- the lines of the letters that aren't settled, or of the rows of the journal
 abbrev pub AreListed : {S C : Type 0} → (C → List ℕ) → Listing → Tables S C → List ℕ → Type 0
-AreListed shown Frames t lines = (letters : List Letter) × AreFirst t.unsettled None most letters × (lines ≡ test_frames letters)
+AreListed shown Frames t lines =
+    (letters : List Letter) × AreFirst t.unsettled None most letters × (lines ≡ test_frames letters)
 AreListed shown Journal t lines = lines ≡ journal_lines shown (take most t.journal)
 
 -- what is told of a read that ended so: what was read, or the outcome of its fault
@@ -55,9 +56,10 @@ shown_told (Ok lines) = Shown lines
 shown_told (Err told) = told
 
 module _ {H K S C : Type 0} (seen : K → Seen (Tables S C)) where
-  -- One service reads its store, whose tables give this, and stay. Where the store failed both connections are cut, and else they and
-  -- the mail stay as they are.
-  pub record ReadsSite {R : Type 0} (gives : Tables S C → R → Type 0) (result : Result R Outcome) (s : Site H K S C) (from : Office)
+  -- One service reads its store, whose tables give this, and stay. Where the store failed both connections are cut, and
+  -- else they and the mail stay as they are.
+  pub record ReadsSite {R : Type 0} (gives : Tables S C → R → Type 0) (result : Result R Outcome) (s : Site H K S C)
+      (from : Office)
       (t : Site H K S C) (to : Office) : Type 0 where
     pub answer : Result R EndFault
     pub reads : Reads (through seen) s.endpoint t.endpoint gives (end_of answer)

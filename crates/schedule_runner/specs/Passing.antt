@@ -16,9 +16,11 @@ abbrev pub Both : {KO KS KA : Type 0} → ((a b : World KO KS KA) → Type 0) �
     → (a b : Moment KO KS KA) → Type 0
 Both Whole Tables a b = Whole a.world b.world × Tables a b
 
-module _ {KO KS KA : Type 0} (orders : KO → Seen OrderTables) (stocks : KS → Seen StockTables) (accounts : KA → Seen AccountTables) where
+module _ {KO KS KA : Type 0} (orders : KO → Seen OrderTables) (stocks : KS → Seen StockTables)
+    (accounts : KA → Seen AccountTables) where
   -- from the old world to the new one: it goes so, and with its tables so
-  pub record Passes (Whole : (a b : World KO KS KA) → Type 0) (Leading : (a b : Moment KO KS KA) → Type 0) (old new : World KO KS KA)
+  pub record Passes (Whole : (a b : World KO KS KA) → Type 0) (Leading : (a b : Moment KO KS KA) → Type 0)
+      (old new : World KO KS KA)
       : Type 0 where
     pub clean : StaysClean orders stocks accounts old new
     pub matching : StaysMatching orders stocks accounts old new
@@ -26,8 +28,8 @@ module _ {KO KS KA : Type 0} (orders : KO → Seen OrderTables) (stocks : KS →
     pub did : Whole old new
     pub goes : GoesBy orders stocks accounts Leading old new
 
-  -- One event: what it does and tells; and where no file is in doubt behind it and the tables of all services matched, they match behind
-  -- it, a world that was good is good, and its services agree.
+  -- One event: what it does and tells; and where no file is in doubt behind it and the tables of all services matched,
+  -- they match behind it, a world that was good is good, and its services agree.
   abbrev pub Passed : Event → Outcome → (old new : World KO KS KA) → Type 0
   Passed e o old new = Passes (Happened orders stocks accounts e o) (Step orders stocks accounts e o) old new
       × Agrees orders stocks accounts old new

@@ -10,7 +10,8 @@ module _ {Z : Type 0} (Step : Event → Outcome → Z → Z → Type 0) where
   -- one step for each event, with its outcome, leads from the first to the last
   abbrev pub IsPath : List Event → List Outcome → Z → Z → Type 0
   IsPath [] [] a b = b ≡ a
-  IsPath (event ∷ events) (outcome ∷ outcomes) a b = (next : Z) × Step event outcome a next × IsPath events outcomes next b
+  IsPath (event ∷ events) (outcome ∷ outcomes) a b =
+      (next : Z) × Step event outcome a next × IsPath events outcomes next b
   IsPath [] (_ ∷ _) a b = ⊥
   IsPath (_ ∷ _) [] a b = ⊥
 

@@ -27,28 +27,34 @@ MayShow line _ = ⊥
 
 module _ {KO KS KA : Type 0} where
   -- what was read is shown, or the outcome of its fault told
-  abbrev pub Tells : (Result (Vec ℕ) Outcome → (a b : World KO KS KA) → Type 0) → Outcome → (a b : World KO KS KA) → Type 0
+  abbrev pub Tells : (Result (Vec ℕ) Outcome → (a b : World KO KS KA) → Type 0) → Outcome → (a b : World KO KS KA)
+      → Type 0
   Tells Reads o a b = (result : Result (Vec ℕ) Outcome) × Reads result a b × (o ≡ shown_told result)
 
   -- behind a mark comes this; or the outcome of its fault is told
-  abbrev pub Behind : Result ℕ Outcome → (ℕ → Outcome → (a b : World KO KS KA) → Type 0) → Outcome → (mid b : World KO KS KA) → Type 0
+  abbrev pub Behind : Result ℕ Outcome → (ℕ → Outcome → (a b : World KO KS KA) → Type 0) → Outcome
+      → (mid b : World KO KS KA) → Type 0
   Behind (Ok n) Next o mid b = Next n o mid b
   Behind (Err told) Next o mid b = (o ≡ told) × (b ≡ mid)
 
   abbrev pub ShowsLine : List ℕ → Outcome → (a b : World KO KS KA) → Type 0
   ShowsLine line o a b = MayShow line o × (b ≡ a)
 
-module _ {KO KS KA : Type 0} (orders : KO → Seen OrderTables) (stocks : KS → Seen StockTables) (accounts : KA → Seen AccountTables) where
+module _ {KO KS KA : Type 0} (orders : KO → Seen OrderTables) (stocks : KS → Seen StockTables)
+    (accounts : KA → Seen AccountTables) where
   -- one service reads, and the other two are as they were
-  abbrev pub ReadsPurchasing : {R : Type 0} → (OrderTables → R → Type 0) → Result R Outcome → (a b : World KO KS KA) → Type 0
+  abbrev pub ReadsPurchasing : {R : Type 0} → (OrderTables → R → Type 0) → Result R Outcome → (a b : World KO KS KA)
+      → Type 0
   ReadsPurchasing gives result a b = ReadsSite orders gives result a.purchasing a.mail b.purchasing b.mail
       × (b.warehouse ≡ a.warehouse) × (b.billing ≡ a.billing)
 
-  abbrev pub ReadsWarehouse : {R : Type 0} → (StockTables → R → Type 0) → Result R Outcome → (a b : World KO KS KA) → Type 0
+  abbrev pub ReadsWarehouse : {R : Type 0} → (StockTables → R → Type 0) → Result R Outcome → (a b : World KO KS KA)
+      → Type 0
   ReadsWarehouse gives result a b = ReadsSite stocks gives result a.warehouse a.mail b.warehouse b.mail
       × (b.purchasing ≡ a.purchasing) × (b.billing ≡ a.billing)
 
-  abbrev pub ReadsBilling : {R : Type 0} → (AccountTables → R → Type 0) → Result R Outcome → (a b : World KO KS KA) → Type 0
+  abbrev pub ReadsBilling : {R : Type 0} → (AccountTables → R → Type 0) → Result R Outcome → (a b : World KO KS KA)
+      → Type 0
   ReadsBilling gives result a b = ReadsSite accounts gives result a.billing a.mail b.billing b.mail
       × (b.purchasing ≡ a.purchasing) × (b.warehouse ≡ a.warehouse)
 
@@ -71,7 +77,8 @@ module _ {KO KS KA : Type 0} (orders : KO → Seen OrderTables) (stocks : KS →
   MarkOf Account mark p = ReadsBilling (λ t n. n ≡ mark_of mark t p)
 
   -- a mark is read, and then comes this
-  abbrev pub Marks : Kind → Mark → Pair → (ℕ → Outcome → (a b : World KO KS KA) → Type 0) → Outcome → (a b : World KO KS KA) → Type 0
+  abbrev pub Marks : Kind → Mark → Pair → (ℕ → Outcome → (a b : World KO KS KA) → Type 0) → Outcome
+      → (a b : World KO KS KA) → Type 0
   Marks kind mark p Next o a b = (result : Result ℕ Outcome) × (mid : World KO KS KA) × MarkOf kind mark p result a mid
       × Behind result Next o mid b
 

@@ -5,7 +5,8 @@ use Rattle.laws_stores.specs.Sight.{Sight, OrderTables, StockTables, AccountTabl
 use Rattle.schedule_runner.specs.declared.world.World.{World}
 
 -- the stores of a world, each of which may fail where it is told to
-abbrev pub sight : {KO KS KA : Type 0} → (KO → Seen OrderTables) → (KS → Seen StockTables) → (KA → Seen AccountTables) → World KO KS KA
+abbrev pub sight : {KO KS KA : Type 0} → (KO → Seen OrderTables) → (KS → Seen StockTables) → (KA → Seen AccountTables)
+    → World KO KS KA
     → Sight
 sight orders stocks accounts world = record {
   purchasing = through orders world.purchasing.endpoint;
@@ -13,7 +14,8 @@ sight orders stocks accounts world = record {
   billing = through accounts world.billing.endpoint;
 }
 
-module _ {KO KS KA : Type 0} (orders : KO → Seen OrderTables) (stocks : KS → Seen StockTables) (accounts : KA → Seen AccountTables)
+module _ {KO KS KA : Type 0} (orders : KO → Seen OrderTables) (stocks : KS → Seen StockTables)
+    (accounts : KA → Seen AccountTables)
     (old new : World KO KS KA) where
   -- where no file is in doubt now, none was before
   abbrev pub StaysClean : Type 0

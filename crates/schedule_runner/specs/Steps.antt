@@ -18,13 +18,15 @@ use Rattle.trade.specs.declared.commands.OrderCommand.{OrderCommand}
 use Rattle.trade.specs.declared.commands.StockCommand.{StockCommand}
 use Rattle.trade.specs.declared.commands.AccountCommand.{AccountCommand}
 use Rattle.schedule_runner.specs.declared.acting.ServiceEvent.{ServiceEvent}
-use Rattle.schedule_runner.specs.declared.acting.ServiceEvent.TheVariants.{Open, Cut, Fill, Resend, Carry, Take, Drain, Fail, Reopen, Stop}
+use Rattle.schedule_runner.specs.declared.acting.ServiceEvent.TheVariants.{Open, Cut, Fill, Resend, Carry, Take, Drain}
+use Rattle.schedule_runner.specs.declared.acting.ServiceEvent.TheVariants.{Fail, Reopen, Stop}
 use Rattle.schedule_runner.specs.declared.looking.Listing.TheVariants.{Frames, Journal}
 use Rattle.schedule_runner.specs.declared.world.World.{World}
 use Rattle.schedule_runner.specs.Events.{asked_of}
 use Rattle.schedule_runner.specs.Agreeing.{TellsAgreement}
 use Rattle.schedule_runner.specs.Shows.{Tells, RowOf, ListOf, ShowsPair}
-use Rattle.laws_stores.specs.Sight.{OrderTables, StockTables, AccountTables, orders_service, stocks_service, accounts_service}
+use Rattle.laws_stores.specs.Sight.{OrderTables, StockTables, AccountTables, orders_service, stocks_service}
+use Rattle.laws_stores.specs.Sight.{accounts_service}
 
 -- what a repetition is answered
 abbrev pub again : Result (Option ℕ) RepeatFault → Outcome
@@ -34,7 +36,8 @@ again (Err fault) = Refused (repeat_fault_number fault)
 
 -- an accepted message is sent again
 abbrev pub SendsAgain : ℕ → Outcome → (mail later : Office) → Type 0
-SendsAgain place o mail later = (result : Result (Option ℕ) RepeatFault) × Repeats place mail later result × (o ≡ again result)
+SendsAgain place o mail later =
+    (result : Result (Option ℕ) RepeatFault) × Repeats place mail later result × (o ≡ again result)
 
 -- a new broker begins; or memory was refused, and the old one stays
 abbrev pub IsNewBroker : Outcome → (mail later : Office) → Type 0
@@ -49,10 +52,12 @@ module _ {KO KS KA : Type 0} where
 
   -- all connections are cut, one service after another, and then a new broker begins
   abbrev pub BeginsAnew : Outcome → (a b : World KO KS KA) → Type 0
-  BeginsAnew o a b = (one two three : Office) × CutsBoth a.purchasing a.mail b.purchasing one × CutsBoth a.warehouse one b.warehouse two
+  BeginsAnew o a b = (one two three : Office) × CutsBoth a.purchasing a.mail b.purchasing one
+      × CutsBoth a.warehouse one b.warehouse two
       × CutsBoth a.billing two b.billing three × IsNewBroker o three b.mail
 
-module _ {KO KS KA : Type 0} (orders : KO → Seen OrderTables) (stocks : KS → Seen StockTables) (accounts : KA → Seen AccountTables) where
+module _ {KO KS KA : Type 0} (orders : KO → Seen OrderTables) (stocks : KS → Seen StockTables)
+    (accounts : KA → Seen AccountTables) where
   -- one service acts, with the mail, and the other two are as they were
   abbrev pub AtPurchasing : SiteEvent OrderCommand → Outcome → (a b : World KO KS KA) → Type 0
   AtPurchasing e o a b = Happens orders orders_service e o a.purchasing a.mail b.purchasing b.mail

@@ -40,15 +40,16 @@ abbrev pub asks_accounts : Event → Option (SeatCommand AccountCommand)
 asks_accounts (Account asked) = Some asked
 asks_accounts _ = None
 
--- A command that was answered committed stands at that row; one that was refused for 63, since the store failed, may stand or not, and
--- once at most. No other stands.
+-- A command that was answered committed stands at that row; one that was refused for 63, since the store failed, may
+-- stand or not, and once at most. No other stands.
 abbrev pub TellsCommand : {C : Type 0} → Option (SeatCommand C) → Outcome → List (ℕ × SeatCommand C) → Type 0
 TellsCommand (Some asked) (Committed pos) told = told ≡ (pos, asked) ∷ []
 TellsCommand (Some asked) (Refused n) told = (told ≡ []) ⊎ ((n ≡ 63) × (pos : ℕ) × (told ≡ (pos, asked) ∷ []))
 TellsCommand _ _ told = told ≡ []
 
 -- these are, in order, the commands of these events, as their outcomes tell them
-abbrev pub AreTold : {C : Type 0} → (Event → Option (SeatCommand C)) → List Event → List Outcome → List (ℕ × SeatCommand C) → Type 0
+abbrev pub AreTold : {C : Type 0} → (Event → Option (SeatCommand C)) → List Event → List Outcome
+    → List (ℕ × SeatCommand C) → Type 0
 AreTold asks [] [] told = told ≡ []
 AreTold {C} asks (e ∷ es) (o ∷ os) told = (first rest : List (ℕ × SeatCommand C))
     × TellsCommand (asks e) o first × AreTold asks es os rest × (told ≡ first ++ rest)
@@ -56,7 +57,8 @@ AreTold asks [] (_ ∷ _) told = ⊥
 AreTold asks (_ ∷ _) [] told = ⊥
 
 -- the journal begins with what it was, and the commands behind that are those
-abbrev pub RecordsTold : {C : Type 0} → (Event → Option (SeatCommand C)) → List Event → List Outcome → (old new : List (JournalRow C))
+abbrev pub RecordsTold : {C : Type 0} → (Event → Option (SeatCommand C)) → List Event → List Outcome
+    → (old new : List (JournalRow C))
     → Type 0
 RecordsTold {C} asks events outcomes old new = (more : List (JournalRow C)) × (new ≡ old ++ more)
     × AreTold asks events outcomes (commands_from (suc (length old)) more)
@@ -67,7 +69,9 @@ pub record AllTold (events : List Event) (outcomes : List Outcome) (old new : Al
   pub warehouse : RecordsTold asks_stocks events outcomes old.warehouse.journal new.warehouse.journal
   pub billing : RecordsTold asks_accounts events outcomes old.billing.journal new.billing.journal
 
-module _ {KO KS KA : Type 0} (orders : KO → Seen OrderTables) (stocks : KS → Seen StockTables) (accounts : KA → Seen AccountTables) where
+module _ {KO KS KA : Type 0} (orders : KO → Seen OrderTables) (stocks : KS → Seen StockTables)
+    (accounts : KA → Seen AccountTables) where
   -- all tables that a stop may leave now come so of some that it might leave before
   abbrev pub Told : List Event → List Outcome → (old new : World KO KS KA) → Type 0
-  Told events outcomes old new = GoesBy orders stocks accounts (λ a b. AllTold events outcomes a.tables b.tables) old new
+  Told events outcomes old new =
+      GoesBy orders stocks accounts (λ a b. AllTold events outcomes a.tables b.tables) old new

@@ -8,8 +8,8 @@ ghost use Rattle.schedule_service.specs.Happenings.{Happens};
 use activities::Handler;
 use keep::Keep;
 use schedule_mail::Mail;
-use schedule_text::{ConnectionNumber, FailureLeaves, Ordinal, Outcome};
 use schedule_service::Site;
+use schedule_text::{ConnectionNumber, FailureLeaves, Ordinal, Outcome};
 use std::alloc::Global;
 use stomp_wire::Way;
 
@@ -51,7 +51,8 @@ where
     ensures did { Happens K.seen H.service (asked_of event) result site.old mail.old site.new mail.new }
     ensures doubt { DoubtStays K.seen site.old site.new }
     ensures matches { Matches K.seen site.old site.new H.service }
-    ensures comes { Goes K.seen site.old site.new H.service (SiteMay H.service (channels_of site.old) (asked_of event) result) }
+    ensures comes { Goes K.seen site.old site.new H.service (SiteMay H.service (channels_of site.old) (asked_of event)
+        result) }
 {
     match event {
         ServiceEvent::Open(number) => site.open(alloc, mail, number),

@@ -1,16 +1,17 @@
 //! Whether the partners of all orders agree.
 
 ghost use Rattle.std.specs.Prelude.{◌≡◌};
-ghost use Rattle.schedule_runner.specs.Agreeing.{AsksAll, FindsAgreement, TellsAgreement, AgreesWhereGood, agreement_told};
+ghost use Rattle.schedule_runner.specs.Agreeing.{AsksAll, FindsAgreement, TellsAgreement, AgreesWhereGood};
+ghost use Rattle.schedule_runner.specs.Agreeing.{agreement_told};
 ghost use Rattle.schedule_runner.specs.Deeds.{Same};
 ghost use Rattle.schedule_runner.specs.Passing.{Both, Passes};
 
 use crate::World;
-use schedule_audit::AuditFault;
 use billing::Account;
 use endpoint::EndFault;
 use keep::Keep;
 use purchasing::Order;
+use schedule_audit::AuditFault;
 use schedule_text::Outcome;
 use trade::{AccountCommand, OrderCommand, StockCommand};
 use warehouse::Stock;
@@ -43,11 +44,13 @@ where
         )
     }
 
-    /// Whether the partners of each order agree: of no order that has a row in purchasing's journal is one partner's line shipped or billed
-    /// while another's is released or refused. Nothing changes but what a read that fails leaves. In a good world the answer is true.
+    /// Whether the partners of each order agree: of no order that has a row in purchasing's journal is one partner's
+    /// line shipped or billed while another's is released or refused. Nothing changes but what a read that fails
+    /// leaves. In a good world the answer is true.
     ///
     /// # Errors
-    /// Of the service whose read wasn't done: `StoreFailed`, whose connections are both cut then, `Memory` or `Unusable`.
+    /// Of the service whose read wasn't done: `StoreFailed`, whose connections are both cut then, `Memory` or
+    /// `Unusable`.
     pub fn agreement(&mut self) -> Result<bool, EndFault>
         ensures passes { Passes KO.seen KS.seen KA.seen (FindsAgreement KO.seen KS.seen KA.seen result)
             (Both (FindsAgreement KO.seen KS.seen KA.seen result) Same) self.old self.new }

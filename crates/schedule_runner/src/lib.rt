@@ -1,11 +1,12 @@
 //! Three services and the mail between them, and the schedules that they run.
 //!
-//! A [`World`] is purchasing, warehouse and billing, each over its own store and with its own connections, and a broker. Whatever list of
-//! events is run, and whatever the stores answer: after each step the tables of each service match its journal; each outcome did what it
-//! says of the service that it names, of the mail and of nothing else; and each journal begins with what it was, and the commands behind
-//! that are, in order, those that were answered committed, each at its row. A command that was refused since the store failed may stand,
-//! and once at most. Where a store failed it holds of each content that a stop may leave, in every combination; and where memory was
-//! refused to the outcomes, of the steps that were made.
+//! A [`World`] is purchasing, warehouse and billing, each over its own store and with its own connections, and a
+//! broker. Whatever list of events is run, and whatever the stores answer: after each step the tables of each service
+//! match its journal; each outcome did what it says of the service that it names, of the mail and of nothing else; and
+//! each journal begins with what it was, and the commands behind that are, in order, those that were answered
+//! committed, each at its row. A command that was refused since the store failed may stand, and once at most. Where a
+//! store failed it holds of each content that a stop may leave, in every combination; and where memory was refused to
+//! the outcomes, of the steps that were made.
 //!
 //! ```rust
 //! pub fn an_open_connection_stays_open(

@@ -6,7 +6,8 @@ ghost use Rattle.keep.specs.Listing.{AreFirst};
 ghost use Rattle.endpoint.specs.Calls.{Stays};
 ghost use Rattle.endpoint.specs.Faults.{end_of};
 ghost use Rattle.schedule_service.specs.Channels.{After};
-ghost use Rattle.schedule_runner.specs.Looks.{most, IsRow, AreListed, mark_of, read_told, shown_told, ReadsSite, StoreStays};
+ghost use Rattle.schedule_runner.specs.Looks.{most, IsRow, AreListed, mark_of, read_told, shown_told, ReadsSite};
+ghost use Rattle.schedule_runner.specs.Looks.{StoreStays};
 
 use activities::Handler;
 use base::{Entity, Pair};
@@ -14,9 +15,9 @@ use endpoint::{EndFault, Endpoint};
 use envelope::Letter;
 use keep::Keep;
 use schedule_mail::Mail;
-use schedule_text::Outcome;
-use schedule_shows::{Shown, show_frames, show_journal, show_row};
 use schedule_service::Site;
+use schedule_shows::{Shown, show_frames, show_journal, show_row};
+use schedule_text::Outcome;
 use std::alloc::Global;
 
 /// What of a service is shown row by row.
@@ -49,7 +50,8 @@ where
     H: Shown,
     K: Keep<State = H::State, Command = H::Command> + Drop,
     requires { entity.now.kind ≡ H.service.kind }
-    ensures read { Reads K.seen endpoint.old endpoint.new (λ t lines. IsRow H.shown_state entity.now t lines.items) (end_of result) }
+    ensures read { Reads K.seen endpoint.old endpoint.new (λ t lines. IsRow H.shown_state entity.now t lines.items)
+        (end_of result) }
     ensures stays { Stays K.seen endpoint.old endpoint.new }
 {
     let row = endpoint.view(alloc, entity)?;
@@ -61,7 +63,8 @@ fn letters_due<H, K>(alloc: Global, endpoint: &mut Endpoint<H, K>) -> Result<Vec
 where
     H: Handler,
     K: Keep<State = H::State, Command = H::Command> + Drop,
-    ensures read { Reads K.seen endpoint.old endpoint.new (λ t letters. AreFirst t.unsettled None most letters.items) (end_of result) }
+    ensures read { Reads K.seen endpoint.old endpoint.new (λ t letters. AreFirst t.unsettled None most letters.items)
+        (end_of result) }
     ensures stays { Stays K.seen endpoint.old endpoint.new }
 {
     endpoint.unsettled(alloc, &None, usize::MAX)
@@ -72,7 +75,8 @@ fn test_frames<H, K>(alloc: Global, endpoint: &mut Endpoint<H, K>) -> Result<Vec
 where
     H: Shown,
     K: Keep<State = H::State, Command = H::Command> + Drop,
-    ensures read { Reads K.seen endpoint.old endpoint.new (λ t lines. AreListed H.shown_command Listing.Frames t lines.items)
+    ensures read { Reads K.seen endpoint.old endpoint.new (λ t lines. AreListed H.shown_command Listing.Frames t
+        lines.items)
         (end_of result) }
     ensures stays { Stays K.seen endpoint.old endpoint.new }
 {
@@ -88,7 +92,8 @@ fn journal_lines<H, K>(alloc: Global, endpoint: &mut Endpoint<H, K>) -> Result<V
 where
     H: Shown,
     K: Keep<State = H::State, Command = H::Command> + Drop,
-    ensures read { Reads K.seen endpoint.old endpoint.new (λ t lines. AreListed H.shown_command Listing.Journal t lines.items)
+    ensures read { Reads K.seen endpoint.old endpoint.new (λ t lines. AreListed H.shown_command Listing.Journal t
+        lines.items)
         (end_of result) }
     ensures stays { Stays K.seen endpoint.old endpoint.new }
 {
@@ -105,7 +110,8 @@ fn listed<H, K>(
 where
     H: Shown,
     K: Keep<State = H::State, Command = H::Command> + Drop,
-    ensures read { Reads K.seen endpoint.old endpoint.new (λ t lines. AreListed H.shown_command listing t lines.items) (end_of result) }
+    ensures read { Reads K.seen endpoint.old endpoint.new (λ t lines. AreListed H.shown_command listing t lines.items)
+        (end_of result) }
     ensures stays { Stays K.seen endpoint.old endpoint.new }
 {
     match listing {
@@ -164,7 +170,8 @@ where
     H: Shown,
     K: Keep<State = H::State, Command = H::Command> + Drop,
     requires { entity.now.kind ≡ H.service.kind }
-    ensures did { ReadsSite K.seen (λ t lines. IsRow H.shown_state entity.now t lines.items) result site.old mail.old site.new mail.new }
+    ensures did { ReadsSite K.seen (λ t lines. IsRow H.shown_state entity.now t lines.items) result site.old mail.old
+        site.new mail.new }
     ensures store { StoreStays K.seen site.old site.new }
 {
     let answer = row_line(alloc, &mut site.endpoint, entity);
@@ -181,7 +188,8 @@ pub(crate) fn look_at_list<H, K>(
 where
     H: Shown,
     K: Keep<State = H::State, Command = H::Command> + Drop,
-    ensures did { ReadsSite K.seen (λ t lines. AreListed H.shown_command listing t lines.items) result site.old mail.old site.new mail.new }
+    ensures did { ReadsSite K.seen (λ t lines. AreListed H.shown_command listing t lines.items) result site.old mail.old
+        site.new mail.new }
     ensures store { StoreStays K.seen site.old site.new }
 {
     let answer = listed(alloc, &mut site.endpoint, listing);

@@ -4,7 +4,8 @@ ghost use Rattle.std.specs.Prelude.{◌≡◌};
 ghost use Rattle.schedule_shows.specs.Printed.{pair_line};
 ghost use Rattle.schedule_runner.specs.Deeds.{Same};
 ghost use Rattle.schedule_runner.specs.Passing.{Both, Passes};
-ghost use Rattle.schedule_runner.specs.Shows.{Tells, RowOf, ListOf, MarkOf, MayShow, ShowsHandled, ShowsSettled, ShowsPair};
+ghost use Rattle.schedule_runner.specs.Shows.{Tells, RowOf, ListOf, MarkOf, MayShow, ShowsHandled, ShowsSettled};
+ghost use Rattle.schedule_runner.specs.Shows.{ShowsPair};
 
 use crate::World;
 use crate::looking::{Listing, Mark, look_at_list, look_at_mark, look_at_row, shown};
@@ -12,8 +13,8 @@ use base::{Entity, Kind, Pair};
 use billing::{Account, Accounts};
 use keep::Keep;
 use purchasing::{Order, Orders};
-use schedule_text::{Outcome, ServiceName};
 use schedule_shows::show_marks;
+use schedule_text::{Outcome, ServiceName};
 use std::alloc::Global;
 use trade::{AccountCommand, OrderCommand, StockCommand};
 use warehouse::{Stock, Stocks};
@@ -153,7 +154,8 @@ where
 
     /// The row of an entity.
     pub(crate) fn show(&mut self, entity: &Entity) -> Outcome
-        ensures { Passes KO.seen KS.seen KA.seen (Tells (RowOf KO.seen KS.seen KA.seen entity.now.kind entity.now) result)
+        ensures { Passes KO.seen KS.seen KA.seen (Tells (RowOf KO.seen KS.seen KA.seen entity.now.kind entity.now)
+            result)
             (Both (Tells (RowOf KO.seen KS.seen KA.seen entity.now.kind entity.now) result) Same) self.old self.new }
     {
         shown(self.row(entity))

@@ -3,7 +3,8 @@
 ghost use Rattle.schedule_runner.specs.Deeds.{In, InPurchasing, InWarehouse, InBilling, Same, Step};
 ghost use Rattle.schedule_runner.specs.Passing.{Both, Passes, Passed};
 ghost use Rattle.schedule_runner.specs.Paths.{Makes, MakesApart};
-ghost use Rattle.schedule_runner.specs.Steps.{At, AtPurchasing, AtWarehouse, AtBilling, AtMail, SendsAgain, BeginsAnew, Happened};
+ghost use Rattle.schedule_runner.specs.Steps.{At, AtPurchasing, AtWarehouse, AtBilling, AtMail, SendsAgain, BeginsAnew};
+ghost use Rattle.schedule_runner.specs.Steps.{Happened};
 ghost use Rattle.schedule_service.specs.SiteEvents.{Commits};
 
 use crate::World;
@@ -24,7 +25,8 @@ where
     /// A command to an order.
     fn order(&mut self, asked: &SeatCommand<OrderCommand>) -> Outcome
         ensures { Passes KO.seen KS.seen KA.seen (AtPurchasing KO.seen KS.seen KA.seen (Commits asked.now) result)
-            (Both (AtPurchasing KO.seen KS.seen KA.seen (Commits asked.now) result) (InPurchasing (Commits asked.now) result))
+            (Both (AtPurchasing KO.seen KS.seen KA.seen (Commits asked.now) result)
+            (InPurchasing (Commits asked.now) result))
             self.old self.new }
     {
         self.purchasing.commit(self.alloc, &mut self.mail, asked)
@@ -33,7 +35,8 @@ where
     /// A command to a stock.
     fn stock(&mut self, asked: &SeatCommand<StockCommand>) -> Outcome
         ensures { Passes KO.seen KS.seen KA.seen (AtWarehouse KO.seen KS.seen KA.seen (Commits asked.now) result)
-            (Both (AtWarehouse KO.seen KS.seen KA.seen (Commits asked.now) result) (InWarehouse (Commits asked.now) result))
+            (Both (AtWarehouse KO.seen KS.seen KA.seen (Commits asked.now) result)
+            (InWarehouse (Commits asked.now) result))
             self.old self.new }
     {
         self.warehouse.commit(self.alloc, &mut self.mail, asked)
@@ -68,7 +71,8 @@ where
 
     /// An accepted message is sent again.
     fn repeat(&mut self, place: Ordinal) -> Outcome
-        ensures { Passes KO.seen KS.seen KA.seen (AtMail (SendsAgain place result)) (Both (AtMail (SendsAgain place result)) Same)
+        ensures { Passes KO.seen KS.seen KA.seen (AtMail (SendsAgain place result))
+            (Both (AtMail (SendsAgain place result)) Same)
             self.old self.new }
     {
         match self.mail.repeat(place.get()) {

@@ -19,8 +19,10 @@ use Rattle.activities.specs.declared.input.Input.TheVariants.{FromSeat, FromEnti
 use Rattle.activities.specs.declared.input.JournalRow.{JournalRow}
 use Rattle.activities.specs.declared.phase.Phase.TheVariants as phase
 use Rattle.trade.specs.declared.status.Status.TheVariants as status
-use Rattle.schedule_shows.specs.Printed.{shown_order, shown_stock, shown_account, shown_or_none, show_line, pair_line, shown_order_command}
-use Rattle.schedule_shows.specs.Printed.{shown_stock_command, shown_account_command, shown_message, journal_line, journal_lines}
+use Rattle.schedule_shows.specs.Printed.{shown_order, shown_stock, shown_account, shown_or_none, show_line, pair_line}
+use Rattle.schedule_shows.specs.Printed.{shown_order_command}
+use Rattle.schedule_shows.specs.Printed.{shown_stock_command, shown_account_command, shown_message, journal_line}
+use Rattle.schedule_shows.specs.Printed.{journal_lines}
 use Rattle.schedule_shows.specs.Printed.{frame_line, test_frames}
 
 abbrev o1 : Name
@@ -37,7 +39,8 @@ acme = account_of (codes "acme")
 abbrev placed : OrderState
 placed = record {
   status = status.Open;
-  partners = record { entity = bolts; n = 3; phase = phase.Requested } ∷ record { entity = acme; n = 500; phase = phase.Refused } ∷ [];
+  partners = record { entity = bolts; n = 3; phase = phase.Requested } ∷ record
+      { entity = acme; n = 500; phase = phase.Refused } ∷ [];
 }
 
 abbrev stock : StockState
@@ -54,7 +57,8 @@ unfolding digits
 orders_are_shown = (refl, refl)
 
 -- a stock and an account, and such without a row
-stocks_and_accounts_are_shown : (show_line shown_stock bolts (Some stock) ≡ codes "stock/bolts on_hand 7 held 3 shipped 2 received 9\n")
+stocks_and_accounts_are_shown : (show_line shown_stock bolts (Some stock)
+    ≡ codes "stock/bolts on_hand 7 held 3 shipped 2 received 9\n")
     × (show_line shown_stock bolts None ≡ codes "stock/bolts none\n")
     × (show_line shown_account acme (Some account) ≡ codes "account/acme limit 500 billed 40 held 12\n")
     × (show_line shown_account acme None ≡ codes "account/acme none\n")
@@ -87,15 +91,18 @@ rows_are_shown : (journal_line shown_order_command 2 (record { entity = o1; inpu
 unfolding digits
 rows_are_shown = (refl, refl, refl, refl, refl)
 
-messages_are_shown : (shown_message (message.Request 3) ≡ codes "request 3") × (shown_message message.Tentative ≡ codes "tentative")
+messages_are_shown : (shown_message (message.Request 3) ≡ codes "request 3")
+    × (shown_message message.Tentative ≡ codes "tentative")
     × (shown_message message.Refused ≡ codes "refused")
     × (shown_message message.Confirm ≡ codes "confirm") × (shown_message message.Cancel ≡ codes "cancel")
 unfolding digits
 messages_are_shown = (refl, refl, refl, refl, refl)
 
 -- positions begin at 1
-journals_are_numbered : (journal_lines shown_order_command (placing ∷ record { entity = o1; input = FromSeat 15 CancelOrder } ∷ [])
-    ≡ codes "1 order/o1 seat 0 place bolts 3 acme 500\n2 order/o1 seat 15 cancel_order\n") × (journal_lines shown_order_command [] ≡ [])
+journals_are_numbered : (journal_lines shown_order_command (placing ∷ record
+    { entity = o1; input = FromSeat 15 CancelOrder } ∷ [])
+    ≡ codes "1 order/o1 seat 0 place bolts 3 acme 500\n2 order/o1 seat 15 cancel_order\n")
+    × (journal_lines shown_order_command [] ≡ [])
 unfolding digits
 journals_are_numbered = (refl, refl)
 

@@ -1,5 +1,6 @@
 -- What is printed, piece by piece.
-use Rattle.std.proofs.Common.{◌≡◌, ℕ, suc, ◌+◌, ◌<◌, List, [], ◌∷◌, ◌++◌, length, get_or, take, drop, sym, ap, ◌∙◌, arith, add-one}
+use Rattle.std.proofs.Common.{◌≡◌, ℕ, suc, ◌+◌, ◌<◌, List, [], ◌∷◌, ◌++◌, length, get_or, take, drop, sym, ap, ◌∙◌}
+use Rattle.std.proofs.Common.{arith, add-one}
 use Rattle.std.proofs.Common.{drop-cons}
 use Rattle.std.specs.Prelude.{slice_get, Option, Some, None}
 use Rattle.std.specs.List.{flat_map, enumerate_from}
@@ -16,7 +17,8 @@ use Rattle.schedule_shows.specs.Printed.{shown_partner, journal_line, frame_line
 flat_more : {X : Type 0} (f : X → List ℕ) (xs : List X) (i : ℕ) (d : X) → i < length xs
     → flat_map f (take (i + 1) xs) ≡ flat_map f (take i xs) ++ f (get_or xs i d)
 flat_more f xs i d lt = rw (take_more xs i d lt)
-    (flat_map-append f (take i xs) (get_or xs i d ∷ []) ∙ ap (λ (x : List ℕ). flat_map f (take i xs) ++ x) (append-nil (f (get_or xs i d))))
+    (flat_map-append f (take i xs) (get_or xs i d ∷ [])
+    ∙ ap (λ (x : List ℕ). flat_map f (take i xs) ++ x) (append-nil (f (get_or xs i d))))
 
 -- one octet of a word more
 pub word_more : (word : List ℕ) (i : ℕ) → i < length word
@@ -39,16 +41,19 @@ partner_is (p ∷ ps) i lt none = no_none _ (get_or (p ∷ ps) i p) (slice_get-g
 
 pub letters_more : (ls : List Letter) (i : ℕ) (l : Letter) → i < length ls → l ≡ get_or ls i l
     → flat_map frame_line (take (i + 1) ls) ≡ flat_map frame_line (take i ls) ++ frame_line l
-letters_more ls i l lt at = flat_more frame_line ls i l lt ∙ ap (λ q. flat_map frame_line (take i ls) ++ frame_line q) (sym at)
+letters_more ls i l lt at =
+    flat_more frame_line ls i l lt ∙ ap (λ q. flat_map frame_line (take i ls) ++ frame_line q) (sym at)
 
 -- the lines of rows of which the first has this position
 abbrev pub lines_from : {C : Type 0} → (C → List ℕ) → ℕ → List (JournalRow C) → List ℕ
 lines_from shown pos rows = flat_map (λ at. journal_line shown at.0 at.1) (enumerate_from pos rows)
 
 -- one row more
-pub rows_more : {C : Type 0} (shown : C → List ℕ) (pos : ℕ) (rows : List (JournalRow C)) (i : ℕ) (row : JournalRow C) → i < length rows
+pub rows_more : {C : Type 0} (shown : C → List ℕ) (pos : ℕ) (rows : List (JournalRow C)) (i : ℕ) (row : JournalRow C)
+    → i < length rows
     → row ≡ get_or rows i row
     → lines_from shown pos (drop i rows) ≡ journal_line shown pos row ++ lines_from shown (pos + 1) (drop (i + 1) rows)
 rows_more shown pos rows i row lt at =
-    let first : drop i rows ≡ row ∷ drop (i + 1) rows = rw add-one (drop-cons rows i row lt ∙ ap (λ r. r ∷ drop (suc i) rows) (sym at)) in
+    let first : drop i rows ≡ row ∷ drop (i + 1) rows =
+    rw add-one (drop-cons rows i row lt ∙ ap (λ r. r ∷ drop (suc i) rows) (sym at)) in
     ap (lines_from shown pos) first

@@ -66,7 +66,8 @@ shown_item i = codes " " ++ escaped i.stock ++ told_number (codes " ") i.quantit
 
 -- an order's command as the journal shows it
 abbrev pub shown_order_command : OrderCommand → List ℕ
-shown_order_command (Place items account amount) = codes "place" ++ flat_map shown_item items ++ codes " " ++ escaped account
+shown_order_command (Place items account amount) =
+    codes "place" ++ flat_map shown_item items ++ codes " " ++ escaped account
     ++ told_number (codes " ") amount
 shown_order_command CancelOrder = codes "cancel_order"
 
@@ -89,12 +90,14 @@ shown_message Cancel = codes "cancel"
 -- a command with its seat, or a message with its sender and number
 abbrev pub shown_input : {C : Type 0} → (C → List ℕ) → Input C → List ℕ
 shown_input shown (FromSeat seat command) = told_number (codes "seat ") seat ++ codes " " ++ shown command
-shown_input shown (FromEntity sender number message) = codes "from " ++ shown_entity sender ++ told_number (codes " ") number ++ codes " "
+shown_input shown (FromEntity sender number message) =
+    codes "from " ++ shown_entity sender ++ told_number (codes " ") number ++ codes " "
     ++ shown_message message
 
 -- the line of a journal's row at a position
 abbrev pub journal_line : {C : Type 0} → (C → List ℕ) → ℕ → JournalRow C → List ℕ
-journal_line shown pos row = decimal pos ++ codes " " ++ shown_entity row.entity ++ codes " " ++ shown_input shown row.input ++ 10 ∷ []
+journal_line shown pos row =
+    decimal pos ++ codes " " ++ shown_entity row.entity ++ codes " " ++ shown_input shown row.input ++ 10 ∷ []
 
 -- the lines of `journal`: of its rows, whose positions are 1, 2, ..
 abbrev pub journal_lines : {C : Type 0} → (C → List ℕ) → List (JournalRow C) → List ℕ

@@ -2,7 +2,8 @@
 
 ghost use Rattle.std.specs.Prelude.{◌≡◌, ◌++◌, ◌∷◌, [], OnOk, IfOk};
 ghost use Rattle.std.specs.List.{flat_map};
-ghost use Rattle.schedule_shows.specs.Printed.{shown_item, shown_order_command, shown_stock_command, shown_account_command};
+ghost use Rattle.schedule_shows.specs.Printed.{shown_item, shown_order_command, shown_stock_command};
+ghost use Rattle.schedule_shows.specs.Printed.{shown_account_command};
 ghost use Rattle.schedule_shows.specs.Printed.{shown_message, shown_input, journal_line, journal_lines};
 
 use crate::services::Shown;

@@ -7,7 +7,8 @@ use crate::words::{push_numbered, push_pair, push_text};
 use base::Pair;
 use std::alloc::{AllocError, Global};
 
-/// The line of `pair`: how many of its letters were sent, how many of them its sender knows to be settled, and how many were handled.
+/// The line of `pair`: how many of its letters were sent, how many of them its sender knows to be settled, and how many
+/// were handled.
 ///
 /// # Errors
 /// Where a growth was refused.

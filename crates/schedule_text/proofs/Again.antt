@@ -17,18 +17,22 @@ lines_again : (lines : List (List ℕ)) (more : List ℕ) → ByRecursion (Lacks
     → lines_of (ended lines ++ more) ≡ lines ++ lines_of more
 lines_again [] more lacks = refl
 lines_again (line ∷ lines) more lacks =
-    let apart : ended (line ∷ lines) ++ more ≡ line ++ 10 ∷ (ended lines ++ more) = append_assoc (line ++ 10 ∷ []) (ended lines) more
+    let apart : ended (line ∷ lines) ++ more ≡ line ++ 10 ∷ (ended lines ++ more) =
+    append_assoc (line ++ 10 ∷ []) (ended lines) more
     ∙ append_assoc line (10 ∷ []) (ended lines ++ more) in
-    ap lines_of apart ∙ lines_at line (ended lines ++ more) lacks.0 ∙ ap (λ ls. line ∷ ls) (lines_again lines more lacks.1)
+    ap lines_of apart ∙ lines_at line (ended lines ++ more) lacks.0
+    ∙ ap (λ ls. line ∷ ls) (lines_again lines more lacks.1)
 
 pub ended_again : (lines : List (List ℕ)) → All (Lacks 10) lines → lines_of (ended lines) ≡ lines
-ended_again lines lacks = sym (ap lines_of (append-nil (ended lines))) ∙ lines_again lines [] (recursion_from_All (Lacks 10) lines lacks)
+ended_again lines lacks =
+    sym (ap lines_of (append-nil (ended lines))) ∙ lines_again lines [] (recursion_from_All (Lacks 10) lines lacks)
     ∙ append-nil lines
 
 pub unended_again : (lines : List (List ℕ)) (last : List ℕ) → All (Lacks 10) lines → Lacks 10 last → 0 < length last
     → lines_of (ended lines ++ last) ≡ lines ++ last ∷ []
 unended_again lines last lacks last_lacks some =
-    lines_again lines last (recursion_from_All (Lacks 10) lines lacks) ∙ ap (λ ls. lines ++ ls) (lines_none last some last_lacks)
+    lines_again lines last (recursion_from_All (Lacks 10) lines lacks)
+    ∙ ap (λ ls. lines ++ ls) (lines_none last some last_lacks)
 
 -- a text as it is written: lines that LF ends, and what stands behind them
 record Written (text : List ℕ) : Type 0 where
@@ -42,7 +46,8 @@ written : (text : List ℕ) → Written text
 written [] = record { lines = []; last = []; lines_lack = tt; last_lacks = (λ i l same. omega arith); is = refl }
 written (o ∷ os) = elim (cases_Bool (eqb o 10)) [
   | inl e ↦ lf (written os) (eqb-true o 10 e)
-  | inr other ↦ longer (written os).lines (written os).last (written os).lines_lack (written os).last_lacks (written os).is other
+  | inr other ↦ longer (written os).lines (written os).last (written os).lines_lack (written os).last_lacks
+      (written os).is other
 ]
   where
     lf : Written os → o ≡ 10 → Written (o ∷ os)
@@ -54,10 +59,17 @@ written (o ∷ os) = elim (cases_Bool (eqb o 10)) [
       is = rw e (ap (λ t. 10 ∷ t) w.is);
     }
 
-    longer : (lines : List (List ℕ)) (last : List ℕ) → ByRecursion (Lacks 10) lines → Lacks 10 last → os ≡ ended lines ++ last
+    longer : (lines : List (List ℕ)) (last : List ℕ) → ByRecursion (Lacks 10) lines → Lacks 10 last
+        → os ≡ ended lines ++ last
         → eqb o 10 ≡ false → Written (o ∷ os)
     longer [] last none lacks is other =
-        record { lines = []; last = o ∷ last; lines_lack = tt; last_lacks = Lacks-cons 10 o last other lacks; is = ap (λ t. o ∷ t) is }
+        record {
+          lines = [];
+          last = o ∷ last;
+          lines_lack = tt;
+          last_lacks = Lacks-cons 10 o last other lacks;
+          is = ap (λ t. o ∷ t) is;
+        }
     longer (line ∷ lines) last all lacks is other = record {
       lines = (o ∷ line) ∷ lines;
       last = last;
@@ -127,5 +139,6 @@ some_spelled o rest = first (spelled o) (long o) rest
 pub word_again : (word : List ℕ) → 0 < length word → word_of (escaped word) ≡ Some word
 word_again [] some = absurd (omega arith)
 word_again (o ∷ os) some =
-    ap word_of (flat_map-cons spelled o os) ∙ some_spelled o (flat_map spelled os) ∙ sym (ap unescaped (flat_map-cons spelled o os))
+    ap word_of (flat_map-cons spelled o os) ∙ some_spelled o (flat_map spelled os)
+    ∙ sym (ap unescaped (flat_map-cons spelled o os))
     ∙ unescaped_escaped (o ∷ os)

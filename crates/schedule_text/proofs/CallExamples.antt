@@ -40,13 +40,15 @@ a_word_is_not_cut : IsCut 32 (codes "o1") None
 a_word_is_not_cut = o1_lacks_a_space
 
 -- behind its `#` a line goes on, which isn't missed; the line `a` doesn't begin with one
-the_rest_follows : (IsRest 35 (codes "# a") (Some (lent (codes " a")))) × (IsRest 35 (codes "# a") None → ⊥) × (IsRest 35 (codes "a") None)
+the_rest_follows : (IsRest 35 (codes "# a") (Some (lent (codes " a")))) × (IsRest 35 (codes "# a") None → ⊥)
+    × (IsRest 35 (codes "a") None)
 the_rest_follows = (refl, λ none. none (codes " a") refl, λ rest same. apart (ap (λ t. get_or t 0 0) same))
   where
     apart : ◌≡◌ {A = ℕ} 97 35 → ⊥
     apart h = omega arith
 
--- of what stands behind a backslash the letter s means a space, and the rest follows; where no letter stands, nothing is meant
+-- of what stands behind a backslash the letter s means a space, and the rest follows; where no letter stands, nothing
+-- is meant
 letters_are_unescaped : (IsUnescaped (codes "sb") (Some (32, lent (codes "b")))) × (IsUnescaped [] None)
 letters_are_unescaped = ((115, refl, refl, omega arith), λ letter rest same. absurd cc)
 
@@ -55,7 +57,8 @@ no_other_escape : IsUnescaped (codes "tb") None
 no_other_escape letter rest same = rw (← ap (λ t. get_or t 0 0) same) refl
 
 -- a number goes on to be a seat, where it is one; no number is no seat
-numbers_go_on : ((Some 15 >>= seat_number) ≡ Some 15) × ((Some 16 >>= seat_number) ≡ None) × ((None >>= seat_number) ≡ None)
+numbers_go_on : ((Some 15 >>= seat_number) ≡ Some 15) × ((Some 16 >>= seat_number) ≡ None)
+    × ((None >>= seat_number) ≡ None)
 numbers_go_on = (refl, refl, refl)
 
 -- ---- schedules

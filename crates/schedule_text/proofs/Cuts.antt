@@ -1,5 +1,6 @@
 -- Texts that are cut at an octet.
-use Rattle.std.proofs.Common.{◌≡◌, ◌<◌, ◌≤◌, ◌-◌, ℕ, zero, suc, ◌+◌, List, [], ◌∷◌, ◌++◌, length, get_or, take, drop, Bool, true, false}
+use Rattle.std.proofs.Common.{◌≡◌, ◌<◌, ◌≤◌, ◌-◌, ℕ, zero, suc, ◌+◌, List, [], ◌∷◌, ◌++◌, length, get_or, take, drop}
+use Rattle.std.proofs.Common.{Bool, true, false}
 use Rattle.std.proofs.Common.{cond, eqb, refl, ap, ◌∙◌, arith, Option, Some, None, rules, ltb, inl, inr}
 use Rattle.std.specs.List.{slice_split, onto_first, position, position_or_len, before_first, after_first}
 use Rattle.std.specs.Option.{option_map}
@@ -23,13 +24,16 @@ Lacks-cons o x xs other h zero l = eqb-false x o other
 Lacks-cons o x xs other h (suc i) l = h i (omega arith)
 
 -- the first part ends at the first such octet
-pub split_at : (o : ℕ) (xs ys : List ℕ) → Lacks o xs → slice_split (λ x. eqb x o) (xs ++ o ∷ ys) ≡ xs ∷ slice_split (λ x. eqb x o) ys
-split_at o [] ys h = ap (λ b. cond b ([] ∷ slice_split (λ x. eqb x o) ys) (onto_first o (slice_split (λ x. eqb x o) ys))) (eqb-refl o)
+pub split_at : (o : ℕ) (xs ys : List ℕ) → Lacks o xs
+    → slice_split (λ x. eqb x o) (xs ++ o ∷ ys) ≡ xs ∷ slice_split (λ x. eqb x o) ys
+split_at o [] ys h =
+    ap (λ b. cond b ([] ∷ slice_split (λ x. eqb x o) ys) (onto_first o (slice_split (λ x. eqb x o) ys))) (eqb-refl o)
   where
     eqb-refl : (n : ℕ) → eqb n n ≡ true
     eqb-refl n = search rules
 split_at o (x ∷ xs) ys h =
-    ap (λ b. cond b ([] ∷ slice_split (λ x. eqb x o) (xs ++ o ∷ ys)) (onto_first x (slice_split (λ x. eqb x o) (xs ++ o ∷ ys))))
+    ap (λ b. cond b ([] ∷ slice_split (λ x. eqb x o) (xs ++ o ∷ ys)) (onto_first x
+    (slice_split (λ x. eqb x o) (xs ++ o ∷ ys))))
     (Lacks-head o x xs h)
     ∙ ap (onto_first x) (split_at o xs ys (Lacks-tail o x xs h))
 
@@ -37,7 +41,8 @@ split_at o (x ∷ xs) ys h =
 pub split_none : (o : ℕ) (xs : List ℕ) → Lacks o xs → slice_split (λ x. eqb x o) xs ≡ xs ∷ []
 split_none o [] h = refl
 split_none o (x ∷ xs) h =
-    ap (λ b. cond b ([] ∷ slice_split (λ x. eqb x o) xs) (onto_first x (slice_split (λ x. eqb x o) xs))) (Lacks-head o x xs h)
+    ap (λ b. cond b ([] ∷ slice_split (λ x. eqb x o) xs) (onto_first x (slice_split (λ x. eqb x o) xs)))
+    (Lacks-head o x xs h)
     ∙ ap (onto_first x) (split_none o xs (Lacks-tail o x xs h))
 
 -- where more parts follow, the first is a line
@@ -52,11 +57,13 @@ pub lines_at : (xs ys : List ℕ) → Lacks 10 xs → lines_of (xs ++ 10 ∷ ys)
 lines_at xs ys h = ap lines_in (split_at 10 xs ys h) ∙ line_of_part xs (slice_split (λ x. eqb x 10) ys) (some_part ys)
 
 pub lines_none : (xs : List ℕ) → 0 < length xs → Lacks 10 xs → lines_of xs ≡ xs ∷ []
-lines_none xs some h = ap lines_in (split_none 10 xs h) ∙ ap (λ b. cond b [] (xs ∷ [])) (ne_eqb (length xs) 0 (λ none. omega arith))
+lines_none xs some h =
+    ap lines_in (split_none 10 xs h) ∙ ap (λ b. cond b [] (xs ∷ [])) (ne_eqb (length xs) 0 (λ none. omega arith))
 
 front_lacks : (text : List ℕ) → Lacks 10 (before_first (λ x. eqb x 10) text)
 front_lacks text = λ i l same.
-    let at : eqb (get_or text i 0) 10 ≡ false = fails_before_first (λ x. eqb x 10) text i 0 (grind (arith, common_steps)) in
+    let at : eqb (get_or text i 0) 10 ≡ false =
+    fails_before_first (λ x. eqb x 10) text i 0 (grind (arith, common_steps)) in
     let here : eqb (get_or (before_first (λ x. eqb x 10) text) i 0) 10 ≡ false = grind (arith, common_steps) in
     eqb-false _ _ here same
 
@@ -67,11 +74,13 @@ line_found text at e =
     let found = cond_some _ _ _ e in
     let within : position_or_len (λ x. eqb x 10) text < length text = ltb-true _ _ found.0 in
     let parts = split_at_first (λ x. eqb x 10) text 0 within in
-    let lf : get_or text (position_or_len (λ x. eqb x 10) text) 0 ≡ 10 = eqb-true _ _ (passes_at_first (λ x. eqb x 10) text 0 within) in
+    let lf : get_or text (position_or_len (λ x. eqb x 10) text) 0 ≡ 10 =
+    eqb-true _ _ (passes_at_first (λ x. eqb x 10) text 0 within) in
     let front : Lacks 10 (before_first (λ x. eqb x 10) text) = front_lacks text in
     let whole : text ≡ before_first (λ x. eqb x 10) text ++ 10 ∷ after_first (λ x. eqb x 10) text = parts
     ∙ ap (λ o. before_first (λ x. eqb x 10) text ++ o ∷ after_first (λ x. eqb x 10) text) lf in
-    let line : lines_of text ≡ before_first (λ x. eqb x 10) text ∷ lines_of (after_first (λ x. eqb x 10) text) = ap lines_of whole
+    let line : lines_of text ≡ before_first (λ x. eqb x 10) text ∷ lines_of (after_first (λ x. eqb x 10) text) =
+    ap lines_of whole
     ∙ lines_at (before_first (λ x. eqb x 10) text) (after_first (λ x. eqb x 10) text) front in
     let at_is : position_or_len (λ x. eqb x 10) text ≡ at = found.1 in
     rw (← at_is) line
@@ -117,7 +126,8 @@ then_is : (o : ℕ) (rest : Option (List ℕ)) → octet_then (Some o) rest ≡ 
 then_is o None = refl
 then_is o (Some rest) = refl
 
-pub unescaped_octet : (o : ℕ) (text : List ℕ) → eqb o 92 ≡ false → unescaped (o ∷ text) ≡ option_map (λ w. o ∷ w) (unescaped text)
+pub unescaped_octet : (o : ℕ) (text : List ℕ) → eqb o 92 ≡ false
+    → unescaped (o ∷ text) ≡ option_map (λ w. o ∷ w) (unescaped text)
 unescaped_octet o [] other = ap (λ b. cond b None (Some (o ∷ []))) other
 unescaped_octet o (next ∷ text) other =
     ap (λ b. cond b (octet_then (meant_by next) (unescaped text)) (octet_then (Some o) (unescaped (next ∷ text)))) other
@@ -126,7 +136,8 @@ unescaped_octet o (next ∷ text) other =
 pub unescaped_front : (xs ys : List ℕ) → Lacks 92 xs → unescaped (xs ++ ys) ≡ option_map (λ w. xs ++ w) (unescaped ys)
 unescaped_front [] ys h = option_map-nothing (unescaped ys)
 unescaped_front (x ∷ xs) ys h =
-    unescaped_octet x (xs ++ ys) (Lacks-head 92 x xs h) ∙ ap (option_map (λ w. x ∷ w)) (unescaped_front xs ys (Lacks-tail 92 x xs h))
+    unescaped_octet x (xs ++ ys) (Lacks-head 92 x xs h)
+    ∙ ap (option_map (λ w. x ∷ w)) (unescaped_front xs ys (Lacks-tail 92 x xs h))
     ∙ option_map-cons x xs (unescaped ys)
 
 pub unescaped_plain : (xs : List ℕ) → Lacks 92 xs → unescaped xs ≡ Some xs

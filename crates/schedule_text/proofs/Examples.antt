@@ -9,8 +9,10 @@ use Rattle.trade.specs.declared.commands.StockCommand.TheVariants.{Receive}
 use Rattle.trade.specs.declared.commands.AccountCommand.TheVariants.{SetLimit}
 use Rattle.trade.specs.Items.{item}
 use Rattle.schedule_text.specs.declared.event.Event.{Event}
-use Rattle.schedule_text.specs.declared.event.Event.TheVariants.{Order, Stock, Account, Open, Cut, Fill, Resend, Carry, Take, Drain}
-use Rattle.schedule_text.specs.declared.event.Event.TheVariants.{Repeat, Fail, Reopen, Stop, StopBroker, Pump, Show, Pair, Frames, Journal}
+use Rattle.schedule_text.specs.declared.event.Event.TheVariants.{Order, Stock, Account, Open, Cut, Fill, Resend, Carry}
+use Rattle.schedule_text.specs.declared.event.Event.TheVariants.{Take, Drain}
+use Rattle.schedule_text.specs.declared.event.Event.TheVariants.{Repeat, Fail, Reopen, Stop, StopBroker, Pump, Show}
+use Rattle.schedule_text.specs.declared.event.Event.TheVariants.{Pair, Frames, Journal}
 use Rattle.schedule_text.specs.declared.event.Event.TheVariants.{Agreement}
 use Rattle.schedule_text.specs.declared.event.SeatCommand.{SeatCommand}
 use Rattle.schedule_text.specs.declared.event.ConnectionName.{ConnectionName}
@@ -40,7 +42,8 @@ escapes_are_four : (word_of (codes "a\\\\b\\nc\\rd\\se") ≡ Some (codes "a\\b\n
 escapes_are_four = (refl, refl)
 
 -- a backslash behind a backslash begins no escape
-escapes_are_read_in_turn : (unescaped (codes "\\\\n") ≡ Some (codes "\\n")) × (unescaped (codes "\\\\\\n") ≡ Some (codes "\\\n"))
+escapes_are_read_in_turn : (unescaped (codes "\\\\n") ≡ Some (codes "\\n"))
+    × (unescaped (codes "\\\\\\n") ≡ Some (codes "\\\n"))
     × (unescaped (codes "\\\\\\") ≡ None) × (unescaped [] ≡ Some [])
 escapes_are_read_in_turn = (refl, refl, refl, refl)
 
@@ -60,7 +63,8 @@ seats_are_sixteen = (refl, refl)
 
 -- places are counted from 1, and rounds are 1 to 100
 places_and_rounds_begin_at_one : (ordinal_number 1 ≡ Some 1) × (ordinal_number 0 ≡ None)
-    × (rounds_number 1 ≡ Some 1) × (rounds_number 100 ≡ Some 100) × (rounds_number 0 ≡ None) × (rounds_number 101 ≡ None)
+    × (rounds_number 1 ≡ Some 1) × (rounds_number 100 ≡ Some 100) × (rounds_number 0 ≡ None)
+    × (rounds_number 101 ≡ None)
 places_and_rounds_begin_at_one = (refl, refl, refl, refl, refl, refl)
 
 -- ---- events
@@ -88,8 +92,16 @@ last = record { service = Billing; number = One }
 commands_are_read : Says (codes "place 0 o1 bolts 3 acme 500")
     (Order (asks_order 0 (Place (item (codes "bolts") 3 ∷ []) (codes "acme") 500)))
     × Says (codes "cancel 15 o1") (Order (asks_order 15 CancelOrder))
-    × Says (codes "receive 1 bolts 10") (Stock (record { seat = 1; entity = stock_of (codes "bolts"); command = Receive 10 }))
-    × Says (codes "limit 2 acme 0") (Account (record { seat = 2; entity = account_of (codes "acme"); command = SetLimit 0 }))
+    × Says (codes "receive 1 bolts 10") (Stock (record {
+      seat = 1;
+      entity = stock_of (codes "bolts");
+      command = Receive 10;
+    }))
+    × Says (codes "limit 2 acme 0") (Account (record {
+      seat = 2;
+      entity = account_of (codes "acme");
+      command = SetLimit 0;
+    }))
 unfolding is_utf8 chars lib.Utf8.encode
 commands_are_read = (refl, refl, refl, refl)
 
@@ -97,14 +109,16 @@ commands_are_read = (refl, refl, refl, refl)
 lines_are_read : Says (codes "place 0 o1 nuts 4 bolts 3 acme 500")
     (Order (asks_order 0 (Place (item (codes "nuts") 4 ∷ item (codes "bolts") 3 ∷ []) (codes "acme") 500)))
     × Says (codes "place 0 o1 acme 500") (Order (asks_order 0 (Place [] (codes "acme") 500)))
-    × (Is (codes "place 0 o1 bolts 3 nuts acme 500") None) × (Is (codes "place 0 o1 acme") None) × (Is (codes "place 0 o1") None)
+    × (Is (codes "place 0 o1 bolts 3 nuts acme 500") None) × (Is (codes "place 0 o1 acme") None)
+    × (Is (codes "place 0 o1") None)
 unfolding is_utf8 chars lib.Utf8.encode
 lines_are_read = (refl, refl, refl, refl, refl)
 
 -- a service and the number of its connection, and what the event needs beside
 connections_are_read : Says (codes "open purchasing 0") (Open first) × Says (codes "cut billing 1") (Cut last)
     × Says (codes "fill purchasing 0 64") (Fill first 64) × Says (codes "resend billing 1") (Resend last)
-    × Says (codes "carry purchasing 0 up 0") (Carry first Up 0) × Says (codes "carry billing 1 down 1048576") (Carry last Down 1048576)
+    × Says (codes "carry purchasing 0 up 0") (Carry first Up 0)
+    × Says (codes "carry billing 1 down 1048576") (Carry last Down 1048576)
     × Says (codes "take purchasing 0") (Take first) × Says (codes "drain billing 1") (Drain last)
 unfolding is_utf8 chars lib.Utf8.encode
 connections_are_read = (refl, refl, refl, refl, refl, refl, refl, refl)
@@ -112,14 +126,19 @@ connections_are_read = (refl, refl, refl, refl, refl, refl, refl, refl)
 -- what is repeated, what fails and is stopped, and how many rounds are run
 faults_are_read : Says (codes "repeat 2") (Repeat 2) × Says (codes "fail warehouse 1 old") (Fail Warehouse 1 Old)
     × Says (codes "fail billing 3 new") (Fail Billing 3 New) × Says (codes "reopen warehouse") (Reopen Warehouse)
-    × Says (codes "stop billing") (Stop Billing) × Says (codes "stop broker") StopBroker × Says (codes "pump 100") (Pump 100)
+    × Says (codes "stop billing") (Stop Billing) × Says (codes "stop broker") StopBroker
+    × Says (codes "pump 100") (Pump 100)
 unfolding is_utf8 chars lib.Utf8.encode
 faults_are_read = (refl, refl, refl, refl, refl, refl, refl)
 
--- an entity of any kind is shown, and any pair; of a service the frames and the journal are; agreement is asked for with no more
+-- an entity of any kind is shown, and any pair; of a service the frames and the journal are; agreement is asked for
+-- with no more
 looks_are_read : Says (codes "show order/o1") (Show (order_of (codes "o1")))
     × Says (codes "show stock/bolts") (Show (stock_of (codes "bolts")))
-    × Says (codes "pair order/o1 account/acme") (Pair (record { from = order_of (codes "o1"); to = account_of (codes "acme") }))
+    × Says (codes "pair order/o1 account/acme") (Pair (record {
+      from = order_of (codes "o1");
+      to = account_of (codes "acme");
+    }))
     × Says (codes "frames purchasing") (Frames Purchasing) × Says (codes "journal warehouse") (Journal Warehouse)
     × Says (codes "agreement") Agreement × (Is (codes "agreement order/o1") None)
 unfolding is_utf8 chars lib.Utf8.encode
@@ -130,7 +149,8 @@ quiet_lines_have_no_event : (Is [] (Some None)) × (Is (codes "# place 0") (Some
 quiet_lines_have_no_event = (refl, refl)
 
 -- a word too few or too many, seat 16, an empty key, another service, another word, a space before #
-faulty_lines_are_none : (Is (codes "place 0 o1 bolts 3 acme") None) × (Is (codes "cancel 0 o1 x") None) × (Is (codes "cancel 16 o1") None)
+faulty_lines_are_none : (Is (codes "place 0 o1 bolts 3 acme") None) × (Is (codes "cancel 0 o1 x") None)
+    × (Is (codes "cancel 16 o1") None)
     × (Is (codes "show order/") None)
     × (Is (codes "journal broker") None) × (Is (codes "stop") None) × (Is (codes " # a") None)
 unfolding is_utf8 chars lib.Utf8.encode
@@ -145,14 +165,17 @@ unfolding is_utf8 chars lib.Utf8.encode
 wrong_arguments_are_none = (refl, refl, refl, refl, refl, refl, refl, refl, refl)
 
 -- a line that isn't UTF-8 is faulty, even where nothing is to run
-lines_are_utf8 : (found_on event_of (codes "# " ++ 195 ∷ 169 ∷ []) ≡ Some None) × (found_on event_of (codes "# " ++ 255 ∷ []) ≡ None)
+lines_are_utf8 : (found_on event_of (codes "# " ++ 195 ∷ 169 ∷ []) ≡ Some None)
+    × (found_on event_of (codes "# " ++ 255 ∷ []) ≡ None)
 unfolding is_utf8 chars lib.Utf8.encode
 lines_are_utf8 = (refl, refl)
 
 -- lines that are quiet have no event, and aren't faulty
-quiet_lines_are_passed : (events_on event_of (codes "# two events" ∷ codes "cancel 0 o1" ∷ [] ∷ codes "journal purchasing" ∷ [])
+quiet_lines_are_passed : (events_on event_of (codes "# two events" ∷ codes "cancel 0 o1" ∷ [] ∷ codes
+    "journal purchasing" ∷ [])
     ≡ Order (asks_order 0 CancelOrder) ∷ Journal Purchasing ∷ [])
-    × (is_faulty event_of [] ≡ false) × (is_faulty event_of (codes "# a") ≡ false) × (is_faulty event_of (codes "journal") ≡ true)
+    × (is_faulty event_of [] ≡ false) × (is_faulty event_of (codes "# a") ≡ false)
+    × (is_faulty event_of (codes "journal") ≡ true)
 unfolding is_utf8 chars lib.Utf8.encode
 quiet_lines_are_passed = (refl, refl, refl, refl)
 

@@ -1,5 +1,6 @@
 -- Entities that words name.
-use Rattle.std.proofs.Common.{◌≡◌, ◌≢◌, ℕ, List, ◌++◌, length, take, drop, true, false, cond, nat_eq, refl, sym, ap, ◌∙◌, Some, None}
+use Rattle.std.proofs.Common.{◌≡◌, ◌≢◌, ℕ, List, ◌++◌, length, take, drop, true, false, cond, nat_eq, refl, sym, ap}
+use Rattle.std.proofs.Common.{◌∙◌, Some, None}
 use Rattle.std.specs.List.{starts_with}
 use Rattle.std.specs.Option.{option_map}
 use Rattle.std.proofs.lemmas.Bool.{false_from_ne_true}
@@ -11,7 +12,8 @@ use Rattle.base.specs.Entity.{Name, prefix_of, text_of, is_key, order_of, stock_
 use Rattle.schedule_text.specs.Arguments.{entity_of, named}
 
 entity_at : (kind : Kind) (key : List ℕ)
-    → entity_of (prefix_of kind ++ key) ≡ option_map (λ k. record { kind = kind; key = k }) (cond (is_key key) (Some key) None)
+    → entity_of (prefix_of kind ++ key) ≡ option_map (λ k. record { kind = kind; key = k })
+    (cond (is_key key) (Some key) None)
 entity_at Order key = refl
 entity_at Stock key = refl
 entity_at Account key = refl
@@ -24,7 +26,8 @@ pub entity_without_key : (e : Name) (word : List ℕ) → text_of e ≡ word →
 entity_without_key e word text key = ap entity_of (sym text) ∙ entity_at e.kind e.key
     ∙ ap (λ b. option_map (λ k. record { kind = e.kind; key = k }) (cond b (Some e.key) None)) key
 
-begins_not : (kind : Kind) (word : List ℕ) → ((e : Name) → text_of e ≢ word) → starts_with nat_eq word (prefix_of kind) ≡ false
+begins_not : (kind : Kind) (word : List ℕ) → ((e : Name) → text_of e ≢ word)
+    → starts_with nat_eq word (prefix_of kind) ≡ false
 begins_not kind word none = false_from_ne_true _ (λ yes.
     let front : prefix_of kind ≡ take (length (prefix_of kind)) word = same_text _ _ (sym yes) in
     none (record { kind = kind; key = drop (length (prefix_of kind)) word })

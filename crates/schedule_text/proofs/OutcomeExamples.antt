@@ -6,7 +6,8 @@ use Rattle.std.specs.Global.{Vec}
 use Rattle.base.specs.Entity.{order_of, stock_of}
 use Rattle.activities.specs.declared.handler.Refusal.TheVariants.{NotOpen}
 use Rattle.schedule_text.specs.declared.outcome.Outcome.{Outcome}
-use Rattle.schedule_text.specs.declared.outcome.Outcome.TheVariants.{Committed, Already, Drained, Absent, Refused, NotDone, Pumped, Shown}
+use Rattle.schedule_text.specs.declared.outcome.Outcome.TheVariants.{Committed, Already, Drained, Absent, Refused}
+use Rattle.schedule_text.specs.declared.outcome.Outcome.TheVariants.{NotDone, Pumped, Shown}
 use Rattle.schedule_text.specs.declared.outcome.Outcome.TheVariants.{Agreement}
 use Rattle.schedule_text.specs.Outcomes.{outcome_lines}
 
@@ -15,8 +16,10 @@ abbrev Tells : Outcome → List ℕ → Type 0
 Tells outcome text = outcome_lines outcome ≡ text
 
 -- a word, or words and numbers, in a line
-outcomes_are_lines : Tells (Committed 1) (codes "committed 1\n") × Tells Already (codes "already\n") × Tells Absent (codes "none\n")
-    × Tells (Refused 63) (codes "refused 63\n") × Tells (NotDone NotOpen) (codes "refused 61 71\n") × Tells Pumped (codes "pumped\n")
+outcomes_are_lines : Tells (Committed 1) (codes "committed 1\n") × Tells Already (codes "already\n")
+    × Tells Absent (codes "none\n")
+    × Tells (Refused 63) (codes "refused 63\n") × Tells (NotDone NotOpen) (codes "refused 61 71\n")
+    × Tells Pumped (codes "pumped\n")
     × Tells (Agreement true) (codes "agreement true\n") × Tells (Agreement false) (codes "agreement false\n")
 unfolding digits
 outcomes_are_lines = (refl, refl, refl, refl, refl, refl, refl, refl)

@@ -1,5 +1,6 @@
 -- Pairs of words that are read one after another.
-use Rattle.std.proofs.Common.{◌≡◌, ◌<◌, ℕ, List, [], ◌∷◌, ◌++◌, refl, sym, ap, ◌∙◌, arith, Option, Some, None, length, take, drop}
+use Rattle.std.proofs.Common.{◌≡◌, ◌<◌, ℕ, List, [], ◌∷◌, ◌++◌, refl, sym, ap, ◌∙◌, arith, Option, Some, None, length}
+use Rattle.std.proofs.Common.{take, drop}
 use Rattle.std.proofs.Common.{append_assoc}
 use Rattle.std.specs.Option.{option_map}
 use Rattle.trade.specs.declared.commands.OrderCommand.{OrderCommand}
@@ -19,7 +20,8 @@ one_behind items i (Some CancelOrder) = refl
 
 -- a pair before others
 pair_first : (words : List (List ℕ)) → 2 < length words
-    → pairs_of words ≡ (item_of (take 2 words) >>= λ i. pairs_of (drop 2 words) >>= λ others. Some (asked_first (i ∷ []) others))
+    → pairs_of words ≡ (item_of (take 2 words) >>= λ i. pairs_of (drop 2 words) >>= λ others. Some
+    (asked_first (i ∷ []) others))
 pair_first [] many = absurd (omega (arith, many))
 pair_first (stock ∷ []) many = absurd (omega (arith, many))
 pair_first (stock ∷ n ∷ []) many = absurd (omega (arith, many))
@@ -31,6 +33,7 @@ pub pairs_go_on : (items : List Item) (rest : List (List ℕ)) (i : Item) (whole
     → option_map (asked_first (items ++ i ∷ [])) (pairs_of (drop 2 rest)) ≡ whole
 pairs_go_on items rest i whole many read told =
     sym (one_behind items i (pairs_of (drop 2 rest)))
-    ∙ ap (λ found. option_map (asked_first items) (found >>= λ i. pairs_of (drop 2 rest) >>= λ others. Some (asked_first (i ∷ []) others)))
+    ∙ ap (λ found. option_map (asked_first items) (found >>= λ i. pairs_of (drop 2 rest) >>= λ others. Some
+    (asked_first (i ∷ []) others)))
     (sym read)
     ∙ ap (option_map (asked_first items)) (sym (pair_first rest many)) ∙ told

@@ -7,38 +7,44 @@ use Rattle.schedule_text.specs.Reading.{Fails, Reads}
 use Rattle.schedule_text.specs.Words.{◌>>=◌}
 
 -- two items alone
-pub two : {A : Type 0} (l : List A) (a b : A) → 2 ≤ length l → length l < 3 → a ≡ get_or l 0 a → b ≡ get_or l 1 b → l ≡ a ∷ b ∷ []
+pub two : {A : Type 0} (l : List A) (a b : A) → 2 ≤ length l → length l < 3 → a ≡ get_or l 0 a → b ≡ get_or l 1 b
+    → l ≡ a ∷ b ∷ []
 two [] a b least below first second = absurd (omega (arith, least))
 two (x ∷ []) a b least below first second = absurd (omega (arith, least))
 two (x ∷ y ∷ []) a b least below first second = rw first (rw second refl)
 two (x ∷ y ∷ z ∷ l) a b least below first second = absurd (omega (arith, below))
 
 -- three items alone
-pub three : {A : Type 0} (l : List A) (a b c : A) → 3 ≤ length l → length l < 4 → a ≡ get_or l 0 a → b ≡ get_or l 1 b → c ≡ get_or l 2 c
+pub three : {A : Type 0} (l : List A) (a b c : A) → 3 ≤ length l → length l < 4 → a ≡ get_or l 0 a → b ≡ get_or l 1 b
+    → c ≡ get_or l 2 c
     → l ≡ a ∷ b ∷ c ∷ []
 three [] a b c least below first second third = absurd (omega (arith, least))
 three (w ∷ l) a b c least below first second third =
     rw first (rw (two l b c (omega (arith, least)) (omega (arith, below)) second third) refl)
 
 -- four items alone
-pub four : {A : Type 0} (l : List A) (a b c d : A) → 4 ≤ length l → length l < 5 → a ≡ get_or l 0 a → b ≡ get_or l 1 b → c ≡ get_or l 2 c
+pub four : {A : Type 0} (l : List A) (a b c d : A) → 4 ≤ length l → length l < 5 → a ≡ get_or l 0 a → b ≡ get_or l 1 b
+    → c ≡ get_or l 2 c
     → d ≡ get_or l 3 d → l ≡ a ∷ b ∷ c ∷ d ∷ []
 four [] a b c d least below first second third fourth = absurd (omega (arith, least))
 four (w ∷ l) a b c d least below first second third fourth =
     rw first (rw (three l b c d (omega (arith, least)) (omega (arith, below)) second third fourth) refl)
 
 -- what isn't read first isn't read at all
-pub fails_first : {A B : Type 0} (fault : LineFault) (o : Option A) (f : A → Option B) → Fails fault o → Fails fault (o >>= f)
+pub fails_first : {A B : Type 0} (fault : LineFault) (o : Option A) (f : A → Option B) → Fails fault o
+    → Fails fault (o >>= f)
 fails_first Bad o f none = rw none refl
 fails_first Memory o f none = tt
 
 -- what is read first is what the others are read with
-pub then_fails : {A B : Type 0} (fault : LineFault) (o : Option A) (a : A) (f : A → Option B) → o ≡ Some a → Fails fault (f a)
+pub then_fails : {A B : Type 0} (fault : LineFault) (o : Option A) (a : A) (f : A → Option B) → o ≡ Some a
+    → Fails fault (f a)
     → Fails fault (o >>= f)
 then_fails fault o a f known fails = rw known fails
 
 -- what is read first is what the others are read with
-pub then_reads : {A B : Type 0} (o : Option A) (a : A) (f : A → Option B) (expected : Option B) → o ≡ Some a → f a ≡ expected
+pub then_reads : {A B : Type 0} (o : Option A) (a : A) (f : A → Option B) (expected : Option B) → o ≡ Some a
+    → f a ≡ expected
     → (o >>= f) ≡ expected
 then_reads o a f expected known same = rw known same
 

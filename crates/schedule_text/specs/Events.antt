@@ -8,10 +8,13 @@ use Rattle.schedule_text.specs.declared.event.Event.{Event}
 use Rattle.schedule_text.specs.declared.event.Event.TheVariants as event
 use Rattle.schedule_text.specs.declared.event.ConnectionName.{ConnectionName}
 use Rattle.schedule_text.specs.declared.verb.Verb.{Verb}
-use Rattle.schedule_text.specs.declared.verb.Verb.TheVariants.{Place, Cancel, Receive, Limit, Open, Cut, Fill, Resend, Carry, Take, Drain}
-use Rattle.schedule_text.specs.declared.verb.Verb.TheVariants.{Repeat, Fail, Reopen, Stop, Pump, Show, Frames, Journal, Agreement}
+use Rattle.schedule_text.specs.declared.verb.Verb.TheVariants.{Place, Cancel, Receive, Limit, Open, Cut, Fill, Resend}
+use Rattle.schedule_text.specs.declared.verb.Verb.TheVariants.{Carry, Take, Drain}
+use Rattle.schedule_text.specs.declared.verb.Verb.TheVariants.{Repeat, Fail, Reopen, Stop, Pump, Show, Frames, Journal}
+use Rattle.schedule_text.specs.declared.verb.Verb.TheVariants.{Agreement}
 use Rattle.schedule_text.specs.declared.verb.Verb.TheVariants as verb
-use Rattle.schedule_text.specs.Arguments.{entity_of, service_of, connection_number, way_of, leaves_of, ordinal_of, rounds_of}
+use Rattle.schedule_text.specs.Arguments.{entity_of, service_of, connection_number, way_of, leaves_of, ordinal_of}
+use Rattle.schedule_text.specs.Arguments.{rounds_of}
 use Rattle.schedule_text.specs.Commands.{place_of, cancel_of, receive_of, limit_of}
 use Rattle.schedule_text.specs.Schedules.{read_by}
 use Rattle.schedule_text.specs.Verbs.{verb_of}
@@ -58,7 +61,8 @@ fail_of _ = None
 
 -- SERVICE, or broker
 abbrev pub stopped_of : List ℕ → Option Event
-stopped_of word = if bytes_eq word (codes "broker") then Some event.StopBroker else option_map event.Stop (service_of word)
+stopped_of word =
+    if bytes_eq word (codes "broker") then Some event.StopBroker else option_map event.Stop (service_of word)
 
 -- FROM TO
 abbrev pub pair_of : List (List ℕ) → Option Pair

@@ -8,9 +8,12 @@ use Rattle.schedule_text.specs.Words.{escaped}
 use Rattle.schedule_text.specs.declared.outcome.Told.{Told}
 use Rattle.schedule_text.specs.declared.outcome.Told.TheVariants as pieces
 use Rattle.schedule_text.specs.declared.outcome.Outcome.{Outcome}
-use Rattle.schedule_text.specs.declared.outcome.Outcome.TheVariants.{Committed, Opened, Already, Closed, Cut, Sent, Due, Carried, Connected}
-use Rattle.schedule_text.specs.declared.outcome.Outcome.TheVariants.{Receipt, Handled, Repeated, Held, Settled, Error, Idle, Drained, Again}
-use Rattle.schedule_text.specs.declared.outcome.Outcome.TheVariants.{Absent, Armed, Reopened, Stopped, Pumped, Refused, NotDone, Shown}
+use Rattle.schedule_text.specs.declared.outcome.Outcome.TheVariants.{Committed, Opened, Already, Closed, Cut, Sent, Due}
+use Rattle.schedule_text.specs.declared.outcome.Outcome.TheVariants.{Carried, Connected}
+use Rattle.schedule_text.specs.declared.outcome.Outcome.TheVariants.{Receipt, Handled, Repeated, Held, Settled, Error}
+use Rattle.schedule_text.specs.declared.outcome.Outcome.TheVariants.{Idle, Drained, Again}
+use Rattle.schedule_text.specs.declared.outcome.Outcome.TheVariants.{Absent, Armed, Reopened, Stopped, Pumped, Refused}
+use Rattle.schedule_text.specs.declared.outcome.Outcome.TheVariants.{NotDone, Shown}
 use Rattle.schedule_text.specs.declared.outcome.Outcome.TheVariants.{Agreement}
 
 -- a text and a number
@@ -65,5 +68,6 @@ outcome_lines outcome = told outcome ++ 10 ∷ []
 abbrev pub told_lines : Told → List ℕ
 told_lines (pieces.Number words number) = words.now ++ decimal number ++ 10 ∷ []
 told_lines (pieces.Text words text) = words.now ++ text.now ++ 10 ∷ []
-told_lines (pieces.OfPair words pair number) = words.now ++ shown_pair pair.now ++ (codes " " ++ decimal number ++ 10 ∷ [])
+told_lines (pieces.OfPair words pair number) =
+    words.now ++ shown_pair pair.now ++ (codes " " ++ decimal number ++ 10 ∷ [])
 told_lines (pieces.Lines lines) = lines.now

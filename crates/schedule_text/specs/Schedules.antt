@@ -1,5 +1,6 @@
 -- What a schedule has, in a language that says which event the words of a line are.
-use Rattle.std.specs.Prelude.{ℕ, ◌+◌, ◌==◌, Bool, List, length, slice_index, ◌||◌, Option, Some, None, is_none, Result, Ok, Err}
+use Rattle.std.specs.Prelude.{ℕ, ◌+◌, ◌==◌, Bool, List, length, slice_index, ◌||◌, Option, Some, None, is_none, Result}
+use Rattle.std.specs.Prelude.{Ok, Err}
 use Rattle.std.specs.Prelude.{if◌then◌else◌}
 use Rattle.std.specs.List.{list_any, before_first, filter_map}
 use Rattle.std.specs.Option.{option_map, option_flatten}
@@ -35,8 +36,10 @@ is_faulty event_of line = is_none (found_on event_of line)
 abbrev pub events_on : {E : Type 0} → Language E → List (List ℕ) → List E
 events_on event_of lines = filter_map (λ line. option_flatten (found_on event_of line)) lines
 
--- the events of a schedule; where a line is faulty, the number of the first such line: one more than there are lines before it
+-- the events of a schedule; where a line is faulty, the number of the first such line: one more than there are lines
+-- before it
 abbrev pub read_by : {E : Type 0} → Language E → List ℕ → Result (List E) ℕ
 read_by event_of text =
-    if list_any (is_faulty event_of) (lines_of text) then Err (length (before_first (is_faulty event_of) (lines_of text)) + 1)
+    if list_any (is_faulty event_of) (lines_of text)
+    then Err (length (before_first (is_faulty event_of) (lines_of text)) + 1)
     else Ok (events_on event_of (lines_of text))

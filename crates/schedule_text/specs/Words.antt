@@ -23,12 +23,14 @@ octet_then None rest = None
 octet_then (Some o) None = None
 octet_then (Some o) (Some rest) = Some (o ∷ rest)
 
--- What a text with escapes means. An empty text means itself; a backslash and a letter mean what the letter means, and what follows; any
--- other octet means itself, and what follows. A backslash at the end or before another letter means nothing.
+-- What a text with escapes means. An empty text means itself; a backslash and a letter mean what the letter means, and
+-- what follows; any other octet means itself, and what follows. A backslash at the end or before another letter means
+-- nothing.
 abbrev pub unescaped : List ℕ → Option (List ℕ)
 unescaped [] = Some []
 unescaped (o ∷ []) = if o == 92 then None else Some (o ∷ [])
-unescaped (o ∷ next ∷ text) = if o == 92 then octet_then (meant_by next) (unescaped text) else octet_then (Some o) (unescaped (next ∷ text))
+unescaped (o ∷ next ∷ text) =
+    if o == 92 then octet_then (meant_by next) (unescaped text) else octet_then (Some o) (unescaped (next ∷ text))
 
 -- the word that stands between two spaces: what the text there means; an empty text is no word
 abbrev pub word_of : List ℕ → Option (List ℕ)

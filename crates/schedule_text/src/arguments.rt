@@ -2,7 +2,8 @@
 
 ghost use Rattle.std.specs.Prelude.{◌≡◌};
 ghost use Rattle.text.specs.Numerals.{number_of};
-ghost use Rattle.schedule_text.specs.Arguments.{seat_of, ordinal_of, rounds_of, key_of, entity_of, service_of, connection_number};
+ghost use Rattle.schedule_text.specs.Arguments.{seat_of, ordinal_of, rounds_of, key_of, entity_of, service_of};
+ghost use Rattle.schedule_text.specs.Arguments.{connection_number};
 ghost use Rattle.schedule_text.specs.Arguments.{way_of, leaves_of};
 ghost use Rattle.schedule_text.specs.Reading.{Reads};
 

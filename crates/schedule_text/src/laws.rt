@@ -14,8 +14,8 @@ pub fn a_printed_word_is_read_again()
     ensures { (word : List ℕ) → 0 < length word → word_of (escaped word) ≡ Some word }
 {}
 
-/// Lines without LF that are written one after another, each ended by LF, are read again; so are those whose last, which isn't empty, lacks
-/// its LF. Each text is written so.
+/// Lines without LF that are written one after another, each ended by LF, are read again; so are those whose last,
+/// which isn't empty, lacks its LF. Each text is written so.
 pub fn written_lines_are_read_again()
     ensures ended { (lines : List (List ℕ)) → All (Lacks 10) lines → lines_of (ended lines) ≡ lines }
     ensures unended { (lines : List (List ℕ)) (last : List ℕ) → All (Lacks 10) lines → Lacks 10 last → 0 < length last

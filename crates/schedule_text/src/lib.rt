@@ -1,7 +1,7 @@
 //! Schedules: texts of events, one a line, how they are read, and the lines that tell what became of them.
 //!
-//! A schedule is read exactly: its events in order, or the number of its first line that is none. What no event can be isn't kept: a line
-//! of any length costs no more than an event.
+//! A schedule is read exactly: its events in order, or the number of its first line that is none. What no event can be
+//! isn't kept: a line of any length costs no more than an event.
 //!
 //! ```rust
 //! pub fn a_schedule_is_read(alloc: Global) -> Result<usize, ScheduleFault> {

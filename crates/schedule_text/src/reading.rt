@@ -1,6 +1,7 @@
 //! Schedules, read from text.
 
-ghost use Rattle.std.specs.Prelude.{◌≡◌, ◌<◌, ◌∷◌, ◌++◌, ◌==◌, ◌||◌, nat_lt, nat_le, length, count_by, position, option_to_list, OnOk};
+ghost use Rattle.std.specs.Prelude.{◌≡◌, ◌<◌, ◌∷◌, ◌++◌, ◌==◌, ◌||◌, nat_lt, nat_le, length, count_by, position};
+ghost use Rattle.std.specs.Prelude.{option_to_list, OnOk};
 ghost use Rattle.schedule_text.specs.Events.{event_of, events_of};
 ghost use Rattle.schedule_text.specs.Faults.{IsRead};
 ghost use Rattle.schedule_text.specs.Lines.{lines_of};
@@ -97,11 +98,12 @@ fn add(events: &mut Vec<Event>, found: Option<Event>) -> Result<(), AllocError>
 
 /// The events of a schedule, in order.
 ///
-/// A schedule is lines of UTF-8, each ended by LF, which the last may lack. Empty lines and lines that begin with `#` have no event,
-/// but are counted.
+/// A schedule is lines of UTF-8, each ended by LF, which the last may lack. Empty lines and lines that begin with `#`
+/// have no event, but are counted.
 ///
 /// # Errors
-/// `BadEvent` with the number of the first line that is no event, counted from 1; else `Memory` where a growth was refused.
+/// `BadEvent` with the number of the first line that is no event, counted from 1; else `Memory` where a growth was
+/// refused.
 pub fn read_schedule(alloc: Global, text: &[u8]) -> Result<Vec<Event>, ScheduleFault>
     ensures { IsRead (events_of text.now) result }
 {

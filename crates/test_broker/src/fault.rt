@@ -1,8 +1,8 @@
 //! Why a line has no answer.
 
 use broker_core::BrokerFault;
-use test_script::{Fault, LineFault};
 use std::alloc::AllocError;
+use test_script::{Fault, LineFault};
 use thiserror::Error;
 
 /// Why a line has no answer.

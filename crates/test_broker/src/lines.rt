@@ -6,11 +6,11 @@ use crate::kept::Kept;
 use crate::parts::push_all_accepted;
 use base::limits::MAX_QUEUED;
 use broker_core::{Broker, SessionId};
-use test_script::{LineFault, Script, first_word, natural, read_octets, size};
 use std::alloc::Global;
 use std::fmt::Write as _;
 use std::io::Write;
 use std::{io, mem};
+use test_script::{LineFault, Script, first_word, natural, read_octets, size};
 use text::push_octets;
 
 /// A broker, and the lines that are kept for a run.

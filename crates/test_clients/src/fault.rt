@@ -1,10 +1,10 @@
 //! Why a line has no answer.
 
-use test_script::{Fault, LineFault};
 use receipts::ReceiptFault;
 use std::alloc::AllocError;
 use stomp_client::ClientFault;
 use stomp_frame::FrameFault;
+use test_script::{Fault, LineFault};
 use thiserror::Error;
 
 /// Why a line has no answer.

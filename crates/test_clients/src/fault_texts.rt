@@ -1,9 +1,9 @@
 //! The texts of faults that no line meets.
 
 use crate::fault::CallFault;
-use test_script::{LineFault, first_word, natural};
 use receipts::ReceiptFault;
 use stomp_client::ClientFault;
+use test_script::{LineFault, first_word, natural};
 
 /// The fault of the receipts, or of the client, with this number, as the line's own.
 fn fault_of(whose: &str, number: u64) -> CallFault {

@@ -8,9 +8,9 @@ ghost use Rattle.stomp_client.specs.Written.{AreWhole};
 
 use crate::fault::CallFault;
 use base::limits::MAX_BODY;
-use test_script::{LineFault, read_octets};
 use std::alloc::Global;
 use stomp_frame::{Command, Decoder, Frame, encode};
+use test_script::{LineFault, read_octets};
 
 /// The frame of a text.
 pub fn frame(alloc: Global, text: &str) -> Result<Frame<MAX_BODY>, CallFault> {

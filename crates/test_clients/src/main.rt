@@ -1,21 +1,27 @@
 //! Reads lines that name calls of receipts and of a client's session, and prints their answers.
 //!
-//! A comment, which begins with `#`, and an empty line are printed as they are. Each other line has one answer: what the call gives,
-//! `done`, or the text of its fault. So the answer to a line of `stdin` stands at the same line of `stdout`. A call to which a growth is
-//! refused is made once more, and then answers as if none had been; where one is refused again, the program ends there with status 3.
+//! A comment, which begins with `#`, and an empty line are printed as they are. Each other line has one answer: what
+//! the call gives, `done`, or the text of its fault. So the answer to a line of `stdin` stands at the same line of
+//! `stdout`. A call to which a growth is refused is made once more, and then answers as if none had been; where one is
+//! refused again, the program ends there with status 3.
 //!
 //! Receipts, whose tags are words:
 //! - `receipts new`: none was opened;
-//! - `receipts open TAG`, `receipts close N`, `receipts last`: the number given, the tag given or `none`, the last number.
+//! - `receipts open TAG`, `receipts close N`, `receipts last`: the number given, the tag given or `none`, the last
+//!   number.
 //!
 //! A client:
 //! - `client new`: nothing was written;
-//! - `client connect`, `client subscribe DESTINATION`, `client begin`, `client commit N`, `client abort N`, `client disconnect`;
-//! - `client send TEXT`, `client send-in N TEXT`, `client send-with-receipt TAG TEXT`: a SEND, one in a transaction, one with a receipt;
-//! - `client ack`, `client nack`, `client ack-in N`, `client nack-in N`: the last MESSAGE that was accepted is answered;
+//! - `client connect`, `client subscribe DESTINATION`, `client begin`, `client commit N`, `client abort N`, `client
+//!   disconnect`;
+//! - `client send TEXT`, `client send-in N TEXT`, `client send-with-receipt TAG TEXT`: a SEND, one in a transaction,
+//!   one with a receipt;
+//! - `client ack`, `client nack`, `client ack-in N`, `client nack-in N`: the last MESSAGE that was accepted is
+//!   answered;
 //! - `client accept TEXT`: what a server's frame tells;
 //! - `client out`, `client taken N`: the octets still to be sent; the first of them were sent;
-//! - `client room N`, `client append TEXT`, `client count`: room for so many octets; a frame made before; its transaction is counted;
+//! - `client room N`, `client append TEXT`, `client count`: room for so many octets; a frame made before; its
+//!   transaction is counted;
 //! - `client stage`, `client receipts`, `client transactions`: how far it is, and the last numbers.
 //!
 //! The other end of its connection:
@@ -24,9 +30,9 @@
 //!
 //! `fault receipts N` and `fault client N` give the text of the fault of this number.
 //!
-//! A TEXT is a frame, to the end of the line: in it `\n`, `\r`, `\s`, `\0` and `\\` stand for LF, CR, a space, NUL and a backslash, and
-//! `\xHH` for the octet of these two hexadecimal digits. Octets are printed so too, but a space as it is. A frame that was read is printed
-//! as its command, its headers and its body.
+//! A TEXT is a frame, to the end of the line: in it `\n`, `\r`, `\s`, `\0` and `\\` stand for LF, CR, a space, NUL and
+//! a backslash, and `\xHH` for the octet of these two hexadecimal digits. Octets are printed so too, but a space as it
+//! is. A frame that was read is printed as its command, its headers and its body.
 #![tactic(auto)]
 
 mod fault;
@@ -35,10 +41,10 @@ mod frames;
 mod session;
 mod show;
 
-use test_script::run;
 use session::Session;
 use std::io;
 use std::process::ExitCode;
+use test_script::run;
 
 fn main(rt: HostRuntime) -> io::Result<ExitCode> {
     run(&rt, &mut Session::new(rt.alloc()))

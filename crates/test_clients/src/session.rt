@@ -5,13 +5,13 @@ use crate::fault_texts::fault_named;
 use crate::frames::{delivered, frame, plain_send, short, whole_text};
 use crate::show::show_answer;
 use base::limits::MAX_BODY;
-use test_script::{Fault, LineFault, Script, first_word, natural, size};
 use receipts::Receipts;
 use std::alloc::Global;
 use std::io;
 use std::io::Write;
 use stomp_client::{ClientEvent, ClientFault, ClientSession, Stage};
 use stomp_frame::{Decoder, Frame};
+use test_script::{Fault, LineFault, Script, first_word, natural, size};
 
 /// What a call gives. It is printed without memory, since the call is done then.
 #[derive(Drop)]
@@ -59,7 +59,8 @@ fn numbered(called: Result<u64, ClientFault>) -> Result<Answer, CallFault> {
     }
 }
 
-/// The transaction in which a MESSAGE is answered: that of this number where the word is `ack-in` or `nack-in`, else none.
+/// The transaction in which a MESSAGE is answered: that of this number where the word is `ack-in` or `nack-in`, else
+/// none.
 fn transaction(word: &str, number: &str) -> Result<Option<u64>, LineFault> {
     match word {
         "ack" | "nack" => Ok(None),

@@ -5,8 +5,8 @@ ghost use Rattle.std.specs.Prelude.{◌≤◌, length};
 use crate::decoding::{Reading, Step, steps_text};
 use crate::fault::CallFault;
 use crate::octets::octets;
-use test_script::{LineFault, size};
 use std::alloc::Global;
+use test_script::{LineFault, size};
 
 /// What is given of a text that is fed octet by octet.
 fn by_octets(alloc: Global, text: &[u8]) -> Result<Vec<Step>, CallFault> {
@@ -57,8 +57,8 @@ fn difference(
     Ok(Some(steps_text(alloc, &found)?))
 }
 
-/// What is given of a text: octet by octet, in one piece, and in two that are cut behind each `every`-th octet and before the last one.
-/// Where a cut makes a difference, the first that does is told.
+/// What is given of a text: octet by octet, in one piece, and in two that are cut behind each `every`-th octet and
+/// before the last one. Where a cut makes a difference, the first that does is told.
 fn decode(alloc: Global, every: usize, word: &str) -> Result<String, CallFault> {
     let text = octets(alloc, word)?;
     let steps = by_octets(alloc, &text)?;

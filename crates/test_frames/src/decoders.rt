@@ -5,9 +5,9 @@ use crate::fault::CallFault;
 use crate::frame_texts::found_text;
 use crate::octets::octets;
 use base::limits::MAX_BODY;
-use test_script::LineFault;
 use std::alloc::Global;
 use stomp_frame::Decoder;
+use test_script::LineFault;
 
 /// The answer where there is nothing to tell.
 fn done(alloc: Global) -> Result<String, CallFault> {

@@ -3,10 +3,10 @@
 use crate::fault::CallFault;
 use crate::frame_texts::frame_text;
 use base::limits::MAX_BODY;
-use test_script::LineFault;
 use std::alloc::{AllocError, Global};
 use std::mem;
 use stomp_frame::{Decoder, Frame, FrameFault};
+use test_script::LineFault;
 
 /// A frame or a fault as text, and behind how many octets it was given.
 #[derive(Drop)]

@@ -4,8 +4,8 @@ use crate::fault::CallFault;
 use crate::octets::{shown, text};
 use crate::words::{entity, kind, pair};
 use base::{Entity, Key, Number, Pair, is_key};
-use test_script::{LineFault, natural, number};
 use std::alloc::{AllocError, Global};
+use test_script::{LineFault, natural, number};
 
 /// How two values compare: by `cmp`, whether `partial_cmp` says the same, and by `==`.
 fn compared<T: Ord>(alloc: Global, one: &T, other: &T) -> Result<String, AllocError> {

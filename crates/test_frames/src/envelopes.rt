@@ -9,9 +9,9 @@ use crate::octets::shown;
 use crate::words::{message, pair};
 use base::limits::MAX_BODY;
 use envelope::{Envelope, EnvelopeFault, Letter, Message, to_send};
-use test_script::{LineFault, natural, number};
 use std::alloc::{AllocError, Global};
 use stomp_frame::Frame;
+use test_script::{LineFault, natural, number};
 
 /// The SEND that carries an envelope.
 fn sent(alloc: Global, envelope: &Envelope) -> Result<Frame<MAX_BODY>, EnvelopeFault>

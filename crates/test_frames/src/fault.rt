@@ -3,12 +3,12 @@
 use activities::HandlerFault;
 use base::EntityFault;
 use envelope::EnvelopeFault;
-use test_script::{Fault, LineFault};
 use std::alloc::AllocError;
 use std::io;
 use std::io::ErrorKind;
 use stomp_frame::FrameFault;
 use stomp_wire::LinkFault;
+use test_script::{Fault, LineFault};
 use thiserror::Error;
 
 /// Why a line has no answer.

@@ -4,10 +4,10 @@ use crate::fault::CallFault;
 use activities::{HandlerFault, Refusal};
 use base::EntityFault;
 use envelope::EnvelopeFault;
-use test_script::{LineFault, size};
 use std::alloc::{AllocError, Global};
 use stomp_frame::FrameFault;
 use stomp_wire::LinkFault;
+use test_script::{LineFault, size};
 
 const ENTITY_FAULTS: [EntityFault; 3] = [
     EntityFault::BadKey,
@@ -84,7 +84,8 @@ fn handler_fault(alloc: Global) -> Result<String, CallFault> {
     Ok(format!(in alloc; "{fault}")?)
 }
 
-/// The answer to a line that begins with `fault`: whose it is, and which of them in the order of their numbers, from 1 on.
+/// The answer to a line that begins with `fault`: whose it is, and which of them in the order of their numbers, from 1
+/// on.
 pub fn answer_fault(alloc: Global, words: &[&str]) -> Result<String, CallFault> {
     let [whose, which] = words else {
         return Err(LineFault::Unknown.into());

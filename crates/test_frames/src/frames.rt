@@ -5,10 +5,10 @@ use crate::frame_texts::{frame_text, header_text, refused_text};
 use crate::octets::{octets, shown, text};
 use crate::words::command;
 use base::limits::MAX_BODY;
-use test_script::LineFault;
 use std::alloc::Global;
 use std::mem;
 use stomp_frame::{Command, Frame, FrameFault, Header, encode};
+use test_script::LineFault;
 
 /// Appends a header.
 fn push_header(frame: &mut Frame<MAX_BODY>, name: &str, value: &str) -> Result<(), FrameFault> {

@@ -5,10 +5,10 @@ use crate::octets::{octets, push_octets};
 use crate::puts::{ask_link, gone_text, pump, take_many};
 use crate::trickle::Trickle;
 use crate::words::failure;
-use test_script::{LineFault, natural, size};
 use std::alloc::Global;
 use std::fs;
 use stomp_wire::{Link, StreamLink};
+use test_script::{LineFault, natural, size};
 
 /// A link over a reader and a writer that fail where they are told to.
 pub type FailingLink = StreamLink<Trickle, Trickle>;
@@ -83,7 +83,8 @@ fn trickle_text(alloc: Global, trickle: &Trickle) -> Result<String, CallFault> {
     Ok(text)
 }
 
-/// The answer to a line that begins with `link`: what the call gives, then the reader, the writer and the count of failures.
+/// The answer to a line that begins with `link`: what the call gives, then the reader, the writer and the count of
+/// failures.
 pub fn answer_link(
     alloc: Global,
     link: &mut FailingLink,
@@ -98,7 +99,8 @@ pub fn answer_link(
     Ok(format!(in alloc; "{answer}; {reader}; {writer}; {}", link.failures())?)
 }
 
-/// Octets are written into a file by a link and read back by it: what went out, what came at each of so many takes, and the failures.
+/// Octets are written into a file by a link and read back by it: what went out, what came at each of so many takes, and
+/// the failures.
 fn over_file(rt: &HostRuntime, octets: &[u8], times: usize) -> Result<String, CallFault> {
     let alloc = rt.alloc();
     let writer = fs::create(rt, PATH)?;

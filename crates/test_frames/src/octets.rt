@@ -1,8 +1,8 @@
 //! Octets as a line writes them, and as an answer does.
 
 use crate::fault::CallFault;
-use test_script::LineFault;
 use std::alloc::{AllocError, Global};
+use test_script::LineFault;
 
 /// How many equal octets an answer writes as one part.
 const RUN: usize = 16;

@@ -4,8 +4,8 @@ use crate::fault::CallFault;
 use crate::switch::Switch;
 use crate::words::{entity, message};
 use activities::{Handler, HandlerFault, Input, Out, Outs};
-use test_script::{LineFault, number, size};
 use std::alloc::{AllocError, Global};
+use test_script::{LineFault, number, size};
 
 /// A message and its receiver.
 fn out_text(alloc: Global, out: &Out) -> Result<String, AllocError> {
@@ -138,7 +138,8 @@ fn ask_switch(
     }
 }
 
-/// The answer to a line that begins with `switch`: the kind, whether no row stands for the switch, and all that was sent.
+/// The answer to a line that begins with `switch`: the kind, whether no row stands for the switch, and all that was
+/// sent.
 pub fn answer_switch(
     alloc: Global,
     state: &mut bool,

@@ -2,9 +2,9 @@
 
 use crate::fault::CallFault;
 use crate::octets::{octets, push_octets};
-use test_script::{LineFault, size};
 use std::alloc::Global;
 use stomp_wire::{Gone, Link, LinkFault, pump_out, pump_rest};
+use test_script::{LineFault, size};
 
 /// How many octets, or the fault, of a link.
 pub fn count_text(alloc: Global, answer: Result<usize, LinkFault>) -> Result<String, CallFault> {

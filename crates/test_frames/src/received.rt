@@ -1,4 +1,5 @@
-//! Frames and bodies that are read as envelopes and messages. What wants memory is done again: nothing has changed then.
+//! Frames and bodies that are read as envelopes and messages. What wants memory is done again: nothing has changed
+//! then.
 
 ghost use Rattle.envelope.specs.Reading.{read_message, IsAnswer, IsReading};
 
@@ -8,9 +9,9 @@ use crate::octets::{octets, shown};
 use base::Pair;
 use base::limits::MAX_BODY;
 use envelope::{Envelope, EnvelopeFault, Message, from_message};
-use test_script::LineFault;
 use std::alloc::{AllocError, Global};
 use stomp_frame::{Decoder, Frame};
+use test_script::LineFault;
 
 /// The envelope that a frame carries.
 fn carried(alloc: Global, frame: &Frame<MAX_BODY>) -> Result<Envelope, EnvelopeFault>

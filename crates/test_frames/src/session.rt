@@ -15,14 +15,15 @@ use crate::trickle::Trickle;
 use crate::wires::answer_wire;
 use activities::Outs;
 use base::limits::MAX_BODY;
-use test_script::{LineFault, Script};
 use std::alloc::Global;
 use std::io;
 use std::io::Write;
 use stomp_frame::{Command, Decoder, Frame};
 use stomp_wire::{MemoryWire, StreamLink};
+use test_script::{LineFault, Script};
 
-/// A frame, a decoder, a wire, a link over a reader and a writer that fail where they are told to, a switch, and what goes out.
+/// A frame, a decoder, a wire, a link over a reader and a writer that fail where they are told to, a switch, and what
+/// goes out.
 #[derive(Drop)]
 pub struct Session {
     frame: Frame<MAX_BODY>,

@@ -4,9 +4,9 @@ use crate::fault::CallFault;
 use crate::octets::{octets, push_octets, shown};
 use crate::puts::{ask_link, count_text, put, take};
 use crate::words::way;
-use test_script::{LineFault, size};
 use std::alloc::Global;
 use stomp_wire::{Link, LinkFault, MemoryLink, MemoryWire, Way};
+use test_script::{LineFault, size};
 
 /// Carries octets on one way.
 fn carry(wire: &mut MemoryWire, way: Way, most: usize) -> Result<usize, LinkFault> {

@@ -4,11 +4,11 @@ use crate::fault::CallFault;
 use crate::octets::text;
 use base::{Entity, Kind, Pair};
 use envelope::Message;
-use test_script::{LineFault, number};
 use std::alloc::Global;
 use std::io::ErrorKind;
 use stomp_frame::Command;
 use stomp_wire::Way;
+use test_script::{LineFault, number};
 
 /// A kind of entities.
 pub fn kind(word: &str) -> Result<Kind, LineFault> {

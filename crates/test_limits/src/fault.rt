@@ -3,9 +3,9 @@
 use base::EntityFault;
 use broker_core::BrokerFault;
 use endpoint::EndFault;
-use test_script::{Fault, LineFault};
 use std::alloc::AllocError;
 use stomp_frame::FrameFault;
+use test_script::{Fault, LineFault};
 use thiserror::Error;
 
 /// Why a line has no answer.

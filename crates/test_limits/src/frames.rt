@@ -1,9 +1,9 @@
 //! Frames whose bodies have at most `BODY` octets.
 
 use crate::fault::CallFault;
-use test_script::{LineFault, size};
 use std::alloc::Global;
 use stomp_frame::{Command, Decoder, Frame};
+use test_script::{LineFault, size};
 
 /// The octets of a piece.
 const PIECE: usize = 8_192;

@@ -6,8 +6,8 @@ use endpoint::{Ingested, WindowedEndpoint};
 use envelope::{Letter, Message};
 use inbox::Ahead;
 use keep_plain::PlainKeep;
-use test_script::{LineFault, natural, number};
 use std::alloc::Global;
+use test_script::{LineFault, natural, number};
 use trade::StockCommand;
 use warehouse::Stocks;
 

@@ -2,9 +2,9 @@
 
 use crate::fault::CallFault;
 use broker_core::{Broker, SessionId};
-use test_script::{push_octets, size};
 use std::alloc::Global;
 use std::fmt::Write;
+use test_script::{push_octets, size};
 
 const SEND: &[u8] = b"SEND\ndestination:/queue/a\n\nx\0";
 

@@ -7,10 +7,10 @@ use crate::queues::{empty, fill};
 use base::limits::{HELD_WINDOW, MAX_BODY, MAX_QUEUED};
 use endpoint::WindowedEndpoint;
 use keep_plain::PlainKeep;
-use test_script::{LineFault, Script};
 use std::alloc::Global;
 use std::io;
 use std::io::Write;
+use test_script::{LineFault, Script};
 
 /// A stock's endpoint under each set of limits.
 #[derive(Drop)]

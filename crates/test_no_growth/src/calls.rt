@@ -5,10 +5,10 @@ use crate::client::ClientCalls;
 use crate::fault::CallFault;
 use crate::queues::QueueCalls;
 use crate::server::BrokerCalls;
-use test_script::{LineFault, Script, first_word, size};
 use std::alloc::Global;
 use std::io;
 use std::io::Write;
+use test_script::{LineFault, Script, first_word, size};
 
 /// All that is prepared.
 #[derive(Drop)]

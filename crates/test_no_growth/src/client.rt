@@ -6,13 +6,13 @@ use base::limits::MAX_BODY;
 use base::{Entity, Key};
 use endpoint::Endpoint;
 use keep_plain::PlainKeep;
-use test_script::LineFault;
 use purchasing::Orders;
 use relay::Relay;
 use std::alloc::Global;
 use stomp_client::{ClientEvent, ClientSession};
 use stomp_frame::{Command, Frame};
 use stomp_session::ServerSession;
+use test_script::LineFault;
 use trade::{Items, OrderCommand};
 
 /// A client's session, the relay that sends letters on it, a RECEIPT that comes, and a SEND.

@@ -5,13 +5,13 @@ use broker_book::QueueFault;
 use broker_core::BrokerFault;
 use broker_tx::TransactionFault;
 use endpoint::EndFault;
-use test_script::{Fault, LineFault};
 use receipts::ReceiptFault;
 use relay::RelayFault;
 use std::alloc::AllocError;
 use stomp_client::ClientFault;
 use stomp_frame::FrameFault;
 use stomp_session::SessionFault;
+use test_script::{Fault, LineFault};
 use thiserror::Error;
 
 /// Why a line has no answer.

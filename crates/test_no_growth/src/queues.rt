@@ -6,10 +6,10 @@ use base::limits::MAX_QUEUED;
 use broker_book::{Action, Mode, Sent, Shared, Subscription};
 use broker_queues::{Queues, Sink};
 use broker_tx::Transactions;
-use test_script::{LineFault, first_word, natural};
 use receipts::Receipts;
 use std::alloc::{AllocError, Global};
 use stomp_session::{Headers, Octets, Text};
+use test_script::{LineFault, first_word, natural};
 
 /// Receipts, transactions and queues.
 #[derive(Drop)]

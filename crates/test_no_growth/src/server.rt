@@ -4,8 +4,8 @@ use crate::answer::Answer;
 use crate::fault::CallFault;
 use base::limits::MAX_QUEUED;
 use broker_core::{Broker, SessionId};
-use test_script::{LineFault, natural};
 use std::alloc::Global;
+use test_script::{LineFault, natural};
 
 /// A broker.
 #[derive(Drop)]

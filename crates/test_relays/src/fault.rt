@@ -2,12 +2,12 @@
 
 use base::EntityFault;
 use endpoint::EndFault;
-use test_script::{Fault, LineFault};
 use reception::ReceptionFault;
 use relay::RelayFault;
 use std::alloc::AllocError;
 use stomp_client::ClientFault;
 use stomp_frame::FrameFault;
+use test_script::{Fault, LineFault};
 use thiserror::Error;
 
 /// Why a line has no answer.

@@ -7,8 +7,8 @@ use endpoint::{Committed, EndFault, Endpoint, Ingested};
 use envelope::{Letter, Message};
 use keep::{Faulty, Leaves};
 use keep_plain::PlainKeep;
-use test_script::{LineFault, first_word, natural, pair, size};
 use std::alloc::{AllocError, Global};
+use test_script::{LineFault, first_word, natural, pair, size};
 
 /// A service of counting orders, over tables in memory that fail where they are told to.
 pub type Service = Endpoint<Counting, Faulty<PlainKeep<Counting>>>;

@@ -4,7 +4,6 @@ use crate::fault::CallFault;
 use crate::service::{Service, call_service, new_service};
 use crate::show::{fault_named, push_drained, push_event, push_sent, push_taken};
 use base::limits::MAX_BODY;
-use test_script::{LineFault, Script, first_word, or_done, read_octets, size};
 use reception::{drain, take_frame};
 use relay::Relay;
 use std::alloc::Global;
@@ -12,6 +11,7 @@ use std::io;
 use std::io::Write;
 use stomp_client::ClientSession;
 use stomp_frame::{Decoder, Frame};
+use test_script::{LineFault, Script, first_word, or_done, read_octets, size};
 use text::push_octets;
 
 /// A service, a client's session, and the relay between them.

@@ -3,12 +3,12 @@
 use crate::fault::CallFault;
 use base::limits::MAX_BODY;
 use endpoint::EndFault;
-use test_script::{LineFault, first_word, natural};
 use reception::{Drained, Taken};
 use relay::RelayFault;
 use std::alloc::{AllocError, Global};
 use stomp_client::{ClientEvent, ClientFault, ClientSession};
 use stomp_frame::{Decoder, Frame};
+use test_script::{LineFault, first_word, natural};
 
 /// Appends a header's value, and a space.
 fn push_value(out: &mut String, frame: &Frame<MAX_BODY>, name: &str) -> Result<(), AllocError> {

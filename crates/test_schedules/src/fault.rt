@@ -1,7 +1,7 @@
 //! Why a line has no answer.
 
-use test_script::{Fault, LineFault};
 use std::alloc::AllocError;
+use test_script::{Fault, LineFault};
 use thiserror::Error;
 
 /// Why a line has no answer.

@@ -1,7 +1,8 @@
 //! Reads schedules from lines, runs them over readers and writers that fail on purpose, and prints what was told.
 //!
-//! A comment, which begins with `#`, an empty line, and a line of a schedule are printed as they are. Each other line has an answer:
-//! `done`, or what follows from the call. Where a growth is refused, the program ends there with status 3.
+//! A comment, which begins with `#`, an empty line, and a line of a schedule are printed as they are. Each other line
+//! has an answer: `done`, or what follows from the call. Where a growth is refused, the program ends there with status
+//! 3.
 //!
 //! A schedule:
 //! - `schedule`: from now on it's empty, and no reader and no writer fails;
@@ -18,14 +19,15 @@
 //!
 //! Calls:
 //! - `read`: `read_schedule` over it;
-//! - `run WORD..`: `run_schedule` with these words behind the program's name; `measure WORD..`: the same, and only sizes are printed;
-//! - `run-each FIRST LAST`: `run` with each of these numbers in its place: what the first told, the lines of each other that differ from
-//!   it, with its number and theirs, and how many runs there were;
+//! - `run WORD..`: `run_schedule` with these words behind the program's name; `measure WORD..`: the same, and only
+//!   sizes are printed;
+//! - `run-each FIRST LAST`: `run` with each of these numbers in its place: what the first told, the lines of each other
+//!   that differ from it, with its number and theirs, and how many runs there were;
 //! - `run-text`, `run-input`: these calls;
 //! - `tell N`, `tell device`, `tell not-utf8`: a faulty line, a failed stream, or words that aren't text are told.
 //!
-//! A line of what was written to `out` stands behind `>`, one of `err` behind `!`; behind `>-` and `!-` one that lacks its LF. Then comes
-//! what was answered, and how many octets of the schedule weren't read, if any.
+//! A line of what was written to `out` stands behind `>`, one of `err` behind `!`; behind `>-` and `!-` one that lacks
+//! its LF. Then comes what was answered, and how many octets of the schedule weren't read, if any.
 #![tactic(auto)]
 
 mod devices;
@@ -33,10 +35,10 @@ mod fault;
 mod runs;
 mod session;
 
-use test_script::run;
 use session::Session;
 use std::io;
 use std::process::ExitCode;
+use test_script::run;
 
 fn main(rt: HostRuntime) -> io::Result<ExitCode> {
     run(&rt, &mut Session::new(rt.alloc()))

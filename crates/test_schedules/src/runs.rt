@@ -2,12 +2,12 @@
 
 use crate::devices::{Limits, Sink, Source};
 use crate::fault::CallFault;
-use test_script::{LineFault, first_word, size};
 use programs::{RunFault, run_input, run_schedule, run_text, tell_bad_words, tell_fault};
 use schedule_text::{ScheduleFault, read_schedule};
 use std::alloc::Global;
 use std::fmt::Write;
 use std::{fmt, io};
+use test_script::{LineFault, first_word, size};
 
 /// What fails, and how much at once is read and written.
 #[derive(Clone, Copy)]
@@ -270,7 +270,8 @@ fn told_with(
     Ok(text)
 }
 
-/// Appends the lines that differ from those of the first run, each behind a line end, and where there are fewer or more.
+/// Appends the lines that differ from those of the first run, each behind a line end, and where there are fewer or
+/// more.
 fn push_differences(
     out: &mut String,
     number: usize,
@@ -291,8 +292,8 @@ fn push_differences(
     Ok(())
 }
 
-/// Appends what `run` tells with each number at a place of the schedule, `FIRST LAST`: the first whole, of each other the lines that
-/// differ from it; then how many runs there were.
+/// Appends what `run` tells with each number at a place of the schedule, `FIRST LAST`: the first whole, of each other
+/// the lines that differ from it; then how many runs there were.
 pub fn push_each(
     alloc: Global,
     out: &mut String,

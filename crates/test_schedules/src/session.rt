@@ -3,10 +3,10 @@
 use crate::devices::Limits;
 use crate::fault::CallFault;
 use crate::runs::{Devices, push_call, push_each, push_read, push_sizes};
-use test_script::{LineFault, Script, first_word, or_done, size};
 use std::alloc::{AllocError, Global};
 use std::io;
 use std::io::Write;
+use test_script::{LineFault, Script, first_word, or_done, size};
 
 /// A schedule, and the devices for its runs.
 #[derive(Drop)]
@@ -80,7 +80,8 @@ impl Session {
         Ok(())
     }
 
-    /// Adds what stands behind the mark of a line of a schedule: behind `-` without an LF, behind `#` with the place of a number.
+    /// Adds what stands behind the mark of a line of a schedule: behind `-` without an LF, behind `#` with the place of
+    /// a number.
     fn add_marked(&mut self, text: &str) -> Result<(), CallFault> {
         if let Some(numbered) = text.strip_prefix('#') {
             return self.add_numbered(without_space(numbered));

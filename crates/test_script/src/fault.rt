@@ -5,7 +5,8 @@ ghost use Rattle.std.specs.Prelude.{◌≡◌};
 use std::alloc::{AllocError, AllocFailed};
 use thiserror::Error;
 
-/// Why a line wasn't read, in any program. A program's own fault holds it beside those of the calls that its lines name.
+/// Why a line wasn't read, in any program. A program's own fault holds it beside those of the calls that its lines
+/// name.
 #[derive(Clone, Copy, Debug, PartialEq, Eq, Error)]
 pub enum LineFault {
     /// No line is so, or a word of it is none of those that stand there.

@@ -16,7 +16,8 @@
 //! }
 //! ```
 //!
-//! `LineFault` is why a line isn't read, whatever the program. A program's own fault holds it beside those of the calls that its lines name.
+//! `LineFault` is why a line isn't read, whatever the program. A program's own fault holds it beside those of the calls
+//! that its lines name.
 #![tactic(auto)]
 
 mod fault;

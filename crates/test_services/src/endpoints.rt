@@ -9,8 +9,8 @@ use endpoint::{Endpoint, Ingested};
 use envelope::Letter;
 use keep::Faulty;
 use keep_plain::PlainKeep;
-use test_script::{LineFault, natural, number, pair, seat};
 use std::alloc::Global;
+use test_script::{LineFault, natural, number, pair, seat};
 
 /// An endpoint of a service.
 pub type Service<S> = Endpoint<S, Faulty<PlainKeep<S>>>;

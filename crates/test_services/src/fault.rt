@@ -3,8 +3,8 @@
 use activities::HandlerFault;
 use base::EntityFault;
 use endpoint::EndFault;
-use test_script::{Fault, LineFault};
 use std::alloc::AllocError;
+use test_script::{Fault, LineFault};
 use thiserror::Error;
 
 /// Why a line has no answer.

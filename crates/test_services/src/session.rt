@@ -9,10 +9,10 @@ use billing::{Account, Accounts};
 use endpoint::Endpoint;
 use keep::Faulty;
 use keep_plain::PlainKeep;
-use test_script::{LineFault, Script, natural, or_done};
 use std::alloc::Global;
 use std::io;
 use std::io::Write;
+use test_script::{LineFault, Script, natural, or_done};
 use warehouse::{Stock, Stocks};
 
 /// A stock and an account, and an endpoint of each service over tables in memory that fail where they are told to.

@@ -4,8 +4,8 @@ use crate::fault::CallFault;
 use activities::Handler;
 use base::{Entity, Kind};
 use billing::{Account, Accounts};
-use test_script::{LineFault, natural, number};
 use std::alloc::Global;
+use test_script::{LineFault, natural, number};
 use trade::{AccountCommand, Holder, LinePhase, Lines, StockCommand};
 use warehouse::{Stock, Stocks};
 

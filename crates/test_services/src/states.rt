@@ -6,8 +6,8 @@ use crate::words::message;
 use activities::{HandlerFault, Input, Out, Outs};
 use base::Entity;
 use envelope::Message;
-use test_script::{LineFault, natural, number, seat};
 use std::alloc::Global;
+use test_script::{LineFault, natural, number, seat};
 
 /// Appends a message.
 pub fn push_message(out: &mut String, message: Message) -> Result<(), CallFault> {

@@ -1,9 +1,9 @@
 //! Why a line has no answer.
 
-use test_script::{Fault, LineFault};
 use std::alloc::AllocError;
 use stomp_frame::FrameFault;
 use stomp_session::SessionFault;
+use test_script::{Fault, LineFault};
 use thiserror::Error;
 
 /// Why a line has no answer.

@@ -2,9 +2,9 @@
 
 use crate::fault::CallFault;
 use base::limits::MAX_BODY;
-use test_script::read_octets;
 use std::alloc::Global;
 use stomp_frame::{Decoder, Frame, FrameFault};
+use test_script::read_octets;
 
 /// Whether a decoder has no further frame.
 fn is_at_end(decoder: &mut Decoder<MAX_BODY>) -> Result<bool, FrameFault> {

@@ -1,9 +1,9 @@
 //! Requests as text: the name of the case, and then each part that is there, as `receipt "r"`.
 
-use test_script::push_octets;
 use std::alloc::AllocError;
 use stomp_frame::Header;
 use stomp_session::{Acknowledge, Connect, Request, Send, Subscribe, Text};
+use test_script::push_octets;
 
 /// Appends a part.
 pub fn push_part(text: &mut String, name: &str, value: &[u8]) -> Result<(), AllocError> {

@@ -4,10 +4,10 @@ use crate::fault::CallFault;
 use crate::frames::read_frame;
 use crate::requests::{push_part, push_request};
 use base::limits::MAX_BODY;
-use test_script::LineFault;
 use std::alloc::{AllocError, Global};
 use stomp_frame::Frame;
 use stomp_session::{Refused, ServerSession, receipt_told};
+use test_script::LineFault;
 
 /// A session, and the frame that it refused last.
 #[derive(Drop)]

@@ -3,10 +3,10 @@
 use crate::fault::{CallFault, session_fault};
 use crate::replies::answer_reply;
 use crate::server::Server;
-use test_script::{LineFault, Script};
 use std::alloc::Global;
 use std::io;
 use std::io::Write;
+use test_script::{LineFault, Script};
 
 /// The session of a server.
 #[derive(Drop)]

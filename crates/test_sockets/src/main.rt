@@ -1,7 +1,8 @@
-//! Serves a broker on a socket of 127.0.0.1 in a thread, and talks to it by clients of its own; each line tells a step and its outcome.
+//! Serves a broker on a socket of 127.0.0.1 in a thread, and talks to it by clients of its own; each line tells a step
+//! and its outcome.
 //!
-//! The lines of the standard input are repeated first. The status is 3 where a growth was refused that one connection wanted, or the
-//! start: the others were served, and the steps are a beginning of all.
+//! The lines of the standard input are repeated first. The status is 3 where a growth was refused that one connection
+//! wanted, or the start: the others were served, and the steps are a beginning of all.
 #![tactic(auto)]
 
 mod client;
@@ -19,7 +20,8 @@ use talk::{Told, tell};
 /// The status of a run in which a growth was refused.
 const NO_MEMORY: u8 = 3;
 
-/// Repeats the lines of the standard input. Each takes growths of its own, so that lines in front move the one that is refused on.
+/// Repeats the lines of the standard input. Each takes growths of its own, so that lines in front move the one that is
+/// refused on.
 fn repeat_lines<R: AllocGlobal + Input + Print>(rt: &R) -> io::Result<()> {
     for line in rt.lines(rt.alloc()) {
         println!(rt; "{}", line?)?;

@@ -56,11 +56,13 @@ fn note(steps: &mut Vec<Step>, what: &'static str, is_right: bool) -> io::Result
 pub struct Told {
     /// The steps that came to an answer.
     pub steps: Vec<Step>,
-    /// How many of the three were cut off in the middle: those that talk to each other, one that waits meanwhile, one that comes behind.
+    /// How many of the three were cut off in the middle: those that talk to each other, one that waits meanwhile, one
+    /// that comes behind.
     pub cut_off: u8,
 }
 
-/// Has two clients talk to each other by the broker at an address, while another waits, which is served behind them, and so is a last one.
+/// Has two clients talk to each other by the broker at an address, while another waits, which is served behind them,
+/// and so is a last one.
 pub fn tell<R: Net<Stream = TcpStream>>(rt: &R, alloc: Global, address: SocketAddr) -> Told {
     let mut told = Told {
         steps: Vec::new(alloc),

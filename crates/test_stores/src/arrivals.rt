@@ -5,9 +5,9 @@ use crate::texts::PairText;
 use crate::words::letter;
 use endpoint::{Endpoint, Ingested};
 use keep::Keep;
-use test_script::{first_word, natural, pair};
 use purchasing::{Order, Orders};
 use std::alloc::Global;
+use test_script::{first_word, natural, pair};
 use trade::OrderCommand;
 
 /// Takes in a letter: `FROM TO N MESSAGE`.

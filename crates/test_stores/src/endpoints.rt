@@ -8,9 +8,9 @@ use crate::words::command;
 use base::{Entity, Pair};
 use endpoint::{EndFault, Endpoint};
 use keep::{Keep, Place};
-use test_script::{LineFault, first_word, natural, pair, seat, size};
 use purchasing::{Order, Orders};
 use std::alloc::Global;
+use test_script::{LineFault, first_word, natural, pair, seat, size};
 use trade::OrderCommand;
 
 /// A command of a seat: `SEAT ENTITY COMMAND`.

@@ -4,9 +4,9 @@ use crate::fault::CallFault;
 use crate::texts::{OrderText, OutsText};
 use crate::words::{input, order};
 use activities::{Handler, HandlerFault, Outs};
-use test_script::{LineFault, first_word};
 use purchasing::{Order, Orders};
 use std::alloc::Global;
+use test_script::{LineFault, first_word};
 
 /// Appends an answer, the order then, and what is sent.
 fn push_told(

@@ -1,8 +1,8 @@
 //! Reads lines that name calls of tables, stores, handlers of orders and endpoints, and prints their answers.
 //!
-//! A comment, which begins with `#`, and an empty line are printed as they are. Each other line has one answer: what the call gives,
-//! `done`, or the text of its fault. So the answer to a line of `stdin` stands at the same line of `stdout`. Where a growth is refused,
-//! the program ends there with status 3.
+//! A comment, which begins with `#`, and an empty line are printed as they are. Each other line has one answer: what
+//! the call gives, `done`, or the text of its fault. So the answer to a line of `stdin` stands at the same line of
+//! `stdout`. Where a growth is refused, the program ends there with status 3.
 //!
 //! An order:
 //! - `order opening`, `order is ORDER`: from now on it is the one that took nothing in, or this one;
@@ -12,20 +12,22 @@
 //! A store:
 //! - `store new`: its tables are empty, and no call is armed;
 //! - `store note CHANGE`, `store apply`: a change is noted; one transaction makes those that were noted;
-//! - `store do CHANGE`, `store apply-armed LEAVES`: a transaction makes one change; one is to make those that were noted, and fails;
+//! - `store do CHANGE`, `store apply-armed LEAVES`: a transaction makes one change; one is to make those that were
+//!   noted, and fails;
 //! - `store arm N LEAVES`, `store disarm`: the N-th call from now on fails, or none does;
 //! - `store usable`, `store reopen`: whether it may be called; it is opened again;
-//! - `store entity ENTITY`, `store held PAIR N`, `store drainable`, `store length`: a row, a held message, the first pair that can be
-//!   drained, how many rows the journal has;
-//! - `store sent PAIR`, `store settled PAIR`, `store handled PAIR`: a mark of a pair; `store sent-disarmed PAIR`: the first, by a call
-//!   that isn't armed;
-//! - `store outbox LIMIT [PAIR N]`, `store journal N LIMIT`: the first letters after a letter's place; the first rows from a position on.
+//! - `store entity ENTITY`, `store held PAIR N`, `store drainable`, `store length`: a row, a held message, the first
+//!   pair that can be drained, how many rows the journal has;
+//! - `store sent PAIR`, `store settled PAIR`, `store handled PAIR`: a mark of a pair; `store sent-disarmed PAIR`: the
+//!   first, by a call that isn't armed;
+//! - `store outbox LIMIT [PAIR N]`, `store journal N LIMIT`: the first letters after a letter's place; the first rows
+//!   from a position on.
 //!
 //! An endpoint:
 //! - `endpoint new`, `endpoint over-store`: it is over empty tables, or over the store's, which are empty then;
 //! - `endpoint commit SEAT ENTITY COMMAND`, `endpoint view ENTITY`: a seat's command; a row;
-//! - `endpoint ingest PAIR N MESSAGE`, `endpoint drain PAIR`, `endpoint settle PAIR N`, `endpoint drainable`: a letter arrives; the next
-//!   letter is handled where it is held; letters are settled; the first pair that can be drained;
+//! - `endpoint ingest PAIR N MESSAGE`, `endpoint drain PAIR`, `endpoint settle PAIR N`, `endpoint drainable`: a letter
+//!   arrives; the next letter is handled where it is held; letters are settled; the first pair that can be drained;
 //! - `arm`, `disarm`, `usable`, `reopen`, `sent`, `settled`, `handled`, `outbox`, `journal` and `length` as of a store.
 //!
 //! `fault store N` and `fault endpoint N` give the text of the fault of this number.
@@ -36,10 +38,10 @@
 //! - a MESSAGE is `Request N`, `Tentative`, `Refused`, `Confirm` or `Cancel`;
 //! - a COMMAND is `place STOCK N .. ACCOUNT N`, by their keys, with STOCK N as often as one likes, or `cancel`;
 //! - an INPUT is `seat N COMMAND`, or `from ENTITY N MESSAGE`, with the letter's number;
-//! - an ORDER is `none`, or as `Open stock/bolt 3 Requested stock/nut 4 Tentative account/ann 500 Tentative`: one to eight stocks, each
-//!   once, and then an account;
-//! - a CHANGE is `journal N ENTITY INPUT`, at position N, `state ENTITY ORDER`, `no-state ENTITY`, `sent PAIR N MESSAGE`,
-//!   `settled PAIR N`, `handled PAIR N`, `held PAIR N MESSAGE` or `not-held PAIR N`.
+//! - an ORDER is `none`, or as `Open stock/bolt 3 Requested stock/nut 4 Tentative account/ann 500 Tentative`: one to
+//!   eight stocks, each once, and then an account;
+//! - a CHANGE is `journal N ENTITY INPUT`, at position N, `state ENTITY ORDER`, `no-state ENTITY`, `sent PAIR N
+//!   MESSAGE`, `settled PAIR N`, `handled PAIR N`, `held PAIR N MESSAGE` or `not-held PAIR N`.
 #![tactic(auto)]
 
 mod arrivals;
@@ -56,11 +58,11 @@ mod texts;
 mod words;
 
 use keep_plain::PlainKeep;
-use test_script::run;
 use purchasing::Orders;
 use session::Session;
 use std::io;
 use std::process::ExitCode;
+use test_script::run;
 
 fn main(rt: HostRuntime) -> io::Result<ExitCode> {
     run(&rt, &mut Session::<PlainKeep<Orders>>::new(rt.alloc()))

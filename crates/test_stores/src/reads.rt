@@ -7,9 +7,9 @@ use crate::tables::place;
 use crate::texts::{LettersText, MessageText, PairText, RowsText, StateText};
 use base::{Entity, Pair};
 use keep::{Keep, KeepFault, Place};
-use test_script::{LineFault, first_word, natural, number, pair, size};
 use purchasing::Order;
 use std::alloc::Global;
+use test_script::{LineFault, first_word, natural, number, pair, size};
 use trade::OrderCommand;
 
 /// The row of an entity.

@@ -10,15 +10,15 @@ use crate::words::leaves;
 use endpoint::Endpoint;
 use keep::{Faulty, Keep};
 use keep_plain::PlainKeep;
-use test_script::{LineFault, Script, first_word, natural, or_done};
 use purchasing::{Order, Orders};
 use std::alloc::Global;
 use std::io::Write;
 use std::{io, mem};
+use test_script::{LineFault, Script, first_word, natural, or_done};
 use trade::OrderCommand;
 
-/// An order; a store that fails where it is told to, and the changes that were noted for its next transaction; and an endpoint over another
-/// such store.
+/// An order; a store that fails where it is told to, and the changes that were noted for its next transaction; and an
+/// endpoint over another such store.
 #[derive(Drop)]
 pub struct Session<K>
 where

@@ -7,10 +7,10 @@ use crate::tables::{OrderChange, add_change};
 use crate::words::leaves;
 use keep::{Faulty, Keep};
 use keep_plain::PlainKeep;
-use test_script::{first_word, natural, pair};
 use purchasing::{Order, Orders};
 use std::alloc::Global;
 use std::mem;
+use test_script::{first_word, natural, pair};
 use trade::OrderCommand;
 
 /// A store that can be made with empty tables.

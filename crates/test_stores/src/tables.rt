@@ -5,9 +5,9 @@ use crate::words::{input, letter, order};
 use activities::JournalRow;
 use base::Entity;
 use keep::{Change, Place};
-use test_script::{LineFault, first_word, number, pair};
 use purchasing::Order;
 use std::alloc::Global;
+use test_script::{LineFault, first_word, number, pair};
 use trade::OrderCommand;
 
 /// A change of the tables of orders.

@@ -5,9 +5,9 @@ use activities::{Input, Phase};
 use base::{Entity, Key};
 use envelope::{Letter, Message};
 use keep::Leaves;
-use test_script::{LineFault, first_word, natural, number, pair, seat};
 use purchasing::{Order, Partner};
 use std::alloc::Global;
+use test_script::{LineFault, first_word, natural, number, pair, seat};
 use trade::{Item, Items, OrderCommand, Status};
 
 /// A message: `Request N`, `Tentative`, `Refused`, `Confirm` or `Cancel`.
@@ -143,7 +143,8 @@ fn partners(alloc: Global, text: &str) -> Result<Vec<Partner>, CallFault> {
     Ok(partners)
 }
 
-/// An order: `none`, or `STATUS ENTITY N PHASE ..`. Its partners are one to eight stocks, each once, and then an account.
+/// An order: `none`, or `STATUS ENTITY N PHASE ..`. Its partners are one to eight stocks, each once, and then an
+/// account.
 pub fn order(alloc: Global, text: &str) -> Result<Option<Order>, CallFault> {
     if text == "none" {
         return Ok(None);

@@ -13,7 +13,8 @@ use Rattle.relay.specs.Knowing.{IsUpto}
 
 -- of what stands up to a place, that whose sender has none of these rows isn't above what was sent of its pair
 abbrev pub SentBut : {C : Type 0} → List (JournalRow C) → (Pair → ℕ) → Messages → Option Place → Type 0
-SentBut news marks messages reach = (x : Place) → IsUpto reach x → part x.pair.from news ≡ [] → IsSome (messages x.pair x.number)
+SentBut news marks messages reach =
+    (x : Place) → IsUpto reach x → part x.pair.from news ≡ [] → IsSome (messages x.pair x.number)
     → x.number ≤ marks x.pair
 
 -- an entity doesn't come before the sender of a place

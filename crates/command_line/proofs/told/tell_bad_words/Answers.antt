@@ -9,23 +9,28 @@ pub returns-in_err-write_three-clause-untold : goal.returns-in_err-write_three-c
 returns-in_err-write_three-clause-untold g c =
     let at = g.E.Write.contents in
     on_err_always c.from_residual.result
-    (subst (λ (usage : List ℕ). AppendsPart (at c.args.err.now) (at c.write_three.new.out) (bad_words_text usage)) c.as_bytes.ensures.value
+    (subst (λ (usage : List ℕ). AppendsPart (at c.args.err.now) (at c.write_three.new.out) (bad_words_text usage))
+    c.as_bytes.ensures.value
     c.in_err-write_three.ensures.err)
 
 pub returns-in_err-flush-clause-untold : goal.returns-in_err-flush-clause-untold
 returns-in_err-flush-clause-untold g c =
     let at = g.E.Write.contents in
     on_err_always c.from_residual-in_err-flush.result
-    (subst (λ (usage : List ℕ). AppendsPart (at c.args.err.now) (at c.flush.new.self) (bad_words_text usage)) c.as_bytes.ensures.value
+    (subst (λ (usage : List ℕ). AppendsPart (at c.args.err.now) (at c.flush.new.self) (bad_words_text usage))
+    c.as_bytes.ensures.value
     (part_whole (at c.args.err.now) (at c.flush.new.self) (bad_words_text c.as_bytes.result.now)
-    (appends_keeps (at c.args.err.now) (at c.write_three.new.out) (at c.flush.new.self) (bad_words_text c.as_bytes.result.now)
+    (appends_keeps (at c.args.err.now) (at c.write_three.new.out) (at c.flush.new.self)
+    (bad_words_text c.as_bytes.result.now)
     c.in_ok-write_three.ensures.ok c.in_err-flush.ensures.bytes)))
 
 pub returns-clause-told : goal.returns-clause-told
 returns-clause-told g c =
     let at = g.E.Write.contents in (
       refl,
-      subst (λ (usage : List ℕ). Appends (at c.args.err.now) (at c.flush.new.self) (bad_words_text usage)) c.as_bytes.ensures.value
-          (appends_keeps (at c.args.err.now) (at c.write_three.new.out) (at c.flush.new.self) (bad_words_text c.as_bytes.result.now)
+      subst (λ (usage : List ℕ). Appends (at c.args.err.now) (at c.flush.new.self) (bad_words_text usage))
+          c.as_bytes.ensures.value
+          (appends_keeps (at c.args.err.now) (at c.write_three.new.out) (at c.flush.new.self)
+          (bad_words_text c.as_bytes.result.now)
           c.in_ok-write_three.ensures.ok c.in_ok-flush.ensures.bytes),
     )

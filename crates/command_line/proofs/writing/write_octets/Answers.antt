@@ -12,7 +12,8 @@ loop-preserved g c =
     let xs = c.args.octets.now in
     let fits = c.in_ok-written.ensures.bound in
     let most = length-take (length xs - done) (drop done xs) in
-    let joined = ap (λ l. take done xs ++ l) (take-take n (length xs - done) (drop done xs) (omega arith)) ∙ sym (take-add done n xs) in
+    let joined = ap (λ l. take done xs ++ l) (take-take n (length xs - done) (drop done xs) (omega arith))
+    ∙ sym (take-add done n xs) in
     record {
       within = omega arith;
       appended = subst (Appends (at c.args.out.now) (at c.write_some.new.out)) joined

@@ -4,7 +4,8 @@ use Rattle.laws_events.proofs.laws.one_of_three_makes_nothing_up.Goals as goal
 
 pub returns-clause-acts : goal.returns-clause-acts
 returns-clause-acts g c test s t b d from to leads genuine =
-    first_keeps (passing test) s t b d from to g.K.Keep.seen g.met.K.Keep.sound g.H.Handler.service leads.event leads.outcome leads.clean
+    first_keeps (passing test) s t b d from to g.K.Keep.seen g.met.K.Keep.sound g.H.Handler.service leads.event
+    leads.outcome leads.clean
     leads.matched leads.right leads.true_passes leads.happens genuine
 
 pub returns-clause-turned : goal.returns-clause-turned

@@ -6,7 +6,8 @@ pub returns-clause-grows : goal.returns-clause-grows
 returns-clause-grows c = reached_grows
 
 pub returns-clause-authentic : goal.returns-clause-authentic
-returns-clause-authentic c = λ old new e reached h. authentic-later old.journals new.journals (reached_grows old new reached) e h
+returns-clause-authentic c =
+    λ old new e reached h. authentic-later old.journals new.journals (reached_grows old new reached) e h
 
 pub returns-clause-marks : goal.returns-clause-marks
 returns-clause-marks c = reached_marks

@@ -6,5 +6,6 @@ use Rattle.laws_network.proofs.turn.act.Goals as goal
 
 pub returns-in-Reopen-clause-turns : goal.returns-in-Reopen-clause-turns
 returns-in-Reopen-clause-turns g c = rw c.in-Reopen.is
-    (finds_turns g.K.Keep.seen c.args.own.now c.reopen.new.self g.H.Handler.service Reopen (Reopened c.reopen.result) c.args.arriving.now
+    (finds_turns g.K.Keep.seen c.args.own.now c.reopen.new.self g.H.Handler.service Reopen (Reopened c.reopen.result)
+    c.args.arriving.now
     c.args.post.now c.args.post.now (λ x. refl) (λ x. refl) c.reopen.ensures.finds)

@@ -14,9 +14,12 @@ returns-in-Some-Letter-clause-turns g c = λ sent.
     let found = c.in-Some-Letter.ensures.lookup in
     let read : slice_get arriving c.args.index ≡ Some c.in-Some-Letter.field-0.now =
     slice_get_read arriving (length arriving) c.args.index c.in-Some-Letter.field-0.now refl found.3.0 found.1 in
-    let at : slice_get arriving c.args.index ≡ Some (Letter c.in-Some-Letter.letter) = cc (read, c.in-Some-Letter.field-0-is) in
-    comes_turns g.K.Keep.seen c.args.own.now c.ingest.new.self g.H.Handler.service (Take c.args.index) (Taken c.ingest.result) arriving
-    sent sent (IngestMay g.H.Handler.service c.in-Some-Letter.letter c.ingest.result) (λ x d may. (c.in-Some-Letter.letter, at, may))
+    let at : slice_get arriving c.args.index ≡ Some (Letter c.in-Some-Letter.letter) =
+    cc (read, c.in-Some-Letter.field-0-is) in
+    comes_turns g.K.Keep.seen c.args.own.now c.ingest.new.self g.H.Handler.service (Take c.args.index)
+    (Taken c.ingest.result) arriving
+    sent sent (IngestMay g.H.Handler.service c.in-Some-Letter.letter c.ingest.result)
+    (λ x d may. (c.in-Some-Letter.letter, at, may))
     (λ x. refl) c.ingest.ensures.comes
 
 pub returns-in-Some-Settle-clause-turns : goal.returns-in-Some-Settle-clause-turns
@@ -27,7 +30,8 @@ returns-in-Some-Settle-clause-turns g c = λ sent.
     slice_get_read arriving (length arriving) c.args.index c.in-Some-Settle.field-0.now refl found.3.0 found.1 in
     let at : slice_get arriving c.args.index ≡ Some (Settle c.in-Some-Settle.pair c.in-Some-Settle.number) =
     cc (read, c.in-Some-Settle.field-0-is) in
-    comes_turns g.K.Keep.seen c.args.own.now c.settle.new.self g.H.Handler.service (Take c.args.index) (Settled c.settle.result) arriving
+    comes_turns g.K.Keep.seen c.args.own.now c.settle.new.self g.H.Handler.service (Take c.args.index)
+    (Settled c.settle.result) arriving
     sent sent (SettleMay g.H.Handler.service c.in-Some-Settle.pair c.in-Some-Settle.number c.settle.result)
     (λ x d may. (c.in-Some-Settle.pair, c.in-Some-Settle.number, at, may)) (λ x. refl) c.settle.ensures.comes
 
@@ -35,5 +39,6 @@ pub returns-in-None-clause-turns : goal.returns-in-None-clause-turns
 returns-in-None-clause-turns g c = λ sent.
     let arriving = c.args.arriving.now in
     let at : slice_get arriving c.args.index ≡ None = slice_get_past arriving c.args.index c.in-None.ensures.lookup.3 in
-    stays_turns g.K.Keep.seen c.args.own.now c.args.own.now g.H.Handler.service (Take c.args.index) Missing arriving sent sent
+    stays_turns g.K.Keep.seen c.args.own.now c.args.own.now g.H.Handler.service (Take c.args.index) Missing arriving
+    sent sent
     (λ x. (at, refl)) (λ clean good t b. refl) (λ clean t b. b)

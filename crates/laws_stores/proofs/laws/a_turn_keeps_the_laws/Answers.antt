@@ -13,4 +13,5 @@ pub returns-clause-held : goal.returns-clause-held
 returns-clause-held c = λ x y turn held. turn_holds (IsAuthentic (journals_of x)) x y turn (λ e known. known) held
 
 pub returns-clause-authentic : goal.returns-clause-authentic
-returns-clause-authentic c = λ x y e turn held. turn_authentic (IsAuthentic (journals_of x)) x y turn (λ f known. known) held e
+returns-clause-authentic c =
+    λ x y e turn held. turn_authentic (IsAuthentic (journals_of x)) x y turn (λ f known. known) held e

@@ -11,5 +11,6 @@ loop-at-preserved c =
     let more = partners_more partners c.loop-at.at c.in-Some.partner.now within (sym c.in-Some.ensures) in
     c.in_ok-push_partner.ensures
     ∙ ap (λ t. t ++ shown_partner c.in-Some.partner.now) c.loop-at.invariant
-    ∙ append_assoc c.args.line.now.items (flat_map shown_partner (take c.loop-at.at partners)) (shown_partner c.in-Some.partner.now)
+    ∙ append_assoc c.args.line.now.items (flat_map shown_partner (take c.loop-at.at partners))
+    (shown_partner c.in-Some.partner.now)
     ∙ ap (λ t. c.args.line.now.items ++ t) (sym more)

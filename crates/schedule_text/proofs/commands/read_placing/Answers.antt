@@ -9,4 +9,5 @@ loop-rest-preserved c =
     let read : item_of (take 2 c.loop-rest.rest.now) ≡ Some c.in_ok-read_item.field-0 =
     rw (← c.split_at.ensures.front) c.in_ok-read_item.ensures in
     rw (c.in_ok-push.ensures.items, c.split_at.ensures.back)
-    (pairs_go_on c.loop-rest.items.items c.loop-rest.rest.now c.in_ok-read_item.field-0 _ many read c.loop-rest.invariant)
+    (pairs_go_on c.loop-rest.items.items c.loop-rest.rest.now c.in_ok-read_item.field-0 _ many read
+    c.loop-rest.invariant)

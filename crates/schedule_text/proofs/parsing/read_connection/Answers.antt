@@ -11,7 +11,8 @@ returns-in_err-service c = rw (two c.args.words.now c.service-item.result c.numb
 pub returns-in_err-number : goal.returns-in_err-number
 returns-in_err-number c = rw (two c.args.words.now c.service-item.result c.number-item.result
     c.in-len2.len_at_least c.in-len2.len_below c.service-item.is c.number-item.is)
-    (answers_fault _ c.from_residual-in_err-number.result c.in_err-number.field-0.0 _ c.from_residual-in_err-number.ensures.1
+    (answers_fault _ c.from_residual-in_err-number.result c.in_err-number.field-0.0 _
+    c.from_residual-in_err-number.ensures.1
     (then_fails _ _ _ _ c.in_ok-service.ensures
     (fails_first _ _ _ c.in_err-number.ensures)))
 

@@ -11,14 +11,16 @@ returns-in_err-service c = rw (three c.args.words.now c.service-item.result c.pl
 pub returns-in_err-place : goal.returns-in_err-place
 returns-in_err-place c = rw (three c.args.words.now c.service-item.result c.place-item.result c.leaves-item.result
     c.in-len3.len_at_least c.in-len3.len_below c.service-item.is c.place-item.is c.leaves-item.is)
-    (answers_fault _ c.from_residual-in_err-place.result c.in_err-place.field-0.0 _ c.from_residual-in_err-place.ensures.1
+    (answers_fault _ c.from_residual-in_err-place.result c.in_err-place.field-0.0 _
+    c.from_residual-in_err-place.ensures.1
     (then_fails _ _ _ _ c.in_ok-service.ensures
     (fails_first _ _ _ c.in_err-place.ensures)))
 
 pub returns-in_err-leaves : goal.returns-in_err-leaves
 returns-in_err-leaves c = rw (three c.args.words.now c.service-item.result c.place-item.result c.leaves-item.result
     c.in-len3.len_at_least c.in-len3.len_below c.service-item.is c.place-item.is c.leaves-item.is)
-    (answers_fault _ c.from_residual-in_err-leaves.result c.in_err-leaves.field-0.0 _ c.from_residual-in_err-leaves.ensures.1
+    (answers_fault _ c.from_residual-in_err-leaves.result c.in_err-leaves.field-0.0 _
+    c.from_residual-in_err-leaves.ensures.1
     (then_fails _ _ _ _ c.in_ok-service.ensures
     (then_fails _ _ _ _ c.in_ok-place.ensures
     (fails_first _ _ _ c.in_err-leaves.ensures))))

@@ -11,14 +11,16 @@ returns-in_err-service c = rw (three c.args.words.now c.service-item.result c.nu
 pub returns-in_err-number : goal.returns-in_err-number
 returns-in_err-number c = rw (three c.args.words.now c.service-item.result c.number-item.result c.limit-item.result
     c.in-len3.len_at_least c.in-len3.len_below c.service-item.is c.number-item.is c.limit-item.is)
-    (answers_fault _ c.from_residual-in_err-number.result c.in_err-number.field-0.0 _ c.from_residual-in_err-number.ensures.1
+    (answers_fault _ c.from_residual-in_err-number.result c.in_err-number.field-0.0 _
+    c.from_residual-in_err-number.ensures.1
     (fails_first _ _ _ (then_fails _ _ _ _ c.in_ok-service.ensures
     (fails_first _ _ _ c.in_err-number.ensures))))
 
 pub returns-in_err-limit : goal.returns-in_err-limit
 returns-in_err-limit c = rw (three c.args.words.now c.service-item.result c.number-item.result c.limit-item.result
     c.in-len3.len_at_least c.in-len3.len_below c.service-item.is c.number-item.is c.limit-item.is)
-    (answers_fault _ c.from_residual-in_err-limit.result c.in_err-limit.field-0.0 _ c.from_residual-in_err-limit.ensures.1
+    (answers_fault _ c.from_residual-in_err-limit.result c.in_err-limit.field-0.0 _
+    c.from_residual-in_err-limit.ensures.1
     (then_fails _ _ _ _ (then_reads _ _ _ _ c.in_ok-service.ensures (then_reads _ _ _ _ c.in_ok-number.ensures refl))
     (fails_first _ _ _ c.in_err-limit.ensures)))
 

@@ -7,5 +7,6 @@ pub returns : goal.returns
 returns c = record {
   frames = c.in_ok-frame.frame ∷ [];
   each = (c.holds.ensures, tt);
-  whole = c.in_ok-encode.ensures.appended ∙ rw c.new-octets.ensures.items (sym (append-nil (canonical c.in_ok-frame.frame)));
+  whole = c.in_ok-encode.ensures.appended
+      ∙ rw c.new-octets.ensures.items (sym (append-nil (canonical c.in_ok-frame.frame)));
 }

@@ -6,7 +6,8 @@ use Rattle.relay.proofs.relay.Relay.fill_letters.Goals as goal
 pub returns-then-count-limit-clause-fills : goal.returns-then-count-limit-clause-fills
 returns-then-count-limit-clause-fills c =
     at_limit c.args.limit c.args.letters.now (send_state c.args.self.now c.args.client.now)
-    (send_state c.loop-letter.self c.loop-letter.client) c.loop-letter.count _ c.loop-letter.invariant.0 c.if-count-limit.true
+    (send_state c.loop-letter.self c.loop-letter.client) c.loop-letter.count _ c.loop-letter.invariant.0
+    c.if-count-limit.true
 
 pub returns-clause-fills : goal.returns-clause-fills
 returns-clause-fills c =
@@ -18,7 +19,8 @@ pub loop-letter-preserved-then-find-get : goal.loop-letter-preserved-then-find-g
 loop-letter-preserved-then-find-get c = (
   skip c.args.limit c.args.letters.now (send_state c.args.self.now c.args.client.now)
       (send_state c.loop-letter.self c.loop-letter.client) c.loop-letter.count c.letter-item.result _ _
-      (letter_at c.args.letters.now c.loop-letter.letter-index c.letter-item.result c.loop-letter-test.true c.letter-item.is)
+      (letter_at c.args.letters.now c.loop-letter.letter-index c.letter-item.result c.loop-letter-test.true
+      c.letter-item.is)
       c.loop-letter.invariant.0
       (is_not c.find.result c.get.result _ _ c.find.ensures c.get.ensures.value c.if-find-get.true),
   c.loop-letter.invariant.1,
@@ -31,7 +33,8 @@ loop-letter-preserved c =
     let within = f.within in (
       send c.args.limit c.args.letters.now (send_state c.args.self.now c.args.client.now)
           (send_state c.loop-letter.self c.loop-letter.client) c.loop-letter.count c.letter-item.result _ _
-          (letter_at c.args.letters.now c.loop-letter.letter-index c.letter-item.result c.loop-letter-test.true c.letter-item.is) f
+          (letter_at c.args.letters.now c.loop-letter.letter-index c.letter-item.result c.loop-letter-test.true
+          c.letter-item.is) f
           (omega (arith, within, c.if-count-limit.false))
           (is_so c.find.result c.get.result _ _ c.find.ensures c.get.ensures.value c.if-find-get.false)
           (send_state c.send_letter.new.self c.send_letter.new.client) c.in-Ok.ensures.sends,
@@ -45,7 +48,8 @@ returns-in-Err-clause-fills c =
     let within = f.within in
     stopped c.args.limit c.args.letters.now (send_state c.args.self.now c.args.client.now)
     (send_state c.loop-letter.self c.loop-letter.client) c.loop-letter.count c.letter-item.result _ _
-    (letter_at c.args.letters.now c.loop-letter.letter-index c.letter-item.result c.loop-letter-test.true c.letter-item.is) f
+    (letter_at c.args.letters.now c.loop-letter.letter-index c.letter-item.result c.loop-letter-test.true
+    c.letter-item.is) f
     c.in-Err.fault (omega (arith, within, c.if-count-limit.false))
     (is_so c.find.result c.get.result _ _ c.find.ensures c.get.ensures.value c.if-find-get.false)
     (send_state c.send_letter.new.self c.send_letter.new.client) c.in-Err.ensures.same c.in-Err.ensures.fault

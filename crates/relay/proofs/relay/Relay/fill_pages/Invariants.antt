@@ -16,5 +16,6 @@ invariant-loop-page g l = HasRead g.K.Keep.seen l.fn.endpoint l.endpoint
     × ((g.K.Keep.seen l.endpoint).doubt ≡ 0
     → AllSent (marks_of l.fn.self) (g.K.Keep.seen l.fn.endpoint).tables.unsettled l.fn.self.behind
     → SentBut l.fn.news (marks_of l.fn.self) (g.K.Keep.seen l.fn.endpoint).tables.unsettled l.fn.reach
-    → AllSent (marks_of l.self) (g.K.Keep.seen l.fn.endpoint).tables.unsettled l.self.behind) × (l.self.rows ≡ l.fn.self.rows)
+    → AllSent (marks_of l.self) (g.K.Keep.seen l.fn.endpoint).tables.unsettled l.self.behind)
+    × (l.self.rows ≡ l.fn.self.rows)
     × ((p : Pair) → marks_of l.fn.self p ≤ marks_of l.self p)

@@ -47,7 +47,8 @@ pub returns-in-StopBroker : goal.returns-in-StopBroker
 returns-in-StopBroker g c = rw c.in-StopBroker.is c.stop_broker.ensures
 
 pub returns-in-Pump : goal.returns-in-Pump
-returns-in-Pump g c = rw c.in-Pump.is (passes_pump g.KO.Keep.seen g.KS.Keep.seen g.KA.Keep.seen c.in-Pump.rounds c.args.self.now
+returns-in-Pump g c =
+    rw c.in-Pump.is (passes_pump g.KO.Keep.seen g.KS.Keep.seen g.KA.Keep.seen c.in-Pump.rounds c.args.self.now
     c.pump.new.self c.pump.ensures)
 
 pub returns-in-Show : goal.returns-in-Show

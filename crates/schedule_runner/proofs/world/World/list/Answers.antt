@@ -31,6 +31,9 @@ returns-in-Billing g c =
     rw c.in-Billing.is
     (lift_account_read g.KO.Keep.seen g.KS.Keep.seen g.KA.Keep.seen
     (ListOf g.KO.Keep.seen g.KS.Keep.seen g.KA.Keep.seen Billing c.args.listing c.look_at_list-in-Billing.result)
-    c.args.self.now (record c.args.self.now { billing = c.look_at_list-in-Billing.new.site; mail = c.look_at_list-in-Billing.new.mail })
+    c.args.self.now (record c.args.self.now {
+      billing = c.look_at_list-in-Billing.new.site;
+      mail = c.look_at_list-in-Billing.new.mail;
+    })
     refl refl c.look_at_list-in-Billing.ensures.store (c.look_at_list-in-Billing.ensures.did, refl, refl)
     c.look_at_list-in-Billing.ensures.did)

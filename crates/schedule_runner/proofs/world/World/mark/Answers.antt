@@ -17,8 +17,12 @@ pub returns-in-Stock : goal.returns-in-Stock
 returns-in-Stock g c =
     rw c.in-Stock.is
     (lift_stock_read g.KO.Keep.seen g.KS.Keep.seen g.KA.Keep.seen
-    (MarkOf g.KO.Keep.seen g.KS.Keep.seen g.KA.Keep.seen Stock c.args.mark c.args.pair.now c.look_at_mark-in-Stock.result)
-    c.args.self.now (record c.args.self.now { warehouse = c.look_at_mark-in-Stock.new.site; mail = c.look_at_mark-in-Stock.new.mail })
+    (MarkOf g.KO.Keep.seen g.KS.Keep.seen g.KA.Keep.seen Stock c.args.mark c.args.pair.now
+    c.look_at_mark-in-Stock.result)
+    c.args.self.now (record c.args.self.now {
+      warehouse = c.look_at_mark-in-Stock.new.site;
+      mail = c.look_at_mark-in-Stock.new.mail;
+    })
     refl c.look_at_mark-in-Stock.ensures.store refl (c.look_at_mark-in-Stock.ensures.did, refl, refl)
     c.look_at_mark-in-Stock.ensures.did)
 
@@ -26,7 +30,11 @@ pub returns-in-Account : goal.returns-in-Account
 returns-in-Account g c =
     rw c.in-Account.is
     (lift_account_read g.KO.Keep.seen g.KS.Keep.seen g.KA.Keep.seen
-    (MarkOf g.KO.Keep.seen g.KS.Keep.seen g.KA.Keep.seen Account c.args.mark c.args.pair.now c.look_at_mark-in-Account.result)
-    c.args.self.now (record c.args.self.now { billing = c.look_at_mark-in-Account.new.site; mail = c.look_at_mark-in-Account.new.mail })
+    (MarkOf g.KO.Keep.seen g.KS.Keep.seen g.KA.Keep.seen Account c.args.mark c.args.pair.now
+    c.look_at_mark-in-Account.result)
+    c.args.self.now (record c.args.self.now {
+      billing = c.look_at_mark-in-Account.new.site;
+      mail = c.look_at_mark-in-Account.new.mail;
+    })
     refl refl c.look_at_mark-in-Account.ensures.store (c.look_at_mark-in-Account.ensures.did, refl, refl)
     c.look_at_mark-in-Account.ensures.did)

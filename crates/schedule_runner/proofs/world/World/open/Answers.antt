@@ -13,7 +13,8 @@ returns-clause-good g c = opened_good g.KO.Keep.seen g.KS.Keep.seen g.KA.Keep.se
 })
     (ap (λ (s : Site _ _ _ _). s.zero) c.new.ensures) (ap (λ (s : Site _ _ _ _). s.one) c.new.ensures)
     (ap (λ (s : Site _ _ _ _). s.zero) c.new-2.ensures) (ap (λ (s : Site _ _ _ _). s.one) c.new-2.ensures)
-    (ap (λ (s : Site _ _ _ _). s.zero) c.new-3.ensures) (ap (λ (s : Site _ _ _ _). s.one) c.new-3.ensures) c.new-4.ensures
+    (ap (λ (s : Site _ _ _ _). s.zero) c.new-3.ensures) (ap (λ (s : Site _ _ _ _). s.one) c.new-3.ensures)
+    c.new-4.ensures
 
 pub returns-clause-unused : goal.returns-clause-unused
 returns-clause-unused g c = new_good g.KO.Keep.seen g.KS.Keep.seen g.KA.Keep.seen (record {
@@ -25,4 +26,5 @@ returns-clause-unused g c = new_good g.KO.Keep.seen g.KS.Keep.seen g.KA.Keep.see
 })
     (ap (λ (s : Site _ _ _ _). s.zero) c.new.ensures) (ap (λ (s : Site _ _ _ _). s.one) c.new.ensures)
     (ap (λ (s : Site _ _ _ _). s.zero) c.new-2.ensures) (ap (λ (s : Site _ _ _ _). s.one) c.new-2.ensures)
-    (ap (λ (s : Site _ _ _ _). s.zero) c.new-3.ensures) (ap (λ (s : Site _ _ _ _). s.one) c.new-3.ensures) c.new-4.ensures
+    (ap (λ (s : Site _ _ _ _). s.zero) c.new-3.ensures) (ap (λ (s : Site _ _ _ _). s.one) c.new-3.ensures)
+    c.new-4.ensures

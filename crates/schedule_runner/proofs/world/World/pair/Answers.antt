@@ -5,10 +5,12 @@ use Rattle.schedule_runner.proofs.Reading.{passes_next, passes_fault}
 use Rattle.schedule_runner.proofs.world.World.pair.Goals as goal
 
 pub returns-in-Ok : goal.returns-in-Ok
-returns-in-Ok g c = passes_next g.KO.Keep.seen g.KS.Keep.seen g.KA.Keep.seen c.kind.result c.args.pair.now.from.kind c.kind.ensures.kind
+returns-in-Ok g c =
+    passes_next g.KO.Keep.seen g.KS.Keep.seen g.KA.Keep.seen c.kind.result c.args.pair.now.from.kind c.kind.ensures.kind
     Sent c.args.pair.now
     (λ (sent : ℕ). ShowsSettled g.KO.Keep.seen g.KS.Keep.seen g.KA.Keep.seen c.args.pair.now sent)
-    c.mark.result c.pair_settled.result c.in-Ok.sent c.args.self.now c.mark.new.self c.pair_settled.new.self c.in-Ok.is c.mark.ensures
+    c.mark.result c.pair_settled.result c.in-Ok.sent c.args.self.now c.mark.new.self c.pair_settled.new.self c.in-Ok.is
+    c.mark.ensures
     c.pair_settled.ensures
 
 pub returns-in-Err : goal.returns-in-Err

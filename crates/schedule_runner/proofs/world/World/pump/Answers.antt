@@ -8,7 +8,8 @@ pub loop-done-init : goal.loop-done-init
 loop-done-init g c = passes_nothing g.KO.Keep.seen g.KS.Keep.seen g.KA.Keep.seen c.args.self.now
 
 pub loop-done-preserved : goal.loop-done-preserved
-loop-done-preserved g c = rounds_more g.KO.Keep.seen g.KS.Keep.seen g.KA.Keep.seen c.loop-done.done (c.loop-done.done + 1)
+loop-done-preserved g c =
+    rounds_more g.KO.Keep.seen g.KS.Keep.seen g.KA.Keep.seen c.loop-done.done (c.loop-done.done + 1)
     c.args.self.now c.loop-done.self
     c.round.new.self (omega arith) c.loop-done.invariant c.round.ensures
 
@@ -16,5 +17,6 @@ pub returns : goal.returns
 returns g c =
     let value = c.get-done-end.ensures.value in
     let all : c.loop-done.done ≡ c.args.rounds = omega (arith, value) in
-    subst (λ n. PassesAll g.KO.Keep.seen g.KS.Keep.seen g.KA.Keep.seen (all_rounds n) c.args.self.now c.loop-done.self) all
+    subst (λ n. PassesAll g.KO.Keep.seen g.KS.Keep.seen g.KA.Keep.seen (all_rounds n) c.args.self.now c.loop-done.self)
+    all
     c.loop-done.invariant

@@ -5,8 +5,11 @@ use Rattle.schedule_runner.proofs.Composing.{passes_all}
 use Rattle.schedule_runner.proofs.world.World.round.Goals as goal
 
 pub returns : goal.returns
-returns g c = passes_all g.KO.Keep.seen g.KS.Keep.seen g.KA.Keep.seen (service_events Purchasing ++ service_events Warehouse)
+returns g c =
+    passes_all g.KO.Keep.seen g.KS.Keep.seen g.KA.Keep.seen (service_events Purchasing ++ service_events Warehouse)
     (service_events Billing)
     c.args.self.now c.pump_service-2.new.self c.pump_service-3.new.self
-    (passes_all g.KO.Keep.seen g.KS.Keep.seen g.KA.Keep.seen (service_events Purchasing) (service_events Warehouse) c.args.self.now
-    c.pump_service.new.self c.pump_service-2.new.self c.pump_service.ensures c.pump_service-2.ensures) c.pump_service-3.ensures
+    (passes_all g.KO.Keep.seen g.KS.Keep.seen g.KA.Keep.seen (service_events Purchasing) (service_events Warehouse)
+    c.args.self.now
+    c.pump_service.new.self c.pump_service-2.new.self c.pump_service.ensures c.pump_service-2.ensures)
+    c.pump_service-3.ensures
