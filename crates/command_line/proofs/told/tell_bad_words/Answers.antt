@@ -7,30 +7,30 @@ use Rattle.command_line.proofs.told.tell_bad_words.Goals as goal
 
 pub returns-in_err-write_three-clause-untold : goal.returns-in_err-write_three-clause-untold
 returns-in_err-write_three-clause-untold g c =
-    let at = g.E.Write.contents in
+    let old = g.E.Write.contents c.args.err.now in
+    let new = g.E.Write.contents c.write_three.new.out in
     on_err_always c.from_residual.result
-    (subst (λ (usage : List ℕ). AppendsPart (at c.args.err.now) (at c.write_three.new.out) (bad_words_text usage))
-    c.as_bytes.ensures.value
+    (subst (λ (usage : List ℕ). AppendsPart old new (bad_words_text usage)) c.as_bytes.ensures.value
     c.in_err-write_three.ensures.err)
 
 pub returns-in_err-flush-clause-untold : goal.returns-in_err-flush-clause-untold
 returns-in_err-flush-clause-untold g c =
-    let at = g.E.Write.contents in
+    let old = g.E.Write.contents c.args.err.now in
+    let written = g.E.Write.contents c.write_three.new.out in
+    let new = g.E.Write.contents c.flush.new.self in
+    let text = bad_words_text c.as_bytes.result.now in
     on_err_always c.from_residual-in_err-flush.result
-    (subst (λ (usage : List ℕ). AppendsPart (at c.args.err.now) (at c.flush.new.self) (bad_words_text usage))
-    c.as_bytes.ensures.value
-    (part_whole (at c.args.err.now) (at c.flush.new.self) (bad_words_text c.as_bytes.result.now)
-    (appends_keeps (at c.args.err.now) (at c.write_three.new.out) (at c.flush.new.self)
-    (bad_words_text c.as_bytes.result.now)
-    c.in_ok-write_three.ensures.ok c.in_err-flush.ensures.bytes)))
+    (subst (λ (usage : List ℕ). AppendsPart old new (bad_words_text usage)) c.as_bytes.ensures.value
+    (part_whole old new text
+    (appends_keeps old written new text c.in_ok-write_three.ensures.ok c.in_err-flush.ensures.bytes)))
 
 pub returns-clause-told : goal.returns-clause-told
 returns-clause-told g c =
-    let at = g.E.Write.contents in (
+    let old = g.E.Write.contents c.args.err.now in
+    let written = g.E.Write.contents c.write_three.new.out in
+    let new = g.E.Write.contents c.flush.new.self in
+    let text = bad_words_text c.as_bytes.result.now in (
       refl,
-      subst (λ (usage : List ℕ). Appends (at c.args.err.now) (at c.flush.new.self) (bad_words_text usage))
-          c.as_bytes.ensures.value
-          (appends_keeps (at c.args.err.now) (at c.write_three.new.out) (at c.flush.new.self)
-          (bad_words_text c.as_bytes.result.now)
-          c.in_ok-write_three.ensures.ok c.in_ok-flush.ensures.bytes),
+      subst (λ (usage : List ℕ). Appends old new (bad_words_text usage)) c.as_bytes.ensures.value
+          (appends_keeps old written new text c.in_ok-write_three.ensures.ok c.in_ok-flush.ensures.bytes),
     )
