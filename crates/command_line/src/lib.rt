@@ -12,6 +12,5 @@
 #![tactic(auto)]
 
 mod told;
-mod writing;
 
 pub use told::{tell_bad_words, tell_words};

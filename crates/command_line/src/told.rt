@@ -4,13 +4,13 @@ ghost use Rattle.std.specs.Prelude.{◌≡◌, true, false, IfOk, OnErr};
 ghost use Rattle.std.specs.Io.KnownBytes.{Appends};
 ghost use Rattle.clap.specs.Words.{kind_of};
 ghost use Rattle.command_line.specs.Usage.{is_request, status_of, bad_words_text};
-ghost use Rattle.command_line.specs.Written.{AppendsPart};
+ghost use Rattle.streams.specs.Written.{AppendsPart};
 
-use crate::writing::write_three;
 use clap::Error;
 use clap::error::ErrorKind;
 use std::io;
 use std::io::Write;
+use streams::write_three;
 
 /// What is told where a word isn't UTF-8, up to how the program is called.
 const BAD_WORDS: &[u8] = b"error: invalid UTF-8 was detected in one or more arguments\n\nUsage: ";

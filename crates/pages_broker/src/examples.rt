@@ -21,6 +21,7 @@ use stomp_client::{ClientFault, ClientSession};
 use stomp_frame::{Command, Decoder, Frame, FrameFault};
 use stomp_session::{Headers, Octets, ServerSession, Text};
 use stomp_wire::{Link, LinkFault, MemoryWire, Way, pump_out};
+use streams::write_three;
 use test_script::{LineFault, read_octets};
 use text::{push_octets, read_number, unescape};
 
@@ -141,6 +142,12 @@ pub fn a_client_asks_to_connect(alloc: Global) -> Result<bool, ClientFault> {
     let mut client: ClientSession<u64> = ClientSession::new(alloc);
     client.connect()?;
     Ok(client.out() == b"CONNECT\naccept-version:1.2\nhost:outbox\n\n\0".as_slice())
+}
+
+pub fn three_parts_are_one_text(alloc: Global) -> io::Result<Vec<u8>> {
+    let mut out = Vec::new(alloc);
+    write_three(&mut out, b"7", b" ", b"8")?;
+    Ok(out)
 }
 
 pub fn words_that_are_no_text_are_told(alloc: Global) -> io::Result<u8> {

@@ -9,8 +9,9 @@ use examples::{
     a_frame_is_read_from_pieces, a_frame_that_was_put_back_is_the_next, a_line_is_read_again,
     a_message_is_accepted, a_receipt_is_closed_once, a_server_is_asked_to_end,
     a_transaction_keeps_its_actions, an_entity_is_named_again, an_idle_destination_is_closed,
-    answers_reach_back_in_mode_client, printed_octets_are_read, what_a_client_reads_was_sent,
-    what_wants_an_ack_stays_until_it_comes, what_was_put_is_taken, words_that_are_no_text_are_told,
+    answers_reach_back_in_mode_client, printed_octets_are_read, three_parts_are_one_text,
+    what_a_client_reads_was_sent, what_wants_an_ack_stays_until_it_comes, what_was_put_is_taken,
+    words_that_are_no_text_are_told,
 };
 use std::alloc::Global;
 use std::error::Error;
@@ -38,6 +39,7 @@ fn print_frames(rt: &impl Print, alloc: Global) -> Result<()> {
     tell(rt, "text", a_line_is_read_again(alloc))?;
     tell(rt, "stomp_wire", what_was_put_is_taken(alloc))?;
     tell(rt, "test_script", printed_octets_are_read(alloc))?;
+    tell(rt, "streams", three_parts_are_one_text(alloc))?;
     tell(rt, "command_line", words_that_are_no_text_are_told(alloc))?;
     tell(rt, "stomp_frame", a_frame_is_read_from_pieces(alloc))
 }

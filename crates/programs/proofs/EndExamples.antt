@@ -17,7 +17,7 @@ use Rattle.programs.specs.declared.fault.RunFault.TheVariants.{BadEvent, Memory,
 use Rattle.programs.specs.Ends.{Writers, lines_of, IsRunOf, IsUnread, IsRunFrom, IsEndOf, IsUntold, fault_line}
 use Rattle.programs.specs.Runs.{HasRun}
 use Rattle.programs.specs.Usage.{command_line, Streams, IsStatusOf, IsUsage, IsCutUsage, IsWordAnswer, IsAnswered}
-use Rattle.command_line.specs.Written.{AppendsPart}
+use Rattle.streams.specs.Written.{AppendsPart}
 
 -- a schedule of one line, which cancels an order that wasn't placed
 abbrev cancels : List ℕ

@@ -15,7 +15,7 @@ use Rattle.schedule_text.specs.Events.{events_of}
 use Rattle.schedule_text.specs.Faults.{IsRead}
 use Rattle.programs.specs.Runs.{HasRun, HasBegun}
 use Rattle.programs.specs.Ends.{fault_line, lines_of, IsRunOf, IsRunFrom}
-use Rattle.command_line.specs.Written.{AppendsPart}
+use Rattle.streams.specs.Written.{AppendsPart}
 use Rattle.programs.specs.Usage.{IsStatusOf}
 use Rattle.std.specs.declared.io.Error.{Error}
 

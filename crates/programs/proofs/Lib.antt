@@ -1,4 +1,3 @@
-pub mod Writes
 pub mod Beginnings
 pub mod Endings
 pub mod Examples

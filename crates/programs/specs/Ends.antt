@@ -9,7 +9,7 @@ use Rattle.schedule_text.specs.Outcomes.{outcome_lines}
 use Rattle.programs.specs.declared.fault.RunFault.{RunFault}
 use Rattle.programs.specs.declared.fault.RunFault.TheVariants.{BadEvent, Memory, Device}
 use Rattle.programs.specs.Runs.{HasRun, HasBegun}
-use Rattle.command_line.specs.Written.{AppendsPart}
+use Rattle.streams.specs.Written.{AppendsPart}
 
 -- the line that tells a fault
 abbrev pub fault_line : RunFault → List ℕ

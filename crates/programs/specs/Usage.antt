@@ -5,7 +5,7 @@ use Rattle.clap.specs.declared.error.kind.ErrorKind.{ErrorKind}
 use Rattle.command_line.specs.Usage.{with_version, is_request}
 use Rattle.programs.specs.declared.fault.RunFault.TheVariants.{Memory}
 use Rattle.programs.specs.Ends.{Writers, IsEndOf, IsUntold, fault_line}
-use Rattle.command_line.specs.Written.{AppendsPart}
+use Rattle.streams.specs.Written.{AppendsPart}
 
 -- the command line takes the program's name and no options but `--help` and `--version`
 abbrev pub command_line : App

@@ -3,7 +3,7 @@
 ghost use Rattle.std.specs.Prelude.{◌≡◌, ◌⊎◌, OnOk, OnErr, IfOk, MatchResult, IfSome};
 ghost use Rattle.std.specs.Io.KnownBytes.{Appends};
 ghost use Rattle.programs.specs.Ends.{fault_line, IsRunOf, IsRunFrom, IsEndOf, IsUntold};
-ghost use Rattle.command_line.specs.Written.{AppendsPart};
+ghost use Rattle.streams.specs.Written.{AppendsPart};
 
 use crate::fault::RunFault;
 use crate::running::run_events;

@@ -5,7 +5,7 @@ ghost use Rattle.std.specs.Io.KnownBytes.{Appends};
 ghost use Rattle.clap.specs.Words.{FailsBy, fault_of, kind_of, takes};
 ghost use Rattle.command_line.specs.Usage.{bad_words_text};
 ghost use Rattle.programs.specs.Usage.{command_line, IsStatusOf, IsAnswered};
-ghost use Rattle.command_line.specs.Written.{AppendsPart};
+ghost use Rattle.streams.specs.Written.{AppendsPart};
 
 use crate::fault::RunFault;
 use crate::schedule::{run_input, tell_fault};

@@ -2,56 +2,19 @@
 
 ghost use Rattle.std.specs.Prelude.{◌++◌, decimal, OnOk, OnErr};
 ghost use Rattle.std.specs.List.{flat_map};
-ghost use Rattle.std.specs.Io.{WritesAtMost};
-ghost use Rattle.std.specs.Io.KnownBytes.{Appends, WriteAppends};
+ghost use Rattle.std.specs.Io.KnownBytes.{Appends};
 ghost use Rattle.schedule_text.specs.Outcomes.{outcome_lines, told_lines, shown_entity, shown_pair};
 ghost use Rattle.schedule_text.specs.Words.{escaped};
-ghost use Rattle.command_line.specs.Written.{AppendsPart};
+ghost use Rattle.streams.specs.Written.{AppendsPart};
 ghost use Rattle.programs.specs.Written.{of_pair};
 
 use base::{Entity, Pair};
 use itoa::Buffer;
-use schedule_text::{Outcome, Told};
 use schedule_shows::spelled;
+use schedule_text::{Outcome, Told};
 use std::io;
-use std::io::{ErrorKind, Write};
-
-/// Writes a beginning of octets: at least one of them, unless the writer was interrupted.
-fn write_some<W: Write>(out: &mut W, octets: &[u8]) -> io::Result<usize>
-    ensures bound { WritesAtMost result octets.now }
-    ensures bytes { WriteAppends (W.contents out.old) (W.contents out.new) result octets.now }
-{
-    match out.write(octets) {
-        Ok(0) => Err(io::Error::from(ErrorKind::WriteZero)),
-        Err(error) if error.kind() == ErrorKind::Interrupted => Ok(0),
-        answer => answer,
-    }
-}
-
-/// Writes octets. Where the writer fails, it took a beginning of them.
-pub(crate) fn write_octets<W: Write>(out: &mut W, octets: &[u8]) -> io::Result<()>
-    ensures ok { OnOk result (Appends (W.contents out.old) (W.contents out.new) octets.now) }
-    ensures err { OnErr result (AppendsPart (W.contents out.old) (W.contents out.new) octets.now) }
-{
-    let mut written = 0;
-    for _ in 0..u64::MAX {
-        if written == octets.len() {
-            return Ok(());
-        }
-        written += write_some(out, &octets[written..])?;
-    }
-    Err(io::Error::from(ErrorKind::TimedOut))
-}
-
-/// Writes octets, other octets, and others again.
-fn write_three<W: Write>(out: &mut W, first: &[u8], second: &[u8], third: &[u8]) -> io::Result<()>
-    ensures ok { OnOk result (Appends (W.contents out.old) (W.contents out.new) (first.now ++ second.now ++ third.now)) }
-    ensures err { OnErr result (AppendsPart (W.contents out.old) (W.contents out.new) (first.now ++ second.now ++ third.now)) }
-{
-    write_octets(out, first)?;
-    write_octets(out, second)?;
-    write_octets(out, third)
-}
+use std::io::Write;
+use streams::{write_octets, write_three};
 
 /// Writes octets, a number in decimal, and octets.
 pub(crate) fn write_numbered<W: Write>(

@@ -1,8 +1,8 @@
 use Rattle.std.proofs.Common.{List, ℕ, refl, subst}
 use Rattle.std.specs.Io.KnownBytes.{Appends}
 use Rattle.command_line.specs.Usage.{bad_words_text}
-use Rattle.command_line.specs.Written.{AppendsPart}
-use Rattle.command_line.proofs.Writes.{appends_keeps, on_err_always, part_whole}
+use Rattle.streams.specs.Written.{AppendsPart}
+use Rattle.streams.proofs.Writes.{appends_keeps, on_err_always, part_whole}
 use Rattle.command_line.proofs.told.tell_bad_words.Goals as goal
 
 pub returns-in_err-write_three-clause-untold : goal.returns-in_err-write_three-clause-untold

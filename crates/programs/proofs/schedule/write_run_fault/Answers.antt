@@ -3,7 +3,7 @@ use Rattle.std.specs.Prelude.{OnOk, OnErr}
 use Rattle.std.specs.Io.KnownBytes.{Appends}
 use Rattle.programs.specs.declared.fault.RunFault.{RunFault}
 use Rattle.programs.specs.Ends.{fault_line}
-use Rattle.command_line.specs.Written.{AppendsPart}
+use Rattle.streams.specs.Written.{AppendsPart}
 use Rattle.programs.proofs.schedule.write_run_fault.Goals as goal
 
 pub returns-in-Memory-clause-ok : goal.returns-in-Memory-clause-ok

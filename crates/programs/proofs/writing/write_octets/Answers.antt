@@ -1,7 +1,7 @@
 use Rattle.std.proofs.Common.{◌-◌, ◌++◌, length, take, drop, sym, ap, subst, ◌∙◌, arith, length-take, take-append-drop}
 use Rattle.std.proofs.Math.Seq.{take-add, take-take}
 use Rattle.std.specs.Io.KnownBytes.{Appends}
-use Rattle.programs.proofs.Writes.{appends_then, appends_keeps, on_err_always}
+use Rattle.streams.proofs.Writes.{appends_then, appends_keeps, on_err_always}
 use Rattle.programs.proofs.writing.write_octets.Goals as goal
 
 pub loop-preserved : goal.loop-preserved

@@ -1,6 +1,6 @@
 use Rattle.std.specs.Prelude.{◌++◌, ◌∷◌, [], codes, decimal}
 use Rattle.schedule_text.specs.Outcomes.{shown_pair}
-use Rattle.programs.proofs.Writes.{first_of_three, second_of_three, third_of_three, on_err_always}
+use Rattle.streams.proofs.Writes.{first_of_three, second_of_three, third_of_three, on_err_always}
 use Rattle.programs.proofs.writing.write_of_pair.Goals as goal
 
 pub returns-in_err-write_octets-clause-err : goal.returns-in_err-write_octets-clause-err

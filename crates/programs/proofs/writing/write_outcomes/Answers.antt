@@ -1,5 +1,5 @@
 use Rattle.schedule_text.specs.Outcomes.{outcome_lines}
-use Rattle.programs.proofs.Writes.{appends_more, part_of_all, on_err_always}
+use Rattle.streams.proofs.Writes.{appends_more, part_of_all, on_err_always}
 use Rattle.programs.proofs.writing.write_outcomes.Goals as goal
 
 pub loop-outcome-preserved : goal.loop-outcome-preserved

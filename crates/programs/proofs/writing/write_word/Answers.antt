@@ -2,8 +2,8 @@ use Rattle.std.proofs.Common.{get_or, refl, subst}
 use Rattle.std.specs.List.{flat_map}
 use Rattle.std.specs.Io.KnownBytes.{Appends}
 use Rattle.schedule_text.specs.Words.{spelled}
-use Rattle.command_line.specs.Written.{AppendsPart}
-use Rattle.programs.proofs.Writes.{appends_more, part_of_all, on_err_always}
+use Rattle.streams.specs.Written.{AppendsPart}
+use Rattle.streams.proofs.Writes.{appends_more, part_of_all, on_err_always}
 use Rattle.programs.proofs.writing.write_word.Goals as goal
 
 pub loop-octet-preserved : goal.loop-octet-preserved

@@ -1,5 +1,5 @@
-use Rattle.command_line.proofs.Writes.{first_of_three, second_of_three, third_of_three, on_err_always}
-use Rattle.command_line.proofs.writing.write_three.Goals as goal
+use Rattle.streams.proofs.Writes.{first_of_three, second_of_three, third_of_three, on_err_always}
+use Rattle.streams.proofs.writing.write_three.Goals as goal
 
 pub returns-in_err-write_octets-clause-err : goal.returns-in_err-write_octets-clause-err
 returns-in_err-write_octets-clause-err g c =

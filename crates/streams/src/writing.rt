@@ -3,7 +3,7 @@
 ghost use Rattle.std.specs.Prelude.{◌++◌, OnOk, OnErr};
 ghost use Rattle.std.specs.Io.{WritesAtMost};
 ghost use Rattle.std.specs.Io.KnownBytes.{Appends, WriteAppends};
-ghost use Rattle.command_line.specs.Written.{AppendsPart};
+ghost use Rattle.streams.specs.Written.{AppendsPart};
 
 use std::io;
 use std::io::{ErrorKind, Write};
@@ -20,12 +20,17 @@ fn write_some<W: Write>(out: &mut W, octets: &[u8]) -> io::Result<usize>
     }
 }
 
-/// Writes octets. Where the writer fails, it took a beginning of them.
-fn write_octets<W: Write>(out: &mut W, octets: &[u8]) -> io::Result<()>
+/// Writes octets to a writer that blocks. It takes no memory.
+///
+/// # Errors
+/// That of the writer where it failed, and `WriteZero` where it took no octet: it took a beginning of them then. A
+/// write that was interrupted is made again.
+pub fn write_octets<W: Write>(out: &mut W, octets: &[u8]) -> io::Result<()>
     ensures ok { OnOk result (Appends (W.contents out.old) (W.contents out.new) octets.now) }
     ensures err { OnErr result (AppendsPart (W.contents out.old) (W.contents out.new) octets.now) }
 {
     let mut written = 0;
+    // bounded, since a writer may be interrupted for ever
     for _ in 0..u64::MAX {
         if written == octets.len() {
             return Ok(());
@@ -35,8 +40,11 @@ fn write_octets<W: Write>(out: &mut W, octets: &[u8]) -> io::Result<()>
     Err(io::Error::from(ErrorKind::TimedOut))
 }
 
-/// Writes octets, other octets, and others again.
-pub(crate) fn write_three<W: Write>(
+/// Writes octets, other octets, and others again. It takes no memory.
+///
+/// # Errors
+/// Those of [`write_octets`]: the writer took a beginning of all three together.
+pub fn write_three<W: Write>(
     out: &mut W,
     first: &[u8],
     second: &[u8],
