@@ -6,15 +6,18 @@ use Rattle.schedule_text.specs.declared.event.Event.{Event}
 use Rattle.schedule_text.specs.declared.outcome.Outcome.{Outcome}
 use Rattle.schedule_runner.specs.Paths.{IsPath, Makes}
 use Rattle.schedule_runner.specs.Runs.{Ran}
-use Rattle.laws_stores.specs.Sight.{AllTables, MayLeave, AreMatching, all_empty, orders_service, stocks_service, accounts_service}
+use Rattle.laws_stores.specs.Sight.{AllTables, MayLeave, AreMatching, all_empty, orders_service, stocks_service}
+use Rattle.laws_stores.specs.Sight.{accounts_service}
 use Rattle.schedule_runner.specs.Sight.{StaysMatching, sight}
 use Rattle.schedule_runner.specs.Good.{IsGoodWorld, StaysGood, Agrees}
 use Rattle.schedule_runner.specs.Passing.{Passed}
 use Rattle.schedule_runner.specs.Told.{AllTold, Told}
-use Rattle.programs.specs.Runs.{plain, PlainWorld, plain_tables, no_tables, IsBeginning, IsGoodPlain, AllTablesMatch, HasBegun}
+use Rattle.programs.specs.Runs.{plain, PlainWorld, plain_tables, no_tables, IsBeginning, IsGoodPlain, AllTablesMatch}
+use Rattle.programs.specs.Runs.{HasBegun}
 
 -- what is appended to nothing is all
-pub all_appended : {E : Type 0} (Made : List Event → List Outcome → Type 0) (events : List Event) (old new : List Outcome)
+pub all_appended : {E : Type 0} (Made : List Event → List Outcome → Type 0) (events : List Event)
+    (old new : List Outcome)
     (result : Result Unit E) → old ≡ [] → Ran Made events old new result → Made (take (length new) events) new
 all_appended Made events old new result none r =
     let same : r.outcomes ≡ new = sym (r.appended ∙ ap (λ os. os ++ r.outcomes) none) in
@@ -50,15 +53,18 @@ left_matching world all = (
 
 -- a world that begins is good, where the opened one is that did nothing
 pub begins_good : (world : PlainWorld) → plain_tables world ≡ no_tables → AllTablesMatch no_tables
-    → (((t : AllTables) → MayLeave (sight plain plain plain world) t → t ≡ all_empty) → IsGoodWorld plain plain plain world)
+    → (((t : AllTables) → MayLeave (sight plain plain plain world) t → t ≡ all_empty)
+    → IsGoodWorld plain plain plain world)
     → IsGoodPlain world
 begins_good world none empty unused = record {
   matching = subst AllTablesMatch (sym none) empty;
   good = unused (λ t left. left_is world t left ∙ none);
 }
 
-pub has_begun : (events : List Event) (outcomes : List Outcome) (first last : PlainWorld) → IsBeginning first → IsGoodPlain first
-    → StaysMatching plain plain plain first last → StaysGood plain plain plain first last → Agrees plain plain plain first last
+pub has_begun : (events : List Event) (outcomes : List Outcome) (first last : PlainWorld) → IsBeginning first
+    → IsGoodPlain first
+    → StaysMatching plain plain plain first last → StaysGood plain plain plain first last
+    → Agrees plain plain plain first last
     → IsPath (Makes (Passed plain plain plain)) (take (length outcomes) events) outcomes first last
     → Told plain plain plain (take (length outcomes) events) outcomes first last
     → HasBegun events outcomes
@@ -71,9 +77,13 @@ has_begun events outcomes first last began good stays better agrees path told =
       began = began;
       began_good = good;
       passed = path;
-      good = record { matching = (after.0 _ refl, after.1 _ refl, after.2 _ refl); good = better (refl, refl, refl) matching good.good };
+      good = record {
+        matching = (after.0 _ refl, after.1 _ refl, after.2 _ refl);
+        good = better (refl, refl, refl) matching good.good;
+      };
       agree = agrees (refl, refl, refl) matching good.good;
       told = ∥∥₁_map (told (refl, refl, refl) matching (plain_tables last) (plain_left last)) (λ led.
           let before : led.before ≡ no_tables = left_is first led.before led.was ∙ began.tables in
-          subst (λ (b : AllTables). AllTold (take (length outcomes) events) outcomes b (plain_tables last)) before led.leads);
+          subst (λ (b : AllTables). AllTold (take (length outcomes) events) outcomes b (plain_tables last)) before
+          led.leads);
     }

@@ -1,4 +1,5 @@
--- Examples: how a run of a text ends, in what its writers hold then and in its status, and what the words of the command line come to.
+-- Examples: how a run of a text ends, in what its writers hold then and in its status, and what the words of the
+-- command line come to.
 use Rattle.std.proofs.Common.{◌≡◌, List, [], ◌∷◌, ◌++◌, ℕ, refl, sym, subst, ◌∙◌, ap, inl, inr, get_or, arith}
 use Rattle.std.specs.Prelude.{codes, Some, None, Ok, Err}
 use Rattle.std.specs.Fmt.{digits}
@@ -51,8 +52,10 @@ refusal_is_told : lines_of (NotDone NotOpen ∷ []) ≡ refused
 unfolding digits
 refusal_is_told = refl
 
--- a writer that failed holds a beginning of what was to be written, which may be nothing or all of it, but not octets from its middle
-a_beginning_is_written : (AppendsPart (Some []) (Some (codes "refu")) refused) × (AppendsPart (Some []) (Some []) refused)
+-- a writer that failed holds a beginning of what was to be written, which may be nothing or all of it, but not octets
+-- from its middle
+a_beginning_is_written : (AppendsPart (Some []) (Some (codes "refu")) refused)
+    × (AppendsPart (Some []) (Some []) refused)
     × (AppendsPart (Some (codes "a\n")) (Some (codes "a\nrefused 61 71\n")) refused)
     × (AppendsPart (Some []) (Some (codes "used")) refused → ⊥)
 a_beginning_is_written = (
@@ -74,7 +77,8 @@ a_faulty_line_runs_nothing = (
 )
 
 -- where nothing was read, for want of memory or since the reader failed, nothing is written and no line is at fault
-nothing_is_read : (IsUnread (Some refused) (Some refused) (Err Memory)) × (IsUnread (Some refused) (Some refused) (Err Device))
+nothing_is_read : (IsUnread (Some refused) (Some refused) (Err Memory))
+    × (IsUnread (Some refused) (Some refused) (Err Device))
     × (IsUnread (Some []) (Some refused) (Err Device) → ⊥) × (IsUnread (Some []) (Some []) (Err (BadEvent 1)) → ⊥)
     × (IsUnread (Some []) (Some []) (Ok tt) → ⊥)
 nothing_is_read = (refl, refl, λ h. absurd (cc), λ h. h, λ h. h)
@@ -85,7 +89,8 @@ hold out err = record { out = Some out; err = Some err }
 
 -- ---- the words of the command line
 
--- the name alone has nothing at fault, `--help` asks for help and `--version` for the version, and there is no other option
+-- the name alone has nothing at fault, `--help` asks for help and `--version` for the version, and there is no other
+-- option
 words_have_faults : (fault_of command_line (codes "outbox-schedule" ∷ []) ≡ [])
     × (fault_of command_line (codes "outbox-schedule" ∷ codes "--help" ∷ []) ≡ DisplayHelp ∷ [])
     × (fault_of command_line (codes "outbox-schedule" ∷ codes "--version" ∷ []) ≡ DisplayVersion ∷ [])
@@ -117,7 +122,8 @@ help_is_cut = (
   λ h. elim h [ inl help ↦ let kept = help.1 in absurd (cc) | inr fault ↦ let asked = fault.0 in absurd (cc) ],
 )
 
--- in place of a run: help; a fault of the words; help in part, with status 1; or that memory was refused over the words, on `err`
+-- in place of a run: help; a fault of the words; help in part, with status 1; or that memory was refused over the
+-- words, on `err`
 words_are_answered : (IsWordAnswer (DisplayHelp ∷ []) (hold [] []) (hold (codes "Runs\n") []) 0)
     × (IsWordAnswer (UnknownArgument ∷ []) (hold [] []) (hold [] (codes "error\n")) 2)
     × (IsWordAnswer (DisplayHelp ∷ []) (hold [] []) (hold (codes "Ru") []) 1)
@@ -141,8 +147,10 @@ faults_of words = fault_of command_line (codes "outbox-schedule" ∷ words)
 
 -- ---- a run of one line whose outcome is that refusal
 module _ (ran : HasRun (cancel ∷ []) (NotDone NotOpen ∷ [])) where
-  -- it is run and the refusal written, or a beginning of it where the writer failed; or memory was refused, and nothing is written
-  a_line_is_run : (IsRunOf cancels (Some []) (Some refused) (Ok tt)) × (IsRunOf cancels (Some []) (Some (codes "refu")) (Err Device))
+  -- it is run and the refusal written, or a beginning of it where the writer failed; or memory was refused, and nothing
+  -- is written
+  a_line_is_run : (IsRunOf cancels (Some []) (Some refused) (Ok tt))
+      × (IsRunOf cancels (Some []) (Some (codes "refu")) (Err Device))
       × (IsRunOf cancels (Some []) (Some []) (Err Memory))
   a_line_is_run = (
     (NotDone NotOpen ∷ [], record { events = cancel ∷ []; read = line_is_read; ran = ran }, sym refusal_is_told),
@@ -155,8 +163,10 @@ module _ (ran : HasRun (cancel ∷ []) (NotDone NotOpen ∷ [])) where
   )
 
   -- what the reader has left is run, where it is known; else it's the run of some text
-  what_is_left_is_run : (IsRunFrom (Some cancels) (Some []) (Some refused) (Ok tt)) × (IsRunFrom None (Some []) (Some refused) (Ok tt))
-      × (IsRunFrom (Some faulty) (Some []) (Some []) (Err (BadEvent 2))) × (IsRunFrom (Some faulty) (Some []) (Some []) (Err Device))
+  what_is_left_is_run : (IsRunFrom (Some cancels) (Some []) (Some refused) (Ok tt))
+      × (IsRunFrom None (Some []) (Some refused) (Ok tt))
+      × (IsRunFrom (Some faulty) (Some []) (Some []) (Err (BadEvent 2)))
+      × (IsRunFrom (Some faulty) (Some []) (Some []) (Err Device))
       × (IsRunFrom (Some cancels) (Some []) (Some []) (Err (BadEvent 2)) → ⊥)
   what_is_left_is_run = (
     inl (cancels, refl, a_line_is_run.0),
@@ -170,7 +180,8 @@ module _ (ran : HasRun (cancel ∷ []) (NotDone NotOpen ∷ [])) where
       not_faulty (inl (text, is, told)) = let answer = sym line_is_read ∙ ap events_of (sym is) ∙ told.0 in absurd (cc)
       not_faulty (inr h) = h
 
-  -- status 0: the refusal stands on `out` and nothing on `err`; status 1: the faulty line is told on `err`, and nothing stands on `out`
+  -- status 0: the refusal stands on `out` and nothing on `err`; status 1: the faulty line is told on `err`, and nothing
+  -- stands on `out`
   ends_have_a_status : (IsEndOf (Some cancels) (hold [] []) (hold refused []) 0)
       × (IsEndOf (Some faulty) (hold [] []) (hold [] (codes "line 2: bad event\n")) 1)
       × (IsEndOf (Some cancels) (hold [] []) (hold (codes "refu") (codes "fault 2 Device\n")) 1)
@@ -216,10 +227,12 @@ module _ (ran : HasRun (cancel ∷ []) (NotDone NotOpen ∷ [])) where
 
   -- with the name alone the schedule is run; with `--help` or `--version` it isn't, and the input is as it was
   only_a_run_reads : IsAnswered (faults_of []) (streams cancels (hold [] [])) (streams [] (hold refused [])) 0
-      × IsAnswered (faults_of (codes "--help" ∷ [])) (streams cancels (hold [] [])) (streams cancels (hold (codes "Runs\n") [])) 0
+      × IsAnswered (faults_of (codes "--help" ∷ [])) (streams cancels (hold [] []))
+      (streams cancels (hold (codes "Runs\n") [])) 0
       × IsAnswered (faults_of (codes "--version" ∷ [])) (streams cancels (hold [] []))
       (streams cancels (hold (codes "outbox-schedule 0.1.0\n") [])) 0
-      × (IsAnswered (faults_of (codes "--help" ∷ [])) (streams cancels (hold [] [])) (streams [] (hold (codes "Runs\n") [])) 0 → ⊥)
+      × (IsAnswered (faults_of (codes "--help" ∷ [])) (streams cancels (hold [] []))
+      (streams [] (hold (codes "Runs\n") [])) 0 → ⊥)
   unfolding walk_fault defaults_fault
   only_a_run_reads = (
     inl (refl, an_end_is_told_in_part.2),

@@ -1,5 +1,6 @@
 -- How a schedule ends.
-use Rattle.std.proofs.Common.{◌≡◌, ◌⊎◌, ℕ, List, length, take, Option, Result, Ok, Err, inl, inr, refl, sym, subst, ◌∙◌, arith}
+use Rattle.std.proofs.Common.{◌≡◌, ◌⊎◌, ℕ, List, length, take, Option, Result, Ok, Err, inl, inr, refl, sym, subst, ◌∙◌}
+use Rattle.std.proofs.Common.{arith}
 use Rattle.std.proofs.lemmas.List.{take_all}
 use Rattle.std.specs.Prelude.{IfSome, IfOk, OnErr, MatchResult}
 use Rattle.std.specs.Global.{Vec}
@@ -30,8 +31,12 @@ pub ran_whole : (text : List ℕ) (events : Vec Event) (outcomes : List Outcome)
     → IsRead (events_of text) (Ok events) → HasBegun events.items outcomes → length outcomes ≡ length events.items
     → Appends out out' (lines_of outcomes) → IsRunOf text out out' (Ok tt)
 ran_whole text events outcomes out out' read begun all writes =
-    let whole : take (length outcomes) events.items ≡ events.items = take_all (length outcomes) events.items (omega (arith, all)) in
-    (outcomes, record { events = events.items; read = read; ran = subst (λ es. HasRun es outcomes) whole begun }, writes)
+    let whole : take (length outcomes) events.items ≡ events.items =
+    take_all (length outcomes) events.items (omega (arith, all)) in (
+      outcomes,
+      record { events = events.items; read = read; ran = subst (λ es. HasRun es outcomes) whole begun },
+      writes,
+    )
 
 -- memory was refused behind some of the events, and their outcomes are written
 pub ran_part : (text : List ℕ) (events : Vec Event) (outcomes : List Outcome) (out out' : Option (List ℕ))
@@ -44,7 +49,8 @@ ran_part text events outcomes out out' read begun writes =
 pub ran_cut : (text : List ℕ) (events : Vec Event) (outcomes : List Outcome) (out out' : Option (List ℕ))
     → IsRead (events_of text) (Ok events) → HasBegun events.items outcomes → AppendsPart out out' (lines_of outcomes)
     → IsRunOf text out out' (Err Device)
-ran_cut text events outcomes out out' read begun part = (outcomes, record { events = events.items; read = read; ran = begun }, part)
+ran_cut text events outcomes out out' read begun part =
+    (outcomes, record { events = events.items; read = read; ran = begun }, part)
 
 -- there was no room for an outcome
 pub ran_short : (text : List ℕ) (events : Vec Event) (outcomes : List Outcome) (out out' : Option (List ℕ))

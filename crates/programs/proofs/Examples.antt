@@ -8,7 +8,8 @@ use Rattle.programs.specs.Ends.{fault_line}
 use Rattle.programs.specs.RunFaults.{run_fault_of}
 
 -- why a schedule wasn't run to its end
-run_faults_are_told : (fault_line (BadEvent 12) ≡ codes "line 12: bad event\n") × (fault_line Memory ≡ codes "fault 81 Memory\n")
+run_faults_are_told : (fault_line (BadEvent 12) ≡ codes "line 12: bad event\n")
+    × (fault_line Memory ≡ codes "fault 81 Memory\n")
     × (fault_line Device ≡ codes "fault 2 Device\n")
 unfolding digits
 run_faults_are_told = (refl, refl, refl)

@@ -33,15 +33,17 @@ pub record RunsWhole (text : List ℕ) (outcomes : List Outcome) : Type 0 where
   pub read : events_of text ≡ Ok events
   pub ran : HasRun events outcomes
 
--- What running a text answers, over the known octets of the writer before it and after it: its events are made and their outcomes written;
--- or the writer failed, and took a beginning of the outcomes of the first events; or the first faulty line is told, and nothing is written;
--- or memory was refused, before the first event or before a later one, and the outcomes of those before it are written.
+-- What running a text answers, over the known octets of the writer before it and after it: its events are made and
+-- their outcomes written; or the writer failed, and took a beginning of the outcomes of the first events; or the first
+-- faulty line is told, and nothing is written; or memory was refused, before the first event or before a later one, and
+-- the outcomes of those before it are written.
 abbrev pub IsRunOf : List ℕ → Option (List ℕ) → Option (List ℕ) → Result Unit RunFault → Type 0
 IsRunOf text old new (Ok _) = (outcomes : List Outcome) × RunsWhole text outcomes × Appends old new (lines_of outcomes)
 IsRunOf text old new (Err (BadEvent number)) = (events_of text ≡ Err number) × (new ≡ old)
 IsRunOf text old new (Err Memory) =
     (new ≡ old) ⊎ ((outcomes : List Outcome) × BeginsRun text outcomes × Appends old new (lines_of outcomes))
-IsRunOf text old new (Err Device) = (outcomes : List Outcome) × BeginsRun text outcomes × AppendsPart old new (lines_of outcomes)
+IsRunOf text old new (Err Device) =
+    (outcomes : List Outcome) × BeginsRun text outcomes × AppendsPart old new (lines_of outcomes)
 
 -- nothing was read, for want of memory or since the reader failed; nothing is written
 abbrev pub IsUnread : Option (List ℕ) → Option (List ℕ) → Result Unit RunFault → Type 0
@@ -51,20 +53,23 @@ IsUnread old new _ = ⊥
 
 -- a run of what the reader had left, where that is known; or nothing was read
 abbrev pub IsRunFrom : Option (List ℕ) → Option (List ℕ) → Option (List ℕ) → Result Unit RunFault → Type 0
-IsRunFrom input old new r = ((text : List ℕ) × IfSome input (λ xs. text ≡ xs) × IsRunOf text old new r) ⊎ IsUnread old new r
+IsRunFrom input old new r =
+    ((text : List ℕ) × IfSome input (λ xs. text ≡ xs) × IsRunOf text old new r) ⊎ IsUnread old new r
 
 -- what the two writers hold, where that is known: `out` the outcomes, and `err` what is told of faults
 pub record Writers : Type 0 where
   pub out : Option (List ℕ)
   pub err : Option (List ℕ)
 
--- With status 0 the schedule was run whole: its outcomes are written to `out`, and nothing to `err`. With status 1 a fault is told on
--- `err`.
+-- With status 0 the schedule was run whole: its outcomes are written to `out`, and nothing to `err`. With status 1 a
+-- fault is told on `err`.
 abbrev pub IsEndOf : Option (List ℕ) → Writers → Writers → ℕ → Type 0
 IsEndOf input old new status =
     ((status ≡ 0) × (new.err ≡ old.err) × IsRunFrom input old.out new.out (Ok tt))
-    ⊎ ((status ≡ 1) × (fault : RunFault) × IsRunFrom input old.out new.out (Err fault) × Appends old.err new.err (fault_line fault))
+    ⊎ ((status ≡ 1) × (fault : RunFault) × IsRunFrom input old.out new.out (Err fault)
+    × Appends old.err new.err (fault_line fault))
 
 -- the same where `err` failed while a fault was told: it took a beginning of the fault's line
 abbrev pub IsUntold : Option (List ℕ) → Writers → Writers → Type 0
-IsUntold input old new = (fault : RunFault) × IsRunFrom input old.out new.out (Err fault) × AppendsPart old.err new.err (fault_line fault)
+IsUntold input old new =
+    (fault : RunFault) × IsRunFrom input old.out new.out (Err fault) × AppendsPart old.err new.err (fault_line fault)

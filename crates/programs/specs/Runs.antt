@@ -67,16 +67,17 @@ abbrev pub AllTablesMatch : AllTables → Type 0
 AllTablesMatch t = TablesMatchJournal orders_service t.purchasing × TablesMatchJournal stocks_service t.warehouse
     × TablesMatchJournal accounts_service t.billing
 
--- the tables of each service match its journal, and the world is good: what was handled begins what was sent, what is marked as settled
--- was handled, each letter that is held or on its way is what its sender's journal sent, and each relay knows what it hasn't sent
+-- the tables of each service match its journal, and the world is good: what was handled begins what was sent, what is
+-- marked as settled was handled, each letter that is held or on its way is what its sender's journal sent, and each
+-- relay knows what it hasn't sent
 pub record IsGoodPlain (world : PlainWorld) : Type 0 where
   pub matching : AllTablesMatch (plain_tables world)
   pub good : IsGoodWorld plain plain plain world
 
--- These events were made one after another, each with its outcome: what happened is what the outcomes say, step by step, and what held
--- before a step holds behind it. In the end as at the beginning the tables match the journals and the world is good; the partners of each
--- order agree, and of each stock and each account nothing is lost or used twice; and the commands that stand in the journals are those
--- that the outcomes tell.
+-- These events were made one after another, each with its outcome: what happened is what the outcomes say, step by
+-- step, and what held before a step holds behind it. In the end as at the beginning the tables match the journals and
+-- the world is good; the partners of each order agree, and of each stock and each account nothing is lost or used
+-- twice; and the commands that stand in the journals are those that the outcomes tell.
 pub record HasRun (events : List Event) (outcomes : List Outcome) : Type 0 where
   pub first : PlainWorld
   pub last : PlainWorld

@@ -20,17 +20,20 @@ pub record Streams : Type 0 where
 abbrev pub IsStatusOf : Option (List ℕ) → Writers → Writers → ℕ → Type 0
 IsStatusOf input old new status = IsEndOf input old new status ⊎ ((status ≡ 1) × IsUntold input old new)
 
--- what was asked for is told on `out`, with status 0, and a fault of usage on `err`, with status 2; the other stream is as it was
+-- what was asked for is told on `out`, with status 0, and a fault of usage on `err`, with status 2; the other stream is
+-- as it was
 abbrev pub IsUsage : ErrorKind → Writers → Writers → ℕ → Type 0
 IsUsage kind old new status =
-    ((is_request kind ≡ true) × (status ≡ 0) × (new.err ≡ old.err)) ⊎ ((is_request kind ≡ false) × (status ≡ 2) × (new.out ≡ old.out))
+    ((is_request kind ≡ true) × (status ≡ 0) × (new.err ≡ old.err))
+    ⊎ ((is_request kind ≡ false) × (status ≡ 2) × (new.out ≡ old.out))
 
 -- the stream failed on which it was told; the other is as it was
 abbrev pub IsCutUsage : ErrorKind → Writers → Writers → Type 0
-IsCutUsage kind old new = ((is_request kind ≡ true) × (new.err ≡ old.err)) ⊎ ((is_request kind ≡ false) × (new.out ≡ old.out))
+IsCutUsage kind old new =
+    ((is_request kind ≡ true) × (new.err ≡ old.err)) ⊎ ((is_request kind ≡ false) × (new.out ≡ old.out))
 
--- What is told in place of a run: help, the version, or a fault of the words, of one of these kinds; or that memory was refused over the
--- words. With status 1 it was the latter, or the stream failed on which it was told.
+-- What is told in place of a run: help, the version, or a fault of the words, of one of these kinds; or that memory was
+-- refused over the words. With status 1 it was the latter, or the stream failed on which it was told.
 abbrev pub IsWordAnswer : Kinds → Writers → Writers → ℕ → Type 0
 IsWordAnswer kinds old new status =
     ((kind : ErrorKind) × IsAmong kind kinds × (IsUsage kind old new status ⊎ ((status ≡ 1) × IsCutUsage kind old new)))

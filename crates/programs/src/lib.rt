@@ -1,7 +1,8 @@
 //! The functions of the programs: schedules of events, run and told.
 //!
-//! A schedule is run by three services over tables in memory, with a broker between them. What is printed are the outcomes of its events,
-//! line for line. Where a line is no event nothing is run, and where a writer fails it holds a beginning of what was to be printed.
+//! A schedule is run by three services over tables in memory, with a broker between them. What is printed are the
+//! outcomes of its events, line for line. Where a line is no event nothing is run, and where a writer fails it holds a
+//! beginning of what was to be printed.
 //!
 //! ```rust
 //! pub fn a_schedule_is_run(alloc: Global) -> Result<bool, RunFault> {

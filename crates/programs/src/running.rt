@@ -16,8 +16,8 @@ use warehouse::Stocks;
 /// Three services over tables in memory, and the mail between them.
 pub type PlainWorld = World<PlainKeep<Orders>, PlainKeep<Stocks>, PlainKeep<Accounts>>;
 
-/// The world where a schedule begins: empty tables that match their journals, stores that are usable, no connection; it is good. It takes
-/// no memory.
+/// The world where a schedule begins: empty tables that match their journals, stores that are usable, no connection; it
+/// is good. It takes no memory.
 pub fn open_world(alloc: Global) -> PlainWorld
     ensures beginning { IsBeginning result }
     ensures good { IsGoodPlain result }

@@ -13,11 +13,13 @@ use std::alloc::Global;
 use std::io;
 use std::io::{ErrorKind, Read, Write};
 
-/// Reads a schedule from its text and runs it: nothing is run before the whole of it is read, and the outcomes are written at the end.
+/// Reads a schedule from its text and runs it: nothing is run before the whole of it is read, and the outcomes are
+/// written at the end.
 ///
 /// # Errors
-/// `BadEvent` with the number of the first faulty line: nothing was run. `Memory` where the events or an outcome couldn't be held: what
-/// was run before is told. `Device` where `out` failed: it took a beginning of what is told of the first events.
+/// `BadEvent` with the number of the first faulty line: nothing was run. `Memory` where the events or an outcome
+/// couldn't be held: what was run before is told. `Device` where `out` failed: it took a beginning of what is told of
+/// the first events.
 pub fn run_text<W: Write>(alloc: Global, text: &[u8], out: &mut W) -> Result<(), RunFault>
     ensures { IsRunOf text.now (W.contents out.old) (W.contents out.new) result }
 {
@@ -63,7 +65,8 @@ fn write_run_fault<E: Write>(err: &mut E, fault: RunFault) -> io::Result<()>
 /// # Errors
 /// Where `err` failed: it took a beginning of the line.
 pub fn tell_fault<E: Write>(err: &mut E, fault: RunFault) -> io::Result<u8>
-    ensures told { IfOk result (λ status. (status ≡ 1) × Appends (E.contents err.old) (E.contents err.new) (fault_line fault)) }
+    ensures told { IfOk result (λ status. (status ≡ 1)
+        × Appends (E.contents err.old) (E.contents err.new) (fault_line fault)) }
     ensures untold { OnErr result (AppendsPart (E.contents err.old) (E.contents err.new) (fault_line fault)) }
 {
     write_run_fault(err, fault)?;
@@ -95,9 +98,11 @@ pub fn run_input<R: Read, W: Write, E: Write>(
     out: &mut W,
     err: &mut E,
 ) -> io::Result<u8>
-    ensures ended { IfOk result (λ status. IsEndOf (R.remaining input.old) (record { out = W.contents out.old; err = E.contents err.old })
+    ensures ended { IfOk result (λ status. IsEndOf (R.remaining input.old)
+        (record { out = W.contents out.old; err = E.contents err.old })
         (record { out = W.contents out.new; err = E.contents err.new }) status) }
-    ensures untold { OnErr result (IsUntold (R.remaining input.old) (record { out = W.contents out.old; err = E.contents err.old })
+    ensures untold { OnErr result (IsUntold (R.remaining input.old) (record
+        { out = W.contents out.old; err = E.contents err.old })
         (record { out = W.contents out.new; err = E.contents err.new })) }
 {
     match read_and_run(alloc, input, out) {

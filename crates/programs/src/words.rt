@@ -88,7 +88,8 @@ Exit status:
 /// Reads the words of the command line, the program's name first; there are no options but `--help` and
 /// `--version`.
 fn read_words<S: AsStr>(alloc: Global, words: &[S]) -> Result<(), Error>
-    ensures takes { IfErr result (λ e. takes command_line (map S.text words.now) ≡ true → kind_of e ≡ ErrorKind.OutOfMemory) }
+    ensures takes { IfErr result (λ e. takes command_line (map S.text words.now) ≡ true
+        → kind_of e ≡ ErrorKind.OutOfMemory) }
     ensures fails { FailsBy (fault_of command_line (map S.text words.now)) result }
 {
     let command = Command::new(alloc, "outbox-schedule")
@@ -109,7 +110,8 @@ fn read_words<S: AsStr>(alloc: Global, words: &[S]) -> Result<(), Error>
 /// # Errors
 /// Where `err` failed: it took a beginning of that.
 pub fn tell_bad_words<E: Write>(err: &mut E) -> io::Result<u8>
-    ensures told { IfOk result (λ status. (status ≡ 2) × Appends (E.contents err.old) (E.contents err.new) (bad_words_text USAGE.now)) }
+    ensures told { IfOk result (λ status. (status ≡ 2)
+        × Appends (E.contents err.old) (E.contents err.new) (bad_words_text USAGE.now)) }
     ensures untold { OnErr result (AppendsPart (E.contents err.old) (E.contents err.new) (bad_words_text USAGE.now)) }
 {
     command_line::tell_bad_words(err, USAGE)
@@ -122,12 +124,13 @@ fn status_of(answer: io::Result<u8>) -> u8
     answer.unwrap_or(1)
 }
 
-/// The program `outbox-schedule`: reads the words of its command line, the program's name first, and a schedule from `input`, runs
-/// it, and writes the outcome of each line to `out`.
+/// The program `outbox-schedule`: reads the words of its command line, the program's name first, and a schedule from
+/// `input`, runs it, and writes the outcome of each line to `out`.
 ///
-/// The answer is the status: 0, 2 for a fault of usage, which is told on `err` as `clap` words it, and 1 for another fault, which is
-/// told on `err` too. With words that the command line takes it ends as `run_input` says, or with 1 where memory was refused over
-/// the words or `err` failed. With others nothing is run: `input` isn't read. Help and the version are told on `out`, with status 0.
+/// The answer is the status: 0, 2 for a fault of usage, which is told on `err` as `clap` words it, and 1 for another
+/// fault, which is told on `err` too. With words that the command line takes it ends as `run_input` says, or with 1
+/// where memory was refused over the words or `err` failed. With others nothing is run: `input` isn't read. Help and
+/// the version are told on `out`, with status 0.
 pub fn run_schedule<S: AsStr, R: Read, W: Write, E: Write>(
     alloc: Global,
     words: &[S],
@@ -139,8 +142,16 @@ pub fn run_schedule<S: AsStr, R: Read, W: Write, E: Write>(
         → IsStatusOf (R.remaining input.old) (record { out = W.contents out.old; err = E.contents err.old })
         (record { out = W.contents out.new; err = E.contents err.new }) result }
     ensures answered { IsAnswered (fault_of command_line (map S.text words.now))
-        (record { input = R.remaining input.old; writers = record { out = W.contents out.old; err = E.contents err.old } })
-        (record { input = R.remaining input.new; writers = record { out = W.contents out.new; err = E.contents err.new } }) result }
+        (record {
+          input = R.remaining input.old;
+          writers =
+              record { out = W.contents out.old; err = E.contents err.old };
+        })
+        (record {
+          input = R.remaining input.new;
+          writers =
+              record { out = W.contents out.new; err = E.contents err.new };
+        }) result }
 {
     let Err(error) = read_words(alloc, words) else {
         return status_of(run_input(alloc, input, out, err));

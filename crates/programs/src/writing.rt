@@ -23,8 +23,10 @@ pub(crate) fn write_numbered<W: Write>(
     number: u64,
     after: &[u8],
 ) -> io::Result<()>
-    ensures ok { OnOk result (Appends (W.contents out.old) (W.contents out.new) (before.now ++ decimal number ++ after.now)) }
-    ensures err { OnErr result (AppendsPart (W.contents out.old) (W.contents out.new) (before.now ++ decimal number ++ after.now)) }
+    ensures ok { OnOk result (Appends (W.contents out.old) (W.contents out.new)
+        (before.now ++ decimal number ++ after.now)) }
+    ensures err { OnErr result (AppendsPart (W.contents out.old) (W.contents out.new)
+        (before.now ++ decimal number ++ after.now)) }
 {
     let mut digits = Buffer::new();
     write_three(out, before, digits.format(number).as_bytes(), after)
@@ -62,7 +64,8 @@ fn write_pair<W: Write>(out: &mut W, pair: &Pair) -> io::Result<()>
 /// Writes the line of words, a pair and a number.
 fn write_of_pair<W: Write>(out: &mut W, words: &[u8], pair: &Pair, number: u64) -> io::Result<()>
     ensures ok { OnOk result (Appends (W.contents out.old) (W.contents out.new) (of_pair words.now pair.now number)) }
-    ensures err { OnErr result (AppendsPart (W.contents out.old) (W.contents out.new) (of_pair words.now pair.now number)) }
+    ensures err { OnErr result (AppendsPart (W.contents out.old) (W.contents out.new)
+        (of_pair words.now pair.now number)) }
 {
     write_octets(out, words)?;
     write_pair(out, pair)?;
@@ -93,7 +96,8 @@ fn write_outcome<W: Write>(out: &mut W, outcome: &Outcome) -> io::Result<()>
 /// Writes the lines that tell outcomes, and ends the writing.
 pub(crate) fn write_outcomes<W: Write>(out: &mut W, outcomes: &[Outcome]) -> io::Result<()>
     ensures ok { OnOk result (Appends (W.contents out.old) (W.contents out.new) (flat_map outcome_lines outcomes.now)) }
-    ensures err { OnErr result (AppendsPart (W.contents out.old) (W.contents out.new) (flat_map outcome_lines outcomes.now)) }
+    ensures err { OnErr result (AppendsPart (W.contents out.old) (W.contents out.new)
+        (flat_map outcome_lines outcomes.now)) }
 {
     for outcome in outcomes {
         write_outcome(out, outcome)?;

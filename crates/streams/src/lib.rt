@@ -1,7 +1,7 @@
 //! Octets that are written to their end, to a writer that blocks.
 //!
-//! All of them are taken, once each and in order; or the writer failed, and took a beginning of them: std's `write_all` does the same and
-//! says little of what was taken then.
+//! All of them are taken, once each and in order; or the writer failed, and took a beginning of them: std's `write_all`
+//! does the same and says little of what was taken then.
 //!
 //! ```rust
 //! pub fn three_parts_are_one_text(alloc: Global) -> io::Result<Vec<u8>> {

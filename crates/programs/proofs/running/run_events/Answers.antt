@@ -13,6 +13,8 @@ returns-clause-begun c =
     let new = c.run.new.outcomes.items in
     has_begun c.args.events.now new first last c.open_world-world.ensures.beginning c.open_world-world.ensures.good
     c.run.ensures.matching c.run.ensures.good c.run.ensures.agree
-    (all_appended (λ es os. IsPath (Makes (Passed plain plain plain)) es os first last) c.args.events.now old new c.run.result c.requires
+    (all_appended (λ es os. IsPath (Makes (Passed plain plain plain)) es os first last) c.args.events.now old new
+    c.run.result c.requires
     c.run.ensures.did)
-    (all_appended (λ es os. Told plain plain plain es os first last) c.args.events.now old new c.run.result c.requires c.run.ensures.told)
+    (all_appended (λ es os. Told plain plain plain es os first last) c.args.events.now old new c.run.result c.requires
+    c.run.ensures.told)

@@ -5,7 +5,8 @@ use Rattle.programs.proofs.schedule.read_and_run.Goals as goal
 pub returns-in_err-text : goal.returns-in_err-text
 returns-in_err-text g c =
     let p = err_from_is_err_and c.from_residual.result c.from_residual.ensures.1 in
-    rw (p.1, p.2) (from_nothing (g.R.Read.remaining c.args.input.now) (g.W.Write.contents c.args.out.now) c.in_err-text.field-0.0
+    rw (p.1, p.2) (from_nothing (g.R.Read.remaining c.args.input.now) (g.W.Write.contents c.args.out.now)
+    c.in_err-text.field-0.0
     c.in_err-text.ensures)
 
 pub returns : goal.returns

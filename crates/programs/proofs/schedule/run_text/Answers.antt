@@ -11,7 +11,8 @@ use Rattle.programs.proofs.schedule.run_text.Goals as goal
 pub returns-in_err-events : goal.returns-in_err-events
 returns-in_err-events g c =
     let p = err_from_is_err_and c.from_residual.result c.from_residual.ensures.1 in
-    rw (p.1, p.2) (unread c.args.text.now (g.W.Write.contents c.args.out.now) c.in_err-events.field-0.0 c.in_err-events.ensures)
+    rw (p.1, p.2) (unread c.args.text.now (g.W.Write.contents c.args.out.now) c.in_err-events.field-0.0
+    c.in_err-events.ensures)
 
 pub returns-in-Ok : goal.returns-in-Ok
 returns-in-Ok g c =

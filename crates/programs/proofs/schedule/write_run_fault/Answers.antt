@@ -9,7 +9,8 @@ use Rattle.programs.proofs.schedule.write_run_fault.Goals as goal
 pub returns-in-Memory-clause-ok : goal.returns-in-Memory-clause-ok
 returns-in-Memory-clause-ok g c =
     let at = g.E.Write.contents in
-    subst (λ (f : RunFault). OnOk c.write_octets.result (Appends (at c.args.err.now) (at c.write_octets.new.out) (fault_line f)))
+    subst (λ (f : RunFault). OnOk c.write_octets.result (Appends (at c.args.err.now) (at c.write_octets.new.out)
+    (fault_line f)))
     (sym c.in-Memory.is) c.write_octets.ensures.ok
 
 pub returns-in-Device-clause-ok : goal.returns-in-Device-clause-ok
@@ -22,5 +23,6 @@ returns-in-Device-clause-ok g c =
 pub returns-in-BadEvent-clause-err : goal.returns-in-BadEvent-clause-err
 returns-in-BadEvent-clause-err g c =
     let at = g.E.Write.contents in
-    subst (λ (f : RunFault). OnErr c.write_numbered.result (AppendsPart (at c.args.err.now) (at c.write_numbered.new.out) (fault_line f)))
+    subst (λ (f : RunFault). OnErr c.write_numbered.result (AppendsPart (at c.args.err.now)
+    (at c.write_numbered.new.out) (fault_line f)))
     (sym c.in-BadEvent.is) c.write_numbered.ensures.err

@@ -13,14 +13,16 @@ is_known = refl
 
 pub returns-clause-takes : goal.returns-clause-takes
 returns-clause-takes g c = λ taken.
-    let shape = ap app_of_fields c.after_help-command.ensures ∙ ap app_of_fields c.override_usage.ensures ∙ ap app_of_fields c.about.ensures
+    let shape = ap app_of_fields c.after_help-command.ensures ∙ ap app_of_fields c.override_usage.ensures
+    ∙ ap app_of_fields c.about.ensures
     ∙ ap app_of_fields c.version.ensures in
     c.in-Err.ensures.passes (subst (λ (app : App). takes app (map g.S.AsStr.text c.args.words.now) ≡ true)
     (sym (shape ∙ ap with_version c.new.ensures.app)) taken)
 
 pub returns-clause-fails : goal.returns-clause-fails
 returns-clause-fails g c =
-    let shape = ap app_of_fields c.after_help-command.ensures ∙ ap app_of_fields c.override_usage.ensures ∙ ap app_of_fields c.about.ensures
+    let shape = ap app_of_fields c.after_help-command.ensures ∙ ap app_of_fields c.override_usage.ensures
+    ∙ ap app_of_fields c.about.ensures
     ∙ ap app_of_fields c.version.ensures in
     let same = shape ∙ ap with_version c.new.ensures.app in
     subst (λ (app : App). HasKind (fault_of app (map g.S.AsStr.text c.args.words.now)) c.in-Err.error) same
@@ -28,7 +30,8 @@ returns-clause-fails g c =
 
 pub returns-in-Ok-clause-fails : goal.returns-in-Ok-clause-fails
 returns-in-Ok-clause-fails g c =
-    let shape = ap app_of_fields c.after_help-command.ensures ∙ ap app_of_fields c.override_usage.ensures ∙ ap app_of_fields c.about.ensures
+    let shape = ap app_of_fields c.after_help-command.ensures ∙ ap app_of_fields c.override_usage.ensures
+    ∙ ap app_of_fields c.about.ensures
     ∙ ap app_of_fields c.version.ensures in
     let same = shape ∙ ap with_version c.new.ensures.app in
     subst (λ (app : App). fault_of app (map g.S.AsStr.text c.args.words.now) ≡ []) same

@@ -6,4 +6,5 @@ use Rattle.programs.proofs.writing.write_outcomes.Given as goal
 
 abbrev pub invariant-loop-outcome : goal.invariant-loop-outcome
 invariant-loop-outcome g l =
-    Appends (g.W.Write.contents l.fn.out) (g.W.Write.contents l.out) (flat_map outcome_lines (take l.outcome-index l.outcomes))
+    Appends (g.W.Write.contents l.fn.out) (g.W.Write.contents l.out) (flat_map outcome_lines
+    (take l.outcome-index l.outcomes))

@@ -21,6 +21,7 @@ returns-in_err-write_octets-clause-err g c =
 pub returns-clause-err : goal.returns-clause-err
 returns-clause-err g c =
     let at = g.W.Write.contents in
-    third_of_three (at c.args.out.now) (at c.write_entity.new.out) (at c.write_octets.new.out) (at c.write_entity-2.new.out)
+    third_of_three (at c.args.out.now) (at c.write_entity.new.out) (at c.write_octets.new.out)
+    (at c.write_entity-2.new.out)
     (shown_entity c.args.pair.now.from) (codes " ") (shown_entity c.args.pair.now.to) c.write_entity-2.result
     c.in_ok-write_entity.ensures.ok c.in_ok-write_octets.ensures.ok c.write_entity-2.ensures.err

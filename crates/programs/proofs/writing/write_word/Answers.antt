@@ -11,18 +11,22 @@ loop-octet-preserved g c =
     let at = g.W.Write.contents in
     let octets = c.as_bytes-octet-items.result.now in
     let i = c.loop-octet.octet-index in
-    appends_more spelled octets i 0 (get_or octets i 0) (at c.args.out.now) (at c.loop-octet.out) (at c.write_octets.new.out)
+    appends_more spelled octets i 0 (get_or octets i 0) (at c.args.out.now) (at c.loop-octet.out)
+    (at c.write_octets.new.out)
     c.loop-octet-test.true refl c.loop-octet.invariant
-    (subst (Appends (at c.loop-octet.out) (at c.write_octets.new.out)) c.spelled.ensures c.in_ok-write_octets.ensures.ok)
+    (subst (Appends (at c.loop-octet.out) (at c.write_octets.new.out)) c.spelled.ensures
+    c.in_ok-write_octets.ensures.ok)
 
 pub returns-in_err-write_octets-clause-err : goal.returns-in_err-write_octets-clause-err
 returns-in_err-write_octets-clause-err g c =
     let at = g.W.Write.contents in
     let octets = c.as_bytes-octet-items.result.now in
     let i = c.loop-octet.octet-index in
-    let part = part_of_all spelled octets i 0 (get_or octets i 0) (at c.args.out.now) (at c.loop-octet.out) (at c.write_octets.new.out)
+    let part = part_of_all spelled octets i 0 (get_or octets i 0) (at c.args.out.now) (at c.loop-octet.out)
+    (at c.write_octets.new.out)
     c.loop-octet-test.true refl c.loop-octet.invariant
-    (subst (AppendsPart (at c.loop-octet.out) (at c.write_octets.new.out)) c.spelled.ensures c.in_err-write_octets.ensures.err) in
+    (subst (AppendsPart (at c.loop-octet.out) (at c.write_octets.new.out)) c.spelled.ensures
+    c.in_err-write_octets.ensures.err) in
     on_err_always c.from_residual.result
     (subst (λ os. AppendsPart (at c.args.out.now) (at c.write_octets.new.out) (flat_map spelled os))
     c.as_bytes-octet-items.ensures.value part)
