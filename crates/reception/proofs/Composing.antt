@@ -1,6 +1,6 @@
 -- What two calls of an endpoint do, one after the other.
 use Rattle.std.proofs.Common.{◌≡◌, ◌≤◌, ◌⊎◌, ◌+◌, ℕ, suc, inl, inr, Option, Some, None, Result, Ok, Err, ap, sym, subst, ◌∙◌, arith}
-use Rattle.std.proofs.Common.{true, false, true≢false}
+use Rattle.std.proofs.Common.{true, false}
 use Rattle.std.specs.Prelude.{IsSome}
 use Rattle.base.specs.declared.limits.TheConstants.{MAX_NUMBER}
 use Rattle.base.specs.declared.entity.Kind.{Kind}
@@ -11,27 +11,30 @@ use Rattle.envelope.specs.declared.message.Envelope.TheVariants as envelope
 use Rattle.envelope.specs.declared.message.Letter.{Letter}
 use Rattle.activities.specs.Journal.{handled_of}
 use Rattle.activities.specs.Service.{Service}
-use Rattle.keep.specs.Law.{Never, IsServed, IsCallCause, Reads}
+use Rattle.keep.specs.Law.{IsCall, IsCallCause, Reads}
 use Rattle.keep.specs.Listing.{IsDrainable, next_held}
-use Rattle.keep.specs.Seen.{Seen, IsSound, Cause, no_memory, failed, unusable, refused}
+use Rattle.keep.specs.Seen.{Seen, IsSound}
 use Rattle.keep.specs.Tables.{Tables}
-use Rattle.keep.proofs.Arms.{then_served, then_failed}
-use Rattle.endpoint.specs.Arrivals.{DrainMay}
-use Rattle.endpoint.specs.Deeds.{kept, Deed}
+use Rattle.endpoint.specs.Arrivals.{DrainMay, SettleMay}
+use Rattle.endpoint.specs.Deeds.{Kept, kept, Deed}
 use Rattle.endpoint.specs.Matches.{TablesMatchJournal}
-use Rattle.endpoint.specs.Calls.{ComesBy, Stays, StillMatches, MayTurnAway, OfLetter, OfSettle}
-use Rattle.endpoint.specs.Faults.{end_cause}
+use Rattle.endpoint.specs.Calls.{ComesBy, Stays, StillMatches, MayTurnAway, IsMine, OfLetter, OfSettle}
+use Rattle.endpoint.specs.Faults.{end_cause, end_of}
 use Rattle.endpoint.specs.declared.fault.EndFault.{EndFault}
 use Rattle.endpoint.specs.declared.fault.EndFault.TheVariants.{NotMine, Business, TooEarly, StoreFailed, Memory, Unusable, NumberLimit}
 use Rattle.endpoint.specs.declared.fault.EndFault.TheVariants.{NotSent}
-use Rattle.reception.specs.Deeds.{concerned, MayTurnBack, TellsOfUse}
+use Rattle.reception.specs.Deeds.{concerned, MayTurnBack, TakeMay, TellsOfUse}
 use Rattle.reception.specs.Draining.{IsFirstHeld, DrainsMay}
-use Rattle.reception.specs.Parts.Letters.{KnownUse, PairMay}
+use Rattle.reception.specs.Parts.Letters.{AnswerUse, ArrivalMay, PairMay}
+use Rattle.reception.specs.Prepared.{ToldOfLetter, ToldOfSettle}
+use Rattle.reception.specs.Replies.{settled_again}
+use Rattle.reception.specs.declared.prepared.Arrival.{Arrival}
+use Rattle.reception.specs.declared.prepared.Arrival.TheVariants as arrival
 use Rattle.reception.specs.declared.taken.Drained.{Drained}
 use Rattle.reception.specs.declared.fault.ReceptionFault.{ReceptionFault}
 use Rattle.reception.specs.declared.fault.ReceptionFault.TheVariants.{Frame, Client, Envelope, End}
 use Rattle.reception.specs.declared.taken.Taken.{Taken}
-use Rattle.reception.specs.declared.taken.Taken.TheVariants.{Connected, Receipt, Handled, Repeated, Held, Settled, Error}
+use Rattle.reception.specs.declared.taken.Taken.TheVariants.{Repeated}
 
 module _ {E S C : Type 0} (seen : E → Seen (Tables S C)) (service : Service S C) where
   -- all that is left matches again after both
@@ -72,41 +75,76 @@ module _ {E T : Type 0} (seen : E → Seen T) (kind : Kind) (f : Content) (old n
   settle_turned pair number carries NumberLimit h = absurd h.1.1
   settle_turned pair number carries (Business refusal) h = absurd h.1.1
 
-  -- a read that wasn't done is turned back for no reason of its own
-  pub read_turned : (fault : EndFault) → IsCallCause seen old new Never (end_cause fault)
-      → IsCallCause seen old new (MayTurnBack kind f) (end_cause fault)
-  read_turned Memory h = h
-  read_turned StoreFailed h = h
-  read_turned Unusable h = h
-  read_turned NotMine h = absurd h.1
-  read_turned TooEarly h = absurd h.1
-  read_turned NumberLimit h = absurd h.1
-  read_turned NotSent h = absurd h.1
-  read_turned (Business refusal) h = absurd h.1
+  -- an answer to a settle, whichever it is
+  pub settle_answered : (pair : Pair) (number : ℕ) → read_frame f ≡ Some (envelope.Settle pair number) → (r : Result ℕ EndFault)
+      → IsCall seen old new (MayTurnAway OfSettle old new kind pair.from) (end_of r) → IsMine kind pair.from (end_of r)
+      → AnswerUse seen kind f old new r
+  settle_answered pair number carries (Ok mark) call mine = (call, (pair.from, ap concerned carries, mine))
+  settle_answered pair number carries (Err fault) call mine = settle_turned pair number carries fault call
 
-module _ {E T : Type 0} (seen : E → Seen T) (old mid new : E) (served : IsServed seen old mid) where
-  -- what a call tells behind one that was served
-  pub cause_later : {F : Type 0} (May : F → Type 0) (cause : Cause F) → IsCallCause seen mid new May cause
-      → IsCallCause seen old new May cause
-  cause_later May no_memory h = then_served seen old mid new served h
-  cause_later May failed h = then_failed seen old mid new served h
-  cause_later May unusable h = absurd (true≢false (sym served.1 ∙ h.0))
-  cause_later May (refused fault) h = (then_served seen old mid new served h.0, h.1)
+-- ---- a letter that is given to the endpoint
 
-  -- and taking a letter whose pair's mark was read
-  pub use_later : (kind : Kind) (f : Content) (result : Result Taken ReceptionFault) → KnownUse seen kind f mid new result
-      → TellsOfUse seen kind f old new result
-  use_later kind f (Ok (Handled _)) h = (then_served seen old mid new served h.0, h.1)
-  use_later kind f (Ok (Repeated _)) h = (then_served seen old mid new served h.0, h.1)
-  use_later kind f (Ok Held) h = (then_served seen old mid new served h.0, h.1)
-  use_later kind f (Ok (Settled _)) h = absurd h
-  use_later kind f (Ok Connected) h = absurd h
-  use_later kind f (Ok (Receipt _)) h = absurd h
-  use_later kind f (Ok (Error _)) h = absurd h
-  use_later kind f (Err (End fault)) h = cause_later (MayTurnBack kind f) (end_cause fault) h
-  use_later kind f (Err (Frame _)) h = inr (subst (IsServed seen old) (sym h) served)
-  use_later kind f (Err (Client _)) h = inr (subst (IsServed seen old) (sym h) served)
-  use_later kind f (Err (Envelope _)) h = inr (subst (IsServed seen old) (sym h) served)
+module _ {S C : Type 0} (service : Service S C) (f : Content) (l : Letter) (carries : read_frame f ≡ Some (envelope.Letter l))
+    (x : Kept C) (d : Deed C) where
+  -- what is done with it is what its frame allows, as it is told
+  letter_may : (answer : Result Arrival EndFault) (r : Result Taken ReceptionFault) → ToldOfLetter l answer r
+      → ArrivalMay service l answer x d → TakeMay service f r x d
+  letter_may (Ok (arrival.Handled position)) r told h = subst (λ r. TakeMay service f r x d) (sym told) (l, carries, h)
+  letter_may (Ok (arrival.Repeated handled)) (Ok taken) told h =
+      let may : TakeMay service f (Ok (Repeated (settled_again l.number handled))) x d = (l, carries, h.0, ap (settled_again l.number) h.1) in
+      subst (λ t. TakeMay service f (Ok t) x d) (sym told) may
+  letter_may (Ok (arrival.Repeated handled)) (Err (Client fault)) told h = h.0.0
+  letter_may (Ok (arrival.Repeated handled)) (Err (Envelope fault)) told h = h.0.0
+  letter_may (Ok (arrival.Repeated handled)) (Err (Frame fault)) told h = absurd told
+  letter_may (Ok (arrival.Repeated handled)) (Err (End fault)) told h = absurd told
+  letter_may (Ok arrival.Held) r told h = subst (λ r. TakeMay service f r x d) (sym told) (l, carries, h)
+  letter_may (Err fault) r told h = subst (λ r. TakeMay service f r x d) (sym told) (inl (l, carries, h))
+
+-- and so it is of a settle
+settle_may : {S C : Type 0} (service : Service S C) (f : Content) (pair : Pair) (number : ℕ)
+    → read_frame f ≡ Some (envelope.Settle pair number) → (x : Kept C) (d : Deed C) (answer : Result ℕ EndFault)
+    (r : Result Taken ReceptionFault) → ToldOfSettle answer r → SettleMay service pair number answer x d → TakeMay service f r x d
+settle_may service f pair number carries x d (Ok mark) r told h =
+    subst (λ r. TakeMay service f r x d) (sym told) (pair, number, carries, h)
+settle_may service f pair number carries x d (Err fault) r told h =
+    subst (λ r. TakeMay service f r x d) (sym told) (inr (pair, number, carries, h))
+
+module _ {E S C : Type 0} (seen : E → Seen (Tables S C)) (old new : E) (service : Service S C) where
+  -- a deed that was allowed is allowed where more are
+  comes_more : (allowed may : Kept C → Deed C → Type 0) → ((x : Kept C) (d : Deed C) → allowed x d → may x d)
+      → ComesBy seen old new service allowed → ComesBy seen old new service may
+  comes_more allowed may more comes clean good t left = let c = comes clean good t left in
+      record { before = c.before; deed = c.deed; was = c.was; may = more (kept c.before) c.deed c.may; did = c.did }
+
+  pub letter_comes : (f : Content) (l : Letter) → read_frame f ≡ Some (envelope.Letter l) → (answer : Result Arrival EndFault)
+      (r : Result Taken ReceptionFault) → ToldOfLetter l answer r → ComesBy seen old new service (ArrivalMay service l answer)
+      → ComesBy seen old new service (TakeMay service f r)
+  letter_comes f l carries answer r told = comes_more (ArrivalMay service l answer) (TakeMay service f r)
+      (λ x d. letter_may service f l carries x d answer r told)
+
+  pub settle_comes : (f : Content) (pair : Pair) (number : ℕ) → read_frame f ≡ Some (envelope.Settle pair number)
+      → (answer : Result ℕ EndFault) (r : Result Taken ReceptionFault) → ToldOfSettle answer r
+      → ComesBy seen old new service (SettleMay service pair number answer) → ComesBy seen old new service (TakeMay service f r)
+  settle_comes f pair number carries answer r told = comes_more (SettleMay service pair number answer) (TakeMay service f r)
+      (λ x d. settle_may service f pair number carries x d answer r told)
+
+module _ {E T : Type 0} (seen : E → Seen T) (kind : Kind) (f : Content) (old new : E) where
+  -- what is told of the store's use
+  pub letter_use : (l : Letter) (answer : Result Arrival EndFault) (r : Result Taken ReceptionFault) → ToldOfLetter l answer r
+      → AnswerUse seen kind f old new answer → TellsOfUse seen kind f old new r
+  letter_use l (Ok (arrival.Handled position)) r told h = subst (TellsOfUse seen kind f old new) (sym told) h
+  letter_use l (Ok (arrival.Repeated handled)) (Ok taken) told h = subst (λ t. TellsOfUse seen kind f old new (Ok t)) (sym told) h
+  letter_use l (Ok (arrival.Repeated handled)) (Err (Client fault)) told h = inr h.0
+  letter_use l (Ok (arrival.Repeated handled)) (Err (Envelope fault)) told h = inr h.0
+  letter_use l (Ok (arrival.Repeated handled)) (Err (Frame fault)) told h = inr h.0
+  letter_use l (Ok (arrival.Repeated handled)) (Err (End fault)) told h = absurd told
+  letter_use l (Ok arrival.Held) r told h = subst (TellsOfUse seen kind f old new) (sym told) h
+  letter_use l (Err fault) r told h = subst (TellsOfUse seen kind f old new) (sym told) h
+
+  pub settle_use : (answer : Result ℕ EndFault) (r : Result Taken ReceptionFault) → ToldOfSettle answer r
+      → AnswerUse seen kind f old new answer → TellsOfUse seen kind f old new r
+  settle_use (Ok mark) r told h = subst (TellsOfUse seen kind f old new) (sym told) h
+  settle_use (Err fault) r told h = subst (TellsOfUse seen kind f old new) (sym told) h
 
 -- ---- a held letter behind the read that found its pair
 

@@ -59,9 +59,11 @@ where
         Ok(handled) => handled,
         Err(fault) => return Err(ReceptionFault::End(fault)),
     };
+    // No letter follows the one whose number is the limit.
     let Some(number) = Number::new(handled.saturating_add(1)) else {
         return Ok(None);
     };
+    // Before the letter is touched: behind the store's answer nothing may be wanting.
     let text = make_settle(alloc, client, &pair, number)?;
     match endpoint.drain_held(alloc, &pair) {
         Ok(Some(_)) => {

@@ -1,9 +1,10 @@
 //! What a service does with one frame that came to it, and with the letters that it holds.
 //!
-//! All replies that an answer may need are made, and room for them is found, before the endpoint is asked; what is written then follows
-//! from the endpoint's answer alone. So want of memory leaves the frame waiting and the service as it was, and nothing is written that the
-//! store didn't answer for. [`take_frame`] takes a frame that came, [`drain`] the next
-//! letter that is held and may be handled now.
+//! A frame is taken in two halves. [`prepare`] needs no endpoint: it makes all replies that an answer may need at once,
+//! and finds room for them; `finish` of what it prepared writes what the endpoint's answer says. So want of memory
+//! leaves the frame waiting and the service as it was, and nothing is written that the store didn't answer for. Between
+//! the halves the endpoint is called, wherever it is: [`take_frame`] does all three over one that is at hand. [`drain`]
+//! takes the next letter that is held and may be handled now.
 //!
 //! ```rust
 //! pub fn a_connected_client_subscribes(alloc: Global) -> Result<bool, ReceptionFault> {
@@ -29,8 +30,10 @@
 
 mod draining;
 mod fault;
+mod finishing;
 mod frames;
-mod letters;
+mod prepared;
+mod preparing;
 mod replies;
 mod taken;
 mod texts;
@@ -38,4 +41,6 @@ mod texts;
 pub use draining::{drain, drain_unconnected};
 pub use fault::{ReceptionFault, Untaken};
 pub use frames::take_frame;
+pub use prepared::{Arrival, Prepared, PreparedLetter, PreparedSettle};
+pub use preparing::prepare;
 pub use taken::{Drained, Taken};

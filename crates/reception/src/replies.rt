@@ -1,16 +1,15 @@
-//! The replies to a MESSAGE that are made before the endpoint is asked, with room for each.
+//! The replies to a MESSAGE, with room for each.
 
-ghost use Rattle.std.specs.Prelude.{◌≡◌, ℕ, ◌≤◌, ◌<◌, ◌+◌, ◌-◌, ◌^◌, length, IfOk, IfErr, IsOkUnless};
+ghost use Rattle.std.specs.Prelude.{◌≡◌, ℕ, ◌≤◌, length, IfOk, IfErr, IsOkUnless};
 ghost use Rattle.stomp_client.specs.Delivered.{IsDelivered};
 ghost use Rattle.stomp_client.specs.declared.fault.ClientFault.TheVariants.{Memory};
 ghost use Rattle.stomp_frame.specs.Frames.{Content};
-ghost use Rattle.reception.specs.Faults.{IsWant};
-ghost use Rattle.reception.specs.Parts.Letters.{AreAcknowledgements, HasRoom, AreSettles, HasRoomFor};
-ghost use Rattle.reception.specs.Replies.{refusal, settled_again, IsTextOf};
+ghost use Rattle.reception.specs.Prepared.{AreAcknowledgements, AreLetterReplies, HasRoom};
+ghost use Rattle.reception.specs.Parts.Letters.{IsLetterWant};
+ghost use Rattle.reception.specs.Replies.{refusal, IsTextOf};
 
 use crate::ReceptionFault;
 use crate::texts::{answer_text, settling_text};
-use base::Number;
 use base::limits::MAX_BODY;
 use endpoint::EndFault;
 use envelope::Letter;
@@ -62,53 +61,36 @@ impl Acknowledgements {
     }
 }
 
-/// The texts of the transactions that settle a letter's pair, and how far the second one does.
+/// What may be written for a letter at once: where it is handled the transaction that settles its pair, and else ACK or
+/// NACK.
 #[derive(Drop)]
-pub(crate) struct Settles {
-    pub(crate) handled: Vec<u8>,
-    pub(crate) repeated: Vec<u8>,
-    pub(crate) mark: u64,
+pub(crate) struct LetterReplies {
+    pub(crate) settling: Vec<u8>,
+    pub(crate) answers: Acknowledgements,
 }
 
-/// How far a pair is settled when one of its letters comes again.
-fn settled_again(number: Number, handled: u64) -> Number
-    ensures { result ≡ settled_again number handled }
-{
-    match Number::new(handled) {
-        Some(mark) => mark,
-        None => number,
-    }
-}
-
-impl Settles {
-    /// Those of a letter whose pair was handled so far, with room for either.
+impl LetterReplies {
+    /// Those of a letter that a MESSAGE brought, with room for each.
     pub(crate) fn make(
         alloc: Global,
         client: &mut ClientSession<u64>,
         message: &Frame<MAX_BODY>,
         letter: &Letter,
-        handled: u64,
-    ) -> Result<Settles, ReceptionFault>
+    ) -> Result<LetterReplies, ReceptionFault>
         requires message { IsDelivered message.now }
-        requires numbers { client.old.client.transactions < 2 ^ 64 - 1 }
-        ensures texts { IfOk result (λ s. AreSettles message.now (client.old.client.transactions + 1) letter.now handled s) }
-        ensures room { IfOk result (λ s. HasRoomFor s client.new.room) }
-        ensures kept { client.old.room ≤ client.new.room }
+        ensures ready { IfOk result (λ r. AreLetterReplies message.now client.new letter.now r) }
         ensures same { client.new.client ≡ client.old.client }
-        ensures fault { IfErr result IsWant }
+        ensures fault { IfErr result (IsLetterWant client.old.client.transactions) }
     {
+        // Before anything is made or read: a letter that is only held needs no transaction, but then one test serves
+        // all of them.
+        if client.transactions() == u64::MAX {
+            return Err(ReceptionFault::Client(ClientFault::NumbersUsed));
+        }
+        let answers = Acknowledgements::make(alloc, client, message)?;
         let transaction = client.transactions() + 1;
-        let again = settled_again(letter.number, handled);
-        let mark = again.get();
-        let pair = &letter.pair;
-        let handled = settling_text(alloc, message, transaction, pair, letter.number)?;
-        let repeated = settling_text(alloc, message, transaction, pair, again)?;
-        client.room(handled.len())?;
-        client.room(repeated.len())?;
-        Ok(Settles {
-            handled,
-            repeated,
-            mark,
-        })
+        let settling = settling_text(alloc, message, transaction, &letter.pair, letter.number)?;
+        client.room(settling.len())?;
+        Ok(LetterReplies { settling, answers })
     }
 }

@@ -1,5 +1,5 @@
 -- What each call of a connection does and answers.
-use Rattle.std.specs.Prelude.{◌≡◌, ℕ, ◌≤◌, min, true, false, List, length, take, Option, Some, None, Result, Ok, Err}
+use Rattle.std.specs.Prelude.{◌≡◌, ℕ, min, true, List, length, take, Option, None, Result, Ok, Err}
 use Rattle.base.specs.declared.limits.TheConstants.{MAX_BODY, MAX_QUEUED}
 use Rattle.stomp_frame.specs.declared.fault.FrameFault.{FrameFault}
 use Rattle.stomp_frame.specs.Frames.{Content, IsFrame}

@@ -4,7 +4,7 @@ use Rattle.stomp_client.specs.Clients.{connected}
 use Rattle.stomp_client.specs.Frames.{subscribe_frame}
 use Rattle.reception.proofs.Accepted.{connected_after}
 use Rattle.reception.proofs.Spelling.{whole_at, writes_at}
-use Rattle.reception.proofs.frames.take_connected.Goals as goal
+use Rattle.reception.proofs.preparing.take_connected.Goals as goal
 
 pub write-requires-clause-text : goal.write-requires-clause-text
 write-requires-clause-text c =

@@ -1,0 +1,149 @@
+//! The second half of taking a frame: what the endpoint's answer says.
+
+ghost use Rattle.std.specs.Prelude.{◌≡◌, List, ◌≤◌, ◌<◌, ◌-◌, ◌^◌, length, Ok, IfErr};
+ghost use Rattle.base.specs.declared.entity.Kind.{Kind};
+ghost use Rattle.stomp_frame.specs.Frames.{Content};
+ghost use Rattle.stomp_client.specs.Clients.{counting};
+ghost use Rattle.stomp_client.specs.Written.{AreWhole};
+ghost use Rattle.reception.specs.Answers.{Answers};
+ghost use Rattle.reception.specs.Faults.{taken_or, waiting_after};
+ghost use Rattle.reception.specs.Prepared.{IsReadyLetter, IsReadySettle, ToldOfLetter, ToldOfSettle};
+ghost use Rattle.reception.specs.Replies.{settled_again, IsTextOf, Writes};
+ghost use Rattle.reception.specs.declared.prepared.Arrival.TheVariants as arrival;
+
+use crate::texts::{settling_text, write};
+use crate::{Arrival, PreparedLetter, PreparedSettle, ReceptionFault, Taken, Untaken};
+use base::Number;
+use endpoint::EndFault;
+use std::alloc::Global;
+use stomp_client::ClientSession;
+
+/// Writes a transaction for which room was found, and counts it.
+fn write_transaction(client: &mut ClientSession<u64>, text: &[u8])
+    requires numbers { client.old.client.transactions < 2 ^ 64 - 1 }
+    requires room { length text.now ≤ client.old.room }
+    requires text { AreWhole text.now }
+    ensures { (frames : List Content) → IsTextOf frames text.now → Writes frames (counting client.old.client) client.new.client }
+{
+    client.count_transaction();
+    write(client, text);
+}
+
+/// How far a pair is settled when one of its letters comes again.
+fn settled_again(number: Number, handled: u64) -> Number
+    ensures { result ≡ settled_again number handled }
+{
+    match Number::new(handled) {
+        Some(mark) => mark,
+        None => number,
+    }
+}
+
+impl PreparedLetter {
+    /// Settles the pair again, as far as it was handled.
+    fn settle_again(
+        &self,
+        alloc: Global,
+        client: &mut ClientSession<u64>,
+        handled: u64,
+    ) -> Result<Taken, ReceptionFault>
+        requires { IsReadyLetter client.old self.now }
+        ensures told { ToldOfLetter self.now.letter (Ok (arrival.Repeated handled)) result }
+        ensures answers { (kind : Kind) → Answers kind self.now.message client.old.client client.new.client result }
+    {
+        let transaction = client.transactions() + 1;
+        let mark = settled_again(self.letter.number, handled);
+        let text = settling_text(alloc, &self.message, transaction, &self.letter.pair, mark)?;
+        client.room(text.len())?;
+        write_transaction(client, &text);
+        Ok(Taken::Repeated(mark.get()))
+    }
+
+    /// Writes what the endpoint's answer says.
+    fn answer(
+        &self,
+        alloc: Global,
+        client: &mut ClientSession<u64>,
+        answer: Result<Arrival, EndFault>,
+    ) -> Result<Taken, ReceptionFault>
+        requires { IsReadyLetter client.old self.now }
+        ensures told { ToldOfLetter self.now.letter answer result }
+        ensures answers { (kind : Kind) → Answers kind self.now.message client.old.client client.new.client result }
+    {
+        match answer {
+            Ok(Arrival::Handled(position)) => {
+                write_transaction(client, &self.replies.settling);
+                Ok(Taken::Handled(position))
+            }
+            Ok(Arrival::Repeated(handled)) => self.settle_again(alloc, client, handled),
+            Ok(Arrival::Held) => {
+                write(client, &self.replies.answers.ack);
+                Ok(Taken::Held)
+            }
+            Err(fault) => {
+                write(client, self.replies.answers.refusal(fault));
+                Err(ReceptionFault::End(fault))
+            }
+        }
+    }
+
+    /// The second half of taking a letter: writes what the endpoint's answer says. Where the letter was handled, now or
+    /// before, a transaction: BEGIN, ACK, the SEND of a settle up to what was handled, COMMIT. Where it is held: ACK.
+    ///
+    /// # Errors
+    /// - `End`, as the endpoint tells it: ACK is written after `NotMine` and `NotSent`, nothing after `StoreFailed`,
+    ///   and else NACK.
+    /// - `Client(Memory)` and `Envelope(Memory)` for a letter that came again: nothing is written, and the frame is
+    ///   given back. How far its pair was handled is known only now, and by such an answer nothing has changed.
+    pub fn finish(
+        self,
+        alloc: Global,
+        client: &mut ClientSession<u64>,
+        answer: Result<Arrival, EndFault>,
+    ) -> Result<Taken, Untaken>
+        requires { IsReadyLetter client.old self }
+        ensures told { ToldOfLetter self.letter answer (taken_or result) }
+        ensures answers { (kind : Kind) → Answers kind self.message client.old.client client.new.client (taken_or result) }
+        ensures waits { IfErr result (λ untaken. untaken.frame ≡ waiting_after untaken.fault self.message) }
+    {
+        match self.answer(alloc, client, answer) {
+            Ok(taken) => Ok(taken),
+            Err(fault) => {
+                let PreparedLetter {
+                    message,
+                    letter: _letter,
+                    replies: _replies,
+                } = self;
+                Err(Untaken::of(fault, message))
+            }
+        }
+    }
+}
+
+impl PreparedSettle {
+    /// The second half of taking a settle: writes ACK.
+    ///
+    /// # Errors
+    /// `End`, as the endpoint tells it: ACK is written after `NotMine` and `NotSent`, nothing after `StoreFailed`, and
+    /// else NACK.
+    pub fn finish(
+        self,
+        client: &mut ClientSession<u64>,
+        answer: Result<u64, EndFault>,
+    ) -> Result<Taken, ReceptionFault>
+        requires { IsReadySettle client.old self }
+        ensures told { ToldOfSettle answer result }
+        ensures answers { (kind : Kind) → Answers kind self.message client.old.client client.new.client result }
+    {
+        match answer {
+            Ok(mark) => {
+                write(client, &self.answers.ack);
+                Ok(Taken::Settled(mark))
+            }
+            Err(fault) => {
+                write(client, self.answers.refusal(fault));
+                Err(ReceptionFault::End(fault))
+            }
+        }
+    }
+}
