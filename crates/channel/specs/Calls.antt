@@ -27,7 +27,8 @@ pub record ChannelSends (count : ℕ) (old new : Channel) : Type 0 where
 
 -- What `feed` answers: what the decoder answers to the octets that came.
 abbrev pub ChannelFeeds : Channel → Channel → List ℕ → Result (Unit {0}) FrameFault → Type 0
-ChannelFeeds old new piece r = FeedsDecoder old.decoder new.decoder piece r × (new ≡ record old { decoder = new.decoder })
+ChannelFeeds old new piece r =
+    FeedsDecoder old.decoder new.decoder piece r × (new ≡ record old { decoder = new.decoder })
 
 -- the frame that waits is given; where none does, the decoder's answer is
 abbrev pub GivesNextOf : Option Content → Channel → Channel → Result (Option Content) FrameFault → Type 0

@@ -12,9 +12,11 @@ use Rattle.keep.specs.Tables.{Tables}
 use Rattle.endpoint.specs.Matches.{TablesMatchWithin, MayBeHeld}
 use Rattle.endpoint.specs.Parts.Handling.{Prepares}
 
-pub command-prepares : {S C : Type 0} (ahead : ℕ) (service : Service S C) (old : Tables S C) (e : Name) (seat : ℕ) (command : C)
+pub command-prepares : {S C : Type 0} (ahead : ℕ) (service : Service S C) (old : Tables S C) (e : Name) (seat : ℕ)
+    (command : C)
     (first : List (Change S C))
-    → TablesMatchWithin ahead service old → seat < SEATS → first ≡ [] → Prepares ahead service.kind old (command_row e seat command) first
+    → TablesMatchWithin ahead service old → seat < SEATS → first ≡ []
+    → Prepares ahead service.kind old (command_row e seat command) first
 command-prepares {S} {C} ahead service old e seat command first h seated none =
     let row : JournalRow C = command_row e seat command in
     let same : (p : Pair) → handled_of (old.journal ++ row ∷ []) p ≡ handled_of old.journal p =
@@ -29,5 +31,6 @@ command-prepares {S} {C} ahead service old e seat command first h seated none =
       sent = refl;
       settled = refl;
       handled = λ p. h.handled p ∙ sym (same p);
-      held = λ p n some. let Q : ℕ → Type 0 = λ k. MayBeHeld ahead service.kind k p n in subst Q (sym (same p)) (h.held p n some);
+      held = λ p n some. let Q : ℕ → Type 0 =
+          λ k. MayBeHeld ahead service.kind k p n in subst Q (sym (same p)) (h.held p n some);
     })

@@ -1,5 +1,7 @@
--- What the parts of a call on letters come to: a letter that is handled or held, a mark that rises, and the call that a caller sees.
-use Rattle.std.proofs.Common.{ℕ, suc, ◌+◌, ◌≤◌, ◌<◌, ◌≡◌, ◌⊎◌, inl, inr, List, [], ◌∷◌, Option, Some, None, length, Result, Ok, Err, refl}
+-- What the parts of a call on letters come to: a letter that is handled or held, a mark that rises, and the call that a
+-- caller sees.
+use Rattle.std.proofs.Common.{ℕ, suc, ◌+◌, ◌≤◌, ◌<◌, ◌≡◌, ◌⊎◌, inl, inr, List, [], ◌∷◌, Option, Some, None, length}
+use Rattle.std.proofs.Common.{Result, Ok, Err, refl}
 use Rattle.std.proofs.Common.{sym, ap}
 use Rattle.std.proofs.Common.{subst, ◌∙◌, arith, length-append, true}
 use Rattle.std.specs.Prelude.{max, ⊤}
@@ -22,7 +24,8 @@ use Rattle.endpoint.specs.declared.answer.Committed.{Committed}
 use Rattle.endpoint.specs.declared.answer.Ingested.{Ingested}
 use Rattle.endpoint.specs.declared.answer.Ingested.TheVariants as ingested
 use Rattle.endpoint.specs.declared.fault.EndFault.{EndFault}
-use Rattle.endpoint.specs.declared.fault.EndFault.TheVariants.{NotMine, Business, TooEarly, StoreFailed, Memory, Unusable, NumberLimit}
+use Rattle.endpoint.specs.declared.fault.EndFault.TheVariants.{NotMine, Business, TooEarly, StoreFailed, Memory}
+use Rattle.endpoint.specs.declared.fault.EndFault.TheVariants.{Unusable, NumberLimit}
 use Rattle.endpoint.specs.declared.fault.EndFault.TheVariants.{NotSent}
 use Rattle.endpoint.specs.Arrivals.{row_of_letter, IngestMayWithin, DrainMay, SettleMay, IsDone}
 use Rattle.endpoint.specs.Calls.{IsCommitCall, IsCommit, Appends, IsMine, MayTurnAway, OfLetter, OfHeldLetter, Does}
@@ -31,7 +34,8 @@ use Rattle.endpoint.specs.Faults.{end_of}
 use Rattle.endpoint.specs.Matches.{TablesMatchWithin, MayBeHeld}
 use Rattle.endpoint.specs.Parts.Handling.{Handles}
 use Rattle.endpoint.specs.Parts.Receiving.{Works, IsNext, IsEarly, IsMissing}
-use Rattle.endpoint.proofs.Arriving.{letter_changes, letter_prepares, held_same, held_new, may_be_held, held_matches, settled_matches}
+use Rattle.endpoint.proofs.Arriving.{letter_changes, letter_prepares, held_same, held_new, may_be_held, held_matches}
+use Rattle.endpoint.proofs.Arriving.{settled_matches}
 use Rattle.endpoint.proofs.Arriving.{mark_same, mark_raised}
 use Rattle.endpoint.proofs.Doing.{good_now}
 use Rattle.endpoint.proofs.Kept.{commit-matches}
@@ -54,7 +58,8 @@ abbrev pub as_ingested : Result Committed EndFault → Result Ingested EndFault
 as_ingested (Ok c) = Ok (ingested.Handled c.pos)
 as_ingested (Err fault) = Err fault
 
-module _ {E S C : Type 0} (seen : E → Seen (Tables S C)) (sound : (k : E) → IsSound (seen k)) (ahead : ℕ) (service : Service S C)
+module _ {E S C : Type 0} (seen : E → Seen (Tables S C)) (sound : (k : E) → IsSound (seen k)) (ahead : ℕ)
+    (service : Service S C)
     (old new : E)
     (l : Letter) (mine : l.pair.to.kind ≡ service.kind) where
   abbrev row : JournalRow C
@@ -82,9 +87,11 @@ module _ {E S C : Type 0} (seen : E → Seen (Tables S C)) (sound : (k : E) → 
   done : l.number ≡ suc (handled_of (seen old).tables.journal l.pair) → (result : Result Committed EndFault)
       → IsCommitCall seen old new service.kind row result
       → IsCommit ahead service (seen old).tables row waiting (seen new).tables (seen new).may_leave result
-      → IsDone ahead service (IngestMayWithin ahead service l) (seen old).tables (seen new).tables (seen new).may_leave (as_ingested result)
+      → IsDone ahead service (IngestMayWithin ahead service l) (seen old).tables (seen new).tables (seen new).may_leave
+      (as_ingested result)
   done next (Ok c) call did =
-      let long : length (seen new).tables.journal ≡ suc (length (seen old).tables.journal) = ap length did.1.takes.appended
+      let long : length (seen new).tables.journal ≡ suc (length (seen old).tables.journal) =
+      ap length did.1.takes.appended
       ∙ length-append (seen old).tables.journal _ ∙ omega arith in
       (TakesIn row, (refl, did.0.1 ∙ long), took (seen new).tables did.1)
   done next (Err StoreFailed) call did = λ t left. either (did t left).1
@@ -101,10 +108,14 @@ module _ {E S C : Type 0} (seen : E → Seen (Tables S C)) (sound : (k : E) → 
   -- the sender's name was copied, and the changes are a list of their own
   pub handled_works : (from : Name) (first : List (Change S C)) → from ≡ l.pair.from → first ≡ letter_changes l
       → (seen old).usable ≡ true → (result : Result Committed EndFault)
-      → Handles seen old new ahead service (record { entity = l.pair.to; input = FromEntity from l.number l.message }) first result
+      → Handles seen old new ahead service (record { entity = l.pair.to; input = FromEntity from l.number l.message })
+      first result
       → Works seen old new ahead service OfHeldLetter (IsNext l) (IngestMayWithin ahead service l) (as_ingested result)
   handled_works from first is are up result handles =
-      let h = subst (λ n. Handles seen old new ahead service (record { entity = l.pair.to; input = FromEntity n l.number l.message })
+      let h = subst (λ n. Handles seen old new ahead service (record {
+        entity = l.pair.to;
+        input = FromEntity n l.number l.message;
+      })
       (letter_changes l) result) is
       (subst (λ (cs : List (Change S C)). Handles seen old new ahead service
       (record { entity = l.pair.to; input = FromEntity from l.number l.message }) cs result) are handles) in
@@ -115,9 +126,11 @@ module _ {E S C : Type 0} (seen : E → Seen (Tables S C)) (sound : (k : E) → 
             let clean0 : (seen old).doubt ≡ 0 = omega (arith, clean, d) in
             let matches = good_now seen sound ahead service old clean0 up good in
             let k = matches.handled l.pair in
-            let did = h.clean clean good (letter_prepares ahead service (seen old).tables l matches next (letter_changes l) refl) in (
+            let did = h.clean clean good (letter_prepares ahead service (seen old).tables l matches next
+            (letter_changes l) refl) in (
               done (omega (arith, next, k)) result h.call did,
-              commit-matches seen ahead service old new row waiting (sound old) (sound new) clean0 clean good result h.call did,
+              commit-matches seen ahead service old new row waiting (sound old) (sound new) clean0 clean good result
+                  h.call did,
             );
       }
 
@@ -128,8 +141,10 @@ module _ {S C : Type 0} (ahead : ℕ) (service : Service S C) where
   with_messages : (x : Kept C) (held : Messages) → x.held ≡ held → x ≡ record x { held = held }
   with_messages x held is = ap (λ (h : Messages). record x { held = h }) is
 
-  pub hold_did : (l : Letter) → l.pair.to.kind ≡ service.kind → l.number ≤ MAX_NUMBER → (t : Tables S C) → TablesMatchWithin ahead service t
-      → IsEarly ahead l t → (m : Message) → t.held l.pair l.number ≡ Some m → DidWithin ahead service (kept t) (Holds l) (kept t)
+  pub hold_did : (l : Letter) → l.pair.to.kind ≡ service.kind → l.number ≤ MAX_NUMBER → (t : Tables S C)
+      → TablesMatchWithin ahead service t
+      → IsEarly ahead l t → (m : Message) → t.held l.pair l.number ≡ Some m
+      → DidWithin ahead service (kept t) (Holds l) (kept t)
   hold_did l mine small t h early m is =
       let k = h.handled l.pair in let far = early.0 in (
         may_be_held ahead service t h l mine small early,
@@ -140,9 +155,11 @@ module _ {S C : Type 0} (ahead : ℕ) (service : Service S C) where
   abbrev Hold : Letter → List (Change S C) → Tables S C → Type 0
   Hold l cs t = ArePlaced cs t × IngestMayWithin ahead service l (Ok ingested.Held) (kept t) (Holds l)
       × IngestMayWithin ahead service l (Err StoreFailed) (kept t) (Holds l)
-      × DidWithin ahead service (kept t) (Holds l) (kept (changed cs t)) × TablesMatchWithin ahead service (changed cs t)
+      × DidWithin ahead service (kept t) (Holds l) (kept (changed cs t))
+      × TablesMatchWithin ahead service (changed cs t)
 
-  pub hold_does : (l : Letter) → l.pair.to.kind ≡ service.kind → l.number ≤ MAX_NUMBER → (cs : List (Change S C)) → cs ≡ Held l ∷ []
+  pub hold_does : (l : Letter) → l.pair.to.kind ≡ service.kind → l.number ≤ MAX_NUMBER → (cs : List (Change S C))
+      → cs ≡ Held l ∷ []
       → (t : Tables S C) → TablesMatchWithin ahead service t → IsEarly ahead l t × IsMissing l t → Hold l cs t
   hold_does l mine small cs is t h q =
       let may = may_be_held ahead service t h l mine small q.0 in
@@ -162,7 +179,8 @@ module _ {S C : Type 0} (ahead : ℕ) (service : Service S C) where
   abbrev Mark : Pair → ℕ → List (Change S C) → Tables S C → Type 0
   Mark p n cs t = ArePlaced cs t × SettleMay service p n (Ok n) (kept t) (Settles p n)
       × SettleMay service p n (Err StoreFailed) (kept t) (Settles p n)
-      × DidWithin ahead service (kept t) (Settles p n) (kept (changed cs t)) × TablesMatchWithin ahead service (changed cs t)
+      × DidWithin ahead service (kept t) (Settles p n) (kept (changed cs t))
+      × TablesMatchWithin ahead service (changed cs t)
 
   pub mark_does : (p : Pair) (n : ℕ) → p.from.kind ≡ service.kind → (cs : List (Change S C)) → cs ≡ Settled p n ∷ []
       → (t : Tables S C) → TablesMatchWithin ahead service t → (t.settled p < n) × (n ≤ t.sent p) → Mark p n cs t
@@ -173,12 +191,18 @@ module _ {S C : Type 0} (ahead : ℕ) (service : Service S C) where
         (tt, tt),
         (refl, omega (arith, more)),
         inr refl,
-        (mine, few, ap (λ (x : Pair → ℕ). record { journal = t.journal; settled = x; held = t.held }) (mark_raised t.settled p n more)),
+        (
+          mine,
+          few,
+          ap (λ (x : Pair → ℕ). record { journal = t.journal; settled = x; held = t.held })
+              (mark_raised t.settled p n more),
+        ),
         settled_matches ahead service t h p n more few,
       )
 
   -- a mark that doesn't rise
-  pub mark_stays : (p : Pair) (n mark : ℕ) → p.from.kind ≡ service.kind → (t : Tables S C) → TablesMatchWithin ahead service t
+  pub mark_stays : (p : Pair) (n mark : ℕ) → p.from.kind ≡ service.kind → (t : Tables S C)
+      → TablesMatchWithin ahead service t
       → n ≤ t.sent p → mark ≡ t.settled p → n ≤ mark
       → SettleMay service p n (Ok mark) (kept t) (Settles p n) × DidWithin ahead service (kept t) (Settles p n) (kept t)
   mark_stays p n mark mine t h there is small =
@@ -197,7 +221,8 @@ module _ {S C : Type 0} (ahead : ℕ) (service : Service S C) where
 module _ {E S C R : Type 0} (seen : E → Seen (Tables S C)) (ahead : ℕ) (service : Service S C) (old new : E) (e : Name)
     (mine : e.kind ≡ service.kind) (Reason : EndFault → Type 0) (never : Reason NotMine → ⊥) where
   seen_call : (result : Result R EndFault) → IsCall seen old new Reason (end_of result)
-      → IsCall seen old new (MayTurnAway Reason old new service.kind e) (end_of result) × IsMine service.kind e (end_of result)
+      → IsCall seen old new (MayTurnAway Reason old new service.kind e) (end_of result)
+      × IsMine service.kind e (end_of result)
   seen_call (Ok r) h = (h, mine)
   seen_call (Err Memory) h = (h, mine)
   seen_call (Err StoreFailed) h = (h, mine)
@@ -209,7 +234,8 @@ module _ {E S C R : Type 0} (seen : E → Seen (Tables S C)) (ahead : ℕ) (serv
   seen_call (Err NotSent) h = ((h.0, (mine, h.1)), tt)
 
   pub works_does : (may : Result R EndFault → Kept C → Deed C → Type 0) (result : Result R EndFault)
-      → Works seen old new ahead service Reason (λ _. ⊤) may result → Does seen old new ahead service Reason e may result
+      → Works seen old new ahead service Reason (λ _. ⊤) may result
+      → Does seen old new ahead service Reason e may result
   works_does may result w = record {
     call = seen_call result w.call;
     doubt = w.doubt;

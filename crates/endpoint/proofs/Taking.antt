@@ -1,5 +1,6 @@
 -- The tables after a row was taken in.
-use Rattle.std.proofs.Common.{ℕ, ◌+◌, ◌≤◌, ◌<◌, ◌≡◌, List, [], ◌∷◌, ◌++◌, length, Bool, true, false, Option, Result, Ok, refl}
+use Rattle.std.proofs.Common.{ℕ, ◌+◌, ◌≤◌, ◌<◌, ◌≡◌, List, [], ◌∷◌, ◌++◌, length, Bool, true, false, Option, Result, Ok}
+use Rattle.std.proofs.Common.{refl}
 use Rattle.std.proofs.Common.{sym, ap, ◌∙◌, subst, arith, length-append}
 use Rattle.std.specs.Prelude.{if◌then◌else◌, IsOk, IsSome}
 use Rattle.std.proofs.lemmas.List.{append-nil}
@@ -31,7 +32,8 @@ use Rattle.endpoint.specs.Parts.Handling.{Prepares}
 use Rattle.outbox.specs.Numbering.{numbering}
 use Rattle.outbox.proofs.Sending.{IsOutbox, outbox-same, own, numbering-outbox, numbering-keeps}
 
-pub changed-append : {S C : Type 0} (xs ys : List (Change S C)) (t : Tables S C) → changed (xs ++ ys) t ≡ changed ys (changed xs t)
+pub changed-append : {S C : Type 0} (xs ys : List (Change S C)) (t : Tables S C)
+    → changed (xs ++ ys) t ≡ changed ys (changed xs t)
 changed-append [] ys t = refl
 changed-append (x ∷ xs) ys t = changed-append xs ys (changed_by x t)
 
@@ -46,7 +48,8 @@ none_sent xs true = sym (append-nil xs)
 none_sent xs false = sym (append-nil xs)
 
 -- the numbers of a pair stay within the limit
-within_more : (e : Name) (outs : List Out) (sent : Pair → ℕ) (q : Pair) (xs : List Message) → sent q ≡ length xs → sent q ≤ MAX_NUMBER
+within_more : (e : Name) (outs : List Out) (sent : Pair → ℕ) (q : Pair) (xs : List Message) → sent q ≡ length xs
+    → sent q ≤ MAX_NUMBER
     → NumbersFit sent e outs → length (xs ++ own e outs q) ≤ MAX_NUMBER
 within_more e outs sent q xs is small fits = either (same_entity-tells q.from e)
     (λ t. rw t.0 (mine t.1 (messages_to q.to outs) refl))
@@ -63,7 +66,8 @@ within_more e outs sent q xs is small fits = either (same_entity-tells q.from e)
 
 -- ---- one row more
 
-module _ {S C : Type 0} (ahead : ℕ) (service : Service S C) (old : Tables S C) (position : ℕ) (row : JournalRow C) (first : List
+module _ {S C : Type 0} (ahead : ℕ) (service : Service S C) (old : Tables S C) (position : ℕ) (row : JournalRow C)
+    (first : List
     (Change S C))
     (done : S × List Out) where
   -- the tables after all changes of a row that is taken in
@@ -102,7 +106,8 @@ module _ {S C : Type 0} (ahead : ℕ) (service : Service S C) (old : Tables S C)
         ∙ ap (λ (c : Pair → ℕ). above (c p) (sent_of service.reactions old.journal p) n) (sym prep.settled);
   }
 
-  module _ (h : TablesMatchWithin ahead service old) (of_kind : row.entity.kind ≡ service.kind) (prep : Prepares ahead service.kind old row
+  module _ (h : TablesMatchWithin ahead service old) (of_kind : row.entity.kind ≡ service.kind)
+      (prep : Prepares ahead service.kind old row
       first)
       (room : length old.journal < MAX_NUMBER) (accepted : reaction service.reactions old.journal row ≡ Ok done)
       (fits : NumbersFit old.sent row.entity done.1) where
@@ -133,18 +138,26 @@ module _ {S C : Type 0} (ahead : ℕ) (service : Service S C) (old : Tables S C)
         let rest : List (Change S C) = State e (row_for service.is_none done.0) ∷ Journal position row ∷ [] in
         let u : Tables S C = changed letters ready in
         let v : Tables S C = changed rest u in
-        let split : taken ≡ v = changed-append (first ++ letters) rest old ∙ ap (changed rest) (changed-append first letters old) in
-        let journal : u.journal ≡ j = numbering-keeps (λ (t : Tables S C). t.journal) (λ _ _. refl) old.sent e done.1 ready
+        let split : taken ≡ v =
+        changed-append (first ++ letters) rest old ∙ ap (changed rest) (changed-append first letters old) in
+        let journal : u.journal ≡ j =
+        numbering-keeps (λ (t : Tables S C). t.journal) (λ _ _. refl) old.sent e done.1 ready
         ∙ prep.journal in
-        let entity : u.entity ≡ old.entity = numbering-keeps (λ (t : Tables S C). t.entity) (λ _ _. refl) old.sent e done.1 ready
+        let entity : u.entity ≡ old.entity =
+        numbering-keeps (λ (t : Tables S C). t.entity) (λ _ _. refl) old.sent e done.1 ready
         ∙ prep.entity in
-        let settled : u.settled ≡ old.settled = numbering-keeps (λ (t : Tables S C). t.settled) (λ _ _. refl) old.sent e done.1 ready
+        let settled : u.settled ≡ old.settled =
+        numbering-keeps (λ (t : Tables S C). t.settled) (λ _ _. refl) old.sent e done.1 ready
         ∙ prep.settled in
-        let handled : u.handled ≡ ready.handled = numbering-keeps (λ (t : Tables S C). t.handled) (λ _ _. refl) old.sent e done.1 ready in
-        let held : u.held ≡ ready.held = numbering-keeps (λ (t : Tables S C). t.held) (λ _ _. refl) old.sent e done.1 ready in
+        let handled : u.handled ≡ ready.handled =
+        numbering-keeps (λ (t : Tables S C). t.handled) (λ _ _. refl) old.sent e done.1 ready in
+        let held : u.held ≡ ready.held =
+        numbering-keeps (λ (t : Tables S C). t.held) (λ _ _. refl) old.sent e done.1 ready in
         let before : IsOutbox ready (λ q. f q ++ own e [] q) =
-        outbox-same ready f (λ q. f q ++ own e [] q) (λ q. none_sent (f q) (same_entity q.from e)) (ready_outbox h prep) in
-        let numbered : IsOutbox u (λ q. f q ++ own e done.1 q) = numbering-outbox old.sent e f h.sent done.1 ready before in
+        outbox-same ready f (λ q. f q ++ own e [] q) (λ q. none_sent (f q) (same_entity q.from e)) (ready_outbox h prep)
+        in
+        let numbered : IsOutbox u (λ q. f q ++ own e done.1 q) =
+        numbering-outbox old.sent e f h.sent done.1 ready before in
         let after : List (JournalRow C) = j ++ row ∷ [] in
         let outbox : IsOutbox u (sent_of service.reactions after) =
         outbox-same u (λ q. f q ++ own e done.1 q) (sent_of service.reactions after)
@@ -153,8 +166,10 @@ module _ {S C : Type 0} (ahead : ℕ) (service : Service S C) (old : Tables S C)
         let set : Bool → Option S → Option S = λ b x. if b then row_for service.is_none done.0 else x in
         let matches : Matches after v = record {
           legal = legal-more service.reactions service.kind j row h.legal may;
-          entities = λ x. ap (λ (c : Name → Option S). set (same_entity e x) (c x)) entity ∙ ap (set (same_entity e x)) (h.entities x)
-              ∙ ap (λ b. set b (row_of service j x)) (same_entity-comm e x) ∙ sym (row_of-more service j row done accepted x);
+          entities = λ x. ap (λ (c : Name → Option S). set (same_entity e x) (c x)) entity
+              ∙ ap (set (same_entity e x)) (h.entities x)
+              ∙ ap (λ b. set b (row_of service j x)) (same_entity-comm e x)
+              ∙ sym (row_of-more service j row done accepted x);
           outbox = record { count = outbox.count; settled = outbox.settled; rows = outbox.rows };
           numbers = λ p.
               let grown = within_more e done.1 old.sent p (f p) (h.sent p) (h.numbers p) fits in

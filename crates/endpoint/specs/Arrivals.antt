@@ -1,4 +1,5 @@
--- What an endpoint does with letters and settles that arrive: the deed that each answer tells, and what was the case before it.
+-- What an endpoint does with letters and settles that arrive: the deed that each answer tells, and what was the case
+-- before it.
 use Rattle.std.specs.Prelude.{◌≡◌, ◌≢◌, ◌⊎◌, ℕ, suc, ◌+◌, ◌≤◌, ◌<◌, max, length, Option, Some, None, Result, Ok, Err}
 use Rattle.base.specs.declared.limits.TheConstants.{HELD_WINDOW}
 use Rattle.base.specs.declared.pair.Pair.{Pair}
@@ -12,7 +13,8 @@ use Rattle.keep.specs.Tables.{Tables}
 use Rattle.endpoint.specs.declared.answer.Ingested.{Ingested}
 use Rattle.endpoint.specs.declared.answer.Ingested.TheVariants as ingested
 use Rattle.endpoint.specs.declared.fault.EndFault.{EndFault}
-use Rattle.endpoint.specs.declared.fault.EndFault.TheVariants.{NotMine, Business, TooEarly, StoreFailed, Memory, Unusable, NumberLimit}
+use Rattle.endpoint.specs.declared.fault.EndFault.TheVariants.{NotMine, Business, TooEarly, StoreFailed, Memory}
+use Rattle.endpoint.specs.declared.fault.EndFault.TheVariants.{Unusable, NumberLimit}
 use Rattle.endpoint.specs.declared.fault.EndFault.TheVariants.{NotSent}
 use Rattle.endpoint.specs.Answers.{PassesLimit}
 use Rattle.endpoint.specs.Deeds.{Kept, kept, Deed, Nothing, TakesIn, Holds, Settles, DidWithin}
@@ -40,7 +42,8 @@ module _ {S C : Type 0} (ahead : ℕ) (service : Service S C) where
   IngestMayWithin l (Ok ingested.Repeated) x d = (d ≡ Nothing) × (l.number ≤ handled_of x.journal l.pair)
   IngestMayWithin l (Ok ingested.Held) x d = d ≡ Holds l
   IngestMayWithin l (Err TooEarly) x d = (d ≡ Nothing) × (handled_of x.journal l.pair + ahead < l.number)
-  IngestMayWithin l (Err NumberLimit) x d = (d ≡ Nothing) × IsNextLetter x l × PassesLimit service.reactions x.journal (row_of_letter l)
+  IngestMayWithin l (Err NumberLimit) x d =
+      (d ≡ Nothing) × IsNextLetter x l × PassesLimit service.reactions x.journal (row_of_letter l)
   IngestMayWithin l (Err StoreFailed) x d = (d ≡ Nothing) ⊎ (d ≡ TakesIn (row_of_letter l)) ⊎ (d ≡ Holds l)
   IngestMayWithin l (Err Memory) x d = d ≡ Nothing
   IngestMayWithin l (Err NotMine) x d = (d ≡ Nothing) × (l.pair.to.kind ≢ service.kind)
@@ -52,9 +55,10 @@ module _ {S C : Type 0} (ahead : ℕ) (service : Service S C) where
   abbrev pub Leads : (Deed C → Type 0) → Kept C → Kept C → Type 0
   Leads allowed x y = (d : Deed C) × allowed d × DidWithin ahead service x d y
 
-  -- What a call does to the tables: a deed that its answer allows; where the store failed, in each content that a stop may leave. With
-  -- an error else no table changes.
-  abbrev pub IsDone : {R : Type 0} → (Result R EndFault → Kept C → Deed C → Type 0) → (old now : Tables S C) → (Tables S C → Type 0)
+  -- What a call does to the tables: a deed that its answer allows; where the store failed, in each content that a stop
+  -- may leave. With an error else no table changes.
+  abbrev pub IsDone : {R : Type 0} → (Result R EndFault → Kept C → Deed C → Type 0) → (old now : Tables S C)
+      → (Tables S C → Type 0)
       → Result R EndFault → Type 0
   IsDone may old now may_leave (Ok r) = Leads (may (Ok r) (kept old)) (kept old) (kept now)
   IsDone may old now may_leave (Err StoreFailed) = (t : Tables S C) → may_leave t

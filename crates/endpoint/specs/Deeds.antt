@@ -1,5 +1,5 @@
--- What a call may do to a service, as its journal, its settled marks and its held letters show it. All else follows from these where the
--- tables match their journal.
+-- What a call may do to a service, as its journal, its settled marks and its held letters show it. All else follows
+-- from these where the tables match their journal.
 use Rattle.std.specs.Prelude.{◌≡◌, ℕ, suc, ◌≤◌, ◌<◌, ◌⊎◌, max, List, length, Option, Some, None, Result, Ok, Err}
 use Rattle.base.specs.Entity.{Name}
 use Rattle.base.specs.declared.limits.TheConstants.{HELD_WINDOW}
@@ -29,7 +29,8 @@ pub record Kept (C : Type 0) : Type 0 where
 abbrev pub kept : {S C : Type 0} → Tables S C → Kept C
 kept t = record { journal = t.journal; settled = t.settled; held = t.held }
 
--- what one call does: nothing, or it takes in a row, holds a letter that came too early, or marks letters as settled up to a number
+-- what one call does: nothing, or it takes in a row, holds a letter that came too early, or marks letters as settled up
+-- to a number
 pub data Deed (C : Type 0) : Type 0 where
   Nothing : Deed C
   TakesIn : JournalRow C → Deed C
@@ -63,12 +64,13 @@ module _ {S C : Type 0} (ahead : ℕ) (service : Service S C) where
       × (y ≡ record x { settled = set_mark p (max (x.settled p) n) x.settled })
 
   -- a content after a call comes of one before it, by a deed that is allowed there
-  pub record CameWithin (allowed : Kept C → Deed C → Type 0) (old : Tables S C → Type 0) (now : Tables S C) : Type 0 where
-    pub before : Tables S C
-    pub deed : Deed C
-    pub was : old before
-    pub may : allowed (kept before) deed
-    pub did : DidWithin (kept before) deed (kept now)
+  pub record CameWithin (allowed : Kept C → Deed C → Type 0) (old : Tables S C → Type 0) (now : Tables S C) : Type 0
+    where
+      pub before : Tables S C
+      pub deed : Deed C
+      pub was : old before
+      pub may : allowed (kept before) deed
+      pub did : DidWithin (kept before) deed (kept now)
 
   -- each content that there is then comes so of one before
   abbrev pub Comes : (Kept C → Deed C → Type 0) → (old new : Tables S C → Type 0) → Type 0

@@ -14,17 +14,18 @@ use Rattle.activities.specs.Journal.{IsLegal, sent_of, handled_of}
 use Rattle.keep.specs.Tables.{Tables, Messages}
 use Rattle.outbox.specs.Rows.{unsettled_of}
 
--- A letter of this pair and number may be held where so many of the pair were handled and letters are held so far ahead: it came too
--- early, by no more than that, and it is for an entity of this kind.
+-- A letter of this pair and number may be held where so many of the pair were handled and letters are held so far
+-- ahead: it came too early, by no more than that, and it is for an entity of this kind.
 pub record MayBeHeld (ahead : ℕ) (kind : Kind) (handled : ℕ) (p : Pair) (n : ℕ) : Type 0 where
   pub mine : p.to.kind ≡ kind
   pub early : handled < n
   pub near : n ≤ handled + ahead
   pub within : n ≤ MAX_NUMBER
 
--- The tables are those of their journal, which is legal. An entity has a row exactly where it took something in and its state isn't none,
--- and the row is its state. Of a pair the last number sent is kept, which is within the limit; a settled mark that isn't above it, and the
--- messages sent but those up to the mark; how many letters were handled; and letters that may be held.
+-- The tables are those of their journal, which is legal. An entity has a row exactly where it took something in and its
+-- state isn't none, and the row is its state. Of a pair the last number sent is kept, which is within the limit; a
+-- settled mark that isn't above it, and the messages sent but those up to the mark; how many letters were handled; and
+-- letters that may be held.
 pub record TablesMatchWithin (ahead : ℕ) {S C : Type 0} (service : Service S C) (t : Tables S C) : Type 0 where
   pub legal : IsLegal service.reactions service.kind t.journal
   pub entities : (e : Name) → t.entity e ≡ row_of service t.journal e

@@ -20,8 +20,8 @@ use std::marker::{Model, PhantomData};
 /// One service over its store, where letters are held as far ahead as the product does.
 pub type Endpoint<H, K> = WindowedEndpoint<H, K, Ahead<HELD_WINDOW>>;
 
-/// One service over its store, where a letter that comes too early is held if its number is no more above the last handled one of its pair
-/// than `W` says, an [`Ahead`]. Contracts see the store.
+/// One service over its store, where a letter that comes too early is held if its number is no more above the last
+/// handled one of its pair than `W` says, an [`Ahead`]. Contracts see the store.
 #[derive(Drop)]
 pub struct WindowedEndpoint<H, K, W>
 where
@@ -69,16 +69,17 @@ where
         self.keep.usable()
     }
 
-    /// Takes in a command of a seat, 0 to 15, in one transaction: the journal has one more row, the entity's row is its state then, and
-    /// what it sends stands in the outbox, with the next numbers of each pair.
+    /// Takes in a command of a seat, 0 to 15, in one transaction: the journal has one more row, the entity's row is its
+    /// state then, and what it sends stands in the outbox, with the next numbers of each pair.
     ///
     /// Calls of the store: `entity`, one `sent` for each message that is sent, and one `apply`.
     ///
     /// # Errors
-    /// In this order: `Unusable`; `NotMine` where the entity is of another service; `NumberLimit` where the journal has 2^40 rows;
-    /// `Business` where the reaction refuses the command; `NumberLimit` where a letter's number would be above 2^40. `StoreFailed` and
-    /// `Memory` may come at any call of the store and at any growth. After each of them nothing is changed, but after `StoreFailed` the
-    /// tables, once reopened, may also be those with the command taken in.
+    /// In this order: `Unusable`; `NotMine` where the entity is of another service; `NumberLimit` where the journal has
+    /// 2^40 rows; `Business` where the reaction refuses the command; `NumberLimit` where a letter's number would be
+    /// above 2^40. `StoreFailed` and `Memory` may come at any call of the store and at any growth. After each of them
+    /// nothing is changed, but after `StoreFailed` the tables, once reopened, may also be those with the command taken
+    /// in.
     pub fn commit(
         &mut self,
         alloc: Global,
@@ -109,12 +110,12 @@ where
         )
     }
 
-    /// Opens the store again: the tables then are some that a stop may have left, and match their journal where all of these did. A usable
-    /// endpoint may be reopened too.
+    /// Opens the store again: the tables then are some that a stop may have left, and match their journal where all of
+    /// these did. A usable endpoint may be reopened too.
     ///
     /// # Errors
-    /// `StoreFailed`, which is counted, or `Memory`. After either the endpoint isn't usable, a stop leaves nothing that it couldn't
-    /// leave before, and `reopen` may be called again.
+    /// `StoreFailed`, which is counted, or `Memory`. After either the endpoint isn't usable, a stop leaves nothing that
+    /// it couldn't leave before, and `reopen` may be called again.
     #[tactic(auto, using(crate::proofs::Parts::reopen_told))]
     pub fn reopen(&mut self, alloc: Global) -> Result<(), EndFault>
         ensures reopens { Reopens K.seen self.old self.new (end_of result) }

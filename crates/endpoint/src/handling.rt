@@ -23,7 +23,8 @@ where
     H: Handler,
     K: Keep<State = H::State, Command = H::Command>,
     requires { (K.seen keep.old).usable ≡ true }
-    ensures { Reads K.seen keep.old keep.new (λ t state. state ≡ state_for H.service.reactions.opening (t.entity entity.now))
+    ensures { Reads K.seen keep.old keep.new (λ t state. state ≡ state_for H.service.reactions.opening
+        (t.entity entity.now))
         (end_of result) }
 {
     match keep.entity(alloc, entity)? {
@@ -69,7 +70,8 @@ fn add_rows<H: Handler>(
     changes: &mut Vec<Change<H::State, H::Command>>,
 ) -> Result<(), AllocError>
     ensures { OnOk result (changes.new.items ≡ changes.old.items
-        ++ State entity.now (row_for H.service.is_none state) ∷ Journal position (record { entity = entity.now; input = input }) ∷ []) }
+        ++ State entity.now (row_for H.service.is_none state) ∷ Journal position
+        (record { entity = entity.now; input = input }) ∷ []) }
 {
     let row = row_for::<H>(state);
     changes.push(Change::State(entity.copy(alloc)?, row))?;
@@ -100,8 +102,9 @@ where
     apply_all::<H, K>(alloc, keep, changes)
 }
 
-/// Takes in an input of an entity of this service, in one transaction with `changes`: those of handled marks and held letters that go
-/// with it. Reads of the store: the entity's row, and the last number sent for each message that is sent.
+/// Takes in an input of an entity of this service, in one transaction with `changes`: those of handled marks and held
+/// letters that go with it. Reads of the store: the entity's row, and the last number sent for each message that is
+/// sent.
 pub(crate) fn handle<H, K, W>(
     alloc: Global,
     keep: &mut K,
@@ -115,7 +118,8 @@ where
     W: Window,
     requires usable { (K.seen keep.old).usable ≡ true }
     requires kind { entity.now.kind ≡ H.service.kind }
-    ensures { Handles K.seen keep.old keep.new W.ahead H.service (record { entity = entity.now; input = input }) changes.items result }
+    ensures { Handles K.seen keep.old keep.new W.ahead H.service (record { entity = entity.now; input = input })
+        changes.items result }
 {
     let Some(position) = Number::new(keep.length().saturating_add(1)) else {
         return Err(EndFault::NumberLimit);

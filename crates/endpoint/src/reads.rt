@@ -77,8 +77,10 @@ where
     pub fn handled(&mut self, alloc: Global, pair: &Pair) -> Result<u64, EndFault>
         ensures read { Reads K.seen self.old self.new (λ t n. n ≡ t.handled pair.now) (end_of result) }
         ensures stays { Stays K.seen self.old self.new }
-        ensures answer { Answers K.seen self.old self.new W.ahead H.service (λ journal n. n ≡ handled_of journal pair.now) result }
-        ensures each { TellsOfEach K.seen self.old self.new W.ahead H.service (λ t n. n ≡ handled_of t.journal pair.now) result }
+        ensures answer { Answers K.seen self.old self.new W.ahead H.service
+            (λ journal n. n ≡ handled_of journal pair.now) result }
+        ensures each { TellsOfEach K.seen self.old self.new W.ahead H.service (λ t n. n ≡ handled_of t.journal pair.now)
+            result }
     {
         if !self.keep.usable() {
             return Err(EndFault::Unusable);
@@ -86,8 +88,8 @@ where
         Ok(self.keep.handled(alloc, pair)?)
     }
 
-    /// The first `limit` letters after a place that were sent and aren't settled, or all of them where they are fewer: by pair, and
-    /// then by number. One read of the store.
+    /// The first `limit` letters after a place that were sent and aren't settled, or all of them where they are fewer:
+    /// by pair, and then by number. One read of the store.
     #[tactic(auto, using(crate::proofs::Parts::read_told, crate::proofs::Links::read_stays))]
     pub fn unsettled(
         &mut self,
@@ -95,13 +97,16 @@ where
         after: &Option<Place>,
         limit: usize,
     ) -> Result<Vec<Letter>, EndFault>
-        ensures read { Reads K.seen self.old self.new (λ t letters. AreFirst t.unsettled after.now limit letters.items) (end_of result) }
+        ensures read { Reads K.seen self.old self.new (λ t letters. AreFirst t.unsettled after.now limit letters.items)
+            (end_of result) }
         ensures stays { Stays K.seen self.old self.new }
         ensures answer { Answers K.seen self.old self.new W.ahead H.service
-            (λ journal letters. AreFirst (unsettled_of H.service.reactions journal (K.seen self.old).tables.settled) after.now limit
+            (λ journal letters. AreFirst (unsettled_of H.service.reactions journal (K.seen self.old).tables.settled)
+            after.now limit
             letters.items) result }
         ensures each { TellsOfEach K.seen self.old self.new W.ahead H.service
-            (λ t letters. AreFirst (unsettled_of H.service.reactions t.journal t.settled) after.now limit letters.items) result }
+            (λ t letters. AreFirst (unsettled_of H.service.reactions t.journal t.settled) after.now limit letters.items)
+            result }
     {
         if !self.keep.usable() {
             return Err(EndFault::Unusable);
@@ -109,8 +114,8 @@ where
         Ok(self.keep.unsettled(alloc, after, limit)?)
     }
 
-    /// The first `limit` rows of the journal from a position on, or all of them where they are fewer. Positions begin at 1; 0 is read
-    /// as 1. One read of the store.
+    /// The first `limit` rows of the journal from a position on, or all of them where they are fewer. Positions begin
+    /// at 1; 0 is read as 1. One read of the store.
     #[tactic(auto, using(crate::proofs::Parts::read_told, crate::proofs::Links::read_stays))]
     pub fn journal(
         &mut self,
@@ -118,7 +123,8 @@ where
         from: u64,
         limit: usize,
     ) -> Result<Vec<JournalRow<H::Command>>, EndFault>
-        ensures read { Reads K.seen self.old self.new (λ t rows. rows.items ≡ take limit (drop (from - 1) t.journal)) (end_of result) }
+        ensures read { Reads K.seen self.old self.new (λ t rows. rows.items ≡ take limit (drop (from - 1) t.journal))
+            (end_of result) }
         ensures stays { Stays K.seen self.old self.new }
     {
         if !self.keep.usable() {

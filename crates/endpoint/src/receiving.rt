@@ -66,7 +66,8 @@ fn read_next<K: Keep>(
     handled: u64,
 ) -> Result<Option<Letter>, EndFault>
     requires { (K.seen keep.old).usable ≡ true }
-    ensures reads { Reads K.seen keep.old keep.new (λ t found. IsNextHeld t.held pair.now handled found) (end_of result) }
+    ensures reads { Reads K.seen keep.old keep.new (λ t found. IsNextHeld t.held pair.now handled found)
+        (end_of result) }
     ensures next { IfOk result (λ found. IsNextOf pair.now handled found) }
 {
     Ok(resequencer::next_held(alloc, keep, pair, handled)?)
@@ -104,7 +105,8 @@ where
     W: Window,
     requires usable { (K.seen keep.old).usable ≡ true }
     requires kind { letter.now.pair.to.kind ≡ H.service.kind }
-    ensures { Works K.seen keep.old keep.new W.ahead H.service OfLetter (λ t. IsEarly W.ahead letter.now t × IsMissing letter.now t)
+    ensures { Works K.seen keep.old keep.new W.ahead H.service OfLetter (λ t. IsEarly W.ahead letter.now t
+        × IsMissing letter.now t)
         (IngestMayWithin W.ahead H.service letter.now) result }
 {
     let _number = letter.number.get(); // the proof needs that it is within the limit
@@ -146,7 +148,8 @@ where
     W: Window,
     requires usable { (K.seen keep.old).usable ≡ true }
     requires kind { letter.now.pair.to.kind ≡ H.service.kind }
-    ensures { Works K.seen keep.old keep.new W.ahead H.service OfLetter (λ _. ⊤) (IngestMayWithin W.ahead H.service letter.now) result }
+    ensures { Works K.seen keep.old keep.new W.ahead H.service OfLetter (λ _. ⊤)
+        (IngestMayWithin W.ahead H.service letter.now) result }
 {
     let handled = read_handled(alloc, keep, &letter.pair)?;
     match W::classify(H::kind(), handled, letter) {
@@ -170,7 +173,8 @@ where
     W: Window,
     requires usable { (K.seen keep.old).usable ≡ true }
     requires kind { letter.now.pair.to.kind ≡ H.service.kind }
-    ensures { Works K.seen keep.old keep.new W.ahead H.service OfHeldLetter (λ t. IsNext letter.now t × Waits letter.now t)
+    ensures { Works K.seen keep.old keep.new W.ahead H.service OfHeldLetter
+        (λ t. IsNext letter.now t × Waits letter.now t)
         (DrainMay H.service letter.now.pair) result }
 {
     match handle_letter::<H, K, W>(alloc, keep, letter) {
@@ -191,7 +195,8 @@ where
     W: Window,
     requires usable { (K.seen keep.old).usable ≡ true }
     requires kind { pair.now.to.kind ≡ H.service.kind }
-    ensures { Works K.seen keep.old keep.new W.ahead H.service OfHeldLetter (λ _. ⊤) (DrainMay H.service pair.now) result }
+    ensures { Works K.seen keep.old keep.new W.ahead H.service OfHeldLetter (λ _. ⊤) (DrainMay H.service pair.now)
+        result }
 {
     let handled = read_handled(alloc, keep, pair)?;
     match read_next(alloc, keep, pair, handled)? {
@@ -213,7 +218,8 @@ where
     W: Window,
     requires usable { (K.seen keep.old).usable ≡ true }
     requires kind { pair.now.from.kind ≡ H.service.kind }
-    ensures { Works K.seen keep.old keep.new W.ahead H.service OfSettle (λ t. (t.settled pair.now < number) × (number ≤ t.sent pair.now))
+    ensures { Works K.seen keep.old keep.new W.ahead H.service OfSettle (λ t. (t.settled pair.now < number)
+        × (number ≤ t.sent pair.now))
         (SettleMay H.service pair.now number) result }
 {
     let changes = outbox::settle(alloc, pair, number)?;
@@ -236,7 +242,8 @@ where
     W: Window,
     requires usable { (K.seen keep.old).usable ≡ true }
     requires kind { pair.now.from.kind ≡ H.service.kind }
-    ensures { Works K.seen keep.old keep.new W.ahead H.service OfSettle (λ t. number ≤ t.sent pair.now) (SettleMay H.service pair.now number)
+    ensures { Works K.seen keep.old keep.new W.ahead H.service OfSettle (λ t. number ≤ t.sent pair.now)
+        (SettleMay H.service pair.now number)
         result }
 {
     let mark = read_settled(alloc, keep, pair)?;
@@ -262,7 +269,8 @@ where
     W: Window,
     requires usable { (K.seen keep.old).usable ≡ true }
     requires kind { pair.now.from.kind ≡ H.service.kind }
-    ensures { Works K.seen keep.old keep.new W.ahead H.service OfSettle (λ _. ⊤) (SettleMay H.service pair.now number) result }
+    ensures { Works K.seen keep.old keep.new W.ahead H.service OfSettle (λ _. ⊤) (SettleMay H.service pair.now number)
+        result }
 {
     let sent = read_sent(alloc, keep, pair)?;
     if number > sent {

@@ -16,13 +16,15 @@ use Rattle.reception.specs.declared.prepared.Prepared.{Prepared}
 use Rattle.reception.specs.declared.prepared.Prepared.TheVariants.{Done, Letter, Settle}
 use Rattle.reception.specs.declared.taken.Taken.{Taken}
 
-pub connected_after : (f : Content) (old new : Client ℕ) (e : ClientEvent ℕ) → e ≡ event.Connected → Accepts f old new (Ok e)
+pub connected_after : (f : Content) (old new : Client ℕ) (e : ClientEvent ℕ) → e ≡ event.Connected
+    → Accepts f old new (Ok e)
     → new ≡ connected old
 connected_after f old new e is h =
     let P : ClientEvent ℕ → Type 0 = λ x. Tells f old new x in
     (subst P is h.1).1
 
-pub message_after : (f : Content) (old new : Client ℕ) (m : Content) (e : ClientEvent ℕ) → e ≡ event.Message m → Accepts f old new (Ok e)
+pub message_after : (f : Content) (old new : Client ℕ) (m : Content) (e : ClientEvent ℕ) → e ≡ event.Message m
+    → Accepts f old new (Ok e)
     → (m ≡ f) × (new ≡ old)
 message_after f old new m e is h =
     let P : ClientEvent ℕ → Type 0 = λ x. Tells f old new x in
@@ -30,12 +32,14 @@ message_after f old new m e is h =
     (t.0, t.2)
 
 -- what is told of one frame and client is told of others that are the same
-pub answers_at : (kind : Kind) (f g : Content) (old between new : Client ℕ) (r : Result Taken ReceptionFault) → g ≡ f → between ≡ old
+pub answers_at : (kind : Kind) (f g : Content) (old between new : Client ℕ) (r : Result Taken ReceptionFault) → g ≡ f
+    → between ≡ old
     → Answers kind g between new r → Answers kind f old new r
 answers_at kind f g old between new r frame same h =
     subst (λ f. Answers kind f old new r) frame (subst (λ c. Answers kind g c new r) same h)
 
-pub prepares_at : (kind : Kind) (f g : Content) (old between new : ClientWithRoom ℕ) (r : Result Prepared Untaken) → g ≡ f
+pub prepares_at : (kind : Kind) (f g : Content) (old between new : ClientWithRoom ℕ) (r : Result Prepared Untaken)
+    → g ≡ f
     → between.client ≡ old.client → PreparesFrame kind g between new r → PreparesFrame kind f old new r
 prepares_at kind f g old between new (Ok (Done taken)) frame same h =
     (h.0, answers_at kind f g old.client between.client new.client (Ok taken) frame same h.1)

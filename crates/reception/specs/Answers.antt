@@ -19,7 +19,8 @@ use Rattle.reception.specs.Replies.{answer, settling, refusal, Writes}
 use Rattle.reception.specs.declared.fault.ReceptionFault.{ReceptionFault}
 use Rattle.reception.specs.declared.fault.ReceptionFault.TheVariants as fault
 use Rattle.reception.specs.declared.taken.Taken.{Taken}
-use Rattle.reception.specs.declared.taken.Taken.TheVariants.{Connected, Receipt, Handled, Repeated, Held, Settled, Error}
+use Rattle.reception.specs.declared.taken.Taken.TheVariants.{Connected, Receipt, Handled, Repeated, Held, Settled}
+use Rattle.reception.specs.declared.taken.Taken.TheVariants.{Error}
 
 -- the frame is a MESSAGE that the client accepts
 abbrev pub BringsMessage : Content → Client ℕ → Type 0
@@ -33,8 +34,8 @@ CarriesLetter f c l = BringsMessage f c × (read_frame f ≡ Some (envelope.Lett
 abbrev pub CarriesSettle : Content → Client ℕ → Pair → ℕ → Type 0
 CarriesSettle f c pair number = BringsMessage f c × (read_frame f ≡ Some (envelope.Settle pair number))
 
--- What a client of a service of this kind does with a frame, and writes. After a letter that was handled, now or before, its pair is
--- settled so far, in the next transaction.
+-- What a client of a service of this kind does with a frame, and writes. After a letter that was handled, now or
+-- before, its pair is settled so far, in the next transaction.
 abbrev pub Answers : Kind → Content → (old new : Client ℕ) → Result Taken ReceptionFault → Type 0
 Answers kind f old new (Ok Connected) = (f.command ≡ command.Connected) × (old.stage ≡ stage.Connecting)
     × Writes (subscribe_frame (queue_of kind) ∷ []) (connected old) new

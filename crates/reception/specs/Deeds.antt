@@ -32,10 +32,11 @@ module _ {S C : Type 0} (service : Service S C) (f : Content) where
 
   -- the settle that it carries is answered so
   abbrev pub MarkMay : Result ℕ EndFault → Kept C → Deed C → Type 0
-  MarkMay r x d = (pair : Pair) × (number : ℕ) × (read_frame f ≡ Some (envelope.Settle pair number)) × SettleMay service pair number r x d
+  MarkMay r x d = (pair : Pair) × (number : ℕ) × (read_frame f ≡ Some (envelope.Settle pair number))
+      × SettleMay service pair number r x d
 
-  -- What is done with a frame. A letter that comes again tells up to where its pair is settled then. What isn't a letter or a settle
-  -- does nothing to the store.
+  -- What is done with a frame. A letter that comes again tells up to where its pair is settled then. What isn't a
+  -- letter or a settle does nothing to the store.
   abbrev pub TakeMay : Result Taken ReceptionFault → Kept C → Deed C → Type 0
   TakeMay (Ok (Handled position)) x d = LetterMay (Ok (ingested.Handled position)) x d
   TakeMay (Ok (Repeated number)) x d = (l : Letter) × (read_frame f ≡ Some (envelope.Letter l))
@@ -58,7 +59,8 @@ IsOurs kind f = (e : Name) × (concerned (read_frame f) ≡ Some e) × (e.kind �
 abbrev pub IsAnothers : Kind → Content → Type 0
 IsAnothers kind f = (e : Name) × (concerned (read_frame f) ≡ Some e) × (e.kind ≢ kind)
 
--- why the endpoint may refuse what a frame carries, whatever the disk did: that it's another service's, or something else of what is ours
+-- why the endpoint may refuse what a frame carries, whatever the disk did: that it's another service's, or something
+-- else of what is ours
 abbrev pub MayTurnBack : Kind → Content → EndFault → Type 0
 MayTurnBack kind f NotMine = IsAnothers kind f
 MayTurnBack kind f TooEarly = IsOurs kind f
@@ -66,9 +68,10 @@ MayTurnBack kind f NumberLimit = IsOurs kind f
 MayTurnBack kind f NotSent = IsOurs kind f
 MayTurnBack kind f _ = ⊥
 
--- What is told of the store's use, whatever the disk did: a fault of the endpoint says what became of it, a letter or a settle that was
--- taken was served and is ours, and else it wasn't called, or was read.
-abbrev pub TellsOfUse : {E T : Type 0} → (E → Seen T) → Kind → Content → (old new : E) → Result Taken ReceptionFault → Type 0
+-- What is told of the store's use, whatever the disk did: a fault of the endpoint says what became of it, a letter or a
+-- settle that was taken was served and is ours, and else it wasn't called, or was read.
+abbrev pub TellsOfUse : {E T : Type 0} → (E → Seen T) → Kind → Content → (old new : E) → Result Taken ReceptionFault
+    → Type 0
 TellsOfUse seen kind f old new (Ok (Handled _)) = IsServed seen old new × IsOurs kind f
 TellsOfUse seen kind f old new (Ok (Repeated _)) = IsServed seen old new × IsOurs kind f
 TellsOfUse seen kind f old new (Ok Held) = IsServed seen old new × IsOurs kind f

@@ -37,13 +37,15 @@ IsOfRead _ = ⊥
 module _ {S C : Type 0} (service : Service S C) where
   -- what is done with the next letter of the first pair that has it held
   abbrev pub DrainsMay : Result (Option Drained) ReceptionFault → Kept C → Deed C → Type 0
-  DrainsMay (Ok (Some drained)) x d = IsFirstHeld x (Some drained.pair) × DrainMay service drained.pair (Ok (Some drained.number)) x d
+  DrainsMay (Ok (Some drained)) x d =
+      IsFirstHeld x (Some drained.pair) × DrainMay service drained.pair (Ok (Some drained.number)) x d
   DrainsMay (Ok None) x d = (d ≡ Nothing) × IsFirstHeld x None
   DrainsMay (Err (End fault)) x d = (IsOfRead fault × (d ≡ Nothing))
       ⊎ ((pair : Pair) × IsFirstHeld x (Some pair) × DrainMay service pair (Err fault) x d)
   DrainsMay (Err _) x d = d ≡ Nothing
 
--- why a held letter may not be handled, whatever the disk did; that it is another service's is told of the tables, by the deed
+-- why a held letter may not be handled, whatever the disk did; that it is another service's is told of the tables, by
+-- the deed
 abbrev pub OfDraining : EndFault → Type 0
 OfDraining NotMine = ⊤
 OfDraining NumberLimit = ⊤

@@ -21,7 +21,8 @@ use Rattle.reception.specs.declared.prepared.PreparedSettle.{PreparedSettle}
 use Rattle.reception.specs.declared.replies.Acknowledgements.{Acknowledgements}
 use Rattle.reception.specs.declared.replies.LetterReplies.{LetterReplies}
 use Rattle.reception.specs.declared.taken.Taken.{Taken}
-use Rattle.reception.specs.declared.taken.Taken.TheVariants.{Connected, Receipt, Handled, Repeated, Held, Settled, Error}
+use Rattle.reception.specs.declared.taken.Taken.TheVariants.{Connected, Receipt, Handled, Repeated, Held, Settled}
+use Rattle.reception.specs.declared.taken.Taken.TheVariants.{Error}
 
 -- ---- replies
 
@@ -37,12 +38,13 @@ pub record HasRoom (a : Acknowledgements) (room : ℕ) : Type 0 where
 
 -- The replies to a letter that may be written at once, with room for each: that which settles its pair up to its number
 -- has the number of the next transaction.
-pub record AreLetterReplies (message : Content) (c : ClientWithRoom ℕ) (l : TheLetter) (r : LetterReplies) : Type 0 where
-  pub numbers : c.client.transactions < 2 ^ 64 - 1
-  pub text : IsTextOf (settling message (c.client.transactions + 1) l.pair l.number) r.settling.items
-  pub answers : AreAcknowledgements message r.answers
-  pub room : length r.settling.items ≤ c.room
-  pub answers_room : HasRoom r.answers c.room
+pub record AreLetterReplies (message : Content) (c : ClientWithRoom ℕ) (l : TheLetter) (r : LetterReplies) : Type 0
+  where
+    pub numbers : c.client.transactions < 2 ^ 64 - 1
+    pub text : IsTextOf (settling message (c.client.transactions + 1) l.pair l.number) r.settling.items
+    pub answers : AreAcknowledgements message r.answers
+    pub room : length r.settling.items ≤ c.room
+    pub answers_room : HasRoom r.answers c.room
 
 -- ---- the first half
 
@@ -75,7 +77,8 @@ abbrev pub PreparesFrame : Kind → Content → (old new : ClientWithRoom ℕ) �
 PreparesFrame kind f old new (Ok (Done taken)) = IsUnaskedFor taken × Answers kind f old.client new.client (Ok taken)
 PreparesFrame kind f old new (Ok (Letter p)) = (p.message ≡ f) × (new.client ≡ old.client) × IsReadyLetter new p
 PreparesFrame kind f old new (Ok (Settle p)) = (p.message ≡ f) × (new.client ≡ old.client) × IsReadySettle new p
-PreparesFrame kind f old new (Err untaken) = IsUnasked untaken.fault × Answers kind f old.client new.client (Err untaken.fault)
+PreparesFrame kind f old new (Err untaken) =
+    IsUnasked untaken.fault × Answers kind f old.client new.client (Err untaken.fault)
     × (untaken.frame ≡ waiting_after untaken.fault f)
 
 -- ---- the second half

@@ -27,16 +27,16 @@ settling message transaction pair number =
     ∷ transaction_frame Commit transaction
     ∷ []
 
--- what is written where the endpoint refuses what a MESSAGE carries: such a one is never taken in, or may be another time; after a failure
--- of the store it isn't known which
+-- what is written where the endpoint refuses what a MESSAGE carries: such a one is never taken in, or may be another
+-- time; after a failure of the store it isn't known which
 abbrev pub refusal : Content → EndFault → List Content
 refusal message NotMine = answer Ack message
 refusal message NotSent = answer Ack message
 refusal message StoreFailed = []
 refusal message _ = answer Nack message
 
--- How far a pair is settled when one of its letters comes again: as far as it was handled. A frame can tell 2^40 at most; beyond it's the
--- letter's own number.
+-- How far a pair is settled when one of its letters comes again: as far as it was handled. A frame can tell 2^40 at
+-- most; beyond it's the letter's own number.
 abbrev pub settled_again : (number handled : ℕ) → ℕ
 settled_again number handled = if is_number handled then handled else number
 

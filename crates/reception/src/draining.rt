@@ -76,13 +76,14 @@ where
     }
 }
 
-/// Handles the next letter of the first pair that has it held, and settles it: a connected client writes the SEND of a settle, in no
-/// transaction. `None` where no pair's next letter is held.
+/// Handles the next letter of the first pair that has it held, and settles it: a connected client writes the SEND of a
+/// settle, in no transaction. `None` where no pair's next letter is held.
 ///
 /// Calls of the store: `drainable`; where there is a pair `handled`, and those of `drain_held`.
 ///
 /// # Errors
-/// `Client(Memory)` and `Envelope(Memory)` where the settle couldn't be made; `End`, as the endpoint tells it. Nothing is written then.
+/// `Client(Memory)` and `Envelope(Memory)` where the settle couldn't be made; `End`, as the endpoint tells it. Nothing
+/// is written then.
 pub fn drain<H, K>(
     alloc: Global,
     endpoint: &mut Endpoint<H, K>,
@@ -104,7 +105,8 @@ where
     }
 }
 
-/// Handles the next letter of the first pair that has it held, where there is no connection. `None` where no pair's next letter is held.
+/// Handles the next letter of the first pair that has it held, where there is no connection. `None` where no pair's
+/// next letter is held.
 ///
 /// # Errors
 /// `End`, as the endpoint tells it; else as `drain`.

@@ -23,7 +23,8 @@ fn write_transaction(client: &mut ClientSession<u64>, text: &[u8])
     requires numbers { client.old.client.transactions < 2 ^ 64 - 1 }
     requires room { length text.now ≤ client.old.room }
     requires text { AreWhole text.now }
-    ensures { (frames : List Content) → IsTextOf frames text.now → Writes frames (counting client.old.client) client.new.client }
+    ensures { (frames : List Content) → IsTextOf frames text.now
+        → Writes frames (counting client.old.client) client.new.client }
 {
     client.count_transaction();
     write(client, text);
@@ -103,7 +104,8 @@ impl PreparedLetter {
     ) -> Result<Taken, Untaken>
         requires { IsReadyLetter client.old self }
         ensures told { ToldOfLetter self.letter answer (taken_or result) }
-        ensures answers { (kind : Kind) → Answers kind self.message client.old.client client.new.client (taken_or result) }
+        ensures answers { (kind : Kind)
+            → Answers kind self.message client.old.client client.new.client (taken_or result) }
         ensures waits { IfErr result (λ untaken. untaken.frame ≡ waiting_after untaken.fault self.message) }
     {
         match self.answer(alloc, client, answer) {

@@ -32,7 +32,8 @@ where
     requires { read_frame prepared.now.message ≡ Some (envelope.Letter prepared.now.letter) }
     ensures doubt { (K.seen endpoint.old).doubt ≤ (K.seen endpoint.new).doubt }
     ensures matches { StillMatches K.seen endpoint.old endpoint.new H.service }
-    ensures comes { ComesBy K.seen endpoint.old endpoint.new H.service (ArrivalMay H.service prepared.now.letter result) }
+    ensures comes { ComesBy K.seen endpoint.old endpoint.new H.service (ArrivalMay H.service prepared.now.letter
+        result) }
     ensures used { AnswerUse K.seen H.service.kind prepared.now.message endpoint.old endpoint.new result }
 {
     let letter = &prepared.letter;

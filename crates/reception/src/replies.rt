@@ -46,7 +46,8 @@ impl Acknowledgements {
 
     /// What is written where the endpoint refuses what the MESSAGE carries.
     pub(crate) fn refusal(&self, fault: EndFault) -> &[u8]
-        ensures text { (message : Content) → AreAcknowledgements message self.now → IsTextOf (refusal message fault) result.now }
+        ensures text { (message : Content) → AreAcknowledgements message self.now
+            → IsTextOf (refusal message fault) result.now }
         ensures room { (room : ℕ) → HasRoom self.now room → length result.now ≤ room }
     {
         match fault {

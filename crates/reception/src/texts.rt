@@ -1,4 +1,5 @@
-//! The texts of the frames that a client writes for what came: each is made before anything is done, and appended as it is.
+//! The texts of the frames that a client writes for what came: each is made before anything is done, and appended as it
+//! is.
 
 ghost use Rattle.std.specs.Prelude.{◌≡◌, ◌≤◌, ◌++◌, ◌∷◌, [], List, false, length, IfOk, OnOk, IfErr};
 ghost use Rattle.base.specs.Entity.{queue_of};

@@ -16,6 +16,7 @@ found_repeats place old new sent (Err fault) found h = elim h [
 ]
 
 -- the same from what was collected
-pub again_repeats : (place : ℕ) (old mid new : Office) (sent : Sent) (r : Result (Option ℕ) RepeatFault) → mid ≡ collected old
+pub again_repeats : (place : ℕ) (old mid new : Office) (sent : Sent) (r : Result (Option ℕ) RepeatFault)
+    → mid ≡ collected old
     → sent_at place mid.earlier ≡ Some sent → SendsAgain sent mid new r → Repeats place old new r
 again_repeats place old mid new sent r e found h = found_repeats place old new sent r (rw e at found) (rw e at h)

@@ -1,12 +1,14 @@
 -- What was accepted stays known.
-use Rattle.std.proofs.Common.{◌≡◌, ℕ, ◌⊎◌, List, [], ◌++◌, Option, Some, None, Result, Ok, Err, refl, sym, ap, ◌∙◌, append-nil}
+use Rattle.std.proofs.Common.{◌≡◌, ℕ, ◌⊎◌, List, [], ◌++◌, Option, Some, None, Result, Ok, Err, refl, sym, ap, ◌∙◌}
+use Rattle.std.proofs.Common.{append-nil}
 use Rattle.broker_core.specs.Calls.{dropped}
 use Rattle.broker_core.specs.Serving.{Server, session_of}
 use Rattle.broker_core.specs.declared.session.Session.{Session}
 use Rattle.broker_book.specs.declared.parts.Accepted.{Accepted}
 use Rattle.broker_book.specs.declared.parts.Sent.{Sent}
 use Rattle.schedule_mail.specs.Offices.{Office, all_accepted, collected, taken_from}
-use Rattle.schedule_mail.specs.Repeating.{SentAgain, FedAgain, Unsent, Repeats, Fails, uncollected, unfound, unsent, refused}
+use Rattle.schedule_mail.specs.Repeating.{SentAgain, FedAgain, Unsent, Repeats, Fails, uncollected, unfound, unsent}
+use Rattle.schedule_mail.specs.Repeating.{refused}
 use Rattle.schedule_mail.specs.declared.repeat_fault.RepeatFault.{RepeatFault}
 use Rattle.schedule_mail.specs.declared.repeat_fault.RepeatFault.TheVariants.{QueueFull, Memory, TooMany}
 
@@ -14,11 +16,13 @@ dropped_accepted : (n : ℕ) (b : Server) (o : Option Session) → (dropped n b 
 dropped_accepted n b None = refl
 dropped_accepted n b (Some s) = refl
 
-again_all : (sent : Sent) (old new : Office) (r : Result (Option ℕ) RepeatFault) → SentAgain sent old new r → all_accepted new ≡ old.earlier
+again_all : (sent : Sent) (old new : Office) (r : Result (Option ℕ) RepeatFault) → SentAgain sent old new r
+    → all_accepted new ≡ old.earlier
 again_all sent old new r h =
     let f = h.feeds in
     let d = dropped_accepted h.session (taken_from f.fed) (session_of h.session f.fed) in
-    ap all_accepted f.left ∙ ap (λ (xs : List Accepted). h.opened.earlier ++ xs) d ∙ append-nil h.opened.earlier ∙ h.earlier
+    ap all_accepted f.left ∙ ap (λ (xs : List Accepted). h.opened.earlier ++ xs) d ∙ append-nil h.opened.earlier
+    ∙ h.earlier
 
 collected_all : (o : Office) → all_accepted (collected o) ≡ all_accepted o
 collected_all o = append-nil (all_accepted o)
@@ -29,10 +33,12 @@ unsent_all old new Memory h = h
 unsent_all old new TooMany h = h.1
 unsent_all old new QueueFull h = absurd h
 
-fails_all : (place : ℕ) (old new : Office) (fault : RepeatFault) → Fails place old new fault → all_accepted new ≡ all_accepted old
+fails_all : (place : ℕ) (old new : Office) (fault : RepeatFault) → Fails place old new fault
+    → all_accepted new ≡ all_accepted old
 fails_all place old new fault (uncollected e s) = ap all_accepted s
 fails_all place old new fault (unfound e s) = ap all_accepted s ∙ collected_all old
-fails_all place old new fault (unsent sent found h) = ap all_accepted (unsent_all (collected old) new fault h) ∙ collected_all old
+fails_all place old new fault (unsent sent found h) =
+    ap all_accepted (unsent_all (collected old) new fault h) ∙ collected_all old
 fails_all place old new fault (refused sent found h) = again_all sent (collected old) new (Err fault) h
 
 -- a repeat leaves what was accepted

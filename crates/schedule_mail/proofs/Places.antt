@@ -1,5 +1,6 @@
 -- What stands at a place of lists that follow each other.
-use Rattle.std.proofs.Common.{◌≡◌, ◌≢◌, ℕ, zero, suc, ◌+◌, ◌-◌, ◌<◌, ◌≤◌, List, [], ◌∷◌, ◌++◌, length, get_or, drop, refl, sym, ap, ◌∙◌}
+use Rattle.std.proofs.Common.{◌≡◌, ◌≢◌, ℕ, zero, suc, ◌+◌, ◌-◌, ◌<◌, ◌≤◌, List, [], ◌∷◌, ◌++◌, length, get_or, drop}
+use Rattle.std.proofs.Common.{refl, sym, ap, ◌∙◌}
 use Rattle.std.proofs.Common.{arith}
 use Rattle.std.proofs.Common.{drop-cons, Some}
 use Rattle.std.specs.Prelude.{slice_get}
@@ -22,7 +23,8 @@ get_past [] b i h = ap (slice_get b) (omega arith)
 get_past (x ∷ a) b zero h = absurd (omega (arith, h))
 get_past (x ∷ a) b (suc i) h = get_past a b i (omega arith) ∙ ap (slice_get b) (omega arith)
 
-module _ {X A : Type 0} (f : X → List A) (xs : List X) (j i n : ℕ) (x : X) (within : j < length xs) (is : x ≡ get_or xs j x)
+module _ {X A : Type 0} (f : X → List A) (xs : List X) (j i n : ℕ) (x : X) (within : j < length xs)
+    (is : x ≡ get_or xs j x)
     (long : n ≡ length (f x)) where
   parted : flat_map f (drop j xs) ≡ f x ++ flat_map f (drop (suc j) xs)
   parted = ap (flat_map f) (drop-cons xs j x within) ∙ ap (λ y. f y ++ flat_map f (drop (suc j) xs)) (sym is)
@@ -31,7 +33,8 @@ module _ {X A : Type 0} (f : X → List A) (xs : List X) (j i n : ℕ) (x : X) (
   pub place_in : (y : A) → i < n → y ≡ get_or (f x) i y → slice_get (flat_map f (drop j xs)) i ≡ Some y
   place_in y h e =
       let k : i < length (f x) = omega (arith, h, long) in
-      ap (λ text. slice_get text i) parted ∙ get_in (f x) (flat_map f (drop (suc j) xs)) i k ∙ slice_get-get_or (f x) i y k
+      ap (λ text. slice_get text i) parted ∙ get_in (f x) (flat_map f (drop (suc j) xs)) i k
+      ∙ slice_get-get_or (f x) i y k
       ∙ ap Some (sym e)
 
   -- behind it

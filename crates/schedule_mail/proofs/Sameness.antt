@@ -51,7 +51,8 @@ headers_refl (x ∷ xs) = rw (header_refl x, headers_refl xs) refl
 -- what brought the same is the same
 sent_same : (a b : Sent) → same_sent a b ≡ true → a ≡ b
 sent_same a b e =
-    let t = both (bytes_eq a.destination b.destination) (same_headers a.headers b.headers && bytes_eq a.body b.body) e in
+    let t = both (bytes_eq a.destination b.destination) (same_headers a.headers b.headers && bytes_eq a.body b.body) e
+    in
     let u = both (same_headers a.headers b.headers) (bytes_eq a.body b.body) t.1 in
     let d = text_same a.destination b.destination t.0 in
     let h = headers_same a.headers b.headers u.0 in
@@ -67,7 +68,8 @@ found_if true m n e = let k : n ≡ m = cc in (refl, k)
 found_if false m n e = cc
 
 -- the SEND alone was accepted, as the message of the number that is told
-pub again_is : (sent : Sent) (accepted : List Accepted) (m : ℕ) → again_of sent accepted ≡ Some m → IsAgain sent m accepted
+pub again_is : (sent : Sent) (accepted : List Accepted) (m : ℕ) → again_of sent accepted ≡ Some m
+    → IsAgain sent m accepted
 again_is sent [] m e = cc
 again_is sent (a ∷ []) m e =
     let t = found_if (same_sent a.sent sent) m a.number e in
@@ -76,7 +78,8 @@ again_is sent (a ∷ []) m e =
 again_is sent (a ∷ b ∷ rest) m e = cc
 
 -- and where none is told it wasn't
-pub again_none : (sent : Sent) (accepted : List Accepted) (m : ℕ) → again_of sent accepted ≡ None → IsAgain sent m accepted → ⊥
+pub again_none : (sent : Sent) (accepted : List Accepted) (m : ℕ) → again_of sent accepted ≡ None
+    → IsAgain sent m accepted → ⊥
 again_none sent accepted m e i =
     let k : again_of sent (record { number = m; sent = sent } ∷ []) ≡ Some m = rw (sent_refl sent) refl in
     let l : again_of sent accepted ≡ Some m = ap (again_of sent) i ∙ k in
@@ -92,7 +95,8 @@ headers_long (x ∷ xs) [] h = refl
 headers_long (x ∷ xs) (y ∷ ys) h = rw (headers_long xs ys (λ e. h (ap suc e))) (no_both (same_header x y))
 
 -- the next two, and those behind them
-pub headers_step : (a b : List Header) (i : ℕ) (x y : Header) → i < length a → i < length b → x ≡ get_or a i x → y ≡ get_or b i y
+pub headers_step : (a b : List Header) (i : ℕ) (x y : Header) → i < length a → i < length b → x ≡ get_or a i x
+    → y ≡ get_or b i y
     → same_headers (drop i a) (drop i b) ≡ (same_header x y && same_headers (drop (suc i) a) (drop (suc i) b))
 headers_step a b i x y k l p q =
     ap (λ t. same_headers t (drop i b)) (drop-cons a i x k ∙ ap (λ z. z ∷ drop (suc i) a) (sym p))

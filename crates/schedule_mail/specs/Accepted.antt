@@ -1,5 +1,6 @@
 -- What was accepted: where it stands, and whether it is what was sent again.
-use Rattle.std.specs.Prelude.{◌≡◌, ◌≢◌, ℕ, zero, suc, Bool, true, false, ◌&&◌, if◌then◌else◌, List, [], ◌∷◌, Option, Some, None}
+use Rattle.std.specs.Prelude.{◌≡◌, ◌≢◌, ℕ, zero, suc, Bool, true, false, ◌&&◌, if◌then◌else◌, List, [], ◌∷◌, Option}
+use Rattle.std.specs.Prelude.{Some, None}
 use Rattle.std.specs.Prelude.{Result, Ok, Err, slice_get}
 use Rattle.std.specs.Str.{bytes_eq}
 use Rattle.stomp_frame.specs.Frames.{Header}
@@ -50,7 +51,8 @@ again_of sent _ = None
 abbrev pub IsAgain : Sent → ℕ → List Accepted → Type 0
 IsAgain sent number accepted = accepted ≡ record { number = number; sent = sent } ∷ []
 
--- What is answered: the new message's number where the SEND was accepted; else what its session was told, and for want of memory neither.
+-- What is answered: the new message's number where the SEND was accepted; else what its session was told, and for want
+-- of memory neither.
 abbrev pub Tells : Sent → List Accepted → List ℕ → Result (Option ℕ) RepeatFault → Type 0
 Tells sent accepted out (Ok (Some number)) = IsAgain sent number accepted
 Tells sent accepted out (Ok None) = ⊥

@@ -55,12 +55,13 @@ pub record SendsOctets (count : ℕ) (old new : Connection) : Type 0 where
   pub channel : ChannelSends count old.channel new.channel
 
 -- the octets went up whole, so many, and this many frames were handled
-pub record CarriedUp (most : ℕ) (old : Connection) (from : Office) (new : Connection) (to : Office) (count : ℕ) : Type 0 where
-  pub handled : ℕ
-  pub counted : count ≡ carried most (rising old)
-  pub feeds : Feeds MAX_QUEUED from.broker old.session (piece_of most (rising old)) to.broker handled
-  pub earlier : to.earlier ≡ from.earlier
-  pub sends : SendsOctets count old new
+pub record CarriedUp (most : ℕ) (old : Connection) (from : Office) (new : Connection) (to : Office) (count : ℕ) : Type 0
+  where
+    pub handled : ℕ
+    pub counted : count ≡ carried most (rising old)
+    pub feeds : Feeds MAX_QUEUED from.broker old.session (piece_of most (rising old)) to.broker handled
+    pub earlier : to.earlier ≡ from.earlier
+    pub sends : SendsOctets count old new
 
 -- the octets went up whole, and memory was refused as they were handled
 pub record CarriedUpPart (most : ℕ) (old : Connection) (from : Office) (new : Connection) (to : Office) : Type 0 where
@@ -68,12 +69,14 @@ pub record CarriedUpPart (most : ℕ) (old : Connection) (from : Office) (new : 
   pub earlier : to.earlier ≡ from.earlier
   pub sends : SendsOctets (carried most (rising old)) old new
 
--- What `carry_up` answers: how many octets went over; memory was refused behind that; or the broker's refusal, and nothing has changed.
+-- What `carry_up` answers: how many octets went over; memory was refused behind that; or the broker's refusal, and
+-- nothing has changed.
 abbrev pub CarriesUp : ℕ → Connection → Office → Connection → Office → Result ℕ BrokerFault → Type 0
 CarriesUp most old from new to (Ok count) = CarriedUp most old from new to count
 CarriesUp most old from new to (Err (Memory true)) = CarriedUpPart most old from new to
 CarriesUp most old from new to (Err fault) =
-    FeedAnswer MAX_QUEUED from.broker old.session (piece_of most (rising old)) from.broker (Err fault) × (to ≡ from) × (new ≡ old)
+    FeedAnswer MAX_QUEUED from.broker old.session (piece_of most (rising old)) from.broker (Err fault) × (to ≡ from)
+    × (new ≡ old)
 
 -- ---- carry_down
 
@@ -82,7 +85,8 @@ abbrev pub falling : Connection → Office → List ℕ
 falling c o = out_in (session_of c.session o.broker)
 
 -- the octets went down, so many
-pub record CarriedDown (most : ℕ) (old : Connection) (from : Office) (new : Connection) (to : Office) (count : ℕ) : Type 0 where
+pub record CarriedDown (most : ℕ) (old : Connection) (from : Office) (new : Connection) (to : Office) (count : ℕ) : Type
+    0 where
   pub counted : count ≡ carried most (falling old from)
   pub feeds : ChannelFeeds old.channel new.channel (piece_of most (falling old from)) (Ok tt)
   pub same : new ≡ record old { channel = new.channel }

@@ -43,8 +43,10 @@ SendsAgain sent old new (Err fault) = Unsent old new fault ⊎ SentAgain sent ol
 pub data Fails (place : ℕ) (old new : Office) (fault : RepeatFault) : Type 0 where
   uncollected : fault ≡ Memory → new ≡ old → Fails place old new fault
   unfound : fault ≡ Memory → new ≡ collected old → Fails place old new fault
-  unsent : (sent : Sent) → sent_at place (all_accepted old) ≡ Some sent → Unsent (collected old) new fault → Fails place old new fault
-  refused : (sent : Sent) → sent_at place (all_accepted old) ≡ Some sent → SentAgain sent (collected old) new (Err fault)
+  unsent : (sent : Sent) → sent_at place (all_accepted old) ≡ Some sent → Unsent (collected old) new fault
+      → Fails place old new fault
+  refused : (sent : Sent) → sent_at place (all_accepted old) ≡ Some sent
+      → SentAgain sent (collected old) new (Err fault)
       → Fails place old new fault
 
 -- the SEND of a place was sent again, and is this message

@@ -52,8 +52,8 @@ impl Connection {
         }
     }
 
-    /// Carries the first octets that the client wrote, at most so many, to the broker, which handles the frames that are whole now; how
-    /// many went over. The broker is called also where none wait.
+    /// Carries the first octets that the client wrote, at most so many, to the broker, which handles the frames that
+    /// are whole now; how many went over. The broker is called also where none wait.
     ///
     /// # Errors
     /// - `Memory` where a growth was refused: the octets went over whole, or nothing has changed, as it tells;
@@ -61,7 +61,8 @@ impl Connection {
     pub fn carry_up(&mut self, mail: &mut Mail, most: u64) -> Result<u64, BrokerFault>
         ensures carries { CarriesUp most self.old mail.old self.new mail.new result }
         ensures sessions { KeepsSessions mail.old.broker mail.new.broker }
-        ensures there { has_session self.old.session mail.old.broker ≡ true → IfErr result (λ fault. fault ≢ NoSession) }
+        ensures there { has_session self.old.session mail.old.broker ≡ true
+            → IfErr result (λ fault. fault ≢ NoSession) }
     {
         let count = count_of(most, self.channel.out());
         let (piece, _) = self.channel.out().split_at(count);
@@ -78,7 +79,8 @@ impl Connection {
         }
     }
 
-    /// Carries the first octets that the broker wrote to this session, at most so many, to the client's decoder; how many went over.
+    /// Carries the first octets that the broker wrote to this session, at most so many, to the client's decoder; how
+    /// many went over.
     ///
     /// # Errors
     /// Nothing has changed then:
@@ -99,11 +101,12 @@ impl Connection {
         }
     }
 
-    /// Cuts the connection: all octets on the way are lost, the broker drops the session, and deals what was out to it to others.
+    /// Cuts the connection: all octets on the way are lost, the broker drops the session, and deals what was out to it
+    /// to others.
     ///
     /// # Errors
-    /// Where memory was refused to the deals, behind some of them: the next `carry_up` or [`Mail::dispatch`] goes on with them. The
-    /// connection is cut all the same.
+    /// Where memory was refused to the deals, behind some of them: the next `carry_up` or [`Mail::dispatch`] goes on
+    /// with them. The connection is cut all the same.
     pub fn cut(self, mail: &mut Mail) -> Result<(), AllocError>
         ensures cuts { Cuts self mail.old mail.new result }
         ensures sessions { KeepsOthers self.session mail.old.broker mail.new.broker }

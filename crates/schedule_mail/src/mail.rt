@@ -16,8 +16,8 @@ use broker_core::{Broker, BrokerFault, SessionId};
 use std::alloc::{AllocError, Global};
 use std::marker::Model;
 
-/// A broker, and all SENDs that were accepted: contracts see the broker, and the SENDs that were taken from it or that a broker before it
-/// accepted, in order.
+/// A broker, and all SENDs that were accepted: contracts see the broker, and the SENDs that were taken from it or that
+/// a broker before it accepted, in order.
 pub struct Mail {
     alloc: Global,
     broker: Broker<MAX_QUEUED>,
@@ -149,7 +149,10 @@ impl Mail {
 
     /// Takes a session away.
     pub(crate) fn drop_session(&mut self, session: SessionId)
-        ensures dropped { self.new ≡ record self.old { broker = dropped session self.old.broker (session_of session self.old.broker) } }
+        ensures dropped { self.new ≡ record self.old {
+          broker =
+              dropped session self.old.broker (session_of session self.old.broker);
+        } }
         ensures sessions { KeepsOthers session self.old.broker self.new.broker }
         ensures gone { has_session session self.new.broker ≡ false }
     {

@@ -15,8 +15,9 @@ use broker_core::{BrokerFault, SessionId};
 use std::alloc::AllocError;
 
 impl Mail {
-    /// Sends an accepted SEND again, in a session of its own: the one at this place, from 1 on, among all that were ever accepted. The
-    /// answer is the new message's number; none where fewer were accepted. What is repeated doesn't count as accepted.
+    /// Sends an accepted SEND again, in a session of its own: the one at this place, from 1 on, among all that were
+    /// ever accepted. The answer is the new message's number; none where fewer were accepted. What is repeated doesn't
+    /// count as accepted.
     ///
     /// # Errors
     /// The SEND isn't accepted then:

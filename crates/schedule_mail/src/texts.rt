@@ -9,7 +9,8 @@ use stomp_client::connect_frame;
 use stomp_frame::{Command, encode, encode_parts};
 use stomp_session::{write_connected, write_error};
 
-/// What is fed for a SEND that is sent again, and what its session is told where its destination is full, or no number is left.
+/// What is fed for a SEND that is sent again, and what its session is told where its destination is full, or no number
+/// is left.
 #[derive(Drop)]
 pub(crate) struct Texts {
     pub(crate) asked: Vec<u8>,

@@ -8,7 +8,8 @@ use Rattle.schedule_mail.specs.Offices.{Office, new_office}
 use Rattle.relay.specs.Filling.{SendState, marks_of}
 use Rattle.relay.specs.declared.relay.Relay.{Relay}
 use Rattle.schedule_text.specs.declared.event.ConnectionNumber.TheVariants.{Zero, One}
-use Rattle.schedule_service.specs.Channels.{sending, IsAllDue, at_zero, at_one, at_number, ChannelHas, MailAfterCut, channel_of, with_channel}
+use Rattle.schedule_service.specs.Channels.{sending, IsAllDue, at_zero, at_one, at_number, ChannelHas, MailAfterCut}
+use Rattle.schedule_service.specs.Channels.{channel_of, with_channel}
 use Rattle.schedule_service.specs.Channels.{ChannelsHave, TakesChannel}
 use Rattle.schedule_service.specs.Channels.{Same}
 use Rattle.schedule_service.specs.Channels.{CutsBoth, AfterFault, After, Meets, MeetsAlone}
@@ -23,12 +24,14 @@ numbers_are_told_apart : (at_zero {A = ℕ} Zero 7 1 ≡ 7) × (at_zero {A = ℕ
     × (at_one {A = ℕ} One 7 2 ≡ 7)
     × (at_number {A = ℕ} Zero 1 2 ≡ 1) × (at_number {A = ℕ} One 1 2 ≡ 2)
     × (at_zero {A = ℕ} One 7 1 ≡ 7 → ⊥) × (at_one {A = ℕ} Zero 7 2 ≡ 7 → ⊥) × (at_number {A = ℕ} One 1 2 ≡ 1 → ⊥)
-numbers_are_told_apart = (refl, refl, refl, refl, refl, refl, λ h. omega (arith, h), λ h. omega (arith, h), λ h. omega (arith, h))
+numbers_are_told_apart =
+    (refl, refl, refl, refl, refl, refl, λ h. omega (arith, h), λ h. omega (arith, h), λ h. omega (arith, h))
 
 -- ---- channels
 
 -- a connection on which nothing was sent, and a mail that accepted a SEND
-module _ (l : SiteChannel) (nothing : (p : Pair) → marks_of l.relay p ≡ 0) (later : Office) (more : later.earlier ≡ [] → ⊥) where
+module _ (l : SiteChannel) (nothing : (p : Pair) → marks_of l.relay p ≡ 0) (later : Office)
+    (more : later.earlier ≡ [] → ⊥) where
   -- its relay with a cursor of so many rows, and its client with octets to be sent
   abbrev with_rows : ℕ → SiteChannel
   with_rows rows = record l { relay = record l.relay { behind = None; rows = rows } }
@@ -45,13 +48,15 @@ module _ (l : SiteChannel) (nothing : (p : Pair) → marks_of l.relay p ≡ 0) (
   }
 
   -- what was sent on a channel is what its relay marked and its client wrote
-  channels_are_sent_on : ((sending l).marks ≡ marks_of l.relay) × ((sending l).client ≡ l.connection.channel.client.client)
+  channels_are_sent_on : ((sending l).marks ≡ marks_of l.relay)
+      × ((sending l).client ≡ l.connection.channel.client.client)
       × (sending (with_rows 3) ≡ sending l) × (sending with_octet ≡ sending l → ⊥)
   channels_are_sent_on = (
     refl,
     refl,
     refl,
-    λ h. let longer : length (65 ∷ l.connection.channel.client.client.out) ≡ length l.connection.channel.client.client.out =
+    λ h. let longer : length (65 ∷ l.connection.channel.client.client.out)
+        ≡ length l.connection.channel.client.client.out =
         ap (λ (c : Client ℕ). length c.out) (ap (λ (c : SendState). c.client) h) in omega (arith, longer),
   )
 
@@ -70,7 +75,8 @@ module _ (l : SiteChannel) (nothing : (p : Pair) → marks_of l.relay p ≡ 0) (
       × (ChannelHas (Tells 3) (Some (with_rows 4)) → ⊥)
   open_channels_have_it = (refl, tt, λ h. omega (arith, h))
 
-  -- the mail stays where there was no connection; where one was cut that had no session nothing is dealt, and what was accepted stays
+  -- the mail stays where there was no connection; where one was cut that had no session nothing is dealt, and what was
+  -- accepted stays
   cuts_leave_the_mail : MailAfterCut None new_office new_office × MailAfterCut (Some l) new_office new_office
       × (MailAfterCut None new_office later → ⊥) × (MailAfterCut (Some l) new_office later → ⊥)
   cuts_leave_the_mail = (
@@ -99,10 +105,12 @@ module _ (l : SiteChannel) (nothing : (p : Pair) → marks_of l.relay p ≡ 0) (
     opened_one s = is_open s.one
 
     -- each number has its channel, and the other one stays where it is put
-    channels_have_numbers : (channel_of Zero (site (Some l) None) ≡ Some l) × (channel_of One (site (Some l) None) ≡ None)
+    channels_have_numbers : (channel_of Zero (site (Some l) None) ≡ Some l)
+        × (channel_of One (site (Some l) None) ≡ None)
         × (with_channel One (Some l) (site None None) ≡ site None (Some l))
         × (with_channel Zero None (site (Some l) (Some l)) ≡ site None (Some l))
-        × (channel_of One (site (Some l) None) ≡ Some l → ⊥) × (with_channel One (Some l) (site None None) ≡ site (Some l) None → ⊥)
+        × (channel_of One (site (Some l) None) ≡ Some l → ⊥)
+        × (with_channel One (Some l) (site None None) ≡ site (Some l) None → ⊥)
     channels_have_numbers = (
       refl,
       refl,
@@ -177,7 +185,8 @@ module _ (l : SiteChannel) (nothing : (p : Pair) → marks_of l.relay p ≡ 0) (
         × After {R = ℕ} (Err StoreFailed) (site (Some l) None) new_office (site None None) new_office
         × (After {R = ℕ} (Ok 7) (site (Some l) None) new_office (site None None) new_office → ⊥)
         × (After {R = ℕ} (Err StoreFailed) (site None (Some l)) new_office (site None (Some l)) new_office → ⊥)
-    answers_cut_or_not = ((refl, refl), cuts_of_one, λ h. let gone : 0 ≡ 1 = ap opened h.0 in omega (arith, gone), no_cut)
+    answers_cut_or_not =
+        ((refl, refl), cuts_of_one, λ h. let gone : 0 ≡ 1 = ap opened h.0 in omega (arith, gone), no_cut)
 
     -- one that stays open is put in its place, one that is cut isn't there, and where both are cut neither is
     channels_meet_their_fate : Meets Stays Zero l (site None None) later (site (Some l) None) later

@@ -19,11 +19,13 @@ use Rattle.reception.specs.declared.fault.ReceptionFault.TheVariants as fault
 use Rattle.schedule_text.specs.declared.event.ConnectionNumber.TheVariants.{Zero, One}
 use Rattle.schedule_text.specs.declared.outcome.Outcome.TheVariants as told
 use Rattle.schedule_service.specs.SiteEvents as event
-use Rattle.schedule_service.specs.Happenings.{over, IfOpen, Adds, OpensChannel, CutsChannel, Resends, Rises, Falls, CarriesOn, SendsRows, TakesFrame}
+use Rattle.schedule_service.specs.Happenings.{over, IfOpen, Adds, OpensChannel, CutsChannel, Resends, Rises, Falls}
+use Rattle.schedule_service.specs.Happenings.{CarriesOn, SendsRows, TakesFrame}
 use Rattle.schedule_service.specs.Happenings.{TakesWhat, TakesOne, DrainsOver, DrainsOne, Happens}
 use Rattle.schedule_service.specs.Channels.{IsAllDue}
 use Rattle.schedule_service.specs.declared.site_channel.SiteChannel.{SiteChannel}
-use Rattle.schedule_service.proofs.HappeningExamples.{seen, site, opened, not_fall, not_filling, not_rise, not_drain, not_taken}
+use Rattle.schedule_service.proofs.HappeningExamples.{seen, site, opened, not_fall, not_filling, not_rise, not_drain}
+use Rattle.schedule_service.proofs.HappeningExamples.{not_taken}
 
 -- a connection, on which nothing was sent, and a frame
 module _ (c : Connection) (relay : Relay) (nothing : (p : Pair) → marks_of relay p ≡ 0) (f : Content) where
@@ -51,7 +53,12 @@ module _ (c : Connection) (relay : Relay) (nothing : (p : Pair) → marks_of rel
 
   -- with another connection a channel has the same relay, and not the connection that it had
   channels_go_over : ((over channel c).relay ≡ due) × ((over channel c).connection ≡ c) × (waits ≡ channel → ⊥)
-  channels_go_over = (refl, refl, λ h. let none : Some f ≡ None = ap (λ (l : SiteChannel). l.connection.channel.waiting) h in absurd (cc))
+  channels_go_over = (
+    refl,
+    refl,
+    λ h. let none : Some f ≡ None =
+        ap (λ (l : SiteChannel). l.connection.channel.waiting) h in absurd (cc),
+  )
 
   -- an event of a connection that isn't open does nothing, and tells that
   abbrev Never : SiteChannel → Type 0
@@ -79,7 +86,8 @@ module _ (c : Connection) (relay : Relay) (nothing : (p : Pair) → marks_of rel
   channels_are_opened : OpensChannel Zero (Some channel) told.Already (site true (Some channel)) new_office (site true
       (Some channel)) new_office
       × OpensChannel Zero None (told.Refused 44) (site true None) new_office (site true None) new_office
-      × (OpensChannel Zero (Some channel) told.Opened (site true (Some channel)) new_office (site true (Some channel)) new_office → ⊥)
+      × (OpensChannel Zero (Some channel) told.Opened (site true (Some channel)) new_office (site true (Some channel))
+      new_office → ⊥)
   channels_are_opened = (
     (refl, (refl, refl)),
     (Err (open_fault.Client client.Memory), (refl, refl), refl, refl),
@@ -88,18 +96,25 @@ module _ (c : Connection) (relay : Relay) (nothing : (p : Pair) → marks_of rel
 
   -- a connection that was cut isn't there any more
   channels_are_cut : CutsChannel Zero channel told.Cut (site true (Some channel)) new_office (site true None) new_office
-      × (CutsChannel Zero channel told.Cut (site true (Some channel)) new_office (site true (Some channel)) new_office → ⊥)
+      × (CutsChannel Zero channel told.Cut (site true (Some channel)) new_office (site true (Some channel)) new_office
+      → ⊥)
       × (CutsChannel Zero channel told.Closed (site true (Some channel)) new_office (site true None) new_office → ⊥)
   channels_are_cut = (
-    (refl, (Ok tt, record { deals = (record { handed = []; deals = refl; taken = refl }, refl); earlier = refl }), refl),
+    (
+      refl,
+      (Ok tt, record { deals = (record { handed = []; deals = refl; taken = refl }, refl); earlier = refl }),
+      refl,
+    ),
     λ h. let still : 1 ≡ 0 = ap opened h.2 in omega (arith, still),
     λ h. let told = h.0 in absurd (cc),
   )
 
   -- all is due again on a connection, which stays
-  rows_are_due_again : Resends Zero channel told.Due (site true (Some channel)) new_office (site true (Some channel)) new_office
+  rows_are_due_again : Resends Zero channel told.Due (site true (Some channel)) new_office (site true (Some channel))
+      new_office
       × (Resends Zero channel told.Due (site true (Some channel)) new_office (site true None) new_office → ⊥)
-      × (Resends Zero channel (told.Sent 0) (site true (Some channel)) new_office (site true (Some channel)) new_office → ⊥)
+      × (Resends Zero channel (told.Sent 0) (site true (Some channel)) new_office (site true (Some channel)) new_office
+      → ⊥)
   rows_are_due_again = (
     (refl, (due, all_due, (refl, refl))),
     λ h. let gone : 0 ≡ 1 = ap opened h.1.2.0 in omega (arith, gone),
@@ -107,22 +122,37 @@ module _ (c : Connection) (relay : Relay) (nothing : (p : Pair) → marks_of rel
   )
 
   -- where the broker has no session nothing goes up; no octets open a connection
-  octets_go_up : Rises Zero 5 channel (told.Refused 37) (site true (Some channel)) new_office (site true (Some channel)) new_office
-      × (Rises Zero 5 channel told.Opened (site true (Some channel)) new_office (site true (Some channel)) new_office → ⊥)
-      × CarriesOn Up Zero 5 channel (told.Refused 37) (site true (Some channel)) new_office (site true (Some channel)) new_office
-      × (CarriesOn Up Zero 5 channel told.Opened (site true (Some channel)) new_office (site true (Some channel)) new_office → ⊥)
+  octets_go_up : Rises Zero 5 channel (told.Refused 37) (site true (Some channel)) new_office (site true (Some channel))
+      new_office
+      × (Rises Zero 5 channel told.Opened (site true (Some channel)) new_office (site true (Some channel)) new_office
+      → ⊥)
+      × CarriesOn Up Zero 5 channel (told.Refused 37) (site true (Some channel)) new_office (site true (Some channel))
+      new_office
+      × (CarriesOn Up Zero 5 channel told.Opened (site true (Some channel)) new_office (site true (Some channel))
+      new_office → ⊥)
   octets_go_up = (goes, λ h. not_rise h.result h.tells, goes, λ h. not_rise h.result h.tells)
     where
-      goes : Rises Zero 5 channel (told.Refused 37) (site true (Some channel)) new_office (site true (Some channel)) new_office
-      goes = record { result = Err broker.NoSession; later = fresh; carries = ((refl, refl), refl, refl); tells = refl; site = refl }
+      goes : Rises Zero 5 channel (told.Refused 37) (site true (Some channel)) new_office (site true (Some channel))
+          new_office
+      goes = record {
+        result = Err broker.NoSession;
+        later = fresh;
+        carries = ((refl, refl), refl, refl);
+        tells = refl;
+        site = refl;
+      }
 
   -- where none wait none goes down, and the connection stays
-  octets_go_down : Falls Zero 5 channel (told.Carried 0) (site true (Some channel)) new_office (site true (Some channel)) new_office
-      × (Falls Zero 5 channel told.Opened (site true (Some channel)) new_office (site true (Some channel)) new_office → ⊥)
-      × CarriesOn Down Zero 5 channel (told.Carried 0) (site true (Some channel)) new_office (site true (Some channel)) new_office
+  octets_go_down : Falls Zero 5 channel (told.Carried 0) (site true (Some channel)) new_office
+      (site true (Some channel)) new_office
+      × (Falls Zero 5 channel told.Opened (site true (Some channel)) new_office (site true (Some channel)) new_office
+      → ⊥)
+      × CarriesOn Down Zero 5 channel (told.Carried 0) (site true (Some channel)) new_office (site true (Some channel))
+      new_office
   octets_go_down = (goes, λ h. not_fall h.result h.tells, goes)
     where
-      goes : Falls Zero 5 channel (told.Carried 0) (site true (Some channel)) new_office (site true (Some channel)) new_office
+      goes : Falls Zero 5 channel (told.Carried 0) (site true (Some channel)) new_office (site true (Some channel))
+          new_office
       goes = record {
         result = Ok 0;
         later = fresh;
@@ -135,7 +165,8 @@ module _ (c : Connection) (relay : Relay) (nothing : (p : Pair) → marks_of rel
   -- before CONNECTED no row is sent; none opens a connection
   no_row_is_sent : SendsRows seen orders Zero 64 channel (told.Sent 0) (site true (Some channel)) new_office (site true
       (Some channel)) new_office
-      × (SendsRows seen orders Zero 64 channel told.Opened (site true (Some channel)) new_office (site true (Some channel)) new_office → ⊥)
+      × (SendsRows seen orders Zero 64 channel told.Opened (site true (Some channel)) new_office
+      (site true (Some channel)) new_office → ⊥)
   no_row_is_sent = (
     record {
       result = Ok 0;
@@ -156,7 +187,8 @@ module _ (c : Connection) (relay : Relay) (nothing : (p : Pair) → marks_of rel
   -- for want of memory a frame isn't taken, and waits; no frame opens a connection
   frames_are_taken : TakesFrame seen orders Zero channel f (told.Refused 44) (site true (Some channel)) new_office
       (site true (Some waits)) new_office
-      × (TakesFrame seen orders Zero channel f told.Opened (site true (Some channel)) new_office (site true (Some channel)) new_office → ⊥)
+      × (TakesFrame seen orders Zero channel f told.Opened (site true (Some channel)) new_office
+      (site true (Some channel)) new_office → ⊥)
   frames_are_taken = (
     record {
       result = Err (fault.Client client.Memory);
@@ -170,15 +202,18 @@ module _ (c : Connection) (relay : Relay) (nothing : (p : Pair) → marks_of rel
     λ h. not_taken h.result h.tells,
   )
 
-  -- no whole frame is nothing to do, and a decoder without memory is told; the frame that waits is the one that is taken
+  -- no whole frame is nothing to do, and a decoder without memory is told; the frame that waits is the one that is
+  -- taken
   frames_come : TakesWhat seen orders (Ok None) Zero channel told.Idle (site true (Some channel)) new_office (site true
       (Some channel)) new_office
       × TakesWhat seen orders (Err frame.Memory) Zero channel (told.Refused 44) (site true (Some channel)) new_office
       (site true (Some channel)) new_office
-      × TakesOne seen orders Zero waits (told.Refused 44) (site true (Some waits)) new_office (site true (Some waits)) new_office
+      × TakesOne seen orders Zero waits (told.Refused 44) (site true (Some waits)) new_office (site true (Some waits))
+      new_office
       × (TakesWhat seen orders (Ok None) Zero channel told.Held (site true (Some channel)) new_office (site true
       (Some channel)) new_office → ⊥)
-      × (TakesOne seen orders Zero waits told.Opened (site true (Some waits)) new_office (site true (Some waits)) new_office → ⊥)
+      × (TakesOne seen orders Zero waits told.Opened (site true (Some waits)) new_office (site true (Some waits))
+      new_office → ⊥)
   frames_come = (
     (refl, (refl, refl)),
     (refl, (refl, refl)),
@@ -199,7 +234,8 @@ module _ (c : Connection) (relay : Relay) (nothing : (p : Pair) → marks_of rel
         meets = (refl, refl);
       }
 
-      no_opened : TakesOne seen orders Zero waits told.Opened (site true (Some waits)) new_office (site true (Some waits)) new_office → ⊥
+      no_opened : TakesOne seen orders Zero waits told.Opened (site true (Some waits)) new_office
+          (site true (Some waits)) new_office → ⊥
       no_opened (Ok None, later, next, what) = let none = next.0.0 in absurd (cc)
       no_opened (Err cause, later, next, what) = let none = next.0.0 in absurd (cc)
       no_opened (Ok (Some g), later, next, what) = not_taken what.result what.tells
@@ -207,7 +243,8 @@ module _ (c : Connection) (relay : Relay) (nothing : (p : Pair) → marks_of rel
   -- a held letter isn't handled for want of memory; where the connection isn't open it is asked for alone
   letters_are_drained_over : DrainsOver seen orders Zero channel (told.Refused 44) (site true (Some channel)) new_office
       (site true (Some channel)) new_office
-      × (DrainsOver seen orders Zero channel told.Opened (site true (Some channel)) new_office (site true (Some channel)) new_office → ⊥)
+      × (DrainsOver seen orders Zero channel told.Opened (site true (Some channel)) new_office
+      (site true (Some channel)) new_office → ⊥)
       × DrainsOne seen orders Zero (Some channel) (told.Refused 44) (site true (Some channel)) new_office (site true
       (Some channel)) new_office
       × (DrainsOne seen orders Zero None told.Opened (site true None) new_office (site true None) new_office → ⊥)
@@ -225,11 +262,14 @@ module _ (c : Connection) (relay : Relay) (nothing : (p : Pair) → marks_of rel
         meets = (refl, refl);
       }
 
-  -- each event is that of its name: one of a connection that isn't open tells `Closed`, and an open one isn't opened anew
+  -- each event is that of its name: one of a connection that isn't open tells `Closed`, and an open one isn't opened
+  -- anew
   events_happen : Happens seen orders (event.Fills One 64) told.Closed (site true (Some channel)) new_office
       (site true (Some channel)) new_office
-      × Happens seen orders (event.Opens Zero) told.Already (site true (Some channel)) new_office (site true (Some channel)) new_office
-      × Happens seen orders (event.Takes Zero) (told.Refused 44) (site true (Some waits)) new_office (site true (Some waits)) new_office
+      × Happens seen orders (event.Opens Zero) told.Already (site true (Some channel)) new_office
+      (site true (Some channel)) new_office
+      × Happens seen orders (event.Takes Zero) (told.Refused 44) (site true (Some waits)) new_office
+      (site true (Some waits)) new_office
       × (Happens seen orders (event.Fills One 64) (told.Sent 0) (site true (Some channel)) new_office
       (site true (Some channel)) new_office → ⊥)
       × (Happens seen orders (event.Opens One) told.Already (site true (Some channel)) new_office

@@ -1,5 +1,6 @@
 -- Examples: what a service's store may have of events, and what relays know of an outbox.
-use Rattle.std.proofs.Common.{◌≡◌, ℕ, suc, [], ◌∷◌, length, Option, Some, None, true, false, refl, sym, ap, subst, arith}
+use Rattle.std.proofs.Common.{◌≡◌, ℕ, suc, [], ◌∷◌, length, Option, Some, None, true, false, refl, sym, ap, subst}
+use Rattle.std.proofs.Common.{arith}
 use Rattle.std.proofs.Common.{inl, inr}
 use Rattle.std.proofs.Math.Logic.{∥∥₁_elim}
 use Rattle.base.specs.Order.{same_entity, same_pair}
@@ -27,7 +28,8 @@ use Rattle.schedule_text.specs.declared.event.ConnectionNumber.TheVariants.{Zero
 use Rattle.schedule_text.specs.declared.outcome.Outcome.{Outcome}
 use Rattle.schedule_text.specs.declared.outcome.Outcome.TheVariants as told
 use Rattle.schedule_service.specs.Cursors.{KnowsEach, AreRight, KeepsRight}
-use Rattle.schedule_service.specs.Deeds.{channels_of, CameOn, CommandMay, FrameMay, HeldMay, SiteMay, DoubtStays, Matches, Goes}
+use Rattle.schedule_service.specs.Deeds.{channels_of, CameOn, CommandMay, FrameMay, HeldMay, SiteMay, DoubtStays}
+use Rattle.schedule_service.specs.Deeds.{Matches, Goes}
 use Rattle.schedule_service.specs.SiteEvents as event
 use Rattle.schedule_service.specs.SiteEvents.{SiteEvent}
 use Rattle.schedule_service.specs.declared.site_channel.SiteChannel.{SiteChannel}
@@ -39,7 +41,8 @@ use Rattle.schedule_service.proofs.HappeningExamples.{asked}
 -- what was committed stands at its position; a store that failed may have the command or not, and no other fault has it
 commands_may_do : CommandMay orders placing (told.Committed 1) (kept before) (TakesIn placing)
     × CommandMay orders placing (told.Refused 63) (kept before) (TakesIn placing)
-    × CommandMay orders placing (told.Refused 63) (kept before) Nothing × CommandMay orders placing (told.Refused 64) (kept before) Nothing
+    × CommandMay orders placing (told.Refused 63) (kept before) Nothing
+    × CommandMay orders placing (told.Refused 64) (kept before) Nothing
     × CommandMay orders placing (told.NotDone AlreadyPlaced) (kept after) Nothing
     × (CommandMay orders placing (told.Committed 2) (kept before) (TakesIn placing) → ⊥)
     × (CommandMay orders placing (told.Refused 64) (kept before) (TakesIn placing) → ⊥)
@@ -77,8 +80,10 @@ module _ (f : Content) (carries : read_frame f ≡ Some (OfLetter (letter 1))) w
   abbrev NoFrame : Content → Type 0
   NoFrame g = ⊥
 
-  -- the letter is handled at the next position; nothing that came is no letter, and what isn't a letter or a settle does nothing
-  frames_may_do : FrameMay orders Is (told.Handled 2) (kept after) (TakesIn answer) × FrameMay orders Is told.Connected (kept after) Nothing
+  -- the letter is handled at the next position; nothing that came is no letter, and what isn't a letter or a settle
+  -- does nothing
+  frames_may_do : FrameMay orders Is (told.Handled 2) (kept after) (TakesIn answer)
+      × FrameMay orders Is told.Connected (kept after) Nothing
       × FrameMay orders Is (told.Refused 44) (kept after) Nothing
       × (FrameMay orders Is (told.Handled 2) (kept after) Nothing → ⊥)
       × (FrameMay orders NoFrame (told.Handled 2) (kept after) (TakesIn answer) → ⊥)
@@ -103,7 +108,8 @@ module _ (f : Content) (carries : read_frame f ≡ Some (OfLetter (letter 1))) w
   events_may_do = ((refl, refl), refl, (refl, λ p. refl), refl, λ h. h.1, λ h. absurd (cc))
 
 -- where nothing is held nothing is next; a store that failed tells nothing, and none may be drained that isn't held
-held_letters_may_do : HeldMay orders told.Idle (kept before) Nothing × HeldMay orders (told.Refused 63) (kept before) Nothing
+held_letters_may_do : HeldMay orders told.Idle (kept before) Nothing
+    × HeldMay orders (told.Refused 63) (kept before) Nothing
     × (HeldMay orders told.Idle (kept before) (TakesIn answer) → ⊥)
     × (HeldMay orders (told.Drained (letter 1).pair 1) (kept before) (TakesIn answer) → ⊥)
     × (HeldMay orders told.Opened (kept before) Nothing → ⊥)
@@ -154,7 +160,8 @@ module _ (c : Connection) (relay : Relay) (f : Content) where
   channels_are_of_a_site = (refl, refl, λ h. absurd (cc))
 
   -- the frame that waits came, and no longer one; on no connection none did
-  frames_came : CameOn (Some (channel 0)) f × (CameOn None f → ⊥) × (CameOn (Some (channel 0)) (record f { body = 65 ∷ f.body }) → ⊥)
+  frames_came : CameOn (Some (channel 0)) f × (CameOn None f → ⊥)
+      × (CameOn (Some (channel 0)) (record f { body = 65 ∷ f.body }) → ⊥)
   frames_came = ((waiting None, ((refl, refl), refl)), λ h. h, longer)
     where
       body_of : Option Content → ℕ
@@ -184,7 +191,8 @@ module _ (c : Connection) (relay : Relay) (f : Content) where
       × (Goes seen (site (store 0 before) None) (site (store 0 after) None) orders (λ x d. d ≡ Nothing) → ⊥)
   tables_go = (
     λ clean matches u left. ∣ record { before = u; deed = Nothing; was = left; may = refl; did = refl } ∣₁,
-    λ h. ∥∥₁_elim (h refl good after refl) (λ a b. absurd a) (λ came. none came.before came.deed came.was came.may came.did),
+    λ h. ∥∥₁_elim (h refl good after refl) (λ a b. absurd a) (λ came. none came.before came.deed came.was came.may
+        came.did),
   )
     where
       none : (t : OrderTables) (d : Deed Asked) → t ≡ before → d ≡ Nothing → Did orders (kept t) d (kept after) → ⊥
@@ -198,10 +206,12 @@ module _ (c : Connection) (relay : Relay) (f : Content) where
 
   -- a cursor of no row is right of any tables, and one of a row isn't of an empty journal
   relays_know_each : KnowsEach orders (λ t. t ≡ before) (cursor 0) × (KnowsEach orders (λ t. t ≡ before) (cursor 1) → ⊥)
-  relays_know_each = (λ t left. (omega arith, λ x upto some. absurd upto), λ h. let rows = (h before refl).0 in omega (arith, rows))
+  relays_know_each =
+      (λ t left. (omega arith, λ x upto some. absurd upto), λ h. let rows = (h before refl).0 in omega (arith, rows))
 
   -- so are those of open connections; where none is open there is nothing to be right
-  cursors_are_right : AreRight seen orders (site (store 0 before) (Some (channel 0))) × AreRight seen orders (site (store 0 before) None)
+  cursors_are_right : AreRight seen orders (site (store 0 before) (Some (channel 0)))
+      × AreRight seen orders (site (store 0 before) None)
       × (AreRight seen orders (site (store 0 before) (Some (channel 1))) → ⊥)
   cursors_are_right = ((relays_know_each.0, tt), (tt, tt), λ h. relays_know_each.1 h.0)
 

@@ -8,17 +8,20 @@ use Rattle.keep.specs.Seen.{Seen}
 use Rattle.keep.specs.Tables.{Tables}
 use Rattle.schedule_text.specs.declared.event.ConnectionNumber.{ConnectionNumber}
 use Rattle.schedule_text.specs.declared.outcome.Outcome.{Outcome}
-use Rattle.schedule_service.specs.Happenings.{Falls, SendsRows, TakesFrame, TakesWhat, TakesOne, DrainsOver, DrainsOne, over, with_store, waiting_of}
+use Rattle.schedule_service.specs.Happenings.{Falls, SendsRows, TakesFrame, TakesWhat, TakesOne, DrainsOver, DrainsOne}
+use Rattle.schedule_service.specs.Happenings.{over, with_store, waiting_of}
 use Rattle.schedule_service.specs.Channels.{channel_of, with_channel, TakesChannel}
 use Rattle.schedule_service.specs.Outcomes.{decoder_fate, fall_fate, fill_fate, taken_fate, drain_fate}
 use Rattle.schedule_service.specs.declared.site_channel.SiteChannel.{SiteChannel}
 use Rattle.schedule_service.specs.declared.site.Site.{Site}
 use Rattle.schedule_service.proofs.Fates.{with_again, meets_again, took_open}
 
-module _ {H K S C : Type 0} (number : ConnectionNumber) (k : Option SiteChannel) (l : SiteChannel) (outcome : Outcome) (s : Site H K S C)
+module _ {H K S C : Type 0} (number : ConnectionNumber) (k : Option SiteChannel) (l : SiteChannel) (outcome : Outcome)
+    (s : Site H K S C)
     (from : Office)
     (t : Site H K S C) (to : Office) where
-  pub falls_again : (most : ℕ) → Falls number most l outcome (with_channel number k s) from t to → Falls number most l outcome s from t to
+  pub falls_again : (most : ℕ) → Falls number most l outcome (with_channel number k s) from t to
+      → Falls number most l outcome s from t to
   falls_again most h = record {
     result = h.result;
     later = h.later;
@@ -55,7 +58,11 @@ module _ {H K S C : Type 0} (number : ConnectionNumber) (k : Option SiteChannel)
       used = h.used;
       tells = h.tells;
       meets = meets_again (taken_fate h.result) number
-          (over l (record l.connection { channel = record l.connection.channel { client = h.client; waiting = waiting_of h.result f } })) k (with_store t.endpoint s)
+          (over l (record l.connection {
+            channel =
+                record l.connection.channel { client = h.client; waiting = waiting_of h.result f };
+          })) k
+          (with_store t.endpoint s)
           from t to h.meets;
     }
 
@@ -68,7 +75,8 @@ module _ {H K S C : Type 0} (number : ConnectionNumber) (k : Option SiteChannel)
       comes = h.comes;
       used = h.used;
       tells = h.tells;
-      meets = meets_again (drain_fate h.result) number (over l (record l.connection { channel = record l.connection.channel { client = h.client } })) k (with_store t.endpoint s)
+      meets = meets_again (drain_fate h.result) number (over l (record l.connection
+          { channel = record l.connection.channel { client = h.client } })) k (with_store t.endpoint s)
           from t to h.meets;
     }
 
@@ -79,14 +87,16 @@ module _ {H K S C : Type 0} (number : ConnectionNumber) (k : Option SiteChannel)
     what_again (Ok (Some f)) h = frame_again f h
     what_again (Err fault) h = (h.0, meets_again (decoder_fate fault) number l k s from t to h.1)
 
-module _ {H K S C : Type 0} (seen : K → Seen (Tables S C)) (service : Service S C) (number : ConnectionNumber) (k : Option SiteChannel)
+module _ {H K S C : Type 0} (seen : K → Seen (Tables S C)) (service : Service S C) (number : ConnectionNumber)
+    (k : Option SiteChannel)
     (l : SiteChannel)
     (outcome : Outcome) (s : Site H K S C) (from : Office) (t : Site H K S C) (to : Office) where
   pub takes_again : TakesOne seen service number l outcome (with_channel number k s) from t to
       → TakesOne seen service number l outcome s from t to
   takes_again h = (h.0, h.1, h.2, what_again number k (over l h.1) outcome s from t to seen service h.0 h.3)
 
-module _ {H K S C : Type 0} (seen : K → Seen (Tables S C)) (service : Service S C) (number : ConnectionNumber) (l : SiteChannel)
+module _ {H K S C : Type 0} (seen : K → Seen (Tables S C)) (service : Service S C) (number : ConnectionNumber)
+    (l : SiteChannel)
     (outcome : Outcome) (s : Site H K S C) (from : Office) (t : Site H K S C) (to : Office) where
   -- a held letter was handled over a connection that was open
   pub drains_open : (between : Site H K S C) (r : Option SiteChannel) → r ≡ Some l → TakesChannel number s between r

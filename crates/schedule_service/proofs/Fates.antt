@@ -26,8 +26,10 @@ module _ {H K S C : Type 0} where
   with_back One l s e = λ i. record s { one = sym e i }
 
   -- its fate is that of one that was in its place
-  pub meets_again : (fate : ChannelFate) (number : ConnectionNumber) (l : SiteChannel) (k : Option SiteChannel) (s : Site H K S C) (from : Office)
-      (t : Site H K S C) (to : Office) → Meets fate number l (with_channel number k s) from t to → Meets fate number l s from t to
+  pub meets_again : (fate : ChannelFate) (number : ConnectionNumber) (l : SiteChannel) (k : Option SiteChannel)
+      (s : Site H K S C) (from : Office)
+      (t : Site H K S C) (to : Office) → Meets fate number l (with_channel number k s) from t to
+      → Meets fate number l s from t to
   meets_again Stays Zero l k s from t to h = h
   meets_again Stays One l k s from t to h = h
   meets_again IsCut Zero l k s from t to h = h
@@ -36,29 +38,34 @@ module _ {H K S C : Type 0} where
   meets_again BothAreCut One l k s from t to h = h
 
   -- an event of a connection that isn't open
-  pub if_closed : (o : Option SiteChannel) (s : Site H K S C) (from : Office) (t : Site H K S C) (to : Office) (Does : SiteChannel → Type 0)
+  pub if_closed : (o : Option SiteChannel) (s : Site H K S C) (from : Office) (t : Site H K S C) (to : Office)
+      (Does : SiteChannel → Type 0)
       → o ≡ None → t ≡ s → to ≡ from → IfOpen o Closed s from t to Does
   if_closed None s from t to Does e same kept = (refl, (same, kept))
   if_closed (Some l) s from t to Does e same kept = let z : Some l ≡ None = e in cc
 
   -- and of one that is
-  pub if_open : (o : Option SiteChannel) (l : SiteChannel) (outcome : Outcome) (s : Site H K S C) (from : Office) (t : Site H K S C) (to : Office)
+  pub if_open : (o : Option SiteChannel) (l : SiteChannel) (outcome : Outcome) (s : Site H K S C) (from : Office)
+      (t : Site H K S C) (to : Office)
       (Does : SiteChannel → Type 0) → o ≡ Some l → Does l → IfOpen o outcome s from t to Does
   if_open None l outcome s from t to Does e d = let z : None ≡ Some l = e in cc
   if_open (Some k) l outcome s from t to Does e d = let same : l ≡ k = cc in subst Does same d
 
   -- a connection that was taken out was open, and nothing else changed
-  pub took_open : (number : ConnectionNumber) (s t : Site H K S C) (r : Option SiteChannel) (l : SiteChannel) → r ≡ Some l
+  pub took_open : (number : ConnectionNumber) (s t : Site H K S C) (r : Option SiteChannel) (l : SiteChannel)
+      → r ≡ Some l
       → TakesChannel number s t r
       → TakesChannel number s t (Some l)
   took_open number s t r l e h = subst (TakesChannel number s t) e h
 
-  pub took_none : (number : ConnectionNumber) (s t : Site H K S C) (r : Option SiteChannel) → r ≡ None → TakesChannel number s t r
+  pub took_none : (number : ConnectionNumber) (s t : Site H K S C) (r : Option SiteChannel) → r ≡ None
+      → TakesChannel number s t r
       → TakesChannel number s t None
   took_none number s t r e h = subst (TakesChannel number s t) e h
 
   -- what was done behind that was done by the event
-  pub does_open : (number : ConnectionNumber) (outcome : Outcome) (s between : Site H K S C) (from : Office) (t : Site H K S C)
+  pub does_open : (number : ConnectionNumber) (outcome : Outcome) (s between : Site H K S C) (from : Office)
+      (t : Site H K S C)
       (to : Office) (r : Option SiteChannel) (l : SiteChannel) (Does : Site H K S C → SiteChannel → Type 0)
       → (Does (with_channel number None s) l → Does s l) → r ≡ Some l → TakesChannel number s between r → Does between l
       → IfOpen (channel_of number s) outcome s from t to (Does s)

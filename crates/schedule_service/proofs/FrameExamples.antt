@@ -1,5 +1,6 @@
 -- Examples: frames that came are taken and do something: the session begins, and the server ends it.
-use Rattle.std.proofs.Common.{◌≡◌, ℕ, List, [], ◌∷◌, ◌++◌, length, Option, Some, None, Result, Ok, Err, true, false, refl}
+use Rattle.std.proofs.Common.{◌≡◌, ℕ, List, [], ◌∷◌, ◌++◌, length, Option, Some, None, Result, Ok, Err, true, false}
+use Rattle.std.proofs.Common.{refl}
 use Rattle.std.proofs.Common.{ap, arith}
 use Rattle.std.proofs.lemmas.List.{length-append}
 use Rattle.std.specs.Global.{Global}
@@ -41,7 +42,8 @@ use Rattle.schedule_service.specs.Outcomes.{reception_told, taken_told, taken_fa
 use Rattle.schedule_service.specs.SiteEvents as event
 use Rattle.schedule_service.specs.declared.site_channel.SiteChannel.{SiteChannel}
 use Rattle.schedule_service.proofs.Framing.{framed}
-use Rattle.schedule_service.proofs.WorkExamples.{is_refusal, fault_is_refusal, no_refusal, seen, store, Service, site, served, left, is_open}
+use Rattle.schedule_service.proofs.WorkExamples.{is_refusal, fault_is_refusal, no_refusal, seen, store, Service, site}
+use Rattle.schedule_service.proofs.WorkExamples.{served, left, is_open}
 use Rattle.schedule_service.proofs.WorkExamples.{cut_leaves}
 
 -- why a frame isn't taken is told as a refusal, and so is why none was found
@@ -79,13 +81,15 @@ module _ (relay : Relay) where
   text = codes "CONNECTED\nversion:1.2\n\n\0"
 
   it_comes : Nexts MAX_BODY (held text) (held []) (Ok (Some opening))
-  unfolding frame_at line_at after_gap command_of headers_at body_at meant line_fault length_fault next_fault unescaped is_utf8 chars
+  unfolding frame_at line_at after_gap command_of headers_at body_at meant line_fault length_fault next_fault unescaped
+      is_utf8 chars
       lib.Utf8.encode
   it_comes = next_frame MAX_BODY (held text) (held []) opening [] refl refl refl refl
 
   -- behind it the client subscribes to the queue of purchasing
   abbrev subscribed : ClientWithRoom ℕ
-  subscribed = client stage.Connected (codes "SUBSCRIBE\nid:0\ndestination:/queue/purchasing\nack:client-individual\n\n\0")
+  subscribed =
+      client stage.Connected (codes "SUBSCRIBE\nid:0\ndestination:/queue/purchasing\nack:client-individual\n\n\0")
 
   subscribing : AreFrames MAX_BODY (subscribe_frame (codes "/queue/purchasing") ∷ [])
   unfolding line_of escape is_utf8 chars lib.Utf8.encode
@@ -118,31 +122,42 @@ module _ (relay : Relay) where
   -- where CONNECTED is told the client is connected, and the connection stays with it
   abbrev Stands : SiteChannel → Option SiteChannel → Type 0
   Stands l now = (k : ClientWithRoom ℕ) × (k.client.stage ≡ stage.Connected)
-      × (now ≡ Some (over l (record l.connection { channel = record l.connection.channel { client = k; waiting = None } })))
+      × (now ≡ Some (over l (record l.connection {
+        channel =
+            record l.connection.channel { client = k; waiting = None };
+      })))
 
-  it_stands : (l : SiteChannel) (f : Content) (s t : Service) (from to : Office) → TakesFrame seen orders Zero l f told.Connected s from t to
+  it_stands : (l : SiteChannel) (f : Content) (s t : Service) (from to : Office)
+      → TakesFrame seen orders Zero l f told.Connected s from t to
       → Stands l t.zero
   it_stands l f s t from to h = by_result h.result h.tells h.answers h.meets
     where
       by_result : (r : Result Taken ReceptionFault) → told.Connected ≡ taken_told r
           → Answers Order f l.connection.channel.client.client h.client.client r
-          → Meets (taken_fate r) Zero (over l (record l.connection { channel = record l.connection.channel { client = h.client; waiting = waiting_of r f } }))
+          → Meets (taken_fate r) Zero (over l (record l.connection {
+            channel =
+                record l.connection.channel { client = h.client; waiting = waiting_of r f };
+          }))
           (with_store t.endpoint s) from t to → Stands l t.zero
       by_result (Ok taken.Connected) tells answers meets =
           (h.client, ap (λ (c : Client ℕ). c.stage) answers.2.all, ap (λ (x : Service). x.zero) meets.0)
       by_result (Ok _) tells answers meets = absurd (cc)
-      by_result (Err e) tells answers meets = absurd (no_refusal told.Connected (reception_told e) refl (reception_is_refusal e) tells)
+      by_result (Err e) tells answers meets =
+          absurd (no_refusal told.Connected (reception_told e) refl (reception_is_refusal e) tells)
 
   -- so behind what is begun a frame came, and the connection stands without it
-  came_as : (l : SiteChannel) → Begins l → (f : Content) × (later : Connection) × Nexts MAX_BODY (held text) later.channel.decoder (Ok (Some f))
+  came_as : (l : SiteChannel) → Begins l → (f : Content) × (later : Connection)
+      × Nexts MAX_BODY (held text) later.channel.decoder (Ok (Some f))
       × Stands (over (channel (client stage.Connecting []) text) later) (Some l)
   came_as l (Ok None, later, next, what) = let told = what.0 in absurd (cc)
-  came_as l (Err e, later, next, what) = absurd (no_refusal told.Connected (decoder_told e) refl (decoder_is_refusal e) what.0)
+  came_as l (Err e, later, next, what) =
+      absurd (no_refusal told.Connected (decoder_told e) refl (decoder_is_refusal e) what.0)
   came_as l (Ok (Some f), later, next, what) = (
     f,
     later,
     next.0.0,
-    it_stands (over (channel (client stage.Connecting []) text) later) f begun (site (store true before) (Some l)) new_office new_office
+    it_stands (over (channel (client stage.Connecting []) text) later) f begun (site (store true before) (Some l))
+        new_office new_office
         what,
   )
 
@@ -155,7 +170,8 @@ module _ (relay : Relay) where
   octets_of (Some l) = l.connection.channel.decoder.octets
 
   -- a frame has octets
-  no_empty : (f : Content) (front rest : List ℕ) → SpellsAfterGap MAX_BODY f front → text ≡ front ++ rest → text ≡ rest → ⊥
+  no_empty : (f : Content) (front rest : List ℕ) → SpellsAfterGap MAX_BODY f front → text ≡ front ++ rest → text ≡ rest
+      → ⊥
   no_empty f front rest (eols, s) whole same = omega (
     arith,
     ap length whole,
@@ -166,7 +182,8 @@ module _ (relay : Relay) where
   )
 
   -- the client is connected then and subscribes; it isn't connecting any more, and the frame doesn't stay to come again
-  the_session_begins : Begins (channel subscribed []) × Happens seen orders (event.Takes Zero) told.Connected begun new_office
+  the_session_begins : Begins (channel subscribed [])
+      × Happens seen orders (event.Takes Zero) told.Connected begun new_office
       (site (store true before) (Some (channel subscribed []))) new_office
       × (Begins (channel (client stage.Connecting []) []) → ⊥) × (Begins (channel subscribed text) → ⊥)
   the_session_begins = (
@@ -191,9 +208,11 @@ module _ (relay : Relay) where
 
   -- its text is told, and the connection is cut with its session; it doesn't stay open, closed as its client is
   the_server_ends_it : (message : String Global) → string_bytes message ≡ codes "bad frame" → (octets : List ℕ)
-      → TakesFrame seen orders Zero connected refusing (told.Error message) (site (store true before) (Some connected)) (served octets)
+      → TakesFrame seen orders Zero connected refusing (told.Error message) (site (store true before) (Some connected))
+      (served octets)
       (site (store true before) None) left
-      × (TakesFrame seen orders Zero connected refusing (told.Error message) (site (store true before) (Some connected)) (served octets)
+      × (TakesFrame seen orders Zero connected refusing (told.Error message) (site (store true before) (Some connected))
+      (served octets)
       (site (store true before) (Some (channel (client stage.Closed []) []))) left → ⊥)
   the_server_ends_it message is octets = (
     record {
@@ -209,9 +228,11 @@ module _ (relay : Relay) where
   )
     where
       stays_open : (r : Result Taken ReceptionFault) (k : ClientWithRoom ℕ) → told.Error message ≡ taken_told r
-          → Meets (taken_fate r) Zero (over connected (record connected.connection { channel = record connected.connection.channel { client = k; waiting = waiting_of r refusing } }))
+          → Meets (taken_fate r) Zero (over connected (record connected.connection
+          { channel = record connected.connection.channel { client = k; waiting = waiting_of r refusing } }))
           (site (store true before) (Some connected)) (served octets)
           (site (store true before) (Some (channel (client stage.Closed []) []))) left → ⊥
       stays_open (Ok (taken.Error text)) k tells meets = let still : 1 ≡ 0 = ap is_open meets.1 in omega (arith, still)
       stays_open (Ok _) k tells meets = absurd (cc)
-      stays_open (Err e) k tells meets = no_refusal (told.Error message) (reception_told e) refl (reception_is_refusal e) tells
+      stays_open (Err e) k tells meets =
+          no_refusal (told.Error message) (reception_told e) refl (reception_is_refusal e) tells

@@ -11,7 +11,8 @@ use Rattle.stomp_frame.specs.declared.command.Command.{Command}
 
 -- whether a line can hold a header, which isn't a content-length
 abbrev pub fits : Command → Header → Bool
-fits c h = not (is_bad c h) && (is_utf8 h.name && (is_utf8 h.value && (nat_lt (length (line_of c h)) 1025 && not (gives_length h))))
+fits c h = not (is_bad c h) && (is_utf8 h.name && (is_utf8 h.value && (nat_lt (length (line_of c h)) 1025
+    && not (gives_length h))))
 
 parts : (a b : Bool) → (a && b) ≡ true → (a ≡ true) × (b ≡ true)
 parts true b both = (refl, both)
@@ -35,7 +36,8 @@ owned c h all =
 
 all_owned : (c : Command) (hs : List Header) → list_all (fits c) hs ≡ true → AllByRecursion (IsOwn c) hs
 all_owned c [] all = tt
-all_owned c (h ∷ hs) all = let both = parts (fits c h) (list_all (fits c) hs) all in (owned c h both.0, all_owned c hs both.1)
+all_owned c (h ∷ hs) all =
+    let both = parts (fits c h) (list_all (fits c) hs) all in (owned c h both.0, all_owned c hs both.1)
 
 -- whether a frame can be written
 abbrev pub is_writable : Content → Bool
@@ -47,5 +49,6 @@ framed f all =
     let one = parts (list_all (fits f.command) f.headers) _ all in
     let two = parts (nat_lt (length f.headers) (MAX_HEADERS + 1)) _ one.1 in
     let count : length f.headers < MAX_HEADERS + 1 = ltb-true (length f.headers) (MAX_HEADERS + 1) two.0 in
-    let body : length f.body < body_limit MAX_BODY f.command + 1 = ltb-true (length f.body) (body_limit MAX_BODY f.command + 1) two.1 in
+    let body : length f.body < body_limit MAX_BODY f.command + 1 =
+    ltb-true (length f.body) (body_limit MAX_BODY f.command + 1) two.1 in
     record { headers = all_owned f.command f.headers one.0; count = omega (arith, count); body = omega (arith, body) }

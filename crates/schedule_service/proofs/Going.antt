@@ -27,33 +27,40 @@ module _ {H K S C : Type 0} (seen : K → Seen (Tables S C)) (s t : Site H K S C
   pub comes_goes : (allowed may : Kept C → Deed C → Type 0) → ((x : Kept C) (d : Deed C) → allowed x d → may x d)
       → ComesBy (through seen) s.endpoint t.endpoint service allowed → Goes seen s t service may
   comes_goes allowed may more comes clean good u b = let c = comes clean good u b in
-      ∣ record { before = c.before; deed = c.deed; was = c.was; may = more (kept c.before) c.deed c.may; did = c.did } ∣₁
+      ∣ record { before = c.before; deed = c.deed; was = c.was; may = more (kept c.before) c.deed c.may; did = c.did }
+      ∣₁
 
   -- nothing was done
-  pub stays_goes : (may : Kept C → Deed C → Type 0) → ((x : Kept C) → may x Nothing) → Stays (through seen) s.endpoint t.endpoint
+  pub stays_goes : (may : Kept C → Deed C → Type 0) → ((x : Kept C) → may x Nothing)
+      → Stays (through seen) s.endpoint t.endpoint
       → Goes seen s t service may
   stays_goes may none stays clean good u b =
       ∣ record { before = u; deed = Nothing; was = stays clean u b; may = none (kept u); did = refl } ∣₁
 
   -- the store was opened again
-  pub finds_goes : (may : Kept C → Deed C → Type 0) → ((x : Kept C) → may x Nothing) → Finds (through seen) s.endpoint t.endpoint
+  pub finds_goes : (may : Kept C → Deed C → Type 0) → ((x : Kept C) → may x Nothing)
+      → Finds (through seen) s.endpoint t.endpoint
       → Goes seen s t service may
   finds_goes may none finds clean good u b = ∥∥₁_map (finds clean u b)
       (λ was. record { before = u; deed = Nothing; was = was; may = none (kept u); did = refl })
 
   -- a command was refused
-  pub refused_goes : (row : JournalRow C) (r : Result Committed EndFault) (fault : EndFault) (outcome : Outcome) (between : Failing K)
+  pub refused_goes : (row : JournalRow C) (r : Result Committed EndFault) (fault : EndFault) (outcome : Outcome)
+      (between : Failing K)
       → r ≡ Err fault → outcome ≡ fault_told fault → t.endpoint ≡ between
-      → ComesBy (through seen) s.endpoint between service (CommitMay service row r) → Goes seen s t service (CommandMay service row outcome)
+      → ComesBy (through seen) s.endpoint between service (CommitMay service row r)
+      → Goes seen s t service (CommandMay service row outcome)
   refused_goes row r fault outcome between is told store comes =
       comes_goes (CommitMay service row r) (CommandMay service row outcome)
       (λ x d h. subst (λ o. CommandMay service row o x d) (sym told)
       (command_told service row (Err fault) x d (subst (λ q. CommitMay service row q x d) is h)))
       (subst (λ e. ComesBy (through seen) s.endpoint e service (CommitMay service row r)) (sym store) comes)
 
-module _ {K S C : Type 0} (seen : K → Seen (Tables S C)) (old between new : Failing K) (service : Service S C) (outcome : Outcome) where
+module _ {K S C : Type 0} (seen : K → Seen (Tables S C)) (old between new : Failing K) (service : Service S C)
+    (outcome : Outcome) where
   -- a deed that was allowed is allowed where more are
-  pub comes_more : (allowed may : Kept C → Deed C → Type 0) → ((x : Kept C) (d : Deed C) → allowed x d → may x d) → new ≡ between
+  pub comes_more : (allowed may : Kept C → Deed C → Type 0) → ((x : Kept C) (d : Deed C) → allowed x d → may x d)
+      → new ≡ between
       → ComesBy (through seen) old between service allowed → ComesBy (through seen) old new service may
   comes_more allowed may more store comes = subst (λ e. ComesBy (through seen) old e service may) (sym store)
       (λ clean good u b. let c = comes clean good u b in
@@ -67,11 +74,13 @@ module _ {K S C : Type 0} (seen : K → Seen (Tables S C)) (old between new : Fa
       (λ x d h. subst (λ o. FrameMay service (λ g. g ≡ f) o x d) (sym told) (frame_told service f r x d h))
 
   pub held_comes : (r : Result (Option Drained) ReceptionFault) → outcome ≡ drain_told r → new ≡ between
-      → ComesBy (through seen) old between service (DrainsMay service r) → ComesBy (through seen) old new service (HeldMay service outcome)
+      → ComesBy (through seen) old between service (DrainsMay service r)
+      → ComesBy (through seen) old new service (HeldMay service outcome)
   held_comes r told = comes_more (DrainsMay service r) (HeldMay service outcome)
       (λ x d h. subst (λ o. HeldMay service o x d) (sym told) (held_told service r x d h))
 
 -- what is told of a refusal is what its answer tells
-pub told_refused : {R : Type 0} (tell : R → Outcome) (r : Result R EndFault) (fault : EndFault) (outcome : Outcome) → r ≡ Err fault
+pub told_refused : {R : Type 0} (tell : R → Outcome) (r : Result R EndFault) (fault : EndFault) (outcome : Outcome)
+    → r ≡ Err fault
     → outcome ≡ fault_told fault → outcome ≡ end_told tell r
 told_refused tell r fault outcome is told = subst (λ q. outcome ≡ end_told tell q) (sym is) told

@@ -13,7 +13,8 @@ use Rattle.keep.specs.Tables.{empty}
 use Rattle.keep.specs.declared.faulty.Leaves.TheVariants.{Old as OldTables, New as NewTables}
 use Rattle.endpoint.specs.declared.answer.Committed.{Committed}
 use Rattle.endpoint.specs.declared.fault.EndFault.{EndFault}
-use Rattle.endpoint.specs.declared.fault.EndFault.TheVariants.{NotMine, Business, TooEarly, StoreFailed, Memory, Unusable, NumberLimit}
+use Rattle.endpoint.specs.declared.fault.EndFault.TheVariants.{NotMine, Business, TooEarly, StoreFailed, Memory}
+use Rattle.endpoint.specs.declared.fault.EndFault.TheVariants.{Unusable, NumberLimit}
 use Rattle.endpoint.specs.declared.fault.EndFault.TheVariants.{NotSent}
 use Rattle.endpoint.specs.Deeds.{Nothing}
 use Rattle.endpoint.proofs.Examples.{o1, bolts, placing}
@@ -33,7 +34,8 @@ use Rattle.schedule_text.specs.declared.outcome.Outcome.TheVariants as told
 use Rattle.schedule_service.specs.Happenings.{command_row, leaves_of, waiting_of, with_store}
 use Rattle.schedule_service.specs.Happenings.{ArmsStore, TakesCommand, DrainsAlone}
 use Rattle.schedule_service.specs.Happenings.{ReopensStore, StopsSite}
-use Rattle.schedule_service.specs.Outcomes.{fault_told, commit_told, end_told, fill_told, rise_told, fall_told, reception_told, taken_told, drain_told}
+use Rattle.schedule_service.specs.Outcomes.{fault_told, commit_told, end_told, fill_told, rise_told, fall_told}
+use Rattle.schedule_service.specs.Outcomes.{reception_told, taken_told, drain_told}
 use Rattle.schedule_service.specs.declared.site_channel.SiteChannel.{SiteChannel}
 use Rattle.schedule_service.specs.declared.site.Site.{Site}
 
@@ -43,7 +45,8 @@ abbrev pub asked : SeatCommand Asked
 asked = record { seat = 0; entity = o1; command = both }
 
 -- a seat's command is the row that the journal takes; that of a command for another entity isn't
-rows_are_of_commands : (command_row asked ≡ placing) × (leaves_of failure.Old ≡ OldTables) × (leaves_of failure.New ≡ NewTables)
+rows_are_of_commands : (command_row asked ≡ placing) × (leaves_of failure.Old ≡ OldTables)
+    × (leaves_of failure.New ≡ NewTables)
     × (leaves_of failure.Old ≡ NewTables → ⊥)
 rows_are_of_commands = (refl, refl, refl, λ h. absurd (cc))
 
@@ -51,7 +54,8 @@ other_rows : command_row (record asked { entity = bolts }) ≡ placing → ⊥
 other_rows h = let kind : Stock ≡ Order = ap (λ (row : JournalRow Asked). row.entity.kind) h in absurd (cc)
 
 -- a frame that was taken doesn't wait, nor does one behind a fault of the endpoint; for want of memory it does
-frames_wait_or_not : (f : Content) → (waiting_of (Ok taken.Held) f ≡ None) × (waiting_of (Err (fault.Client client.Memory)) f ≡ Some f)
+frames_wait_or_not : (f : Content) → (waiting_of (Ok taken.Held) f ≡ None)
+    × (waiting_of (Err (fault.Client client.Memory)) f ≡ Some f)
     × (waiting_of (Err (fault.End Memory)) f ≡ None)
     × (waiting_of (Ok taken.Held) f ≡ Some f → ⊥) × (waiting_of (Err (fault.Client client.Memory)) f ≡ None → ⊥)
 frames_wait_or_not f = (refl, refl, refl, λ h. absurd (cc), λ h. absurd (cc))
@@ -129,7 +133,8 @@ not_taken (Err f) h = not_reception f h
 -- ---- a service of orders, whose store has empty tables and is usable or not
 
 abbrev pub seen : Bool → Seen OrderTables
-seen usable = record { tables = empty; may_leave = λ t. t ≡ empty; failures = 0; usable = usable; doubt = 0; armed = None }
+seen usable =
+    record { tables = empty; may_leave = λ t. t ≡ empty; failures = 0; usable = usable; doubt = 0; armed = None }
 
 abbrev pub store : Bool → Failing Bool
 store usable = record { keep = usable; armed = None; is_down = false; failures = 0 }
@@ -148,7 +153,8 @@ abbrev pub opened : Service → ℕ
 opened s = is_open s.zero
 
 -- a store that isn't usable refuses a command, and nothing changes; a command opens no connection
-commands_are_given : TakesCommand seen orders asked (told.Refused 65) (site false None) new_office (site false None) new_office
+commands_are_given : TakesCommand seen orders asked (told.Refused 65) (site false None) new_office (site false None)
+    new_office
     × (TakesCommand seen orders asked told.Opened (site true None) new_office (site true None) new_office → ⊥)
 commands_are_given = (
   record {
@@ -187,7 +193,8 @@ stores_are_reopened = (
 
 -- the store is armed, and not told to leave the other tables
 stores_are_armed : ArmsStore 2 failure.New told.Armed (site true None) new_office
-    (with_store (record (store true) { armed = Some (record { calls = 2; leaves = NewTables }) }) (site true None)) new_office
+    (with_store (record (store true) { armed = Some (record { calls = 2; leaves = NewTables }) }) (site true None))
+    new_office
     × (ArmsStore 2 failure.New told.Armed (site true None) new_office (site true None) new_office → ⊥)
     × (ArmsStore 2 failure.New told.Reopened (site true None) new_office (site true None) new_office → ⊥)
 stores_are_armed = (

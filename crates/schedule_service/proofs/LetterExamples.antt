@@ -1,5 +1,7 @@
--- Examples: a letter and a settle that came are taken: what they do to the journal and to the outbox, and what is written for them.
-use Rattle.std.proofs.Common.{◌≡◌, ◌∙◌, ℕ, List, [], ◌∷◌, ◌++◌, length, Option, Some, None, Result, Ok, Err, true, refl, sym, ap, subst}
+-- Examples: a letter and a settle that came are taken: what they do to the journal and to the outbox, and what is
+-- written for them.
+use Rattle.std.proofs.Common.{◌≡◌, ◌∙◌, ℕ, List, [], ◌∷◌, ◌++◌, length, Option, Some, None, Result, Ok, Err, true, refl}
+use Rattle.std.proofs.Common.{sym, ap, subst}
 use Rattle.std.proofs.Common.{arith}
 use Rattle.std.specs.Fmt.{digits}
 use Rattle.std.specs.Prelude.{codes}
@@ -63,8 +65,10 @@ module _ (relay : Relay) where
   abbrev settle : Content
   settle = frame command.Message
       (header (codes "destination") (codes "/queue/purchasing") ∷ header (codes "message-id") (codes "77")
-      ∷ header (codes "subscription") (codes "0") ∷ header (codes "ack") (codes "12") ∷ header (codes "kind") (codes "settle")
-      ∷ header (codes "from") (codes "order/o1") ∷ header (codes "to") (codes "stock/bolts") ∷ header (codes "number") (codes "1") ∷ [])
+      ∷ header (codes "subscription") (codes "0") ∷ header (codes "ack") (codes "12") ∷ header (codes "kind")
+      (codes "settle")
+      ∷ header (codes "from") (codes "order/o1") ∷ header (codes "to") (codes "stock/bolts") ∷ header (codes "number")
+      (codes "1") ∷ [])
       []
 
   it_is_read : read_frame settle ≡ Some (envelope.Settle (from_order bolts) 1)
@@ -80,7 +84,8 @@ module _ (relay : Relay) where
   settled = changed (change.Settled (from_order bolts) 1 ∷ []) after
 
   abbrev Marks : OrderTables → Type 0
-  Marks t = TakesFrame seen orders Zero connected settle (told.Settled 1) (site (store true after) (Some connected)) new_office
+  Marks t = TakesFrame seen orders Zero connected settle (told.Settled 1) (site (store true after) (Some connected))
+      new_office
       (site (store true t) (Some (channel relay (client stage.Connected (codes "ACK\nid:12\n\n\0")) []))) new_office
 
   -- the outbox has the mark that is told, and the frame is acknowledged; the mark doesn't stay as it was
@@ -111,10 +116,12 @@ module _ (relay : Relay) where
     λ h. unmarked h.result h.tells h.comes,
   )
     where
-      stays : (m : ℕ) (t : OrderTables) (d : Deed Asked) → t ≡ after → TakeMay orders settle (Ok (taken.Settled m)) (kept t) d
+      stays : (m : ℕ) (t : OrderTables) (d : Deed Asked) → t ≡ after
+          → TakeMay orders settle (Ok (taken.Settled m)) (kept t) d
           → Did orders (kept t) d (kept after) → ⊥
       stays m t d was (pair, number, read, done) did =
-          let same : Some (envelope.Settle pair number) ≡ Some (envelope.Settle (from_order bolts) 1) = sym read ∙ it_is_read in
+          let same : Some (envelope.Settle pair number) ≡ Some (envelope.Settle (from_order bolts) 1) =
+          sym read ∙ it_is_read in
           let marks = done.0 in
           let deed : d ≡ Settles (from_order bolts) 1 = cc in
           let now = subst (λ (x : OrderTables). Did orders (kept x) (Settles (from_order bolts) 1) (kept after)) was
@@ -137,16 +144,20 @@ module _ (relay : Relay) where
   abbrev brings : Content
   brings = frame command.Message
       (header (codes "destination") (codes "/queue/purchasing") ∷ header (codes "message-id") (codes "76")
-      ∷ header (codes "subscription") (codes "0") ∷ header (codes "ack") (codes "11") ∷ header (codes "kind") (codes "message")
-      ∷ header (codes "from") (codes "stock/bolts") ∷ header (codes "to") (codes "order/o1") ∷ header (codes "number") (codes "1") ∷ [])
+      ∷ header (codes "subscription") (codes "0") ∷ header (codes "ack") (codes "11") ∷ header (codes "kind")
+      (codes "message")
+      ∷ header (codes "from") (codes "stock/bolts") ∷ header (codes "to") (codes "order/o1") ∷ header (codes "number")
+      (codes "1") ∷ [])
       (codes "{\"op\":\"tentative\"}")
 
   it_is_brought : read_frame brings ≡ Some (envelope.Letter letter)
   unfolding read_envelope digits is_utf8 chars lib.Utf8.encode
   it_is_brought = refl
 
-  -- the letter and the settle concern the order, so that purchasing never tells that they are another's; for the warehouse they are
-  both_concern_the_order : IsOurs Order brings × IsOurs Order settle × (IsAnothers Order brings → ⊥) × (IsAnothers Order settle → ⊥)
+  -- the letter and the settle concern the order, so that purchasing never tells that they are another's; for the
+  -- warehouse they are
+  both_concern_the_order : IsOurs Order brings × IsOurs Order settle × (IsAnothers Order brings → ⊥)
+      × (IsAnothers Order settle → ⊥)
       × IsAnothers Stock brings × (IsOurs Stock brings → ⊥)
   both_concern_the_order = (
     (o1, ap concerned it_is_brought, refl),
@@ -154,7 +165,8 @@ module _ (relay : Relay) where
     λ h. h.2 (sym (ap kind_of h.1) ∙ ap (λ e. kind_of (concerned e)) it_is_brought),
     λ h. h.2 (sym (ap kind_of h.1) ∙ ap (λ e. kind_of (concerned e)) it_is_read),
     (o1, ap concerned it_is_brought, λ e. absurd (cc)),
-    λ h. let e : Order ≡ Stock = sym (ap (λ e. kind_of (concerned e)) it_is_brought) ∙ ap kind_of h.1 ∙ h.2 in absurd (cc),
+    λ h. let e : Order ≡ Stock =
+        sym (ap (λ e. kind_of (concerned e)) it_is_brought) ∙ ap kind_of h.1 ∙ h.2 in absurd (cc),
   )
 
   -- nothing is sent for it, so that no number is too large
@@ -196,10 +208,12 @@ module _ (relay : Relay) where
   they_are_frames = (framed _ refl, (framed _ refl, (framed _ refl, (framed _ refl, tt))))
 
   abbrev settling_client : ClientWithRoom ℕ
-  settling_client = record { client = record new_client { stage = stage.Connected; out = replies; transactions = 1 }; room = 0 }
+  settling_client =
+      record { client = record new_client { stage = stage.Connected; out = replies; transactions = 1 }; room = 0 }
 
   abbrev Handles : OrderTables → Type 0
-  Handles t = TakesFrame seen orders Zero connected brings (told.Handled 2) (site (store true after) (Some connected)) new_office
+  Handles t = TakesFrame seen orders Zero connected brings (told.Handled 2) (site (store true after) (Some connected))
+      new_office
       (site (store true t) (Some (channel relay settling_client []))) new_office
 
   -- the letter is the journal's second row, and is settled; it isn't told as handled where it isn't there
@@ -219,7 +233,8 @@ module _ (relay : Relay) where
         deed = TakesIn row;
         was = refl;
         may = (letter, it_is_brought, (refl, refl));
-        did = subst (λ (x : OrderTables). Did orders (kept after) (TakesIn row) (kept x)) (sym was) (it_may_follow, refl, refl);
+        did = subst (λ (x : OrderTables). Did orders (kept after) (TakesIn row) (kept x)) (sym was)
+            (it_may_follow, refl, refl);
       };
       used = ((refl, refl, refl, refl), (letter.pair.to, ap concerned it_is_brought, refl));
       tells = refl;

@@ -1,5 +1,6 @@
 -- Examples: a connection is opened, and octets are carried on it, down to its client and up to its broker.
-use Rattle.std.proofs.Common.{◌≡◌, ◌∙◌, ℕ, List, [], ◌∷◌, length, drop, Option, Some, None, Result, Ok, Err, true, refl, sym, ap, subst}
+use Rattle.std.proofs.Common.{◌≡◌, ◌∙◌, ℕ, List, [], ◌∷◌, length, drop, Option, Some, None, Result, Ok, Err, true, refl}
+use Rattle.std.proofs.Common.{sym, ap, subst}
 use Rattle.std.proofs.Common.{arith}
 use Rattle.std.specs.Prelude.{codes}
 use Rattle.std.specs.Str.{is_utf8, chars}
@@ -56,7 +57,8 @@ module _ (relay : Relay) where
   decoded (Some l) = l.connection.channel.decoder.octets
 
   -- the first five octets go to the client, and the broker has the others; they don't stay, and none stands at both
-  five_go_down : Goes (channel relay (client stage.Connecting []) (codes "CONNE")) (served (codes "CTED\nversion:1.2\n\n\0"))
+  five_go_down : Goes (channel relay (client stage.Connecting []) (codes "CONNE"))
+      (served (codes "CTED\nversion:1.2\n\n\0"))
       × (Goes empty (served text) → ⊥)
       × (Goes empty (served (codes "CTED\nversion:1.2\n\n\0")) → ⊥)
       × (Goes (channel relay (client stage.Connecting []) (codes "CONNE")) (served text) → ⊥)
@@ -81,10 +83,12 @@ module _ (relay : Relay) where
               → CarriesDown 5 empty.connection (served text) h.later h.between r
               → Meets (fall_fate r) Zero (over empty h.later) (serving empty) h.between (serving l) to → ⊥
           by_result (Ok n) tells carries meets =
-              let same : l.connection.channel.decoder.octets ≡ h.later.channel.decoder.octets = ap (λ (x : Service). decoded x.zero) meets.0 in
+              let same : l.connection.channel.decoder.octets ≡ h.later.channel.decoder.octets =
+              ap (λ (x : Service). decoded x.zero) meets.0 in
               let five : h.later.channel.decoder.octets ≡ codes "CONNE" = carries.feeds.0.2 in
               let lengths : 0 ≡ 5 = ap length (sym none ∙ same ∙ five) in omega (arith, lengths)
-          by_result (Err f) tells carries meets = no_refusal (told.Carried 5) (fall_told (Err f)) refl (decoder_is_refusal f) tells
+          by_result (Err f) tells carries meets =
+              no_refusal (told.Carried 5) (fall_told (Err f)) refl (decoder_is_refusal f) tells
 
       still_there : (r : Result ℕ FrameFault) (later : Connection) (between : Office) → told.Carried 5 ≡ fall_told r
           → CarriesDown 5 empty.connection (served text) later between r
@@ -113,12 +117,14 @@ module _ (relay : Relay) where
   saying out = channel relay (client stage.Connecting out) []
 
   no_frame : NoFrame MAX_BODY (codes "CONNECT")
-  unfolding frame_at line_at after_gap command_of headers_at body_at meant line_fault length_fault next_fault unescaped is_utf8 chars
+  unfolding frame_at line_at after_gap command_of headers_at body_at meant line_fault length_fault next_fault unescaped
+      is_utf8 chars
       lib.Utf8.encode
   no_frame = no_frame_yet MAX_BODY (codes "CONNECT") refl
 
   no_fault : NoFault MAX_BODY (codes "CONNECT")
-  unfolding frame_at line_at after_gap command_of headers_at body_at meant line_fault length_fault next_fault unescaped is_utf8 chars
+  unfolding frame_at line_at after_gap command_of headers_at body_at meant line_fault length_fault next_fault unescaped
+      is_utf8 chars
       lib.Utf8.encode
   no_fault = no_fault_yet MAX_BODY (codes "CONNECT") refl
 
@@ -149,7 +155,8 @@ module _ (relay : Relay) where
           there = refl;
           handles = refl;
           counted = refl;
-          ends = ends.awaits (record (new_session 1) { incoming = incoming (codes "CONNECT") }) (incoming (codes "CONNECT"))
+          ends = ends.awaits (record (new_session 1) { incoming = incoming (codes "CONNECT") })
+              (incoming (codes "CONNECT"))
               (record { found = refl; is_open = refl })
               (record {
                 none_waits = refl;
@@ -180,12 +187,15 @@ module _ (relay : Relay) where
     where
       stays : (to : Office) (r : Result ℕ BrokerFault) (later : Connection) → told.Carried 7 ≡ rise_told r
           → CarriesUp 7 (saying connect).connection (fed []) later to r
-          → serving (saying connect) ≡ with_channel Zero (Some (over (saying connect) later)) (serving (saying connect)) → ⊥
+          → serving (saying connect) ≡ with_channel Zero (Some (over (saying connect) later)) (serving (saying connect))
+          → ⊥
       stays to (Ok n) later tells carries same =
           let count : n ≡ 7 = carries.counted in
-          let now : length connect ≡ length later.channel.client.client.out = ap (λ (x : Service). waiting x.zero) same in
+          let now : length connect ≡ length later.channel.client.client.out =
+          ap (λ (x : Service). waiting x.zero) same in
           let less = ap (λ (k : Client ℕ). length k.out) carries.sends.channel.client in
-          let fewer : length connect ≡ 34 = subst (λ k. length connect ≡ length (drop k connect)) count (now ∙ less) in omega (arith, fewer)
+          let fewer : length connect ≡ 34 =
+          subst (λ k. length connect ≡ length (drop k connect)) count (now ∙ less) in omega (arith, fewer)
       stays to (Err f) later tells carries same = absurd (cc)
 
   -- ---- a connection is opened
@@ -200,7 +210,8 @@ module _ (relay : Relay) where
     Opened l to = OpensChannel Zero None told.Opened (site (store true before) None) new_office (serving l) to
 
     -- CONNECT waits to go up, and the broker has a session; it doesn't open without the one or the other
-    one_is_opened : Opened (saying connect) (served []) × (Opened (saying []) (served []) → ⊥) × (Opened (saying connect) new_office → ⊥)
+    one_is_opened : Opened (saying connect) (served []) × (Opened (saying []) (served []) → ⊥)
+        × (Opened (saying connect) new_office → ⊥)
     unfolding canonical line_of escape
     one_is_opened = (
       (
@@ -223,7 +234,8 @@ module _ (relay : Relay) where
         nothing_waits : Opened (saying []) (served []) → ⊥
         nothing_waits (Ok d, opens, tells, adds) =
             let waits : length d.channel.client.client.out ≡ 41 = ap (λ (k : Client ℕ). length k.out) opens.client in
-            let none : 0 ≡ length d.channel.client.client.out = ap (λ (x : Service). waiting x.zero) adds.2 in omega (arith, waits, none)
+            let none : 0 ≡ length d.channel.client.client.out =
+            ap (λ (x : Service). waiting x.zero) adds.2 in omega (arith, waits, none)
         nothing_waits (Err f, opens, tells, adds) = absurd (cc)
 
         no_session_there : Opened (saying connect) new_office → ⊥

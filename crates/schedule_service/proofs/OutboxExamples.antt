@@ -1,5 +1,6 @@
 -- Examples: the first letter of an outbox is sent on a connection.
-use Rattle.std.proofs.Common.{◌≡◌, ◌∙◌, ℕ, List, [], ◌∷◌, ◌++◌, length, Option, Some, None, Result, Ok, Err, Bool, true, false, refl, sym}
+use Rattle.std.proofs.Common.{◌≡◌, ◌∙◌, ℕ, List, [], ◌∷◌, ◌++◌, length, Option, Some, None, Result, Ok, Err, Bool, true}
+use Rattle.std.proofs.Common.{false, refl, sym}
 use Rattle.std.proofs.Common.{ap, subst, append_assoc, Ordering, Less, Equal, Greater, arith}
 use Rattle.std.specs.Fmt.{digits}
 use Rattle.std.specs.Ordering.{is_eq}
@@ -60,7 +61,8 @@ equal Greater same = absurd (cc)
 here : (a x : Place) → same_place a x ≡ true → a ≡ x
 here a x same = place_cmp-Equal a x (equal (place_cmp a x) (sym (same_place-ties a x) ∙ same))
 
-neither : (a b : Bool) (m n : Option Message) → (a ≡ true → ⊥) → (b ≡ true → ⊥) → (if a then m else if b then n else None) ≡ None
+neither : (a b : Bool) (m n : Option Message) → (a ≡ true → ⊥) → (b ≡ true → ⊥)
+    → (if a then m else if b then n else None) ≡ None
 neither true b m n first second = absurd (first refl)
 neither false true m n first second = absurd (second refl)
 neither false false m n first second = refl
@@ -70,8 +72,10 @@ unfolding same_entity same_pair
 none_before x before = neither (same_place (at (from_order acme)) x) (same_place (at (from_order bolts)) x)
     (Some (Request 500))
     (Some (Request 3))
-    (λ same. never_self (place_of letter) (subst (λ y. IsBefore y (place_of letter)) (sym (here (at (from_order acme)) x same)) before))
-    (λ same. let less = subst (λ y. IsBefore y (place_of letter)) (sym (here (at (from_order bolts)) x same)) before in absurd (cc))
+    (λ same. never_self (place_of letter) (subst (λ y. IsBefore y (place_of letter))
+    (sym (here (at (from_order acme)) x same)) before))
+    (λ same. let less = subst (λ y. IsBefore y (place_of letter)) (sym (here (at (from_order bolts)) x same)) before
+    in absurd (cc))
 
 none_if : (b : Bool) (m : Option Message) → m ≡ None → (if b then m else None) ≡ None
 none_if true m none = none
@@ -94,7 +98,8 @@ it_is_a_frame = framed _ refl
 
 it_adds : Adds (written ∷ []) [] (canonical written)
 it_adds frames gone wrote =
-    let text = text_behind frames written (gone ++ []) (record { each = wrote.each; whole = wrote.whole }) it_is_a_frame in
+    let text =
+    text_behind frames written (gone ++ []) (record { each = wrote.each; whole = wrote.whole }) it_is_a_frame in
     record { each = text.each; whole = sym (append_assoc gone [] (canonical written)) ∙ text.whole }
 
 -- ---- sending
@@ -116,7 +121,8 @@ module _ (before sent : Relay) (nothing : (p : Pair) → marks_of before p ≡ 0
   on r k = channel (from_start r) k []
 
   abbrev Sends : ℕ → SiteChannel → Type 0
-  Sends n l = SendsRows seen orders Zero 1 (on before idle) (told.Sent n) (site (store true after) (Some (on before idle))) new_office
+  Sends n l = SendsRows seen orders Zero 1 (on before idle) (told.Sent n)
+      (site (store true after) (Some (on before idle))) new_office
       (site (store true after) (Some l)) new_office
 
   it_is_first : IsNext (unsent (marks_of before) after.unsettled) None letter
@@ -124,7 +130,8 @@ module _ (before sent : Relay) (nothing : (p : Pair) → marks_of before p ≡ 0
   it_is_first = record {
     stands = ap (λ n. if nat_lt n 1 then Some (Request 500) else None) (nothing (from_order acme));
     later = tt;
-    first = λ x later earlier. none_if (nat_lt (marks_of before x.pair) x.number) (after.unsettled x.pair x.number) (none_before x earlier);
+    first = λ x later earlier. none_if (nat_lt (marks_of before x.pair) x.number) (after.unsettled x.pair x.number)
+        (none_before x earlier);
   }
 
   abbrev made : (Pair → ℕ) → SendState
@@ -158,12 +165,15 @@ module _ (before sent : Relay) (nothing : (p : Pair) → marks_of before p ≡ 0
   receipts_of (Some l) = l.connection.channel.client.client.receipts.last
 
   abbrev Filled : SiteChannel → Result ℕ RelayFault → Type 0
-  Filled later r = Fills (((seen (true, after)).doubt ≡ 0) × KnowsAll orders (from_start before) (λ t. t ≡ after)) after.unsettled 1
+  Filled later r =
+      Fills (((seen (true, after)).doubt ≡ 0) × KnowsAll orders (from_start before) (λ t. t ≡ after)) after.unsettled 1
       (sending (on before idle)) (sending later) r
 
-  -- the letter is written and its mark raised; where it is due it isn't told that none was sent, and none is told that wasn't written
+  -- the letter is written and its mark raised; where it is due it isn't told that none was sent, and none is told that
+  -- wasn't written
   letters_are_sent : Sends 1 (on sent busy)
-      × (busy.client.out ≡ codes "SEND\ncontent-length:24\ndestination:/queue/billing\nkind:message\nfrom:order/o1\nto:account/acme\n"
+      × (busy.client.out ≡ codes
+      "SEND\ncontent-length:24\ndestination:/queue/billing\nkind:message\nfrom:order/o1\nto:account/acme\n"
       ++ codes "number:1\nreceipt:1\n\n{\"n\":500,\"op\":\"request\"}\0")
       × (Sends 0 (on before idle) → ⊥) × (Sends 1 (on sent idle) → ⊥)
   unfolding canonical line_of escape digits
@@ -174,8 +184,10 @@ module _ (before sent : Relay) (nothing : (p : Pair) → marks_of before p ≡ 0
     λ h. unwritten h.result h.later h.tells (h.fills refl) h.meets,
   )
     where
-      no_letters : (letters : List Letter) → 0 ≡ length letters → AreFirst (unsent (marks_of before) after.unsettled) None 1 letters → ⊥
-      no_letters [] zero first = let some : Some (Request 500) ≡ None = sym it_is_first.stands ∙ first (place_of letter) tt in absurd (cc)
+      no_letters : (letters : List Letter) → 0 ≡ length letters
+          → AreFirst (unsent (marks_of before) after.unsettled) None 1 letters → ⊥
+      no_letters [] zero first =
+          let some : Some (Request 500) ≡ None = sym it_is_first.stands ∙ first (place_of letter) tt in absurd (cc)
       no_letters (l ∷ ls) zero first = omega (arith, zero)
 
       none_sent : (r : Result ℕ RelayFault) (later : SiteChannel) → told.Sent 0 ≡ fill_told r → Filled later r → ⊥
@@ -185,7 +197,8 @@ module _ (before sent : Relay) (nothing : (p : Pair) → marks_of before p ≡ 0
       none_sent (Err _) later tells fills = absurd (cc)
 
       one_receipt : (letters : List Letter) (later : SiteChannel) → 1 ≡ length letters
-          → SendsLetters letters (sending (on before idle)) (sending later) → 0 ≡ later.connection.channel.client.client.receipts.last → ⊥
+          → SendsLetters letters (sending (on before idle)) (sending later)
+          → 0 ≡ later.connection.channel.client.client.receipts.last → ⊥
       one_receipt [] later one sends same = omega (arith, one)
       one_receipt (x ∷ []) later one sends same =
           let next = ap (λ (c : SendState). c.client.receipts.last) sends.all in omega (arith, same, next)
@@ -195,6 +208,7 @@ module _ (before sent : Relay) (nothing : (p : Pair) → marks_of before p ≡ 0
           → Meets (fill_fate r) Zero later (site (store true after) (Some (on before idle))) new_office
           (site (store true after) (Some (on sent idle))) new_office → ⊥
       unwritten (Ok n) later tells fills meets = let one : 1 ≡ n = cc in
-          one_receipt fills.letters later (one ∙ fills.gives.0) fills.sends (ap (λ (x : Service). receipts_of x.zero) meets.0)
+          one_receipt fills.letters later (one ∙ fills.gives.0) fills.sends
+          (ap (λ (x : Service). receipts_of x.zero) meets.0)
       unwritten (Err (relay_fault.Endpoint f)) later tells fills meets = no_fault (told.Sent 1) refl f tells
       unwritten (Err _) later tells fills meets = absurd (cc)

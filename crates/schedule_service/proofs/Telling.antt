@@ -21,7 +21,8 @@ use Rattle.schedule_service.specs.Deeds.{CommandMay, FrameMay, HeldMay}
 use Rattle.schedule_service.specs.Outcomes.{commit_told, taken_told, drain_told}
 
 module _ {S C : Type 0} (service : Service S C) where
-  pub command_told : (row : JournalRow C) (r : Result Committed EndFault) (x : Kept C) (d : Deed C) → CommitMay service row r x d
+  pub command_told : (row : JournalRow C) (r : Result Committed EndFault) (x : Kept C) (d : Deed C)
+      → CommitMay service row r x d
       → CommandMay service row (commit_told r) x d
   command_told row (Ok c) x d h = h
   command_told row (Err end.NotMine) x d h = inl h
@@ -56,7 +57,8 @@ module _ {S C : Type 0} (service : Service S C) where
   frame_told f (Err (fault.End end.NotSent)) x d h = inr (f, end.NotSent, refl, refl, h)
 
   -- another account of the frame that came
-  pub frame_more : (A B : Content → Type 0) → ((f : Content) → A f → B f) → (outcome : Outcome) (x : Kept C) (d : Deed C)
+  pub frame_more : (A B : Content → Type 0) → ((f : Content) → A f → B f)
+      → (outcome : Outcome) (x : Kept C) (d : Deed C)
       → FrameMay service A outcome x d → FrameMay service B outcome x d
   frame_more A B more (told.Handled position) x d h = (h.0, more h.0 h.1, h.2)
   frame_more A B more told.Repeated x d h = (h.0, h.1, more h.0 h.2, h.3)

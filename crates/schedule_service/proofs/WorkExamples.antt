@@ -1,5 +1,7 @@
--- Examples: events of a service that do something: its store is written, opened anew and stopped, and frames that came are taken.
-use Rattle.std.proofs.Common.{◌≡◌, ◌∙◌, ◌⊎◌, ℕ, List, [], ◌∷◌, length, Option, Some, None, Result, Ok, Err, Bool, true, false, refl}
+-- Examples: events of a service that do something: its store is written, opened anew and stopped, and frames that came
+-- are taken.
+use Rattle.std.proofs.Common.{◌≡◌, ◌∙◌, ◌⊎◌, ℕ, List, [], ◌∷◌, length, Option, Some, None, Result, Ok, Err, Bool, true}
+use Rattle.std.proofs.Common.{false, refl}
 use Rattle.std.proofs.Common.{sym, ap, subst, inl, inr, arith}
 use Rattle.std.proofs.Math.Logic.{∥∥₁_elim}
 use Rattle.std.specs.Prelude.{MatchBool}
@@ -52,7 +54,8 @@ no_fault o none f h = no_refusal o (fault_told f) none (fault_is_refusal f) h
 
 -- ---- a service of orders
 
--- its store is usable or not, and has these tables; of one that isn't usable a stop may leave those before the placing or those after it
+-- its store is usable or not, and has these tables; of one that isn't usable a stop may leave those before the placing
+-- or those after it
 abbrev pub Store : Type 0
 Store = Bool × OrderTables
 
@@ -90,14 +93,17 @@ rows t = length t.journal
 
 -- from these tables to those the command is given, and this is told
 abbrev Gives : Outcome → OrderTables → OrderTables → Type 0
-Gives o x y = TakesCommand seen orders asked o (site (store true x) None) new_office (site (store true y) None) new_office
+Gives o x y =
+    TakesCommand seen orders asked o (site (store true x) None) new_office (site (store true y) None) new_office
 
--- the order is placed and stands in the journal at the position that is told; it isn't told where the tables stay, nor at another one
+-- the order is placed and stands in the journal at the position that is told; it isn't told where the tables stay, nor
+-- at another one
 a_command_is_taken_in : Gives (told.Committed 1) before after
     × Happens seen orders (event.Commits asked) (told.Committed 1) (site (store true before) None) new_office
     (site (store true after) None) new_office
     × (Gives (told.Committed 1) before before → ⊥) × (Gives (told.Committed 2) before after → ⊥)
-a_command_is_taken_in = (placed, placed, λ h. stays h.result h.tells h.commits, λ h. elsewhere h.result h.tells h.commits)
+a_command_is_taken_in =
+    (placed, placed, λ h. stays h.result h.tells h.commits, λ h. elsewhere h.result h.tells h.commits)
   where
     placed : Gives (told.Committed 1) before after
     placed = record {
@@ -114,7 +120,8 @@ a_command_is_taken_in = (placed, placed, λ h. stays h.result h.tells h.commits,
     stays : (r : Result Committed EndFault) → told.Committed 1 ≡ commit_told r
         → Commits (through seen) (store true before) (store true before) orders (command_row asked) r → ⊥
     stays (Ok c) tells commits =
-        let more : 0 ≡ 1 = ap length (commits.clean refl (only before before_matches)).0.0.appended in omega (arith, more)
+        let more : 0 ≡ 1 =
+        ap length (commits.clean refl (only before before_matches)).0.0.appended in omega (arith, more)
     stays (Err f) tells commits = no_fault (told.Committed 1) refl f tells
 
     elsewhere : (r : Result Committed EndFault) → told.Committed 2 ≡ commit_told r
@@ -133,7 +140,8 @@ Finds e = ReopensStore seen orders told.Reopened (site (store false before) None
 abbrev others : OrderTables
 others = record after { journal = placing ∷ placing ∷ [] }
 
--- behind a failure it is usable, and has the tables that the failure left; it has no others, and isn't unusable as before
+-- behind a failure it is usable, and has the tables that the failure left; it has no others, and isn't unusable as
+-- before
 a_store_is_opened_anew : Finds (store true after) × Finds (store true before) × (Finds (store true others) → ⊥)
     × (Finds (store false before) → ⊥)
 a_store_is_opened_anew = (
@@ -143,7 +151,8 @@ a_store_is_opened_anew = (
   λ h. still_unusable h.result h.tells h.reopens,
 )
   where
-    finds : (x : OrderTables) → before_or_after x → ((t : OrderTables) → t ≡ x → before_or_after t) → Finds (store true x)
+    finds : (x : OrderTables) → before_or_after x → ((t : OrderTables) → t ≡ x → before_or_after t)
+        → Finds (store true x)
     finds x is may = record {
       result = Ok tt;
       reopens = record { call = (refl, refl, refl); doubt = omega arith; clean = λ clean. ∣ is ∣₁ };
@@ -170,7 +179,13 @@ a_store_is_opened_anew = (
 
 -- a mail whose broker has one session, with these octets for it; and the mail behind its end
 abbrev pub served : List ℕ → Office
-served octets = record { broker = record no_session { sessions = record (new_session 1) { out = octets } ∷ []; opened = 1 }; earlier = [] }
+served octets = record {
+  broker = record no_session {
+    sessions = record (new_session 1) { out = octets } ∷ [];
+    opened = 1;
+  };
+  earlier = [];
+}
 
 abbrev pub left : Office
 left = record { broker = record no_session { opened = 1 }; earlier = [] }
@@ -185,7 +200,8 @@ is_open s = opened s.zero
 -- where a connection of that session is cut the session ends
 pub cut_leaves : (c : Connection) (relay : Relay) (octets : List ℕ)
     → MailAfterCut (Some (record { connection = record c { session = 1 }; relay = relay })) (served octets) left
-cut_leaves c relay octets = (Ok tt, record { deals = (record { handed = []; deals = refl; taken = refl }, refl); earlier = refl })
+cut_leaves c relay octets =
+    (Ok tt, record { deals = (record { handed = []; deals = refl; taken = refl }, refl); earlier = refl })
 
 module _ (c : Connection) (relay : Relay) (octets : List ℕ) where
   abbrev l : SiteChannel
@@ -198,7 +214,8 @@ module _ (c : Connection) (relay : Relay) (octets : List ℕ) where
   abbrev Ends : Service → Office → Type 0
   Ends t to = StopsSite seen orders told.Stopped (site armed (Some l)) (served octets) t to
 
-  -- the connection is cut and its session ends, and the store isn't told to fail any more; neither the one nor the other stays
+  -- the connection is cut and its session ends, and the store isn't told to fail any more; neither the one nor the
+  -- other stays
   a_service_is_stopped : Ends (site (store true after) None) left × (Ends (site armed None) left → ⊥)
       × (Ends (site (store true after) (Some l)) left → ⊥)
   a_service_is_stopped = (

@@ -90,7 +90,8 @@ module _ {H K S C : Type 0} where
   After (Err fault) s from t to = AfterFault fault s from t to
 
   -- an open connection, which is this now, has this fate
-  abbrev pub Meets : ChannelFate → ConnectionNumber → SiteChannel → Site H K S C → Office → Site H K S C → Office → Type 0
+  abbrev pub Meets : ChannelFate → ConnectionNumber → SiteChannel → Site H K S C → Office → Site H K S C → Office
+      → Type 0
   Meets Stays number l s from t to = Same (with_channel number (Some l) s) from t to
   Meets IsCut number l s from t to = MailAfterCut (Some l) from to × (t ≡ with_channel number None s)
   Meets BothAreCut number l s from t to = CutsBoth (with_channel number (Some l) s) from t to

@@ -24,8 +24,10 @@ abbrev pub AreRight : {H K S C : Type 0} → (K → Seen (Tables S C)) → Servi
 AreRight seen service s = ChannelsHave (KnowsEach service (seen s.endpoint.keep).may_leave) s
 
 -- where they were right they are so behind an event, if no file is in doubt
-abbrev pub KeepsRight : {H K S C : Type 0} → (K → Seen (Tables S C)) → Service S C → SiteEvent C → Outcome → Site H K S C → Office
+abbrev pub KeepsRight : {H K S C : Type 0} → (K → Seen (Tables S C)) → Service S C → SiteEvent C → Outcome
+    → Site H K S C → Office
     → Site H K S C → Office → Type 0
-KeepsRight seen service e outcome s from t to = (seen t.endpoint.keep).doubt ≡ 0 → AllMatch service (seen s.endpoint.keep).may_leave
+KeepsRight seen service e outcome s from t to =
+    (seen t.endpoint.keep).doubt ≡ 0 → AllMatch service (seen s.endpoint.keep).may_leave
     → Happens seen service e outcome s from t to → Goes seen s t service (SiteMay service (channels_of s) e outcome)
     → AreRight seen service s → AreRight seen service t

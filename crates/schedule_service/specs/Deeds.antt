@@ -20,7 +20,8 @@ use Rattle.reception.specs.declared.fault.ReceptionFault.TheVariants.{End}
 use Rattle.reception.specs.declared.taken.Taken.TheVariants as taken
 use Rattle.schedule_text.specs.declared.event.ConnectionNumber.{ConnectionNumber}
 use Rattle.schedule_text.specs.declared.outcome.Outcome.{Outcome}
-use Rattle.schedule_text.specs.declared.outcome.Outcome.TheVariants.{Committed, Handled, Repeated, Held, Settled, Idle, Drained, Refused}
+use Rattle.schedule_text.specs.declared.outcome.Outcome.TheVariants.{Committed, Handled, Repeated, Held, Settled, Idle}
+use Rattle.schedule_text.specs.declared.outcome.Outcome.TheVariants.{Drained, Refused}
 use Rattle.schedule_text.specs.declared.outcome.Outcome.TheVariants.{NotDone}
 use Rattle.schedule_service.specs.Happenings.{command_row}
 use Rattle.schedule_service.specs.Channels.{channel_of}
@@ -51,11 +52,13 @@ module _ {S C : Type 0} (service : Service S C) where
   -- a frame that came; where it was refused, nothing was done, or what its fault allows
   abbrev pub FrameMay : (Content → Type 0) → Outcome → Kept C → Deed C → Type 0
   FrameMay Came (Handled position) x d = (f : Content) × Came f × TakeMay service f (Ok (taken.Handled position)) x d
-  FrameMay Came Repeated x d = (f : Content) × (number : ℕ) × Came f × TakeMay service f (Ok (taken.Repeated number)) x d
+  FrameMay Came Repeated x d =
+      (f : Content) × (number : ℕ) × Came f × TakeMay service f (Ok (taken.Repeated number)) x d
   FrameMay Came Held x d = (f : Content) × Came f × TakeMay service f (Ok taken.Held) x d
   FrameMay Came (Settled mark) x d = (f : Content) × Came f × TakeMay service f (Ok (taken.Settled mark)) x d
   FrameMay Came (Refused n) x d = (d ≡ Nothing)
-      ⊎ ((f : Content) × (fault : EndFault) × Came f × (n ≡ end_fault_number fault) × TakeMay service f (Err (End fault)) x d)
+      ⊎ ((f : Content) × (fault : EndFault) × Came f × (n ≡ end_fault_number fault)
+      × TakeMay service f (Err (End fault)) x d)
   FrameMay Came (NotDone refusal) x d = (f : Content) × Came f × TakeMay service f (Err (End (Business refusal))) x d
   FrameMay Came _ x d = d ≡ Nothing
 

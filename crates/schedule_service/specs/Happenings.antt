@@ -1,4 +1,5 @@
--- What each event of a service does, and what it answers: exactly this of the service and of the mail, and nothing else of them changes.
+-- What each event of a service does, and what it answers: exactly this of the service and of the mail, and nothing else
+-- of them changes.
 use Rattle.std.specs.Prelude.{◌≡◌, ℕ, false, Option, Some, None, Result, Ok, Err, IfSome, ⊤}
 use Rattle.stomp_wire.specs.declared.wire.Way.{Way}
 use Rattle.stomp_wire.specs.declared.wire.Way.TheVariants.{Up, Down}
@@ -43,8 +44,10 @@ use Rattle.schedule_text.specs.declared.outcome.Outcome.{Outcome}
 use Rattle.schedule_text.specs.declared.outcome.Outcome.TheVariants as told
 use Rattle.schedule_service.specs.SiteEvents.{SiteEvent}
 use Rattle.schedule_service.specs.SiteEvents as event
-use Rattle.schedule_service.specs.Channels.{sending, IsAllDue, MailAfterCut, channel_of, with_channel, Same, CutsBoth, After, Meets, MeetsAlone}
-use Rattle.schedule_service.specs.Outcomes.{commit_told, open_told, fill_told, fill_fate, rise_told, decoder_told, decoder_fate, fall_told, fall_fate}
+use Rattle.schedule_service.specs.Channels.{sending, IsAllDue, MailAfterCut, channel_of, with_channel, Same, CutsBoth}
+use Rattle.schedule_service.specs.Channels.{After, Meets, MeetsAlone}
+use Rattle.schedule_service.specs.Outcomes.{commit_told, open_told, fill_told, fill_fate, rise_told, decoder_told}
+use Rattle.schedule_service.specs.Outcomes.{decoder_fate, fall_told, fall_fate}
 use Rattle.schedule_service.specs.Outcomes.{taken_told, taken_fate, drain_told, drain_fate, end_told}
 use Rattle.schedule_service.specs.declared.site_channel.SiteChannel.{SiteChannel}
 use Rattle.schedule_service.specs.declared.site.Site.{Site}
@@ -69,7 +72,8 @@ waiting_of (Err fault) f = waiting_after fault f
 
 module _ {H K S C : Type 0} where
   -- an event of a connection that isn't open does nothing; of one that is, this
-  abbrev pub IfOpen : Option SiteChannel → Outcome → (s : Site H K S C) (from : Office) (t : Site H K S C) (to : Office) → (SiteChannel
+  abbrev pub IfOpen : Option SiteChannel → Outcome → (s : Site H K S C) (from : Office) (t : Site H K S C) (to : Office)
+      → (SiteChannel
       → Type 0) → Type 0
   IfOpen None outcome s from t to Does = (outcome ≡ told.Closed) × Same s from t to
   IfOpen (Some l) outcome s from t to Does = Does l
@@ -86,12 +90,14 @@ module _ {H K S C : Type 0} where
       × (t ≡ with_channel number (Some (record { connection = c; relay = relay })) s)
   Adds number (Err fault) s t = t ≡ s
 
-  abbrev pub OpensChannel : ConnectionNumber → Option SiteChannel → Outcome → Site H K S C → Office → Site H K S C → Office → Type 0
+  abbrev pub OpensChannel : ConnectionNumber → Option SiteChannel → Outcome → Site H K S C → Office → Site H K S C
+      → Office → Type 0
   OpensChannel number (Some l) outcome s from t to = (outcome ≡ told.Already) × Same s from t to
   OpensChannel number None outcome s from t to =
       (r : Result Connection OpenFault) × Opens from to r × (outcome ≡ open_told r) × Adds number r s t
 
-  abbrev pub CutsChannel : ConnectionNumber → SiteChannel → Outcome → Site H K S C → Office → Site H K S C → Office → Type 0
+  abbrev pub CutsChannel : ConnectionNumber → SiteChannel → Outcome → Site H K S C → Office → Site H K S C → Office
+      → Type 0
   CutsChannel number l outcome s from t to =
       (outcome ≡ told.Cut) × MailAfterCut (Some l) from to × (t ≡ with_channel number None s)
 
@@ -103,7 +109,8 @@ module _ {H K S C : Type 0} where
   -- ---- octets
 
   -- the first octets that wait went over
-  pub record Rises (number : ConnectionNumber) (most : ℕ) (l : SiteChannel) (outcome : Outcome) (s : Site H K S C) (from : Office)
+  pub record Rises (number : ConnectionNumber) (most : ℕ) (l : SiteChannel) (outcome : Outcome) (s : Site H K S C)
+      (from : Office)
       (t : Site H K S C) (to : Office) : Type 0 where
     pub result : Result ℕ BrokerFault
     pub later : Connection
@@ -111,7 +118,8 @@ module _ {H K S C : Type 0} where
     pub tells : outcome ≡ rise_told result
     pub site : t ≡ with_channel number (Some (over l later)) s
 
-  pub record Falls (number : ConnectionNumber) (most : ℕ) (l : SiteChannel) (outcome : Outcome) (s : Site H K S C) (from : Office)
+  pub record Falls (number : ConnectionNumber) (most : ℕ) (l : SiteChannel) (outcome : Outcome) (s : Site H K S C)
+      (from : Office)
       (t : Site H K S C) (to : Office) : Type 0 where
     pub result : Result ℕ FrameFault
     pub later : Connection
@@ -120,7 +128,8 @@ module _ {H K S C : Type 0} where
     pub tells : outcome ≡ fall_told result
     pub meets : Meets (fall_fate result) number (over l later) s between t to
 
-  abbrev pub CarriesOn : Way → ConnectionNumber → ℕ → SiteChannel → Outcome → Site H K S C → Office → Site H K S C → Office → Type 0
+  abbrev pub CarriesOn : Way → ConnectionNumber → ℕ → SiteChannel → Outcome → Site H K S C → Office → Site H K S C
+      → Office → Type 0
   CarriesOn Up number most l outcome s from t to = Rises number most l outcome s from t to
   CarriesOn Down number most l outcome s from t to = Falls number most l outcome s from t to
 
@@ -128,13 +137,15 @@ module _ {H K S C : Type 0} where
 
   abbrev pub ArmsStore : ℕ → FailureLeaves → Outcome → Site H K S C → Office → Site H K S C → Office → Type 0
   ArmsStore n leaves outcome s from t to = (outcome ≡ told.Armed)
-      × Same (with_store (record s.endpoint { armed = Some (record { calls = n; leaves = leaves_of leaves }) }) s) from t to
+      × Same (with_store (record s.endpoint { armed = Some (record { calls = n; leaves = leaves_of leaves }) }) s) from
+      t to
 
 module _ {H K S C : Type 0} (seen : K → Seen (Tables S C)) (service : Service S C) where
   -- ---- commands
 
   -- a command is given to the endpoint
-  pub record TakesCommand (asked : SeatCommand C) (outcome : Outcome) (s : Site H K S C) (from : Office) (t : Site H K S C) (to : Office)
+  pub record TakesCommand (asked : SeatCommand C) (outcome : Outcome) (s : Site H K S C) (from : Office)
+      (t : Site H K S C) (to : Office)
       : Type 0 where
     pub result : Result Committed EndFault
     pub commits : Commits (through seen) s.endpoint t.endpoint service (command_row asked) result
@@ -143,9 +154,10 @@ module _ {H K S C : Type 0} (seen : K → Seen (Tables S C)) (service : Service 
 
   -- ---- sending
 
-  -- The rows that are due are sent, up to the limit; before CONNECTED none, and the store isn't called. Where the tables match their
-  -- journal and the relay's cursor was right, none is left out, and it is right afterwards.
-  pub record SendsRows (number : ConnectionNumber) (limit : ℕ) (l : SiteChannel) (outcome : Outcome) (s : Site H K S C) (from : Office)
+  -- The rows that are due are sent, up to the limit; before CONNECTED none, and the store isn't called. Where the
+  -- tables match their journal and the relay's cursor was right, none is left out, and it is right afterwards.
+  pub record SendsRows (number : ConnectionNumber) (limit : ℕ) (l : SiteChannel) (outcome : Outcome) (s : Site H K S C)
+      (from : Office)
       (t : Site H K S C) (to : Office) : Type 0 where
     pub result : Result ℕ RelayFault
     pub later : SiteChannel
@@ -160,14 +172,18 @@ module _ {H K S C : Type 0} (seen : K → Seen (Tables S C)) (service : Service 
         (seen s.endpoint.keep).tables.unsettled limit (sending l) (sending later) result
     pub knows : (seen t.endpoint.keep).doubt ≡ 0 → KnowsAll service l.relay (seen s.endpoint.keep).may_leave
         → KnowsAll service later.relay (seen t.endpoint.keep).may_leave
-    pub rest : later.connection ≡ record l.connection { channel = record l.connection.channel { client = later.connection.channel.client } }
+    pub rest : later.connection ≡ record l.connection {
+      channel =
+          record l.connection.channel { client = later.connection.channel.client };
+    }
     pub tells : outcome ≡ fill_told result
     pub meets : Meets (fill_fate result) number later (with_store t.endpoint s) from t to
 
   -- ---- receiving
 
   -- a frame is taken, from a connection that is this behind it
-  pub record TakesFrame (number : ConnectionNumber) (l : SiteChannel) (f : Content) (outcome : Outcome) (s : Site H K S C) (from : Office)
+  pub record TakesFrame (number : ConnectionNumber) (l : SiteChannel) (f : Content) (outcome : Outcome)
+      (s : Site H K S C) (from : Office)
       (t : Site H K S C) (to : Office) : Type 0 where
     pub result : Result Taken ReceptionFault
     pub client : ClientWithRoom ℕ
@@ -176,23 +192,32 @@ module _ {H K S C : Type 0} (seen : K → Seen (Tables S C)) (service : Service 
     pub used : TellsOfUse (through seen) service.kind f s.endpoint t.endpoint result
     pub tells : outcome ≡ taken_told result
     pub meets : Meets (taken_fate result) number
-        (over l (record l.connection { channel = record l.connection.channel { client = client; waiting = waiting_of result f } })) (with_store t.endpoint s) from t to
+        (over l (record l.connection {
+          channel =
+              record l.connection.channel { client = client; waiting = waiting_of result f };
+        })) (with_store t.endpoint s)
+        from t to
 
   -- what came: no whole frame, and nothing is done; a frame; or a fault of the octets
-  abbrev pub TakesWhat : Result (Option Content) FrameFault → ConnectionNumber → SiteChannel → Outcome → Site H K S C → Office → Site H K S C
+  abbrev pub TakesWhat : Result (Option Content) FrameFault → ConnectionNumber → SiteChannel → Outcome → Site H K S C
+      → Office → Site H K S C
       → Office → Type 0
-  TakesWhat (Ok None) number l outcome s from t to = (outcome ≡ told.Idle) × Same (with_channel number (Some l) s) from t to
+  TakesWhat (Ok None) number l outcome s from t to =
+      (outcome ≡ told.Idle) × Same (with_channel number (Some l) s) from t to
   TakesWhat (Ok (Some f)) number l outcome s from t to = TakesFrame number l f outcome s from t to
-  TakesWhat (Err fault) number l outcome s from t to = (outcome ≡ decoder_told fault) × Meets (decoder_fate fault) number l s from t to
+  TakesWhat (Err fault) number l outcome s from t to =
+      (outcome ≡ decoder_told fault) × Meets (decoder_fate fault) number l s from t to
 
-  abbrev pub TakesOne : ConnectionNumber → SiteChannel → Outcome → Site H K S C → Office → Site H K S C → Office → Type 0
+  abbrev pub TakesOne : ConnectionNumber → SiteChannel → Outcome → Site H K S C → Office → Site H K S C → Office
+      → Type 0
   TakesOne number l outcome s from t to = (came : Result (Option Content) FrameFault) × (later : Connection)
       × TakesNext l.connection later came × TakesWhat came number (over l later) outcome s from t to
 
   -- ---- held letters
 
   -- the first held letter that is next is handled; a connected client settles it
-  pub record DrainsOver (number : ConnectionNumber) (l : SiteChannel) (outcome : Outcome) (s : Site H K S C) (from : Office) (t : Site H K S C)
+  pub record DrainsOver (number : ConnectionNumber) (l : SiteChannel) (outcome : Outcome) (s : Site H K S C)
+      (from : Office) (t : Site H K S C)
       (to : Office) : Type 0 where
     pub result : Result (Option Drained) ReceptionFault
     pub client : ClientWithRoom ℕ
@@ -200,38 +225,44 @@ module _ {H K S C : Type 0} (seen : K → Seen (Tables S C)) (service : Service 
     pub comes : ComesBy (through seen) s.endpoint t.endpoint service (DrainsMay service result)
     pub used : TellsOfDraining (through seen) s.endpoint t.endpoint result
     pub tells : outcome ≡ drain_told result
-    pub meets : Meets (drain_fate result) number (over l (record l.connection { channel = record l.connection.channel { client = client } })) (with_store t.endpoint s) from t to
+    pub meets : Meets (drain_fate result) number (over l (record l.connection
+        { channel = record l.connection.channel { client = client } })) (with_store t.endpoint s) from t to
 
   -- where the connection isn't open, nobody settles it
-  pub record DrainsAlone (outcome : Outcome) (s : Site H K S C) (from : Office) (t : Site H K S C) (to : Office) : Type 0 where
+  pub record DrainsAlone (outcome : Outcome) (s : Site H K S C) (from : Office) (t : Site H K S C) (to : Office) : Type
+      0 where
     pub result : Result (Option Drained) ReceptionFault
     pub comes : ComesBy (through seen) s.endpoint t.endpoint service (DrainsMay service result)
     pub used : TellsOfDraining (through seen) s.endpoint t.endpoint result
     pub tells : outcome ≡ drain_told result
     pub meets : MeetsAlone (drain_fate result) (with_store t.endpoint s) from t to
 
-  abbrev pub DrainsOne : ConnectionNumber → Option SiteChannel → Outcome → Site H K S C → Office → Site H K S C → Office → Type 0
+  abbrev pub DrainsOne : ConnectionNumber → Option SiteChannel → Outcome → Site H K S C → Office → Site H K S C → Office
+      → Type 0
   DrainsOne number None outcome s from t to = DrainsAlone outcome s from t to
   DrainsOne number (Some l) outcome s from t to = DrainsOver number l outcome s from t to
 
   -- ---- the store is opened anew
 
   -- its tables are some that a stop may leave
-  pub record ReopensStore (outcome : Outcome) (s : Site H K S C) (from : Office) (t : Site H K S C) (to : Office) : Type 0 where
+  pub record ReopensStore (outcome : Outcome) (s : Site H K S C) (from : Office) (t : Site H K S C) (to : Office) : Type
+      0 where
     pub result : Result (Unit {0}) EndFault
     pub reopens : Reopens (through seen) s.endpoint t.endpoint (end_of result)
     pub finds : Finds (through seen) s.endpoint t.endpoint
     pub tells : outcome ≡ end_told (λ _. told.Reopened) result
     pub after : After result (with_store t.endpoint s) from t to
 
-  -- a service is stopped and started again: both connections are cut, the store is opened anew, and no call of it is to fail
-  pub record StopsSite (outcome : Outcome) (s : Site H K S C) (from : Office) (t : Site H K S C) (to : Office) : Type 0 where
-    pub result : Result (Unit {0}) EndFault
-    pub opened : Failing K
-    pub reopens : Reopens (through seen) s.endpoint opened (end_of result)
-    pub finds : Finds (through seen) s.endpoint opened
-    pub tells : outcome ≡ end_told (λ _. told.Stopped) result
-    pub cuts : CutsBoth (with_store (record opened { armed = None }) s) from t to
+  -- a service is stopped and started again: both connections are cut, the store is opened anew, and no call of it is to
+  -- fail
+  pub record StopsSite (outcome : Outcome) (s : Site H K S C) (from : Office) (t : Site H K S C) (to : Office) : Type 0
+    where
+      pub result : Result (Unit {0}) EndFault
+      pub opened : Failing K
+      pub reopens : Reopens (through seen) s.endpoint opened (end_of result)
+      pub finds : Finds (through seen) s.endpoint opened
+      pub tells : outcome ≡ end_told (λ _. told.Stopped) result
+      pub cuts : CutsBoth (with_store (record opened { armed = None }) s) from t to
 
   -- ---- each event
 

@@ -9,8 +9,8 @@ ghost use Rattle.schedule_service.specs.declared.site.Site.{Site};
 use activities::Handler;
 use keep::Keep;
 
-/// The relays' cursors of a service's open connections stay right of its outbox, whichever event comes: so a filling needn't look from the
-/// first row on.
+/// The relays' cursors of a service's open connections stay right of its outbox, whichever event comes: so a filling
+/// needn't look from the first row on.
 pub fn cursors_stay_right<H, K>()
 where
     H: Handler,

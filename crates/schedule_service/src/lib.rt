@@ -1,9 +1,10 @@
-//! One service of a schedule: its endpoint over a store that may fail on purpose, and its two connections with the broker.
+//! One service of a schedule: its endpoint over a store that may fail on purpose, and its two connections with the
+//! broker.
 //!
-//! A [`Site`] has a function for each event of a schedule that concerns one service. Each does exactly what its outcome says, and nothing
-//! else of the service or the mail changes: what the store, the client, the relay and the broker do is told in their own words. A
-//! connection that isn't open answers `Closed`; a frame that no server may send, an ERROR and octets at fault cut it; and a store that has
-//! failed cuts both.
+//! A [`Site`] has a function for each event of a schedule that concerns one service. Each does exactly what its outcome
+//! says, and nothing else of the service or the mail changes: what the store, the client, the relay and the broker do
+//! is told in their own words. A connection that isn't open answers `Closed`; a frame that no server may send, an ERROR
+//! and octets at fault cut it; and a store that has failed cuts both.
 //!
 //! ```rust
 //! pub fn nothing_is_sent_where_no_connection_is_open(alloc: Global) -> Result<bool, AllocError> {

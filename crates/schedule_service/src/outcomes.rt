@@ -1,8 +1,10 @@
 //! What is told of each answer, and what becomes of the connection.
 
 ghost use Rattle.std.specs.Prelude.{◌≡◌};
-ghost use Rattle.schedule_service.specs.Outcomes.{fault_told, fill_told, fill_fate, rise_told, decoder_told, decoder_fate, fall_told, fall_fate};
-ghost use Rattle.schedule_service.specs.Outcomes.{reception_told, reception_fate, event_told, taken_told, taken_fate, drain_told, drain_fate};
+ghost use Rattle.schedule_service.specs.Outcomes.{fault_told, fill_told, fill_fate, rise_told, decoder_told};
+ghost use Rattle.schedule_service.specs.Outcomes.{decoder_fate, fall_told, fall_fate};
+ghost use Rattle.schedule_service.specs.Outcomes.{reception_told, reception_fate, event_told, taken_told, taken_fate};
+ghost use Rattle.schedule_service.specs.Outcomes.{drain_told, drain_fate};
 
 use crate::ChannelFate;
 use broker_core::BrokerFault;

@@ -7,10 +7,13 @@ ghost use Rattle.schedule_mail.specs.Offices.{Office};
 ghost use Rattle.reception.specs.Answers.{Answers};
 ghost use Rattle.reception.specs.Deeds.{TakeMay, TellsOfUse};
 ghost use Rattle.schedule_service.specs.Channels.{AfterFault, CutsBoth, Meets, MeetsAlone, TakesChannel, with_channel};
-ghost use Rattle.schedule_service.specs.Deeds.{DoubtStays, Matches, Goes, SiteMay, channels_of, FrameMay, HeldMay, CameOn};
-ghost use Rattle.schedule_service.specs.Happenings.{Happens, leaves_of, command_row, SendsRows, Falls, DrainsAlone, DrainsOver, TakesFrame, TakesOne, waiting_of};
+ghost use Rattle.schedule_service.specs.Deeds.{DoubtStays, Matches, Goes, SiteMay, channels_of, FrameMay, HeldMay};
+ghost use Rattle.schedule_service.specs.Deeds.{CameOn};
+ghost use Rattle.schedule_service.specs.Happenings.{Happens, leaves_of, command_row, SendsRows, Falls, DrainsAlone};
+ghost use Rattle.schedule_service.specs.Happenings.{DrainsOver, TakesFrame, TakesOne, waiting_of};
 ghost use Rattle.schedule_service.specs.Outcomes.{fault_told};
-ghost use Rattle.schedule_service.specs.SiteEvents.{Opens, Cuts, Resends, Commits as CommitsCommand, Arms, Reopens, Stops, Fills, Carries, Takes, Drains};
+ghost use Rattle.schedule_service.specs.SiteEvents.{Opens, Cuts, Resends, Commits as CommitsCommand, Arms, Reopens};
+ghost use Rattle.schedule_service.specs.SiteEvents.{Stops, Fills, Carries, Takes, Drains};
 ghost use Rattle.std.specs.Prelude.{◌≡◌, Some, None, ◌≤◌};
 ghost use Rattle.stomp_wire.specs.declared.wire.Way.TheVariants.{Up, Down};
 
@@ -25,15 +28,16 @@ use base::limits::MAX_BODY;
 use channel::Channel;
 use endpoint::{Committed, EndFault, Endpoint};
 use keep::{Faulty, Keep, Leaves};
-use schedule_mail::{Connection, Mail};
 use reception::{ReceptionFault, Taken, take_frame};
 use relay::Relay;
+use schedule_mail::{Connection, Mail};
 use schedule_text::{ConnectionNumber, FailureLeaves, Ordinal, Outcome, SeatCommand};
 use std::alloc::Global;
 use stomp_frame::Frame;
 use stomp_wire::Way;
 
-/// One service: its endpoint, over a store that fails where it is told to, and its two connections with the broker, where they are open.
+/// One service: its endpoint, over a store that fails where it is told to, and its two connections with the broker,
+/// where they are open.
 #[derive(Drop)]
 pub struct Site<H, K>
 where
@@ -68,7 +72,8 @@ where
     H: Handler,
     K: Keep<State = H::State, Command = H::Command> + Drop,
     ensures commits { Commits K.seen endpoint.old endpoint.new H.service (command_row asked.now) result }
-    ensures comes { ComesBy K.seen endpoint.old endpoint.new H.service (CommitMay H.service (command_row asked.now) result) }
+    ensures comes { ComesBy K.seen endpoint.old endpoint.new H.service (CommitMay H.service (command_row asked.now)
+        result) }
     ensures matches { StillMatches K.seen endpoint.old endpoint.new H.service }
 {
     if !endpoint.usable() {
@@ -81,7 +86,8 @@ where
     endpoint.commit(alloc, asked.seat.get(), &asked.entity, command)
 }
 
-/// Takes a frame that came on a connection. It waits there again where it wasn't taken for want of memory or of a number.
+/// Takes a frame that came on a connection. It waits there again where it wasn't taken for want of memory or of a
+/// number.
 fn receive<H, K>(
     alloc: Global,
     endpoint: &mut Endpoint<H, K>,
@@ -216,13 +222,14 @@ where
 
     /// Opens a connection: a new session, in which CONNECT waits to be carried; nothing counts as sent on it.
     ///
-    /// Outcomes: `Opened`; `Already` where it is open; `Refused` with 44, 34 or 36, as [`Connection::open`] tells it. Nothing has changed
-    /// then.
+    /// Outcomes: `Opened`; `Already` where it is open; `Refused` with 44, 34 or 36, as [`Connection::open`] tells it.
+    /// Nothing has changed then.
     pub fn open(&mut self, alloc: Global, mail: &mut Mail, number: ConnectionNumber) -> Outcome
         ensures did { Happens K.seen H.service (Opens number) result self.old mail.old self.new mail.new }
         ensures doubt { DoubtStays K.seen self.old self.new }
         ensures matches { Matches K.seen self.old self.new H.service }
-        ensures comes { Goes K.seen self.old self.new H.service (SiteMay H.service (channels_of self.old) (Opens number) result) }
+        ensures comes { Goes K.seen self.old self.new H.service (SiteMay H.service (channels_of self.old) (Opens number)
+            result) }
     {
         if let Some(channel) = self.take_channel(number) {
             self.put_channel(number, channel);
@@ -238,14 +245,16 @@ where
         }
     }
 
-    /// Cuts a connection: all octets on the way are lost, the broker drops the session, and deals what was out to it to others.
+    /// Cuts a connection: all octets on the way are lost, the broker drops the session, and deals what was out to it to
+    /// others.
     ///
     /// Outcomes: `Cut`; `Closed` where it isn't open, and nothing has changed.
     pub fn cut(&mut self, mail: &mut Mail, number: ConnectionNumber) -> Outcome
         ensures did { Happens K.seen H.service (Cuts number) result self.old mail.old self.new mail.new }
         ensures doubt { DoubtStays K.seen self.old self.new }
         ensures matches { Matches K.seen self.old self.new H.service }
-        ensures comes { Goes K.seen self.old self.new H.service (SiteMay H.service (channels_of self.old) (Cuts number) result) }
+        ensures comes { Goes K.seen self.old self.new H.service (SiteMay H.service (channels_of self.old) (Cuts number)
+            result) }
     {
         let Some(channel) = self.take_channel(number) else {
             return Outcome::Closed;
@@ -256,8 +265,8 @@ where
 
     /// Takes in a seat's command.
     ///
-    /// Outcomes: `Committed`, with its position; `NotDone` where it is refused as business; `Refused` with 60 or 63 to 66, as
-    /// [`Endpoint::commit`] tells it. After 63 both connections are cut.
+    /// Outcomes: `Committed`, with its position; `NotDone` where it is refused as business; `Refused` with 60 or 63 to
+    /// 66, as [`Endpoint::commit`] tells it. After 63 both connections are cut.
     pub fn commit(
         &mut self,
         alloc: Global,
@@ -283,7 +292,8 @@ where
         ensures did { (mail : Office) → Happens K.seen H.service (Arms n leaves) result self.old mail self.new mail }
         ensures doubt { DoubtStays K.seen self.old self.new }
         ensures matches { Matches K.seen self.old self.new H.service }
-        ensures comes { Goes K.seen self.old self.new H.service (SiteMay H.service (channels_of self.old) (Arms n leaves) result) }
+        ensures comes { Goes K.seen self.old self.new H.service (SiteMay H.service (channels_of self.old)
+            (Arms n leaves) result) }
     {
         self.endpoint.arm(n.get(), leaves_of(leaves));
         Outcome::Armed
@@ -291,13 +301,14 @@ where
 
     /// Opens the store anew: its tables are some that a stop may have left.
     ///
-    /// Outcomes: `Reopened`; `Refused` with 63 or 64, and a stop leaves nothing that it couldn't leave before. After 63 both connections
-    /// are cut.
+    /// Outcomes: `Reopened`; `Refused` with 63 or 64, and a stop leaves nothing that it couldn't leave before. After 63
+    /// both connections are cut.
     pub fn reopen(&mut self, alloc: Global, mail: &mut Mail) -> Outcome
         ensures did { Happens K.seen H.service Reopens result self.old mail.old self.new mail.new }
         ensures doubt { DoubtStays K.seen self.old self.new }
         ensures matches { Matches K.seen self.old self.new H.service }
-        ensures comes { Goes K.seen self.old self.new H.service (SiteMay H.service (channels_of self.old) Reopens result) }
+        ensures comes { Goes K.seen self.old self.new H.service (SiteMay H.service (channels_of self.old) Reopens
+            result) }
     {
         match self.endpoint.reopen(alloc) {
             Ok(()) => Outcome::Reopened,
@@ -305,14 +316,16 @@ where
         }
     }
 
-    /// Stops the service and starts it again: both connections are cut, the store is opened anew, and no call of it is to fail.
+    /// Stops the service and starts it again: both connections are cut, the store is opened anew, and no call of it is
+    /// to fail.
     ///
     /// Outcomes: `Stopped`; `Refused` with 63 or 64, where the store couldn't be opened.
     pub fn stop(&mut self, alloc: Global, mail: &mut Mail) -> Outcome
         ensures did { Happens K.seen H.service Stops result self.old mail.old self.new mail.new }
         ensures doubt { DoubtStays K.seen self.old self.new }
         ensures matches { Matches K.seen self.old self.new H.service }
-        ensures comes { Goes K.seen self.old self.new H.service (SiteMay H.service (channels_of self.old) Stops result) }
+        ensures comes { Goes K.seen self.old self.new H.service (SiteMay H.service (channels_of self.old) Stops
+            result) }
     {
         let answer = self.endpoint.reopen(alloc);
         self.endpoint.disarm();
@@ -323,16 +336,17 @@ where
         }
     }
 
-    /// Sends the rows of the outbox that weren't sent on a connection, at most so many. Before CONNECTED it sends none, and the store isn't
-    /// called.
+    /// Sends the rows of the outbox that weren't sent on a connection, at most so many. Before CONNECTED it sends none,
+    /// and the store isn't called.
     ///
-    /// Outcomes: `Sent`, with how many; `Closed` where the connection isn't open; `Refused` as [`Relay::fill`](relay::Relay::fill) tells
-    /// it: the rows before stay sent. After 63 both connections are cut.
+    /// Outcomes: `Sent`, with how many; `Closed` where the connection isn't open; `Refused` as
+    /// [`Relay::fill`](relay::Relay::fill) tells it: the rows before stay sent. After 63 both connections are cut.
     pub fn fill(&mut self, mail: &mut Mail, number: ConnectionNumber, limit: u64) -> Outcome
         ensures did { Happens K.seen H.service (Fills number limit) result self.old mail.old self.new mail.new }
         ensures doubt { DoubtStays K.seen self.old self.new }
         ensures matches { Matches K.seen self.old self.new H.service }
-        ensures comes { Goes K.seen self.old self.new H.service (SiteMay H.service (channels_of self.old) (Fills number limit) result) }
+        ensures comes { Goes K.seen self.old self.new H.service (SiteMay H.service (channels_of self.old)
+            (Fills number limit) result) }
     {
         match self.take_channel(number) {
             Some(channel) => self.fill_on(mail, number, channel, limit),
@@ -370,7 +384,8 @@ where
         ensures did { (mail : Office) → Happens K.seen H.service (Resends number) result self.old mail self.new mail }
         ensures doubt { DoubtStays K.seen self.old self.new }
         ensures matches { Matches K.seen self.old self.new H.service }
-        ensures comes { Goes K.seen self.old self.new H.service (SiteMay H.service (channels_of self.old) (Resends number) result) }
+        ensures comes { Goes K.seen self.old self.new H.service (SiteMay H.service (channels_of self.old)
+            (Resends number) result) }
     {
         let Some(mut channel) = self.take_channel(number) else {
             return Outcome::Closed;
@@ -380,12 +395,13 @@ where
         Outcome::Due
     }
 
-    /// Carries the first octets that wait on a way of a connection, at most so many: up to the broker, which is called also where none
-    /// wait, or down to the decoder.
+    /// Carries the first octets that wait on a way of a connection, at most so many: up to the broker, which is called
+    /// also where none wait, or down to the decoder.
     ///
-    /// Outcomes: `Carried`, with how many; `Closed` where the connection isn't open; up, `Refused` with 34 where memory was refused to the
-    /// broker: the octets went over whole, or nothing has changed; down, `Refused` with 44 where memory was refused to the decoder, and
-    /// nothing has changed, and with 12 where it has met a fault, and the connection is cut.
+    /// Outcomes: `Carried`, with how many; `Closed` where the connection isn't open; up, `Refused` with 34 where memory
+    /// was refused to the broker: the octets went over whole, or nothing has changed; down, `Refused` with 44 where
+    /// memory was refused to the decoder, and nothing has changed, and with 12 where it has met a fault, and the
+    /// connection is cut.
     pub fn carry(
         &mut self,
         mail: &mut Mail,
@@ -447,8 +463,8 @@ where
 
     /// Takes the next frame that came on a connection, as [`take_frame`] does.
     ///
-    /// Outcomes: `Connected`, `Receipt`, `Handled`, `Repeated`, `Held` and `Settled`; `Error`, and the connection is cut; `Idle` where no
-    /// whole frame came; `Closed` where the connection isn't open. `Refused`:
+    /// Outcomes: `Connected`, `Receipt`, `Handled`, `Repeated`, `Held` and `Settled`; `Error`, and the connection is
+    /// cut; `Idle` where no whole frame came; `Closed` where the connection isn't open. `Refused`:
     /// - with 44, 45 or 51: the frame still waits;
     /// - with 50, 60, 62 or 64 to 67: it was answered;
     /// - with 2 to 12 where octets are at fault, and with 42 where no server may send the frame: the connection is cut;
@@ -457,7 +473,8 @@ where
         ensures did { Happens K.seen H.service (Takes number) result self.old mail.old self.new mail.new }
         ensures doubt { DoubtStays K.seen self.old self.new }
         ensures matches { Matches K.seen self.old self.new H.service }
-        ensures comes { Goes K.seen self.old self.new H.service (SiteMay H.service (channels_of self.old) (Takes number) result) }
+        ensures comes { Goes K.seen self.old self.new H.service (SiteMay H.service (channels_of self.old) (Takes number)
+            result) }
     {
         match self.take_channel(number) {
             Some(channel) => self.take_on(alloc, mail, number, channel),
@@ -517,16 +534,17 @@ where
         taken_told(answer)
     }
 
-    /// Handles the next letter of the first pair that has it held. Where the connection is connected it writes a settle of it, in no
-    /// transaction.
+    /// Handles the next letter of the first pair that has it held. Where the connection is connected it writes a settle
+    /// of it, in no transaction.
     ///
-    /// Outcomes: `Drained`; `Idle` where no pair's next letter is held; `Refused` as [`drain`](reception::drain) tells it. After 63 both
-    /// connections are cut.
+    /// Outcomes: `Drained`; `Idle` where no pair's next letter is held; `Refused` as [`drain`](reception::drain) tells
+    /// it. After 63 both connections are cut.
     pub fn drain(&mut self, alloc: Global, mail: &mut Mail, number: ConnectionNumber) -> Outcome
         ensures did { Happens K.seen H.service (Drains number) result self.old mail.old self.new mail.new }
         ensures doubt { DoubtStays K.seen self.old self.new }
         ensures matches { Matches K.seen self.old self.new H.service }
-        ensures comes { Goes K.seen self.old self.new H.service (SiteMay H.service (channels_of self.old) (Drains number) result) }
+        ensures comes { Goes K.seen self.old self.new H.service (SiteMay H.service (channels_of self.old)
+            (Drains number) result) }
     {
         match self.take_channel(number) {
             Some(channel) => self.drain_over(alloc, mail, number, channel),
@@ -545,7 +563,8 @@ where
         ensures did { DrainsOver K.seen H.service number channel result self.old mail.old self.new mail.new }
         ensures doubt { DoubtStays K.seen self.old self.new }
         ensures matches { Matches K.seen self.old self.new H.service }
-        ensures comes { ComesBy (through K.seen) self.old.endpoint self.new.endpoint H.service (HeldMay H.service result) }
+        ensures comes { ComesBy (through K.seen) self.old.endpoint self.new.endpoint H.service
+            (HeldMay H.service result) }
     {
         let answer = reception::drain(
             alloc,
@@ -561,7 +580,8 @@ where
         ensures did { DrainsAlone K.seen H.service result self.old mail.old self.new mail.new }
         ensures doubt { DoubtStays K.seen self.old self.new }
         ensures matches { Matches K.seen self.old self.new H.service }
-        ensures comes { ComesBy (through K.seen) self.old.endpoint self.new.endpoint H.service (HeldMay H.service result) }
+        ensures comes { ComesBy (through K.seen) self.old.endpoint self.new.endpoint H.service
+            (HeldMay H.service result) }
     {
         let answer = reception::drain_unconnected(alloc, &mut self.endpoint);
         self.meet_alone(mail, drain_fate(&answer));

@@ -2,8 +2,8 @@
 
 ghost use Rattle.schedule_service.specs.Channels.{MailAfterCut};
 
-use schedule_mail::{Connection, Mail};
 use relay::Relay;
+use schedule_mail::{Connection, Mail};
 
 /// An open connection of a service, and what was sent on it.
 #[derive(Drop)]

@@ -15,9 +15,11 @@ use Rattle.endpoint.specs.declared.fault.EndFault.{EndFault}
 use Rattle.endpoint.specs.Calls.{IsCommitCall, IsCommit}
 use Rattle.endpoint.specs.Matches.{MayBeHeld, AllMatchWithin}
 
--- The first changes of a row that is taken in touch handled marks and held letters alone. The marks are then those of the journal with
--- the row, and letters are held that may be then. A command is from a seat, and a letter is the next of its pair.
-pub record Prepares {S C : Type 0} (ahead : ℕ) (kind : Kind) (old : Tables S C) (row : JournalRow C) (first : List (Change S C)) : Type 0
+-- The first changes of a row that is taken in touch handled marks and held letters alone. The marks are then those of
+-- the journal with the row, and letters are held that may be then. A command is from a seat, and a letter is the next
+-- of its pair.
+pub record Prepares {S C : Type 0} (ahead : ℕ) (kind : Kind) (old : Tables S C) (row : JournalRow C)
+    (first : List (Change S C)) : Type 0
   where
     pub seated : IsSeated row.input
     pub next : HasNextNumber old.journal row.entity row.input
@@ -31,8 +33,11 @@ pub record Prepares {S C : Type 0} (ahead : ℕ) (kind : Kind) (old : Tables S C
         → MayBeHeld ahead kind (handled_of (old.journal ++ row ∷ []) p) p n
 
 -- a row is taken in, where these changes go with it
-abbrev pub Handles : {E S C : Type 0} → (E → Seen (Tables S C)) → E → E → ℕ → Service S C → JournalRow C → List (Change S C)
+abbrev pub Handles : {E S C : Type 0} → (E → Seen (Tables S C)) → E → E → ℕ → Service S C → JournalRow C
+    → List (Change S C)
     → Result Committed EndFault → Type 0
-Handles seen old new ahead service row first result = Tells seen old new (IsCommitCall seen old new service.kind row result)
+Handles seen old new ahead service row first result =
+    Tells seen old new (IsCommitCall seen old new service.kind row result)
     (AllMatchWithin ahead service (seen old).may_leave → Prepares ahead service.kind (seen old).tables row first
-    → IsCommit ahead service (seen old).tables row (changed first (seen old).tables).held (seen new).tables (seen new).may_leave result)
+    → IsCommit ahead service (seen old).tables row (changed first (seen old).tables).held (seen new).tables
+    (seen new).may_leave result)

@@ -40,7 +40,8 @@ module _ {S C : Type 0} (service : Service S C) (l : Letter) where
   -- what is done with a letter that is given to the endpoint
   abbrev pub ArrivalMay : Result Arrival EndFault → Kept C → Deed C → Type 0
   ArrivalMay (Ok (Handled position)) x d = IngestMay service l (Ok (ingested.Handled position)) x d
-  ArrivalMay (Ok (Repeated handled)) x d = IngestMay service l (Ok ingested.Repeated) x d × (handled ≡ handled_of x.journal l.pair)
+  ArrivalMay (Ok (Repeated handled)) x d =
+      IngestMay service l (Ok ingested.Repeated) x d × (handled ≡ handled_of x.journal l.pair)
   ArrivalMay (Ok Held) x d = IngestMay service l (Ok ingested.Held) x d
   ArrivalMay (Err fault) x d = IngestMay service l (Err fault) x d
 
@@ -50,8 +51,10 @@ AnswerUse seen kind f old new (Ok _) = IsServed seen old new × IsOurs kind f
 AnswerUse seen kind f old new (Err fault) = IsCallCause seen old new (MayTurnBack kind f) (end_cause fault)
 
 -- what is done with the next letter of a pair
-abbrev pub PairMay : {S C : Type 0} → Service S C → Pair → Result (Option Drained) ReceptionFault → Kept C → Deed C → Type 0
-PairMay service pair (Ok (Some drained)) x d = (drained.pair ≡ pair) × DrainMay service pair (Ok (Some drained.number)) x d
+abbrev pub PairMay : {S C : Type 0} → Service S C → Pair → Result (Option Drained) ReceptionFault → Kept C → Deed C
+    → Type 0
+PairMay service pair (Ok (Some drained)) x d =
+    (drained.pair ≡ pair) × DrainMay service pair (Ok (Some drained.number)) x d
 PairMay service pair (Ok None) x d = (d ≡ Nothing)
     × ((x.held pair (suc (handled_of x.journal pair)) ≡ None) ⊎ (MAX_NUMBER ≤ handled_of x.journal pair))
 PairMay service pair (Err (End fault)) x d = DrainMay service pair (Err fault) x d

@@ -9,6 +9,8 @@ returns-in-Ok-Some-clause-matches g c =
 
 pub returns-in-Ok-Some-clause-comes : goal.returns-in-Ok-Some-clause-comes
 returns-in-Ok-Some-clause-comes g c =
-    drains_found g.K.Keep.seen g.met.K.Keep.sound g.H.Handler.service c.args.endpoint.now c.drainable.new.self c.drain_pair.new.endpoint
-    c.in-Ok-Some.pair c.drain_pair.result (rw c.in-Ok-Some.field-0-is at c.in-Ok-Some.ensures.read) c.drainable.ensures.stays
+    drains_found g.K.Keep.seen g.met.K.Keep.sound g.H.Handler.service c.args.endpoint.now c.drainable.new.self
+    c.drain_pair.new.endpoint
+    c.in-Ok-Some.pair c.drain_pair.result (rw c.in-Ok-Some.field-0-is at c.in-Ok-Some.ensures.read)
+    c.drainable.ensures.stays
     c.drain_pair.ensures.doubt c.drain_pair.ensures.comes

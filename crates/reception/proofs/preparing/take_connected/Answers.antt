@@ -18,7 +18,8 @@ returns-clause-answers c = (
   writes_at (subscribe_frame (queue_of c.args.kind) ∷ []) c.in-Ok.text.items c.deref.result.now
       (connected c.args.client.now.client) c.accept.new.self.client c.write.new.client.client c.deref.ensures.value
       c.in-Ok.ensures.text
-      (connected_after c.args.frame c.make_subscribe.new.client.client c.accept.new.self.client c.in-Ok-Connected.field-0
+      (connected_after c.args.frame c.make_subscribe.new.client.client c.accept.new.self.client
+      c.in-Ok-Connected.field-0
       c.in-Ok-Connected.field-0-is c.in-Ok-Connected.ensures.accepts
       ∙ ap connected c.make_subscribe.ensures.same) c.write.ensures,
 )

@@ -9,22 +9,26 @@ returns-in-Some c = again_is c.args.sent.now c.args.accepted.now c.in-Some.numbe
 pub returns-then-eq : goal.returns-then-eq
 returns-then-eq c = (
   λ m. again_none c.args.sent.now c.args.accepted.now m (sym c.in-None.ensures),
-  told_is c.args.out.now c.as_slice.result.now c.args.texts.now.full.items told_full c.if-eq.ensures c.as_slice.ensures.value
+  told_is c.args.out.now c.as_slice.result.now c.args.texts.now.full.items told_full c.if-eq.ensures
+      c.as_slice.ensures.value
       c.requires.is_full,
 )
 
 pub returns-then-eq-2 : goal.returns-then-eq-2
 returns-then-eq-2 c = (
   λ m. again_none c.args.sent.now c.args.accepted.now m (sym c.in-None.ensures),
-  told_is c.args.out.now c.as_slice-2.result.now c.args.texts.now.used.items told_used c.if-eq-2.ensures c.as_slice-2.ensures.value
+  told_is c.args.out.now c.as_slice-2.result.now c.args.texts.now.used.items told_used c.if-eq-2.ensures
+      c.as_slice-2.ensures.value
       c.requires.is_used,
 )
 
 pub returns : goal.returns
 returns c = (
   λ m. again_none c.args.sent.now c.args.accepted.now m (sym c.in-None.ensures),
-  told_is_not c.args.out.now c.as_slice.result.now c.args.texts.now.full.items told_full c.if-eq.ensures c.as_slice.ensures.value
+  told_is_not c.args.out.now c.as_slice.result.now c.args.texts.now.full.items told_full c.if-eq.ensures
+      c.as_slice.ensures.value
       c.requires.is_full,
-  told_is_not c.args.out.now c.as_slice-2.result.now c.args.texts.now.used.items told_used c.if-eq-2.ensures c.as_slice-2.ensures.value
+  told_is_not c.args.out.now c.as_slice-2.result.now c.args.texts.now.used.items told_used c.if-eq-2.ensures
+      c.as_slice-2.ensures.value
       c.requires.is_used,
 )

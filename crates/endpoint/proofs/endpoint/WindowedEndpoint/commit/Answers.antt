@@ -15,16 +15,20 @@ returns-clause-commit g c =
     let row = command_row c.args.entity.now c.args.seat c.args.command in
     let h = c.handle.ensures in
     let above = h.doubt in
-    subst (λ k. CommitsWithin seen k c.handle.new.keep g.W.Window.ahead g.H.Handler.service row c.handle.result) c.self.view_is (record {
+    subst (λ k. CommitsWithin seen k c.handle.new.keep g.W.Window.ahead g.H.Handler.service row c.handle.result)
+    c.self.view_is (record {
       call = h.call;
       doubt = h.doubt;
       clean = λ clean good.
           let clean0 : (seen keep).doubt ≡ 0 = omega (arith, clean, above) in
-          let matches = good (seen keep).tables ((g.met.K.Keep.sound keep).stays clean0 (sym c.if-not-usable.ensures)) in
-          subst (λ cs. IsCommit g.W.Window.ahead g.H.Handler.service (seen keep).tables row (changed cs (seen keep).tables).held
+          let matches =
+          good (seen keep).tables ((g.met.K.Keep.sound keep).stays clean0 (sym c.if-not-usable.ensures)) in
+          subst (λ cs. IsCommit g.W.Window.ahead g.H.Handler.service (seen keep).tables row
+          (changed cs (seen keep).tables).held
           (seen c.handle.new.keep).tables (seen c.handle.new.keep).may_leave c.handle.result)
           c.new-changes.ensures.items
-          (h.clean clean good (command-prepares g.W.Window.ahead g.H.Handler.service (seen keep).tables c.args.entity.now c.args.seat
+          (h.clean clean good (command-prepares g.W.Window.ahead g.H.Handler.service (seen keep).tables
+          c.args.entity.now c.args.seat
           c.args.command
           c.new-changes.result.items matches c.requires c.new-changes.ensures.items));
     })
@@ -33,7 +37,8 @@ pub returns-clause-comes : goal.returns-clause-comes
 returns-clause-comes g c = λ clean good.
     let seen = g.K.Keep.seen in
     let row = command_row c.args.entity.now c.args.seat c.args.command in
-    let told : CommitsWithin seen c.args.self.now c.handle.new.keep g.W.Window.ahead g.H.Handler.service row c.handle.result =
+    let told : CommitsWithin seen c.args.self.now c.handle.new.keep g.W.Window.ahead g.H.Handler.service row
+    c.handle.result =
     returns-clause-commit g c in
     let above = told.doubt in
     commit_comes seen c.args.self.now c.handle.new.keep (g.met.K.Keep.sound c.args.self.now)
@@ -44,9 +49,12 @@ pub returns-clause-matches : goal.returns-clause-matches
 returns-clause-matches g c = λ clean good.
     let seen = g.K.Keep.seen in
     let row = command_row c.args.entity.now c.args.seat c.args.command in
-    let told : CommitsWithin seen c.args.self.now c.handle.new.keep g.W.Window.ahead g.H.Handler.service row c.handle.result =
+    let told : CommitsWithin seen c.args.self.now c.handle.new.keep g.W.Window.ahead g.H.Handler.service row
+    c.handle.result =
     returns-clause-commit g c in
     let above = told.doubt in
-    commit-matches seen g.W.Window.ahead g.H.Handler.service c.args.self.now c.handle.new.keep row (seen c.args.self.now).tables.held
-    (g.met.K.Keep.sound c.args.self.now) (g.met.K.Keep.sound c.handle.new.keep) (omega (arith, clean, above)) clean good c.handle.result
+    commit-matches seen g.W.Window.ahead g.H.Handler.service c.args.self.now c.handle.new.keep row
+    (seen c.args.self.now).tables.held
+    (g.met.K.Keep.sound c.args.self.now) (g.met.K.Keep.sound c.handle.new.keep) (omega (arith, clean, above)) clean good
+    c.handle.result
     told.call (told.clean clean good)

@@ -6,7 +6,8 @@ use Rattle.endpoint.proofs.endpoint.WindowedEndpoint.drain_held.Goals as goal
 
 pub returns-clause-drain : goal.returns-clause-drain
 returns-clause-drain g c =
-    let seen = g.K.Keep.seen in let ahead = g.W.Window.ahead in let service = g.H.Handler.service in let p = c.args.pair.now in let new =
+    let seen = g.K.Keep.seen in let ahead =
+    g.W.Window.ahead in let service = g.H.Handler.service in let p = c.args.pair.now in let new =
     c.take_held.new.keep in
     subst (λ k. Does seen k new ahead service OfHeldLetter p.to (DrainMay service p) c.take_held.result) c.self.view_is
     (works_does seen ahead service c.self.inside.keep new p.to (search rules) OfHeldLetter (λ h. h) (DrainMay service p)

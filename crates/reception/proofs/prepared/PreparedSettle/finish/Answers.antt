@@ -15,5 +15,6 @@ returns-in-Ok-clause-answers c = λ kind. (
   c.args.self.number,
   c.requires.carries,
   writes_at (answer Ack c.args.self.message) c.args.self.answers.ack.items c.deref.result.now c.args.client.now.client
-      c.args.client.now.client c.write.new.client.client c.deref.ensures.value c.requires.answers.ack refl c.write.ensures,
+      c.args.client.now.client c.write.new.client.client c.deref.ensures.value c.requires.answers.ack refl
+      c.write.ensures,
 )

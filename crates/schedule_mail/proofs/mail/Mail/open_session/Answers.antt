@@ -6,4 +6,5 @@ pub returns-clause-opens : goal.returns-clause-opens
 returns-clause-opens c = search rules
 
 pub returns-clause-sessions : goal.returns-clause-sessions
-returns-clause-sessions c = open_answer_keeps c.args.self.now.broker c.open.new.self c.open.result (returns-clause-opens c)
+returns-clause-sessions c =
+    open_answer_keeps c.args.self.now.broker c.open.new.self c.open.result (returns-clause-opens c)

@@ -9,7 +9,8 @@ use Rattle.schedule_service.proofs.site.Site.drain.Goals as goal
 pub returns-in-Some-clause-did : goal.returns-in-Some-clause-did
 returns-in-Some-clause-did g c =
     drains_open g.K.Keep.seen g.H.Handler.service c.args.number c.in-Some.channel c.drain_over.result c.args.self.now
-    c.args.mail.now c.drain_over.new.self c.drain_over.new.mail c.take_channel.new.self c.take_channel.result c.in-Some.is
+    c.args.mail.now c.drain_over.new.self c.drain_over.new.mail c.take_channel.new.self c.take_channel.result
+    c.in-Some.is
     c.take_channel.ensures.takes c.drain_over.ensures.did
 
 pub returns-in-Some-clause-comes : goal.returns-in-Some-clause-comes
@@ -17,7 +18,8 @@ returns-in-Some-clause-comes g c =
     let service = g.H.Handler.service in
     let may = HeldMay service c.drain_over.result in
     comes_goes g.K.Keep.seen c.args.self.now c.drain_over.new.self service may may (λ x d h. h)
-    (subst (λ e. ComesBy (through g.K.Keep.seen) e c.drain_over.new.self.endpoint service may) c.take_channel.ensures.store
+    (subst (λ e. ComesBy (through g.K.Keep.seen) e c.drain_over.new.self.endpoint service may)
+    c.take_channel.ensures.store
     c.drain_over.ensures.comes)
 
 pub returns-in-None-clause-comes : goal.returns-in-None-clause-comes
@@ -25,5 +27,6 @@ returns-in-None-clause-comes g c =
     let service = g.H.Handler.service in
     let may = HeldMay service c.drain_alone.result in
     comes_goes g.K.Keep.seen c.args.self.now c.drain_alone.new.self service may may (λ x d h. h)
-    (subst (λ e. ComesBy (through g.K.Keep.seen) e c.drain_alone.new.self.endpoint service may) c.take_channel.ensures.store
+    (subst (λ e. ComesBy (through g.K.Keep.seen) e c.drain_alone.new.self.endpoint service may)
+    c.take_channel.ensures.store
     c.drain_alone.ensures.comes)

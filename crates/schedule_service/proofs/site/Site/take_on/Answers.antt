@@ -15,8 +15,10 @@ returns-in-Ok-Some-clause-comes g c =
     let later : Connection = record c.args.channel.connection { channel = c.next.new.self } in
     let came : CameOn (Some c.args.channel) frame =
     (later, (subst (GivesNext c.args.channel.connection.channel c.next.new.self) was c.next.ensures.gives, refl)) in
-    comes_more g.K.Keep.seen c.args.self.now.endpoint c.take_frame.new.self.endpoint c.take_frame.new.self.endpoint service
+    comes_more g.K.Keep.seen c.args.self.now.endpoint c.take_frame.new.self.endpoint c.take_frame.new.self.endpoint
+    service
     c.take_frame.result (FrameMay service (λ f. f ≡ frame) c.take_frame.result)
     (FrameMay service (CameOn (Some c.args.channel)) c.take_frame.result)
-    (frame_more service (λ f. f ≡ frame) (CameOn (Some c.args.channel)) (λ f e. subst (CameOn (Some c.args.channel)) (sym e) came)
+    (frame_more service (λ f. f ≡ frame) (CameOn (Some c.args.channel)) (λ f e. subst (CameOn (Some c.args.channel))
+    (sym e) came)
     c.take_frame.result) refl c.take_frame.ensures.comes
