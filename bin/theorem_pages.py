@@ -282,7 +282,7 @@ CORE = {
           "All but `clean` and `did` are so in each combination of what failed stores may leave. `Ran`, around `did`, `goes` and `told`,"
           " says of which events they speak: of those that were made, each of which has appended one outcome, and where the answer is"
           " `Ok` these are all. Each name is defined below, or on the page that the end of this one names."],
-         [("schedule_runner", "running", "World::run")], True),
+         [("schedule_runner", "world", "World::run")], True),
         "promise",
         "premises",
         ("What isn't promised",
@@ -413,7 +413,7 @@ EVENTS = {
     "behind": ["docs/THEOREM.md", "docs/THEOREM-STORE.md", "docs/THEOREM-SERVICE.md"],
     "cut": OF_SHOWS,
     "sections": [
-        ("One event alone", ["The same promises of one event."], [("schedule_runner", "running", "World::step")], True),
+        ("One event alone", ["The same promises of one event."], [("schedule_runner", "world", "World::step")], True),
         ("What a world is made of", ["Of each service its endpoint and two channels, and the mail, which is the broker with what it ever"
                                      " accepted."],
          [("schedule_service", "site", "Site"), ("schedule_mail", "mail", "Mail"), ("schedule_mail", "specs/Offices", "new_office")]),
@@ -472,7 +472,7 @@ PROGRAM = {
          OF_SHOWS[:-1]),
         ("Whether all partners agree",
          ["Asked of the three stores, which stay: what is answered is what their tables say, and in a good world that they agree."],
-         [("schedule_runner", "agreeing", "World::agreement"), ("schedule_runner", "specs/Agreeing", "TellsAgreement")]),
+         [("schedule_runner", "shows", "World::agreement"), ("schedule_runner", "specs/Agreeing", "TellsAgreement")]),
     ],
 }
 

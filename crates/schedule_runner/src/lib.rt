@@ -23,12 +23,8 @@
 #![tactic(auto)]
 
 mod acting;
-mod agreeing;
 mod looking;
-mod pumping;
-mod running;
 mod shows;
-mod stepping;
 mod world;
 
 pub use acting::ServiceEvent;
