@@ -395,7 +395,7 @@ SERVICE = {
          [("endpoint", "endpoint", "WindowedEndpoint::commit")]),
         ("A letter is handled once and in its turn", ["The same service where a letter of another one comes, early, late or again, and"
                                                       " where a settle tells what the receiver has handled."],
-         [("endpoint", "incoming", f"WindowedEndpoint::{it}") for it in ("ingest", "drain_held", "settle")]),
+         [("endpoint", "endpoint", f"WindowedEndpoint::{it}") for it in ("ingest", "drain_held", "settle")]),
         ("What was written before the limit was raised stays good", ["Of how far ahead letters are held: a number that `W` stands for,"
                                                                      " and that the product has in one place."],
          [("endpoint", "laws", it) for it in ("empty_tables_match", "empty_tables_match_within", "a_wider_window_keeps_tables")]),
