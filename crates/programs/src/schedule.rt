@@ -7,11 +7,12 @@ ghost use Rattle.streams.specs.Written.{AppendsPart};
 
 use crate::fault::RunFault;
 use crate::running::run_events;
-use crate::writing::{write_numbered, write_octets, write_outcomes};
+use crate::writing::{write_numbered, write_outcomes};
 use schedule_text::read_schedule;
 use std::alloc::Global;
 use std::io;
 use std::io::{ErrorKind, Read, Write};
+use streams::write_octets;
 
 /// Reads a schedule from its text and runs it: nothing is run before the whole of it is read, and the outcomes are
 /// written at the end.
