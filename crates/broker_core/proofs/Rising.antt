@@ -1,5 +1,6 @@
 -- Numbers that rise: where a session stands, and what keeps them so.
-use Rattle.std.proofs.Common.{◌≡◌, ℕ, suc, zero, ◌+◌, ◌<◌, ◌≤◌, Bool, true, false, cond, List, [], ◌∷◌, ◌++◌, length, take, drop}
+use Rattle.std.proofs.Common.{◌≡◌, ℕ, suc, zero, ◌+◌, ◌<◌, ◌≤◌, Bool, true, false, List, [], ◌∷◌, ◌++◌, length}
+use Rattle.std.proofs.Common.{take, drop}
 use Rattle.std.proofs.Common.{get_or, Option, Some, None}
 use Rattle.std.proofs.Common.{refl, sym, ap, ◌∙◌, arith, drop-cons, inl, inr, Result, Ok, Err}
 use Rattle.std.specs.Prelude.{◌==◌, ◌||◌, slice_set, OnOk, OnErr}
@@ -18,8 +19,8 @@ use Rattle.broker_tx.specs.First.{first_changed, IsFirstAt}
 use Rattle.broker_core.specs.Calls.{NamesFresh, OpensSession, is_fresh, named, new_session, others}
 use Rattle.broker_core.specs.Parts.Rising.{AreRising, FreshPlace, IsFreshAt}
 use Rattle.broker_core.specs.Parts.Taking.{PlaceAnswer, SessionPieceAnswer}
-use Rattle.broker_core.specs.Serving.{Part, part, broker_of, is_session}
-use Rattle.broker_core.proofs.Places.{roster, found_at, written_at}
+use Rattle.broker_core.specs.Serving.{broker_of, is_session}
+use Rattle.broker_core.proofs.Places.{found_at, number_if, roster, written_at}
 use Rattle.broker_core.specs.declared.session.Session.{Session}
 
 -- ---- what stands behind others
@@ -32,22 +33,26 @@ right_false : (a b : Bool) → (a || b) ≡ false → b ≡ false
 right_false true b e = cc
 right_false false b e = e
 
-found_between : {X : Type 0} (p : X → Bool) (front : List X) (x : X) (back : List X) → list_any p front ≡ false → p x ≡ true
+found_between : {X : Type 0} (p : X → Bool) (front : List X) (x : X) (back : List X) → list_any p front ≡ false
+    → p x ≡ true
     → find p (front ++ x ∷ back) ≡ Some x
 found_between p [] x back e h = rw h refl
-found_between p (y ∷ front) x back e h = rw (left_false (p y) _ e) (found_between p front x back (right_false (p y) _ e) h)
+found_between p (y ∷ front) x back e h =
+    rw (left_false (p y) _ e) (found_between p front x back (right_false (p y) _ e) h)
 
 pub first_here : {X : Type 0} (p : X → Bool) (xs : List X) (at : ℕ) (x : X) → at < length xs → x ≡ get_or xs at x
     → list_any p (take at xs) ≡ false → p x ≡ true → IsFirstAt p xs at
 first_here p xs at x h e front passes =
     let split : xs ≡ take at xs ++ x ∷ drop (suc at) xs =
-    sym (take-append-drop at xs) ∙ ap (λ l. take at xs ++ l) (drop-cons xs at x h ∙ ap (λ y. y ∷ drop (suc at) xs) (sym e)) in
+    sym (take-append-drop at xs) ∙ ap (λ l. take at xs ++ l) (drop-cons xs at x h
+    ∙ ap (λ y. y ∷ drop (suc at) xs) (sym e)) in
     record {
       item = x;
       within = h;
       got = slice_get-get_or xs at x h ∙ ap (λ y. Some y) (sym e);
       found = ap (find p) split ∙ found_between p (take at xs) x (drop (suc at) xs) front passes;
-      sets = λ f. ap (first_changed p f) split ∙ changed_between p f (take at xs) x (drop (suc at) xs) front passes ∙ sym
+      sets = λ f. ap (first_changed p f) split ∙ changed_between p f (take at xs) x (drop (suc at) xs) front passes
+          ∙ sym
           (set_split xs at (f x) h);
     }
 
@@ -66,7 +71,8 @@ pub above_low : (low last : ℕ) (ss : List Session) → AreRising low ss last �
     → low < (get_or ss j d).number
 above_low low last [] r j d h = absurd (omega arith)
 above_low low last (s ∷ ss) r zero d h = r.0
-above_low low last (s ∷ ss) r (suc j) d h = let k = above_low s.number last ss r.1 j d (omega arith) in let l = r.0 in omega arith
+above_low low last (s ∷ ss) r (suc j) d h =
+    let k = above_low s.number last ss r.1 j d (omega arith) in let l = r.0 in omega arith
 
 pub low_last : (low last : ℕ) (ss : List Session) → AreRising low ss last → low ≤ last
 low_last low last [] r = r
@@ -85,7 +91,8 @@ compared a b n h = grind (arith, nat_tests)
 
 comparisons_rise : (low last n : ℕ) (ss : List Session) → AreRising low ss last
     → IsNonDecreasingBy (λ s. ordering_index (nat_cmp s.number n)) ss
-comparisons_rise low last n ss r i j d le h = compared (get_or ss i d).number (get_or ss j d).number n (rise low last ss r i j d le h)
+comparisons_rise low last n ss r i j d le h =
+    compared (get_or ss i d).number (get_or ss j d).number n (rise low last ss r i j d le h)
 
 -- ---- the session of a number
 
@@ -99,20 +106,24 @@ none_before n low last (s ∷ ss) r (suc at) d h e =
     let b : s.number < n = omega arith in
     rw (other s.number n b) (none_before n s.number last ss r.1 at d (omega arith) e)
 
-pub placed : (n low last : ℕ) (ss : List Session) → AreRising low ss last → (at : ℕ) (s : Session) → at < length ss → s ≡ get_or ss at s
+pub placed : (n low last : ℕ) (ss : List Session) → AreRising low ss last → (at : ℕ) (s : Session) → at < length ss
+    → s ≡ get_or ss at s
     → s.number ≡ n
     → IsFirstAt (is_session n) ss at
 placed n low last ss r at s h e k =
-    first_here (is_session n) ss at s h e (none_before n low last ss r at s h (ap (λ (x : Session). x.number) (sym e) ∙ k))
+    first_here (is_session n) ss at s h e (none_before n low last ss r at s h
+    (ap (λ (x : Session). x.number) (sym e) ∙ k))
     (same_number s.number n k)
 
-none_other : (n : ℕ) (ss : List Session) → ((k : ℕ) (d : Session) → k < length ss → is_session n (get_or ss k d) ≡ false)
+none_other : (n : ℕ) (ss : List Session)
+    → ((k : ℕ) (d : Session) → k < length ss → is_session n (get_or ss k d) ≡ false)
     → list_any (is_session n) ss ≡ false
 none_other n [] h = refl
 none_other n (s ∷ ss) h = rw (h zero s (omega arith)) (none_other n ss (λ k d lt. h (suc k) d (omega arith)))
 
 -- a number above the last is no session's
-pub unused : (n low last : ℕ) (ss : List Session) → AreRising low ss last → last < n → list_any (is_session n) ss ≡ false
+pub unused : (n low last : ℕ) (ss : List Session) → AreRising low ss last → last < n
+    → list_any (is_session n) ss ≡ false
 unused n low last [] r h = refl
 unused n low last (s ∷ ss) r h =
     let k = low_last s.number last ss r.1 in
@@ -124,8 +135,10 @@ unused n low last (s ∷ ss) r h =
 element_at : (ss : List Session) (i : ℕ) → i < length ss → (s : Session) × (s ≡ get_or ss i s)
 element_at ss i h = elim (slice_get_cases ss i).1 [ inl k ↦ (k.0, sym k.3) | inr k ↦ absurd (omega arith) ]
 
-pub searched : (n low last : ℕ) (ss : List Session) → AreRising low ss last → (r : Result ℕ ℕ) → IsSearchInRange r (length ss)
-    → IsBinarySearchResult (λ s. nat_cmp s.number n) ss r → (answer : Option ℕ) → result_ok r ≡ answer → PlaceAnswer n ss answer
+pub searched : (n low last : ℕ) (ss : List Session) → AreRising low ss last → (r : Result ℕ ℕ)
+    → IsSearchInRange r (length ss)
+    → IsBinarySearchResult (λ s. nat_cmp s.number n) ss r → (answer : Option ℕ) → result_ok r ≡ answer
+    → PlaceAnswer n ss answer
 searched n low last ss r (Ok at) in_range equal None e = cc
 searched n low last ss r (Ok at) in_range equal (Some i) e =
     let m : at ≡ i = cc in
@@ -142,7 +155,8 @@ searched n low last ss r (Err at) in_range parted None e =
 
 -- ---- what keeps the order
 
-pub rising_set : (low last : ℕ) (ss : List Session) → AreRising low ss last → (at : ℕ) (s t : Session) → slice_get ss at ≡ Some s
+pub rising_set : (low last : ℕ) (ss : List Session) → AreRising low ss last → (at : ℕ) (s t : Session)
+    → slice_get ss at ≡ Some s
     → t.number ≡ s.number
     → AreRising low (slice_set ss at t) last
 rising_set low last [] r at s t get e = cc
@@ -169,43 +183,33 @@ others_step n low last s ss false e h r = rw e (h, r)
 
 pub rising_others : (n low last : ℕ) (ss : List Session) → AreRising low ss last → AreRising low (others n ss) last
 rising_others n low last [] r = r
-rising_others n low last (s ∷ ss) r = others_step n low last s ss (is_session n s) refl r.0 (rising_others n s.number last ss r.1)
+rising_others n low last (s ∷ ss) r =
+    others_step n low last s ss (is_session n s) refl r.0 (rising_others n s.number last ss r.1)
 
 -- a session at a place is another one of its number
-pub kept_at : (last : ℕ) (ss news : List Session) (at : ℕ) (s t : Session) → AreRising 0 ss last → slice_get ss at ≡ Some s
+pub kept_at : (last : ℕ) (ss news : List Session) (at : ℕ) (s t : Session) → AreRising 0 ss last
+    → slice_get ss at ≡ Some s
     → news ≡ slice_set ss at t → t.number ≡ s.number → AreRising 0 news last
 kept_at last ss news at s t r get set e = rw set (rising_set 0 last ss r at s t get e)
 
 -- the same where memory may be refused
 pub kept_unless : {T E : Type 0} (last : ℕ) (ss news : List Session) (at : ℕ) (f : Session → Session)
     → ((s : Session) → (f s).number ≡ s.number)
-    → AreRising 0 ss last → (r : Result T E) → OnOk r ((s : Session) × ((slice_get ss at ≡ Some s) × (news ≡ slice_set ss at (f s))))
+    → AreRising 0 ss last → (r : Result T E)
+    → OnOk r ((s : Session) × ((slice_get ss at ≡ Some s) × (news ≡ slice_set ss at (f s))))
     → OnErr r (news ≡ ss) → AreRising 0 news last
 kept_unless last ss news at f e r (Ok x) ok err = kept_at last ss news at ok.0 (f ok.0) r ok.1.0 ok.1.1 (e ok.0)
 kept_unless last ss news at f e r (Err x) ok err = rw err r
 
--- the same with the book
-pub kept_part : {T E : Type 0} (last : ℕ) (ss news : List Session) (at : ℕ) (book book2 : Book) (change : Part → Part)
-    → ((p : Part) → (change p).session.number ≡ p.session.number) → AreRising 0 ss last → (r : Result T E)
-    → OnOk r ((s : Session) × (t : Session) × ((slice_get ss at ≡ Some s) × (news ≡ slice_set ss at t) × (part book2 t ≡ change (part book
-    s))))
-    → OnErr r ((book2 ≡ book) × (news ≡ ss)) → AreRising 0 news last
-kept_part last ss news at book book2 change e r (Ok x) ok err =
-    kept_at last ss news at ok.0 ok.1 r ok.2.0 ok.2.1 (ap (λ (p : Part). p.session.number) ok.2.2 ∙ e (part book ok.0))
-kept_part last ss news at book book2 change e r (Err x) ok err = rw err.1 r
-
-number_if : (b : Bool) (s t : Session) → t.number ≡ s.number → (cond b s t).number ≡ s.number
-number_if true s t e = refl
-number_if false s t e = e
-
-pub piece_number : {E : Type 0} (piece : List ℕ) (s t : Session) (r : Result (Unit {0}) E) → SessionPieceAnswer piece s t r
+pub piece_number : {T E : Type 0} (piece : List ℕ) (s t : Session) (r : Result T E) → SessionPieceAnswer piece s t r
     → t.number ≡ s.number
 piece_number piece s t (Ok x) h = ap (λ (y : Session). y.number) h ∙ number_if s.closed s _ refl
 piece_number piece s t (Err x) h = ap (λ (y : Session). y.number) h.3
 
 -- ---- a session with fresh octets
 
-step_fails : (p : Session → Bool) (s : Session) (ss : List Session) (b : Bool) → p s ≡ b → (find p ss ≡ None → list_any p ss ≡ false)
+step_fails : (p : Session → Bool) (s : Session) (ss : List Session) (b : Bool) → p s ≡ b
+    → (find p ss ≡ None → list_any p ss ≡ false)
     → find p (s ∷ ss) ≡ None → list_any p (s ∷ ss) ≡ false
 step_fails p s ss true e ih h = let z : Some s ≡ None = rw e at h in cc
 step_fails p s ss false e ih h = rw e (ih (rw e at h))
@@ -217,7 +221,8 @@ none_passes p (s ∷ ss) h = step_fails p s ss (p s) refl (none_passes p ss) h
 pub none_fresh : (ss : List Session) → find is_fresh ss ≡ None → list_any is_fresh ss ≡ false
 none_fresh ss h = none_passes is_fresh ss h
 
-step_passes : (p : Session → Bool) (s : Session) (ss : List Session) (x : Session) (b : Bool) → p s ≡ b → (find p ss ≡ Some x → p x ≡ true)
+step_passes : (p : Session → Bool) (s : Session) (ss : List Session) (x : Session) (b : Bool) → p s ≡ b
+    → (find p ss ≡ Some x → p x ≡ true)
     → find p (s ∷ ss) ≡ Some x → p x ≡ true
 step_passes p s ss x true e ih h = let j : Some s ≡ Some x = rw e at h in let m : s ≡ x = cc in ap p (sym m) ∙ e
 step_passes p s ss x false e ih h = ih (rw e at h)
@@ -243,14 +248,17 @@ got_within (x ∷ xs) zero s e = omega arith
 got_within (x ∷ xs) (suc at) s e = let h = got_within xs at s e in omega (arith, h)
 
 -- a session stands at the place of its number
-pub stands : (n last : ℕ) (ss : List Session) → AreRising 0 ss last → (at : ℕ) (s : Session) → slice_get ss at ≡ Some s → s.number ≡ n
+pub stands : (n last : ℕ) (ss : List Session) → AreRising 0 ss last → (at : ℕ) (s : Session) → slice_get ss at ≡ Some s
+    → s.number ≡ n
     → IsFirstAt (is_session n) ss at
 stands n last ss r at s get is =
     let within : at < length ss = got_within ss at s get in
-    let here : s ≡ get_or ss at s = same_item (slice_get ss at) (get_or ss at s) s (slice_get-get_or ss at s within) get in
+    let here : s ≡ get_or ss at s =
+    same_item (slice_get ss at) (get_or ss at s) s (slice_get-get_or ss at s within) get in
     placed n 0 last ss r at s within here is
 
-pub names_fresh : (book : Book) (ss news : List Session) (opened at number : ℕ) (s : Session) → AreRising 0 ss opened → IsFreshAt ss at
+pub names_fresh : (book : Book) (ss news : List Session) (opened at number : ℕ) (s : Session) → AreRising 0 ss opened
+    → IsFreshAt ss at
     → slice_get ss at ≡ Some s → news ≡ slice_set ss at (named s) → number ≡ s.number
     → NamesFresh (broker_of book (roster ss opened)) number (broker_of book (roster news opened))
 names_fresh book ss news opened at number s r fresh get set e =

@@ -69,8 +69,9 @@ pub enum Form {
 }
 
 impl Form {
-    /// The same request, of which nothing more has to be moved: a SEND is shared, so that a queue and a transaction take
-    /// a share of its octets, however large they are, and it can be given back where memory is refused to one.
+    /// The same request, of which nothing more has to be moved: a SEND is shared, so that a queue and a transaction
+    /// take a share of its octets, however large they are, and it can still be given back where memory is refused to
+    /// one.
     pub fn share(self, alloc: Global) -> Result<Form, Form>
         ensures ok { IfOk result (λ f. (request_in f ≡ request_in self) × (is_ready f ≡ true)) }
         ensures err { IfErr result (λ f. request_in f ≡ request_in self) }

@@ -1,28 +1,27 @@
 //! The broker.
 
-ghost use Rattle.std.specs.Prelude.{◌≡◌, ◌<◌, ◌≤◌, [], length, true, false, is_some, OnOk, OnErr, IfErr};
+ghost use Rattle.std.specs.Prelude.{◌≡◌, ◌≤◌, [], length, true, is_some};
 ghost use Rattle.broker_core.specs.Calls.{FreshAnswer, OpenAnswer, closed_in, dropped, empty, out_in, without_first};
 ghost use Rattle.broker_core.specs.Feeding.{DispatchAnswer, FeedAnswer};
-ghost use Rattle.broker_core.specs.Parts.Taking.{EndAnswer, FedAnswer, HandleAnswer, NextTaken, TurnAnswer, left_in, waiting_again};
-ghost use Rattle.broker_core.specs.Serving.{changing, session_of, step, with_fault};
+ghost use Rattle.broker_core.specs.Parts.Taking.{EndAnswer, TurnAnswer};
+ghost use Rattle.broker_core.specs.Serving.{changing, session_of};
 
-use crate::asked::Asked;
-use crate::incoming::Next;
 use crate::sessions::Sessions;
 use crate::{BrokerFault, SessionId};
 use broker_book::Accepted;
 use broker_queues::Queues;
 use std::alloc::{AllocError, Global};
 use std::marker::Model;
-use stomp_session::Refused;
 
-/// A broker of which each queue holds at most `FULL` messages: contracts see its book, its sessions and the last number that one was given.
+/// A broker of which each queue holds at most `FULL` messages: contracts see its book, its sessions and the last number
+/// that one was given.
 pub struct Broker<const FULL: usize> {
     queues: Queues<FULL>,
     sessions: Sessions,
 }
 
-/// Written by hand, so that a crate that owns a broker cites this, and doesn't prove anew how each of its parts is dropped.
+/// Written by hand, so that a crate that owns a broker cites this, and doesn't prove anew how each of its parts is
+/// dropped.
 impl<const FULL: usize> Drop for Broker<FULL> {
     fn drop(self) {
         let Broker {
@@ -63,25 +62,38 @@ impl<const FULL: usize> Broker<FULL> {
         self.sessions.open()
     }
 
-    /// Feeds a piece of a client's octets to its session, handles the frames that are whole now, one after another, and deals messages
-    /// behind each frame and at the end. The answer is the number of frames. A closed session throws the piece away.
+    /// Feeds a piece of a client's octets to its session, handles the frames that are whole now, one after another, and
+    /// deals messages behind each frame and at the end. The answer is the number of frames. A closed session throws the
+    /// piece away.
     ///
-    /// A frame is done or refused as a whole. It is answered in the octets of its session: by CONNECTED, by the RECEIPT that it asks for,
-    /// which comes before any MESSAGE that the frame causes, or by an ERROR, which ends the session (STOMP 1.2, section "ERROR").
+    /// A frame is done or refused as a whole. It is answered in the octets of its session: by CONNECTED, by the RECEIPT
+    /// that it asks for, which comes before any MESSAGE that the frame causes, or by an ERROR, which ends the session
+    /// (STOMP 1.2, section "ERROR").
     ///
     /// # Errors
     /// - `NoSession` where there is no session of this number, and then nothing has changed;
-    /// - `Memory` where a growth was refused. Where the piece was not taken nothing has changed. Where it was, the frames before were
-    ///   handled, and the next call goes on where this one has stopped: `feed` with no octets then serves. No frame is lost or handled
-    ///   twice.
+    /// - `Memory` where a growth was refused. Where the piece was not taken nothing has changed. Where it was, the
+    ///   frames before were handled, and the next call goes on where this one has stopped: `feed` with no octets then
+    ///   serves. No frame is lost or handled twice.
     pub fn feed(&mut self, session: SessionId, piece: &[u8]) -> Result<usize, BrokerFault>
         ensures { FeedAnswer FULL self.old session piece.now self.new result }
     {
-        self.feed_number(session.number(), piece)
+        let number = session.number();
+        // Each turn takes an octet or the frame that waits, so that the bound is never reached: it shows that the loop
+        // ends.
+        let bound = self.sessions.feed(number, piece)?;
+        for count in 0..bound {
+            match self.turn(number) {
+                Err(_) => return Err(BrokerFault::Memory { took: true }),
+                Ok(true) => {}
+                Ok(false) => return self.finish(count),
+            }
+        }
+        unreachable!()
     }
 
-    /// Hands out messages until none can be: the lowest number that is ready first, each to the oldest subscription to its queue that may
-    /// take one more.
+    /// Hands out messages until none can be: the lowest number that is ready first, each to the oldest subscription to
+    /// its queue that may take one more.
     ///
     /// # Errors
     /// Where a growth was refused; what was handed out before stays so.
@@ -106,15 +118,16 @@ impl<const FULL: usize> Broker<FULL> {
         self.sessions.taken(session.number(), count);
     }
 
-    /// Whether a session is closed, or there is none: what is still in its octets is all that it will be sent. It takes no memory.
+    /// Whether a session is closed, or there is none: what is still in its octets is all that it will be sent. It takes
+    /// no memory.
     pub fn is_closed(&self, session: SessionId) -> bool
         ensures { result ≡ closed_in (session_of session self.now) }
     {
         self.sessions.is_closed(session.number())
     }
 
-    /// Takes a session away: its subscriptions end, what is out to them is ready again, and its transactions and octets are gone. It deals
-    /// nothing, and does the same where memory is refused.
+    /// Takes a session away: its subscriptions end, what is out to them is ready again, and its transactions and octets
+    /// are gone. It deals nothing, and does the same where memory is refused.
     pub fn drop_session(&mut self, session: SessionId)
         ensures { self.new ≡ dropped session self.old (session_of session self.old) }
     {
@@ -138,60 +151,16 @@ impl<const FULL: usize> Broker<FULL> {
         self.queues.take_accepted()
     }
 
-    /// Feeds a piece to the session of a number.
-    fn feed_number(&mut self, number: u64, piece: &[u8]) -> Result<usize, BrokerFault>
-        ensures { FeedAnswer FULL self.old number piece.now self.new result }
-    {
-        if !self.has(number) {
-            return Err(BrokerFault::NoSession);
-        }
-        match self.add(number, piece) {
-            Err(_) => return Err(BrokerFault::Memory { took: false }),
-            Ok(()) => {}
-        }
-        // Each turn takes an octet or the frame that waits, so that the bound is never reached: it shows that this ends.
-        let bound = self.bound(number);
-        for count in 0..bound {
-            match self.turn(number) {
-                Err(_) => return Err(BrokerFault::Memory { took: true }),
-                Ok(true) => {}
-                Ok(false) => return self.finish(count),
-            }
-        }
-        unreachable!()
-    }
-
     /// Handles the next frame of a session and deals; `false` where there is none.
     fn turn(&mut self, number: u64) -> Result<bool, AllocError>
         requires { is_some (session_of number self.old) ≡ true }
         ensures { TurnAnswer FULL number self.old self.new result }
     {
-        if self.closed(number) {
+        if !self.sessions.turn(number, &mut self.queues)? {
             return Ok(false);
         }
-        match self.next(number) {
-            Err(_) => Err(AllocError),
-            Ok(Next::Nothing) => Ok(false),
-            Ok(Next::Fault) => {
-                self.tell_fault(number)?;
-                Ok(false)
-            }
-            Ok(Next::Frame(decided)) => {
-                self.handle(number, decided)?;
-                Ok(true)
-            }
-        }
-    }
-
-    /// Makes the step of a frame and deals; where memory is refused to the step, the frame waits.
-    fn handle(&mut self, number: u64, decided: Result<Asked, Refused>) -> Result<(), AllocError>
-        ensures { HandleAnswer FULL number decided self.old self.new result }
-    {
-        if let Err(decided) = self.serve(number, decided) {
-            self.put_back(number, decided);
-            return Err(AllocError);
-        }
-        self.dispatch()
+        self.dispatch()?;
+        Ok(true)
     }
 
     /// Deals at the end of `feed`.
@@ -202,61 +171,5 @@ impl<const FULL: usize> Broker<FULL> {
             Ok(()) => Ok(count),
             Err(_) => Err(BrokerFault::Memory { took: true }),
         }
-    }
-
-    fn bound(&self, number: u64) -> usize
-        ensures { left_in (session_of number self.now) < result }
-    {
-        self.sessions.bound(number)
-    }
-
-    fn closed(&self, number: u64) -> bool
-        ensures { result ≡ closed_in (session_of number self.now) }
-    {
-        self.sessions.is_closed(number)
-    }
-
-    fn has(&self, number: u64) -> bool
-        ensures { result ≡ is_some (session_of number self.now) }
-    {
-        self.sessions.get(number).is_some()
-    }
-
-    fn add(&mut self, number: u64, piece: &[u8]) -> Result<(), AllocError>
-        ensures { FedAnswer number piece.now self.old self.new result }
-    {
-        self.sessions.feed(number, piece)
-    }
-
-    fn next(&mut self, number: u64) -> Result<Next, AllocError>
-        requires { closed_in (session_of number self.old) ≡ false }
-        ensures { NextTaken number self.old self.new result }
-    {
-        self.sessions.next(number)
-    }
-
-    fn put_back(&mut self, number: u64, decided: Result<Asked, Refused>)
-        ensures { self.new ≡ changing number (waiting_again decided) self.old }
-    {
-        self.sessions.put_back(number, decided);
-    }
-
-    fn serve(
-        &mut self,
-        number: u64,
-        decided: Result<Asked, Refused>,
-    ) -> Result<(), Result<Asked, Refused>>
-        ensures ok { OnOk result (self.new ≡ step FULL number decided self.old) }
-        ensures err { OnErr result (self.new ≡ self.old) }
-        ensures back { IfErr result (λ left. left ≡ decided) }
-    {
-        self.sessions.serve(number, &mut self.queues, decided)
-    }
-
-    fn tell_fault(&mut self, number: u64) -> Result<(), AllocError>
-        ensures ok { OnOk result (self.new ≡ with_fault number self.old) }
-        ensures err { OnErr result (self.new ≡ self.old) }
-    {
-        self.sessions.tell_fault(number, &mut self.queues)
     }
 }

@@ -1,16 +1,18 @@
 //! A message broker of STOMP 1.2 without sockets: octets go in and come out, and nothing waits.
 //!
-//! A [`Broker`] has sessions, of which each is fed what its client sends and has octets to be sent to it, and one *book* of messages and
-//! subscriptions. A frame is handled as a whole, one behind the other as they were fed:
+//! A [`Broker`] has sessions, of which each is fed what its client sends and has octets to be sent to it, and one
+//! *book* of messages and subscriptions. A frame is handled as a whole, one behind the other as they were fed:
 //!
 //! - it is read and decided by its session: a request, or a refusal at once;
-//! - the request is done: exactly what its frame means for the book, or its refusal. It is answered by CONNECTED, by the RECEIPT that is
-//!   asked for, or by an ERROR, which tells the fault's number and name and ends the session;
-//! - messages are dealt until none can be: the lowest number that is ready first, to the oldest subscription to its queue that may take it.
+//! - the request is done: exactly what its frame means for the book, or its refusal. It is answered by CONNECTED, by
+//!   the RECEIPT that is asked for, or by an ERROR, which tells the fault's number and name and ends the session;
+//! - messages are dealt until none can be: the lowest number that is ready first, to the oldest subscription to its
+//!   queue that may take it.
 //!
-//! Each is a function or a relation of values that the contracts name, with the order of the tests and all that stays the same. Where
-//! memory is refused, a frame has either been handled or it waits, as it was decided, and is the first to be handled at the next call:
-//! none is lost, and none is handled twice. The laws say that what was handled is what was fed.
+//! Each is a function or a relation of values that the contracts name, with the order of the tests and all that stays
+//! the same. Where memory is refused, a frame has either been handled or it waits, as it was decided, and is the first
+//! to be handled at the next call: none is lost, and none is handled twice. The laws say that what was handled is what
+//! was fed.
 //!
 //! ```rust
 //! pub fn a_broker_answers_connect(alloc: Global) -> Result<bool, BrokerFault> {

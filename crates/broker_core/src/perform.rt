@@ -5,7 +5,8 @@ ghost use Rattle.broker_book.specs.Books.{Book};
 ghost use Rattle.broker_tx.specs.Transactions.{Transaction, actions_of};
 ghost use Rattle.broker_core.specs.Parts.Asked.{is_ready, is_send, request_in, send_in};
 ghost use Rattle.broker_core.specs.Parts.Taking.{Performs, lifted, lifted_transaction};
-ghost use Rattle.broker_core.specs.Performing.{reach, performed, kept, commit_done, unanswered_number, unsubscribe_done};
+ghost use Rattle.broker_core.specs.Performing.{reach, performed, kept, commit_done, unanswered_number};
+ghost use Rattle.broker_core.specs.Performing.{unsubscribe_done};
 ghost use Rattle.text.specs.Numerals.{number_of};
 
 use crate::FrameRefusal;
@@ -128,7 +129,12 @@ fn subscription(
     asked: &Subscribe,
     mode: Mode,
 ) -> Result<Subscription, AllocError>
-    ensures { IfOk result (λ s. s ≡ record { session = session; id = asked.now.id; destination = asked.now.destination; mode = mode }) }
+    ensures { IfOk result (λ s. s ≡ record {
+      session = session;
+      id = asked.now.id;
+      destination = asked.now.destination;
+      mode = mode;
+    }) }
 {
     Ok(Subscription {
         session,
@@ -148,8 +154,8 @@ fn subscribe<const FULL: usize>(
         → Performs (performed FULL session (reach queues.old transactions) (Request.Subscribe asked.now))
         (reach queues.old transactions) (reach queues.new transactions) result }
 {
-    // What the frame says comes before what the session has, and the limit last: one too many is told only where all
-    // else is well.
+    // What the frame says comes before what the session has; the limit is last, so that one too many is told only where
+    // all else is well.
     if !is_destination(&asked.destination) {
         return Err(HandlerFault::Refused(FrameRefusal::BadDestination));
     }
@@ -176,7 +182,8 @@ fn unsubscribe<const FULL: usize>(
     session: u64,
     id: &Text,
 ) -> Result<(), HandlerFault>
-    ensures { (transactions : List Transaction) → Performs (unsubscribe_done (reach queues.old transactions) session id.now)
+    ensures { (transactions : List Transaction)
+        → Performs (unsubscribe_done (reach queues.old transactions) session id.now)
         (reach queues.old transactions) (reach queues.new transactions) result }
 {
     if !queues.has_named(session, id) {
@@ -253,7 +260,8 @@ fn commit<const FULL: usize>(
     session: u64,
     name: &Text,
 ) -> Result<(), HandlerFault>
-    ensures { Performs (commit_done FULL (reach queues.old transactions.old) session name.now (actions_of transactions.old name.now))
+    ensures { Performs (commit_done FULL (reach queues.old transactions.old) session name.now
+        (actions_of transactions.old name.now))
         (reach queues.old transactions.old) (reach queues.new transactions.new) result }
 {
     let Some(actions) = transactions.actions(name) else {

@@ -1,12 +1,11 @@
 //! A session of a broker.
 
-ghost use Rattle.std.specs.Prelude.{◌≡◌, ◌≤◌, true, length, IfErr, OnOk, OnErr};
+ghost use Rattle.std.specs.Prelude.{◌≡◌, ◌<◌, ◌≤◌, true, length, IfOk, IfErr, OnOk, OnErr};
 ghost use Rattle.std.specs.Option.{option_copied};
 ghost use Rattle.stomp_session.specs.Replies.{Delivered, message_frame};
 ghost use Rattle.broker_core.specs.Calls.{named, new_session, without_first};
 ghost use Rattle.broker_core.specs.Parts.Asked.{is_ready, request_in};
-ghost use Rattle.broker_core.specs.Parts.Taking.{NextAnswer, SessionPieceAnswer};
-ghost use Rattle.broker_core.specs.Feeding.{with_incoming};
+ghost use Rattle.broker_core.specs.Parts.Taking.{PartTurn, SessionPieceAnswer, left_of};
 ghost use Rattle.broker_core.specs.Serving.{Part, part, served, refused, closing, closing_if, closed_of, writing};
 
 use crate::asked::{Asked, Form};
@@ -20,7 +19,8 @@ use broker_tx::Transactions;
 use std::alloc::{AllocError, Global};
 use stomp_session::{Delivery, Refused, ServerSession, receipt_told};
 
-/// A session: `out` are the octets not yet taken, and `fresh` tells whether some were written since the session was last named.
+/// A session: `out` are the octets not yet taken, and `fresh` tells whether some were written since the session was
+/// last named.
 #[derive(Drop)]
 pub struct Session {
     pub number: u64,
@@ -48,22 +48,44 @@ impl Session {
         }
     }
 
-    /// Takes a piece; a closed session throws it away.
-    pub fn feed(&mut self, piece: &[u8]) -> Result<(), AllocError>
-        ensures { SessionPieceAnswer piece.now self.old self.new result }
+    /// Takes a piece; a closed session throws it away. The answer is more than the frames that can still be taken.
+    pub fn feed(&mut self, piece: &[u8]) -> Result<usize, AllocError>
+        ensures took { SessionPieceAnswer piece.now self.old self.new result }
+        ensures bound { IfOk result (λ bound. left_of self.new.incoming < bound) }
     {
         if self.closed {
-            return Ok(());
+            return Ok(self.incoming.bound());
         }
-        self.incoming.feed(piece)
+        self.incoming.feed(piece)?;
+        Ok(self.incoming.bound())
     }
 
-    /// Takes the next frame out of what it was fed.
-    pub fn next(&mut self) -> Result<Next, AllocError>
-        ensures next { NextAnswer self.old.server self.old.incoming self.new.incoming result }
-        ensures rest { self.new ≡ with_incoming self.new.incoming self.old }
+    /// Takes the next frame out of what it was fed and does what is decided; `false` where there is none, and where a
+    /// fault of the octets has ended it. Where memory is refused to what is done, the frame waits.
+    pub fn turn<const FULL: usize>(
+        &mut self,
+        alloc: Global,
+        queues: &mut Queues<FULL>,
+    ) -> Result<bool, AllocError>
+        ensures { PartTurn FULL (part queues.old self.old) (part queues.new self.new) result }
     {
-        self.incoming.next(self.server)
+        if self.closed {
+            return Ok(false);
+        }
+        match self.incoming.next(self.server)? {
+            Next::Nothing => Ok(false),
+            Next::Fault => {
+                self.refuse(alloc, queues, FrameRefusal::BadFrame, None)?;
+                Ok(false)
+            }
+            Next::Frame(decided) => {
+                if let Err(decided) = self.serve(alloc, queues, decided) {
+                    self.incoming.waiting = Some(decided);
+                    return Err(AllocError);
+                }
+                Ok(true)
+            }
+        }
     }
 
     /// Takes the first octets that were written away.
@@ -118,14 +140,15 @@ impl Session {
     }
 
     /// Writes an ERROR and ends the session, or changes nothing.
-    pub fn refuse<const FULL: usize>(
+    fn refuse<const FULL: usize>(
         &mut self,
         alloc: Global,
         queues: &mut Queues<FULL>,
         refusal: FrameRefusal,
         receipt: Option<&str>,
     ) -> Result<(), AllocError>
-        ensures ok { OnOk result (part queues.new self.new ≡ refused refusal (option_copied receipt.entry) (part queues.old self.old)) }
+        ensures ok { OnOk result (part queues.new self.new ≡ refused refusal (option_copied receipt.entry)
+            (part queues.old self.old)) }
         ensures err { OnErr result ((queues.new ≡ queues.old) × (self.new ≡ self.old)) }
     {
         // First, since it alone may want memory: what comes behind it is never refused.
@@ -137,7 +160,7 @@ impl Session {
     }
 
     /// Does what was decided, or gives it back where memory is refused, and then nothing has changed.
-    pub fn serve<const FULL: usize>(
+    fn serve<const FULL: usize>(
         &mut self,
         alloc: Global,
         queues: &mut Queues<FULL>,
@@ -196,7 +219,8 @@ impl Session {
         }
     }
 
-    /// Does a request and writes its reply, or refuses it, and ends the session where it is refused or the last; or changes nothing.
+    /// Does a request and writes its reply, or refuses it, and ends the session where it is refused or the last; or
+    /// changes nothing.
     fn carry_out<const FULL: usize>(
         &mut self,
         alloc: Global,
@@ -204,11 +228,12 @@ impl Session {
         form: &Form,
     ) -> Result<(), AllocError>
         requires { is_ready form.now ≡ true }
-        ensures ok { OnOk result (part queues.new self.new ≡ served FULL (Ok (request_in form.now)) (part queues.old self.old)) }
+        ensures ok { OnOk result (part queues.new self.new ≡ served FULL (Ok (request_in form.now))
+            (part queues.old self.old)) }
         ensures err { OnErr result ((queues.new ≡ queues.old) × (self.new ≡ self.old)) }
     {
-        // The reply comes first: it can be taken back where the request is refused, and a request that was done can't be
-        // undone where memory is refused to its reply.
+        // The reply comes first: it can be taken back where the request is refused, and a request that was done can't
+        // be undone where memory is refused to its reply.
         let before = self.out.len();
         let wrote = self.out.write_reply(form)?;
         match perform(alloc, queues, &mut self.transactions, self.number, form) {

@@ -1,32 +1,31 @@
 //! The sessions of a broker.
 //!
 //! What is true is the list of the sessions, in order of their numbers, and the last number that one was given. `last`
-//! and `noted` are hints: either may be wrong at any time, and is looked at before it counts. The first saves the search
-//! for a session that is called again, the second the search for one with fresh octets.
+//! and `noted` are hints: either may be wrong at any time, and is looked at before it counts. The first saves the
+//! search for a session that is called again, the second the search for one with fresh octets.
 
-ghost use Rattle.std.specs.Prelude.{◌≡◌, ◌<◌, ◌≤◌, ◌++◌, ◌∷◌, [], length, slice_set, true, false, Some, None, OnOk, OnErr, IfErr, IfSome};
+ghost use Rattle.std.specs.Prelude.{◌≡◌, ◌<◌, ◌≤◌, ◌++◌, ◌∷◌, [], length, slice_set, true, is_some, Some, OnOk, OnErr};
+ghost use Rattle.std.specs.Prelude.{IfOk, IfSome};
 ghost use Rattle.std.specs.Option.{option_copied};
 ghost use Rattle.std.specs.List.{find, position, slice_get};
 ghost use Rattle.stomp_session.specs.Replies.{message_frame};
 ghost use Rattle.broker_book.specs.Books.{Book};
-ghost use Rattle.broker_core.specs.Calls.{FreshAnswer, OpenAnswer, closed_in, dropped, is_fresh, named, new_session, others, out_in};
+ghost use Rattle.broker_core.specs.Calls.{FreshAnswer, OpenAnswer, closed_in, dropped, is_fresh, named, new_session};
+ghost use Rattle.broker_core.specs.Calls.{others, out_in};
 ghost use Rattle.broker_core.specs.Calls.{without_first};
-ghost use Rattle.broker_core.specs.Feeding.{taking, with_incoming};
-ghost use Rattle.broker_core.specs.Parts.Taking.{FedAnswer, NextAnswer, NextTaken, PlaceAnswer, SessionPieceAnswer, left_in, waiting_again};
+ghost use Rattle.broker_core.specs.Parts.Taking.{BegunAnswer, PartTurn, PlaceAnswer, SessionPieceAnswer, StepAnswer};
+ghost use Rattle.broker_core.specs.Parts.Taking.{left_of};
 ghost use Rattle.broker_core.specs.Parts.Rising.{FreshPlace, IsFreshAt};
-ghost use Rattle.broker_core.specs.Serving.{broker_of, in_roster, is_session, part, refused, served, step, with_fault, writing};
-ghost use Rattle.broker_core.specs.declared.fault.FrameRefusal.TheVariants.{BadFrame};
+ghost use Rattle.broker_core.specs.Serving.{broker_of, in_roster, is_session, part, writing};
 ghost use Rattle.broker_core.specs.declared.session.Session.{Session};
 
-use crate::asked::Asked;
-use crate::incoming::Next;
 use crate::session::Session;
-use crate::{BrokerFault, FrameRefusal, SessionId};
+use crate::{BrokerFault, SessionId};
 use broker_book::{Sent, Subscription};
 use broker_queues::{Queues, Sink};
 use std::alloc::{AllocError, Global};
 use std::marker::Model;
-use stomp_session::{Delivery, Refused};
+use stomp_session::Delivery;
 
 /// The sessions, the oldest first, and the last number that one was given: contracts see both. `noted` are numbers of
 /// sessions that may have fresh octets, at most one for each session, and `last` is where the session of the last call
@@ -125,16 +124,6 @@ impl Sessions {
         }
     }
 
-    /// More than the frames that can still be taken of a session.
-    pub fn bound(&self, number: u64) -> usize
-        ensures { left_in (find (is_session number) self.now.sessions) < result }
-    {
-        match self.get(number) {
-            Some(session) => session.incoming.bound(),
-            None => 1,
-        }
-    }
-
     /// Takes the first octets for a session away.
     pub fn taken(&mut self, number: u64, count: usize)
         requires { count ≤ length (out_in (find (is_session number) self.old.sessions)) }
@@ -170,79 +159,38 @@ impl Sessions {
         }
     }
 
-    /// Feeds a piece to a session, if there is one.
-    pub fn feed(&mut self, number: u64, piece: &[u8]) -> Result<(), AllocError>
-        ensures { (book : Book) → FedAnswer number piece.now (broker_of book self.old) (broker_of book self.new) result }
+    /// Feeds a piece to a session. The answer is more than the frames that can still be taken of it.
+    pub fn feed(&mut self, number: u64, piece: &[u8]) -> Result<usize, BrokerFault>
+        ensures { (book : Book) → BegunAnswer number piece.now (broker_of book self.old) (broker_of book self.new)
+            result }
     {
-        match self.place(number) {
-            Some(at) => {
-                self.last = at;
-                feed_at(&mut self.items, at, piece)
-            }
-            None => Ok(()),
+        let Some(at) = self.place(number) else {
+            return Err(BrokerFault::NoSession);
+        };
+        self.last = at;
+        match feed_at(&mut self.items, at, piece) {
+            Ok(bound) => Ok(bound),
+            Err(_) => Err(BrokerFault::Memory { took: false }),
         }
     }
 
-    /// Takes the next frame out of what an open session was fed.
-    pub fn next(&mut self, number: u64) -> Result<Next, AllocError>
-        requires { closed_in (find (is_session number) self.old.sessions) ≡ false }
-        ensures { (book : Book) → NextTaken number (broker_of book self.old) (broker_of book self.new) result }
+    /// Takes a session's next frame and makes its step; `false` where there is none, and where a fault of the octets
+    /// has ended it.
+    pub fn turn<const FULL: usize>(
+        &mut self,
+        number: u64,
+        queues: &mut Queues<FULL>,
+    ) -> Result<bool, AllocError>
+        requires { is_some (find (is_session number) self.old.sessions) ≡ true }
+        ensures { StepAnswer FULL number (broker_of queues.old self.old) (broker_of queues.new self.new) result }
     {
         let Some(at) = self.place(number) else {
             unreachable!()
         };
-        next_at(&mut self.items, at)
-    }
-
-    /// Has wait what was taken out.
-    pub fn put_back(&mut self, number: u64, decided: Result<Asked, Refused>)
-        ensures { self.new ≡ in_roster number (waiting_again decided) self.old }
-    {
-        if let Some(at) = self.place(number) {
-            put_back_at(&mut self.items, at, decided);
-        }
-    }
-
-    /// Makes the step of what was decided; or gives it back, and changes nothing.
-    pub fn serve<const FULL: usize>(
-        &mut self,
-        number: u64,
-        queues: &mut Queues<FULL>,
-        decided: Result<Asked, Refused>,
-    ) -> Result<(), Result<Asked, Refused>>
-        ensures ok { OnOk result (broker_of queues.new self.new ≡ step FULL number decided (broker_of queues.old self.old)) }
-        ensures err { OnErr result ((queues.new ≡ queues.old) × (self.new ≡ self.old)) }
-        ensures back { IfErr result (λ left. left ≡ decided) }
-    {
-        match self.place(number) {
-            Some(at) => {
-                let was_fresh = is_fresh_at(&self.items, at);
-                let done = serve_at(&mut self.items, at, self.alloc, queues, decided);
-                note(&self.items, at, was_fresh, &mut self.noted);
-                done
-            }
-            None => Ok(()),
-        }
-    }
-
-    /// Writes the ERROR of a fault of the octets and ends the session, or changes nothing.
-    pub fn tell_fault<const FULL: usize>(
-        &mut self,
-        number: u64,
-        queues: &mut Queues<FULL>,
-    ) -> Result<(), AllocError>
-        ensures ok { OnOk result (broker_of queues.new self.new ≡ with_fault number (broker_of queues.old self.old)) }
-        ensures err { OnErr result ((queues.new ≡ queues.old) × (self.new ≡ self.old)) }
-    {
-        match self.place(number) {
-            Some(at) => {
-                let was_fresh = is_fresh_at(&self.items, at);
-                let done = refuse_at(&mut self.items, at, self.alloc, queues);
-                note(&self.items, at, was_fresh, &mut self.noted);
-                done
-            }
-            None => Ok(()),
-        }
+        let was_fresh = is_fresh_at(&self.items, at);
+        let done = turn_at(&mut self.items, at, self.alloc, queues);
+        note(&self.items, at, was_fresh, &mut self.noted);
+        done
     }
 }
 
@@ -293,8 +241,8 @@ fn is_fresh_at(items: &[Session], at: usize) -> bool {
     items.get(at).is_some_and(|session| session.fresh)
 }
 
-/// Notes the session at this place where its octets have become fresh. Where as many are noted as there are sessions, or memory is refused,
-/// it isn't noted, and is found by a search.
+/// Notes the session at this place where its octets have become fresh. Where as many are noted as there are sessions,
+/// or memory is refused, it isn't noted, and is found by a search.
 fn note(items: &[Session], at: usize, was_fresh: bool, noted: &mut Vec<u64>) {
     let Some(session) = items.get(at) else { return };
     // Without the bound, sessions that are dropped before they are named would let the notes grow without end.
@@ -352,58 +300,27 @@ fn push_new(items: &mut Vec<Session>, alloc: Global, number: u64) -> Result<(), 
     Ok(())
 }
 
-fn feed_at(items: &mut Vec<Session>, at: usize, piece: &[u8]) -> Result<(), AllocError>
+fn feed_at(items: &mut Vec<Session>, at: usize, piece: &[u8]) -> Result<usize, AllocError>
     requires { at < length items.old.items }
-    ensures { (s : Session) × (t : Session) × ((slice_get items.old.items at ≡ Some s) × (items.new.items ≡ slice_set items.old.items at t)
-        × SessionPieceAnswer piece.now s t result) }
+    ensures { (s : Session) × (t : Session)
+        × ((slice_get items.old.items at ≡ Some s) × (items.new.items ≡ slice_set items.old.items at t)
+        × SessionPieceAnswer piece.now s t result × IfOk result (λ bound. left_of t.incoming < bound)) }
 {
     items[at].feed(piece)
 }
 
-fn next_at(items: &mut Vec<Session>, at: usize) -> Result<Next, AllocError>
-    requires { at < length items.old.items }
-    ensures { (s : Session) × (t : Session) × ((slice_get items.old.items at ≡ Some s) × (items.new.items ≡ slice_set items.old.items at t)
-        × (t ≡ with_incoming t.incoming s) × NextAnswer s.server s.incoming t.incoming result) }
-{
-    items[at].next()
-}
-
-fn put_back_at(items: &mut Vec<Session>, at: usize, decided: Result<Asked, Refused>)
-    requires { at < length items.old.items }
-    ensures { (s : Session) × ((slice_get items.old.items at ≡ Some s)
-        × (items.new.items ≡ slice_set items.old.items at (waiting_again decided s))) }
-{
-    items[at].incoming.waiting = Some(decided);
-}
-
-fn serve_at<const FULL: usize>(
+fn turn_at<const FULL: usize>(
     items: &mut Vec<Session>,
     at: usize,
     alloc: Global,
     queues: &mut Queues<FULL>,
-    decided: Result<Asked, Refused>,
-) -> Result<(), Result<Asked, Refused>>
+) -> Result<bool, AllocError>
     requires { at < length items.old.items }
-    ensures ok { OnOk result ((s : Session) × (t : Session) × ((slice_get items.old.items at ≡ Some s)
-        × (items.new.items ≡ slice_set items.old.items at t) × (part queues.new t ≡ served FULL decided (part queues.old s)))) }
-    ensures err { OnErr result ((queues.new ≡ queues.old) × (items.new.items ≡ items.old.items)) }
-    ensures back { IfErr result (λ left. left ≡ decided) }
+    ensures { (s : Session) × (t : Session)
+        × ((slice_get items.old.items at ≡ Some s) × (items.new.items ≡ slice_set items.old.items at t)
+        × PartTurn FULL (part queues.old s) (part queues.new t) result) }
 {
-    items[at].serve(alloc, queues, decided)
-}
-
-fn refuse_at<const FULL: usize>(
-    items: &mut Vec<Session>,
-    at: usize,
-    alloc: Global,
-    queues: &mut Queues<FULL>,
-) -> Result<(), AllocError>
-    requires { at < length items.old.items }
-    ensures ok { OnOk result ((s : Session) × (t : Session) × ((slice_get items.old.items at ≡ Some s)
-        × (items.new.items ≡ slice_set items.old.items at t) × (part queues.new t ≡ refused BadFrame None (part queues.old s)))) }
-    ensures err { OnErr result ((queues.new ≡ queues.old) × (items.new.items ≡ items.old.items)) }
-{
-    items[at].refuse(alloc, queues, FrameRefusal::BadFrame, None)
+    items[at].turn(alloc, queues)
 }
 
 fn write_at(items: &mut Vec<Session>, at: usize, delivery: &Delivery) -> Result<(), AllocError>
@@ -426,7 +343,8 @@ fn take_at(items: &mut Vec<Session>, at: usize, count: usize)
 
 fn name_at(items: &mut Vec<Session>, at: usize) -> SessionId
     requires { at < length items.old.items }
-    ensures { (s : Session) × ((slice_get items.old.items at ≡ Some s) × (items.new.items ≡ slice_set items.old.items at (named s))
+    ensures { (s : Session) × ((slice_get items.old.items at ≡ Some s)
+        × (items.new.items ≡ slice_set items.old.items at (named s))
         × (result ≡ s.number)) }
 {
     items[at].name()

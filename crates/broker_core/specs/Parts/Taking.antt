@@ -1,18 +1,21 @@
 -- What the parts of `feed` and of the other calls answer.
-use Rattle.std.specs.Prelude.{◌≡◌, ◌≢◌, ◌⊎◌, ℕ, ◌+◌, ◌<◌, Bool, true, false, List, [], length, Option, Some, None, is_some, Result, Ok, Err}
+use Rattle.std.specs.Prelude.{◌≡◌, ◌≢◌, ℕ, ◌+◌, ◌<◌, Bool, true, false, List, [], length, Option, Some, None, is_some}
+use Rattle.std.specs.Prelude.{Result, Ok, Err}
 use Rattle.stomp_frame.specs.declared.fault.FrameFault.{FrameFault}
 use Rattle.stomp_frame.specs.declared.fault.FrameFault.TheVariants.{Memory}
 use Rattle.broker_tx.specs.First.{IsFirstAt, PassesNone}
-use Rattle.broker_core.specs.Feeding.{DecidesNext, HasNone, MeetsFault, with_incoming, with_waiting, taking, Handles, HandlesAll, Ends}
-use Rattle.broker_core.specs.Feeding.{Stops}
-use Rattle.broker_core.specs.Feeding.{fed, Settles, Dealing, IsOpen, FeedsNone}
+use Rattle.broker_core.specs.Feeding.{Dealing, DecidesNext, Ends, FeedsNone, Handles, HandlesAll, HasNone, MeetsFault}
+use Rattle.broker_core.specs.Feeding.{Settles, Stops}
+use Rattle.broker_core.specs.Feeding.{TakesDecided, fed, taking, with_incoming, with_waiting}
 use Rattle.broker_core.specs.Performing.{Reach, queue_refusal, transaction_refusal}
-use Rattle.broker_core.specs.Serving.{Decided, Server, is_session, session_of, step, changing}
+use Rattle.broker_core.specs.Serving.{Decided, Part, Server, changing, is_session, part, refused, served, session_of}
+use Rattle.broker_core.specs.Serving.{step}
 use Rattle.broker_core.specs.declared.fault.BrokerFault.{BrokerFault}
-use Rattle.broker_core.specs.declared.fault.BrokerFault.TheVariants.{Memory as OutOfMemory}
+use Rattle.broker_core.specs.declared.fault.BrokerFault.TheVariants.{Memory as OutOfMemory, NoSession}
 use Rattle.broker_core.specs.declared.fault.HandlerFault.{HandlerFault}
 use Rattle.broker_core.specs.declared.fault.HandlerFault.TheVariants.{Refused as IsRefused, Memory as HasNoMemory}
 use Rattle.broker_core.specs.declared.fault.FrameRefusal.{FrameRefusal}
+use Rattle.broker_core.specs.declared.fault.FrameRefusal.TheVariants.{BadFrame}
 use Rattle.broker_core.specs.declared.incoming.Incoming.{Incoming}
 use Rattle.broker_core.specs.declared.incoming.Next.{Next}
 use Rattle.broker_core.specs.declared.incoming.Next.TheVariants.{Frame, Nothing, Fault}
@@ -50,9 +53,10 @@ PieceAnswer piece old new (Ok _) = new ≡ fed piece old
 PieceAnswer piece old new (Err _) = (old.decoder.failed ≡ false) × (piece ≢ []) × (new ≡ old)
 
 -- the same of a session
-abbrev pub SessionPieceAnswer : {E : Type 0} → List ℕ → Session → Session → Result (Unit {0}) E → Type 0
+abbrev pub SessionPieceAnswer : {T E : Type 0} → List ℕ → Session → Session → Result T E → Type 0
 SessionPieceAnswer piece old new (Ok _) = new ≡ taking piece old
-SessionPieceAnswer piece old new (Err _) = (old.closed ≡ false) × (old.incoming.decoder.failed ≡ false) × (piece ≢ []) × (new ≡ old)
+SessionPieceAnswer piece old new (Err _) =
+    (old.closed ≡ false) × (old.incoming.decoder.failed ≡ false) × (piece ≢ []) × (new ≡ old)
 
 -- the next frame was taken and decided, or there is none, or a fault; where memory was refused nothing has changed
 abbrev pub NextAnswer : {E : Type 0} → Bool → Incoming → Incoming → Result Next E → Type 0
@@ -89,9 +93,38 @@ left_at (Some i) = left_of i
 abbrev pub left_in : Option Session → ℕ
 left_in s = left_at (incoming_in s)
 
--- what was taken out waits again
-abbrev pub waiting_again : Decided → Session → Session
-waiting_again decided s = with_incoming (with_waiting decided s.incoming) s
+-- ---- one turn of a session
+
+-- an open session's next frame was taken, and had its step
+pub record PartHandles (full : ℕ) (old new : Part) : Type 0 where
+  pub decided : Decided
+  pub left : Incoming
+  pub is_open : old.session.closed ≡ false
+  pub takes : DecidesNext old.session.server old.session.incoming decided left
+  pub changed : new ≡ served full decided (part old.book (with_incoming left old.session))
+
+-- no frame is left to a session: it is closed, or no whole frame has come, or a fault is met
+pub data PartEnds (old new : Part) : Type 0 where
+  was_closed : old.session.closed ≡ true → new ≡ old → PartEnds old new
+  has_none : (left : Incoming) → old.session.closed ≡ false → HasNone old.session.incoming left
+      → new ≡ part old.book (with_incoming left old.session) → PartEnds old new
+  met_fault : (left : Incoming) → old.session.closed ≡ false → MeetsFault old.session.incoming left
+      → new ≡ refused BadFrame None (part old.book (with_incoming left old.session)) → PartEnds old new
+
+-- Where memory was refused: before a frame was taken; in its step, and it waits; as a fault was told.
+pub data PartStops (old new : Part) : Type 0 where
+  before_frame : new ≡ old → PartStops old new
+  waits : (decided : Decided) (left : Incoming) → old.session.closed ≡ false
+      → DecidesNext old.session.server old.session.incoming decided left
+      → new ≡ part old.book (with_incoming (with_waiting decided left) old.session) → PartStops old new
+  untold : (left : Incoming) → old.session.closed ≡ false → MeetsFault old.session.incoming left
+      → new ≡ part old.book (with_incoming left old.session) → PartStops old new
+
+-- a frame had its step, or none is left, or memory was refused
+abbrev pub PartTurn : {E : Type 0} → ℕ → Part → Part → Result Bool E → Type 0
+PartTurn full old new (Ok true) = PartHandles full old new
+PartTurn full old new (Ok false) = PartEnds old new
+PartTurn full old new (Err _) = PartStops old new
 
 -- ---- calls of the sessions
 
@@ -100,23 +133,27 @@ abbrev pub PlaceAnswer : ℕ → List Session → Option ℕ → Type 0
 PlaceAnswer n sessions None = PassesNone (is_session n) sessions
 PlaceAnswer n sessions (Some at) = IsFirstAt (is_session n) sessions at
 
--- what an open session's next is, and what is left
-pub record TakesNext (n : ℕ) (old new : Server) (next : Next) : Type 0 where
-  pub session : Session
-  pub left : Incoming
-  pub is_open : IsOpen old n session
-  pub answer : NextAnswer {E = ℕ} session.server session.incoming left (Ok next)
-  pub changed : new ≡ changing n (with_incoming left) old
+-- a piece was fed to a session, of which fewer frames than this can still be taken; or memory was refused; or there is
+-- none
+abbrev pub BegunAnswer : ℕ → List ℕ → Server → Server → Result ℕ BrokerFault → Type 0
+BegunAnswer n piece old new (Ok bound) =
+    (is_some (session_of n old) ≡ true) × (new ≡ changing n (taking piece) old) × (left_in (session_of n new) < bound)
+BegunAnswer n piece old new (Err (OutOfMemory false)) = FeedsNone old n piece new
+BegunAnswer n piece old new (Err NoSession) = (session_of n old ≡ None) × (new ≡ old)
+BegunAnswer n piece old new (Err _) = ⊥
 
--- the next of a session was taken; where memory was refused nothing has changed
-abbrev pub NextTaken : {E : Type 0} → ℕ → Server → Server → Result Next E → Type 0
-NextTaken n old new (Ok next) = TakesNext n old new next
-NextTaken n old new (Err _) = new ≡ old
+-- a session's next frame was taken, and had its step
+pub record Stepped (full n : ℕ) (old new : Server) : Type 0 where
+  pub frame : Decided
+  pub taken : Server
+  pub takes : TakesDecided old n frame taken
+  pub changed : new ≡ step full n frame taken
 
--- a piece was fed, if there is such a session; or memory was refused
-abbrev pub FedAnswer : {E : Type 0} → ℕ → List ℕ → Server → Server → Result (Unit {0}) E → Type 0
-FedAnswer n piece old new (Ok _) = new ≡ changing n (taking piece) old
-FedAnswer n piece old new (Err _) = FeedsNone old n piece new
+-- the same, or none is left, or memory was refused
+abbrev pub StepAnswer : {E : Type 0} → ℕ → ℕ → Server → Server → Result Bool E → Type 0
+StepAnswer full n old new (Ok true) = Stepped full n old new
+StepAnswer full n old new (Ok false) = Ends old n new
+StepAnswer full n old new (Err _) = Stops full n old new
 
 -- ---- one turn of `feed`
 
@@ -132,11 +169,6 @@ abbrev pub TurnAnswer : {E : Type 0} → ℕ → ℕ → Server → Server → R
 TurnAnswer full n old new (Ok true) = Turned full n old new
 TurnAnswer full n old new (Ok false) = Ends old n new
 TurnAnswer full n old new (Err _) = Stops full n old new
-
--- a frame's step and the deals behind it; or the frame waits, or some deals were made, and memory was refused
-abbrev pub HandleAnswer : {E : Type 0} → ℕ → ℕ → Decided → Server → Server → Result (Unit {0}) E → Type 0
-HandleAnswer full n decided old new (Ok _) = Settles (step full n decided old) new
-HandleAnswer full n decided old new (Err _) = (new ≡ changing n (waiting_again decided) old) ⊎ Dealing (step full n decided old) new
 
 -- so many frames were handled
 pub record Handled (full n : ℕ) (old : Server) (count : ℕ) (new : Server) : Type 0 where

@@ -1,7 +1,7 @@
 use Rattle.std.proofs.Common.{◌+◌, ◌<◌}
 use Rattle.broker_core.specs.Parts.Taking.{Handled, left_in}
 use Rattle.broker_core.specs.Serving.{session_of}
-use Rattle.broker_core.proofs.broker.Broker.feed_number.Given as goal
+use Rattle.broker_core.proofs.broker.Broker.feed.Given as goal
 
 abbrev pub invariant-loop-count : goal.invariant-loop-count
 invariant-loop-count g l = record {
