@@ -7,13 +7,16 @@ use Rattle.base.specs.declared.limits.TheConstants.{MAX_BODY}
 use Rattle.stomp_frame.specs.Frames.{Content}
 use Rattle.stomp_frame.specs.Spelling.{IsGap, SpellsAfterGap}
 use Rattle.stomp_frame.proofs.Streaming.{gap_both, gap_spelled}
-use Rattle.broker_core.specs.Feeding.{DecidesNext, waited, read, HasNone, MeetsFault, now, before, TakesDecided, HandlesAll, Ends}
+use Rattle.broker_core.specs.Feeding.{DecidesNext, waited, read, HasNone, MeetsFault, now, before, TakesDecided}
+use Rattle.broker_core.specs.Feeding.{HandlesAll, Ends}
 use Rattle.broker_core.specs.Feeding.{closed, awaits, faulty}
 use Rattle.broker_core.specs.Feeding.{Stops, at_frame, in_step, in_deals, at_fault, at_end, Dealing, IsOpen, answer_of}
 use Rattle.broker_core.specs.Feeding.{fed, taking}
 use Rattle.broker_core.specs.Feeding.{with_incoming, with_waiting}
-use Rattle.broker_core.specs.Serving.{Decided, Server, session_of, roster_of, step, changing, with_fault, part, refused, nothing_incoming}
-use Rattle.broker_core.specs.Streams.{SpellsEach, SpellsFirst, connected_after, Fed, Took, whole, part as in_part, Untouched, FedInTurn}
+use Rattle.broker_core.specs.Serving.{Decided, Server, session_of, roster_of, step, changing, with_fault, part, refused}
+use Rattle.broker_core.specs.Serving.{nothing_incoming}
+use Rattle.broker_core.specs.Streams.{SpellsEach, SpellsFirst, connected_after, Fed, Took, whole, part as in_part}
+use Rattle.broker_core.specs.Streams.{Untouched, FedInTurn}
 use Rattle.broker_core.specs.Streams.{AreFirst, HandledAreFirst, stopped_frames}
 use Rattle.broker_core.specs.declared.fault.FrameRefusal.TheVariants.{BadFrame}
 use Rattle.broker_core.specs.declared.incoming.Incoming.{Incoming}
@@ -27,7 +30,8 @@ pub data HoldsIn (connected : Bool) (rest : List ℕ) (i : Incoming) : Type 0 wh
   lost : i.waiting ≡ None → i.decoder.failed ≡ true → HoldsIn connected rest i
   held : (gap : List ℕ) → IsGap gap → i.waiting ≡ None → i.decoder.failed ≡ false → rest ≡ gap ++ i.decoder.octets
       → HoldsIn connected rest i
-  waits : (f : Content) → (d : Decided) → (front : List ℕ) → i.waiting ≡ Some d → i.decoder.failed ≡ false → SpellsAfterGap MAX_BODY f front
+  waits : (f : Content) → (d : Decided) → (front : List ℕ) → i.waiting ≡ Some d → i.decoder.failed ≡ false
+      → SpellsAfterGap MAX_BODY f front
       → d ≡ answer_of connected f → rest ≡ front ++ i.decoder.octets → HoldsIn connected rest i
 
 pub record Holds (connected : Bool) (rest : List ℕ) (s : Session) : Type 0 where
@@ -51,7 +55,8 @@ pub record TookOne (c : Bool) (d : Decided) (rest : List ℕ) (left : Incoming) 
   pub sound : left.decoder.failed ≡ false
   pub octets : after ≡ left.decoder.octets
 
-take_one : (c : Bool) (rest : List ℕ) (i : Incoming) (d : Decided) (left : Incoming) → HoldsIn c rest i → DecidesNext c i d left
+take_one : (c : Bool) (rest : List ℕ) (i : Incoming) (d : Decided) (left : Incoming) → HoldsIn c rest i
+    → DecidesNext c i d left
     → TookOne c d rest left
 take_one c rest i d left (lost w f) (waited e k) = let z : Some d ≡ None = sym e ∙ w in cc
 take_one c rest i d left (lost w f) (read fr front w1 s1 spells o1 s2 w2 a) = let z : true ≡ false = sym f ∙ s1 in cc
@@ -78,13 +83,25 @@ take_one c rest i d left (waits fr x front w f spells a o) (waited e k) =
       sound = ap (λ (j : Incoming). j.decoder.failed) k ∙ f;
       octets = ap (λ (j : Incoming). j.decoder.octets) (sym k);
     }
-take_one c rest i d left (waits fr x front w f spells a o) (read fr2 front2 w1 s1 spells2 o1 s2 w2 a2) = let z : Some x ≡ None = sym w ∙
+take_one c rest i d left (waits fr x front w f spells a o) (read fr2 front2 w1 s1 spells2 o1 s2 w2 a2) =
+    let z : Some x ≡ None = sym w ∙
     w1 in cc
 
 spells_more : (c : Bool) (frames : List Decided) (d : Decided) (text rest after : List ℕ) → SpellsEach c frames text
     → (h : SpellsFirst (connected_after c frames) d rest after) → SpellsEach c (frames ++ d ∷ []) (text ++ h.front)
-spells_more c [] d text rest after e h = rw e
-    ([], (record { frame = h.frame; front = h.front; spells = h.spells; answers = h.answers; whole = sym (append-nil h.front) }, refl))
+spells_more c [] d text rest after e h = rw e (
+  [],
+  (
+    record {
+      frame = h.frame;
+      front = h.front;
+      spells = h.spells;
+      answers = h.answers;
+      whole = sym (append-nil h.front);
+    },
+    refl,
+  ),
+)
 spells_more c (x ∷ []) d text rest after e h = (
   e.0 ++ h.front,
   (
@@ -117,14 +134,16 @@ connected_more : (c : Bool) (frames : List Decided) (d : Decided) → connected_
 connected_more c [] d = refl
 connected_more c (x ∷ frames) d = refl
 
-nothing_before : (rest : List ℕ) (i : Incoming) (c : Bool) → i.waiting ≡ None → i.decoder.failed ≡ false → rest ≡ i.decoder.octets
+nothing_before : (rest : List ℕ) (i : Incoming) (c : Bool) → i.waiting ≡ None → i.decoder.failed ≡ false
+    → rest ≡ i.decoder.octets
     → HoldsIn c rest i
 nothing_before rest i c w f o = held [] (0, refl) w f o
 
 -- a frame was taken and had its step
 stepped : (c : Bool) (frames : List Decided) (pieces : List ℕ) (s mid t : Session) (d : Decided) (left : Incoming)
     → State c frames pieces s → s.closed ≡ false
-    → DecidesNext s.server s.incoming d left → mid ≡ with_incoming left s → Keeps mid t → State c (frames ++ d ∷ []) pieces t
+    → DecidesNext s.server s.incoming d left → mid ≡ with_incoming left s → Keeps mid t
+    → State c (frames ++ d ∷ []) pieces t
 stepped c frames pieces s mid t d left st o takes m k = elim st.next [
   | inl shut ↦ let z : true ≡ false = sym shut ∙ o in cc
   | inr h ↦
@@ -134,7 +153,8 @@ stepped c frames pieces s mid t d left st o takes m k = elim st.next [
         text = st.text ++ one.first.front;
         rest = one.after;
         spells = spells_more c frames d st.text st.rest one.after st.spells one.first;
-        whole = st.whole ∙ ap (λ x. st.text ++ x) one.first.whole ∙ sym (append_assoc st.text one.first.front one.after);
+        whole = st.whole ∙ ap (λ x. st.text ++ x) one.first.whole
+            ∙ sym (append_assoc st.text one.first.front one.after);
         next = elim k.kept [
           | inl shut ↦ inl shut
           | inr e ↦ inr (record {
@@ -149,7 +169,8 @@ stepped c frames pieces s mid t d left st o takes m k = elim st.next [
 
 -- ---- what doesn't change it
 
-pub moved : (c : Bool) (frames : List Decided) (pieces : List ℕ) (s t : Session) → State c frames pieces s → t.closed ≡ s.closed
+pub moved : (c : Bool) (frames : List Decided) (pieces : List ℕ) (s t : Session) → State c frames pieces s
+    → t.closed ≡ s.closed
     → t.server ≡ s.server
     → t.incoming ≡ s.incoming → State c frames pieces t
 moved c frames pieces s t st a b e = record {
@@ -173,20 +194,24 @@ pub record Is (c : Bool) (frames : List Decided) (pieces : List ℕ) (n : ℕ) (
   pub found : session_of n b ≡ Some session
   pub state : State c frames pieces session
 
-dealt : (c : Bool) (frames : List Decided) (pieces : List ℕ) (n : ℕ) (old new : Server) → Is c frames pieces n old → Dealing old new
+dealt : (c : Bool) (frames : List Decided) (pieces : List ℕ) (n : ℕ) (old new : Server) → Is c frames pieces n old
+    → Dealing old new
     → Is c frames pieces n new
 dealt c frames pieces n old new i h =
-    let u = seen_some (session_of n new) i.session (seen_taken n (roster_of old) (roster_of new) h.handed h.taken ∙ ap seen_in i.found) in
+    let u = seen_some (session_of n new) i.session (seen_taken n (roster_of old) (roster_of new) h.handed h.taken
+    ∙ ap seen_in i.found) in
     record {
       session = u.0;
       found = u.1.0;
-      state = moved c frames pieces i.session u.0 i.state (ap (λ (x : Seen). x.closed) u.1.1) (ap (λ (x : Seen). x.server) u.1.1)
+      state = moved c frames pieces i.session u.0 i.state (ap (λ (x : Seen). x.closed) u.1.1)
+          (ap (λ (x : Seen). x.server) u.1.1)
           (ap (λ (x : Seen). x.incoming) u.1.1);
     }
 
 -- ---- a frame, and frames
 
-one_step : (full n : ℕ) (c : Bool) (frames : List Decided) (pieces : List ℕ) (old mid : Server) (d : Decided) → Is c frames pieces n old
+one_step : (full n : ℕ) (c : Bool) (frames : List Decided) (pieces : List ℕ) (old mid : Server) (d : Decided)
+    → Is c frames pieces n old
     → TakesDecided old n d mid
     → Is c (frames ++ d ∷ []) pieces n (step full n d mid)
 one_step full n c frames pieces old mid d i t =
@@ -201,7 +226,8 @@ one_step full n c frames pieces old mid d i t =
           (subst (λ (x : Session). State c frames pieces x) (sym m) i.state) t.is_open.is_open t.takes refl k.1.1;
     }
 
-all_steps : (full n : ℕ) (c : Bool) (frames more : List Decided) (pieces : List ℕ) (old new : Server) → Is c frames pieces n old
+all_steps : (full n : ℕ) (c : Bool) (frames more : List Decided) (pieces : List ℕ) (old new : Server)
+    → Is c frames pieces n old
     → HandlesAll full n old more new
     → Is c (frames ++ more) pieces n new
 all_steps full n c frames [] pieces old new i h =
@@ -209,12 +235,14 @@ all_steps full n c frames [] pieces old new i h =
 all_steps full n c frames (d ∷ more) pieces old new i h =
     let one = dealt c (frames ++ d ∷ []) pieces n (step full n d h.1.taken) h.0
     (one_step full n c frames pieces old h.1.taken d i h.1.takes) h.1.settles.0 in
-    subst (λ l. Is c l pieces n new) (append_assoc frames (d ∷ []) more) (all_steps full n c (frames ++ d ∷ []) more pieces h.0 new one h.2)
+    subst (λ l. Is c l pieces n new) (append_assoc frames (d ∷ []) more) (all_steps full n c (frames ++ d ∷ []) more
+    pieces h.0 new one h.2)
 
 -- ---- the end of a call
 
 -- a session whose rest is another
-left_as : (c : Bool) (frames : List Decided) (pieces : List ℕ) (n : ℕ) (old new : Server) (i : Is c frames pieces n old) (s : Session)
+left_as : (c : Bool) (frames : List Decided) (pieces : List ℕ) (n : ℕ) (old new : Server) (i : Is c frames pieces n old)
+    (s : Session)
     (left : Incoming)
     → IsOpen old n s
     → (s.server ≡ connected_after c frames → (rest : List ℕ) → HoldsIn (connected_after c frames) rest s.incoming
@@ -267,10 +295,17 @@ faulted c frames pieces n b i =
     record {
       session = t;
       found = rw i.found (find_with n (λ _. t) b.sessions i.session refl i.found);
-      state = record { text = i.state.text; rest = i.state.rest; spells = i.state.spells; whole = i.state.whole; next = inl refl };
+      state = record {
+        text = i.state.text;
+        rest = i.state.rest;
+        spells = i.state.spells;
+        whole = i.state.whole;
+        next = inl refl;
+      };
     }
 
-ended : (c : Bool) (frames : List Decided) (pieces : List ℕ) (n : ℕ) (old new : Server) → Is c frames pieces n old → Ends old n new
+ended : (c : Bool) (frames : List Decided) (pieces : List ℕ) (n : ℕ) (old new : Server) → Is c frames pieces n old
+    → Ends old n new
     → Is c frames pieces n new
 ended c frames pieces n old new i (closed s f k e) = subst (λ b. Is c frames pieces n b) (sym e) i
 ended c frames pieces n old new i (awaits s left o h e) = left_as c frames pieces n old new i s left o
@@ -281,7 +316,8 @@ ended c frames pieces n old new i (faulty s left o h e) =
     (left_as c frames pieces n old (changing n (with_incoming left) old) i s left o
     (λ k. fails (connected_after c frames) s.incoming left h) refl))
 
-stopped : (full n : ℕ) (c : Bool) (frames : List Decided) (pieces : List ℕ) (old new : Server) → Is c frames pieces n old
+stopped : (full n : ℕ) (c : Bool) (frames : List Decided) (pieces : List ℕ) (old new : Server)
+    → Is c frames pieces n old
     → (h : Stops full n old new)
     → Is c (frames ++ stopped_frames h) pieces n new
 stopped full n c frames pieces old new i (at_frame e) =
@@ -289,8 +325,10 @@ stopped full n c frames pieces old new i (at_frame e) =
 stopped full n c frames pieces old new i (in_step d s left o t e) =
     subst (λ l. Is c l pieces n new) (sym (append-nil frames))
     (left_as c frames pieces n old new i s (with_waiting d left) o
-    (λ k. waits_again (connected_after c frames) s.incoming left d (subst (λ b. DecidesNext b s.incoming d left) k t)) e)
-stopped full n c frames pieces old new i (in_deals d mid t deals) = dealt c (frames ++ d ∷ []) pieces n (step full n d mid) new
+    (λ k. waits_again (connected_after c frames) s.incoming left d (subst (λ b. DecidesNext b s.incoming d left) k t))
+    e)
+stopped full n c frames pieces old new i (in_deals d mid t deals) =
+    dealt c (frames ++ d ∷ []) pieces n (step full n d mid) new
     (one_step full n c frames pieces old mid d i t) deals
 stopped full n c frames pieces old new i (at_fault s left o h e) =
     subst (λ l. Is c l pieces n new) (sym (append-nil frames))
@@ -302,24 +340,33 @@ stopped full n c frames pieces old new i (at_end end ends deals) =
 -- ---- a piece
 
 fed_by : (c : Bool) (rest piece : List ℕ) (i : Incoming) (b : Bool) → i.decoder.failed ≡ b → HoldsIn c rest i
-    → HoldsIn c (rest ++ piece) (cond b i (record i { decoder = record i.decoder { octets = i.decoder.octets ++ piece } }))
+    → HoldsIn c (rest ++ piece) (cond b i (record i {
+      decoder =
+          record i.decoder { octets = i.decoder.octets ++ piece };
+    }))
 fed_by c rest piece i true e (lost w f) = lost w f
 fed_by c rest piece i true e (held gap g w f o) = let z : true ≡ false = sym e ∙ f in cc
 fed_by c rest piece i true e (waits fr x front w f spells a o) = let z : true ≡ false = sym e ∙ f in cc
 fed_by c rest piece i false e (lost w f) = let z : true ≡ false = sym f ∙ e in cc
-fed_by c rest piece i false e (held gap g w f o) = held gap g w f (ap (λ x. x ++ piece) o ∙ append_assoc gap i.decoder.octets piece)
+fed_by c rest piece i false e (held gap g w f o) =
+    held gap g w f (ap (λ x. x ++ piece) o ∙ append_assoc gap i.decoder.octets piece)
 fed_by c rest piece i false e (waits fr x front w f spells a o) =
     waits fr x front w f spells a (ap (λ l. l ++ piece) o ∙ append_assoc front i.decoder.octets piece)
 
 next_by : (c : Bool) (rest piece : List ℕ) (s : Session) (b : Bool) → s.closed ≡ b → (s.closed ≡ true) ⊎ Holds c rest s
-    → ((cond b s (record s { incoming = fed piece s.incoming })).closed ≡ true) ⊎ Holds c (rest ++ piece) (cond b s (record s {
+    → ((cond b s (record s { incoming = fed piece s.incoming })).closed ≡ true)
+    ⊎ Holds c (rest ++ piece) (cond b s (record s {
       incoming =
           fed piece s.incoming;
     }))
 next_by c rest piece s true e h = inl e
 next_by c rest piece s false e h = elim h [
   | inl k ↦ let z : true ≡ false = sym k ∙ e in cc
-  | inr k ↦ inr (record { server = k.server; incoming = fed_by c rest piece s.incoming s.incoming.decoder.failed refl k.incoming })
+  | inr k ↦ inr (record {
+    server = k.server;
+    incoming =
+        fed_by c rest piece s.incoming s.incoming.decoder.failed refl k.incoming;
+  })
 ]
 
 number_if : (b : Bool) (s t : Session) → t.number ≡ s.number → (cond b s t).number ≡ s.number
@@ -342,36 +389,44 @@ piece_fed c frames pieces piece n b i = record {
 
 -- ---- a call, and calls
 
-pub took : (full n : ℕ) (c : Bool) (frames : List Decided) (pieces : List ℕ) (old new : Server) (f : Fed) → Is c frames pieces n old
+pub took : (full n : ℕ) (c : Bool) (frames : List Decided) (pieces : List ℕ) (old new : Server) (f : Fed)
+    → Is c frames pieces n old
     → Took full n old f new
     → Is c (frames ++ f.frames) (pieces ++ f.piece) n new
 took full n c frames pieces old new f i (whole count h e) =
     let ps = pieces ++ f.piece in
-    let a = all_steps full n c frames h.frames ps (changing n (taking f.piece) old) h.handled (piece_fed c frames pieces f.piece n old i)
+    let a = all_steps full n c frames h.frames ps (changing n (taking f.piece) old) h.handled
+    (piece_fed c frames pieces f.piece n old i)
     h.handles in
-    let b = dealt c (frames ++ h.frames) ps n h.ended new (ended c (frames ++ h.frames) ps n h.handled h.ended a h.ends) h.settles.0 in
+    let b = dealt c (frames ++ h.frames) ps n h.ended new (ended c (frames ++ h.frames) ps n h.handled h.ended a h.ends)
+    h.settles.0 in
     subst (λ l. Is c (frames ++ l) ps n new) (sym e) b
 took full n c frames pieces old new f i (in_part h e) =
     let ps = pieces ++ f.piece in
-    let a = all_steps full n c frames h.frames ps (changing n (taking f.piece) old) h.handled (piece_fed c frames pieces f.piece n old i)
+    let a = all_steps full n c frames h.frames ps (changing n (taking f.piece) old) h.handled
+    (piece_fed c frames pieces f.piece n old i)
     h.handles in
     let b = stopped full n c (frames ++ h.frames) ps h.handled new a h.stops in
     subst (λ l. Is c (frames ++ l) ps n new) (sym e)
     (subst (λ l. Is c l ps n new) (append_assoc frames h.frames (stopped_frames h.stops)) b)
 
-untouched : (c : Bool) (frames : List Decided) (pieces : List ℕ) (n : ℕ) (old new : Server) → Is c frames pieces n old → Untouched n old new
+untouched : (c : Bool) (frames : List Decided) (pieces : List ℕ) (n : ℕ) (old new : Server) → Is c frames pieces n old
+    → Untouched n old new
     → Is c frames pieces n new
 untouched c frames pieces n old new i h =
     let m : i.session ≡ h.before = same_session (session_of n old) i.session h.before i.found h.was in
     record {
       session = h.after;
       found = h.is;
-      state = moved c frames pieces h.before h.after (subst (λ (x : Session). State c frames pieces x) m i.state) h.closed h.server
+      state = moved c frames pieces h.before h.after (subst (λ (x : Session). State c frames pieces x) m i.state)
+          h.closed h.server
           h.incoming;
     }
 
-in_turn : (full n : ℕ) (c : Bool) (frames : List Decided) (pieces : List ℕ) (old new : Server) (feeds : List Fed) → Is c frames pieces n old
-    → FedInTurn full n old feeds new → AreFirst c (frames ++ flat_map (λ f. f.frames) feeds) (pieces ++ flat_map (λ f. f.piece) feeds)
+in_turn : (full n : ℕ) (c : Bool) (frames : List Decided) (pieces : List ℕ) (old new : Server) (feeds : List Fed)
+    → Is c frames pieces n old
+    → FedInTurn full n old feeds new → AreFirst c (frames ++ flat_map (λ f. f.frames) feeds)
+    (pieces ++ flat_map (λ f. f.piece) feeds)
 in_turn full n c frames pieces old new [] i h =
     rw (append-nil frames, append-nil pieces) (record {
       front = i.state.text;

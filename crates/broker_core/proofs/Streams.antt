@@ -5,7 +5,8 @@ use Rattle.std.specs.Prelude.{◌⊎◌}
 use Rattle.stomp_session.specs.declared.request.Request.{Request}
 use Rattle.broker_core.specs.Feeding.{DecidesNext, waited, read, Handles, with_incoming}
 use Rattle.broker_core.specs.Performing.{Reach, performed}
-use Rattle.broker_core.specs.Serving.{Decided, Part, Server, session_of, roster_of, served, finished, confirmed, closing_if, is_last}
+use Rattle.broker_core.specs.Serving.{Decided, Part, Server, session_of, roster_of, served, finished, confirmed}
+use Rattle.broker_core.specs.Serving.{closing_if, is_last}
 use Rattle.broker_core.specs.Serving.{reached, step, part}
 use Rattle.broker_core.specs.Streams.{TakesAll, Leaves, WereSpelled, HandledAreTaken, TakenAreSpelled}
 use Rattle.broker_core.specs.declared.fault.FrameRefusal.{FrameRefusal}
@@ -23,7 +24,13 @@ spelled_first connected old mid new d frames w (read f front w1 s1 spells octets
     let r = ih w2 in
     record {
       text = front ++ r.text;
-      spells = (r.text, (record { frame = f; front = front; spells = spells; answers = answers; whole = refl }, r.spells));
+      spells = (
+        r.text,
+        (
+          record { frame = f; front = front; spells = spells; answers = answers; whole = refl },
+          r.spells,
+        ),
+      );
       octets = octets ∙ ap (λ x. front ++ x) r.octets ∙ sym (append_assoc front r.text new.decoder.octets);
       none_waits = r.none_waits;
     }
@@ -35,7 +42,8 @@ spelled connected old new [] t w = record {
   octets = ap (λ (i : Incoming). i.decoder.octets) (sym t);
   none_waits = ap (λ (i : Incoming). i.waiting) t ∙ w;
 }
-spelled connected old new (d ∷ frames) t w = spelled_first connected old t.0 new d frames w t.1.0 (spelled true t.0 new frames t.1.1)
+spelled connected old new (d ∷ frames) t w =
+    spelled_first connected old t.0 new d frames w t.1.0 (spelled true t.0 new frames t.1.1)
 
 -- ---- what stays of a session
 
@@ -48,9 +56,11 @@ closing_keeps : (last : Bool) (s : Session) (p : Part) → Keeps s p.session →
 closing_keeps true s p k = record { number = k.number; kept = inl refl }
 closing_keeps false s p k = k
 
-finished_keeps : (request : Request) (p : Part) (r : Result Reach FrameRefusal) → Keeps p.session (finished request p r).session
+finished_keeps : (request : Request) (p : Part) (r : Result Reach FrameRefusal)
+    → Keeps p.session (finished request p r).session
 finished_keeps request p (Ok r) =
-    closing_keeps (is_last request) p.session (confirmed request p r) (record { number = refl; kept = inr (refl, refl) })
+    closing_keeps (is_last request) p.session (confirmed request p r) (record
+    { number = refl; kept = inr (refl, refl) })
 finished_keeps request p (Err x) = record { number = refl; kept = inl refl }
 
 served_keeps : (full : ℕ) (d : Decided) (p : Part) → Keeps p.session (served full d p).session
@@ -80,7 +90,8 @@ pub record OneTaken (n : ℕ) (s : Session) (d : Decided) (new : Server) : Type 
   pub takes : DecidesNext s.server s.incoming d left
   pub leaves : Leaves n new left true
 
-pub one_taken : (full n : ℕ) (old new : Server) (d : Decided) (s : Session) → Handles full n old d new → session_of n old ≡ Some s
+pub one_taken : (full n : ℕ) (old new : Server) (d : Decided) (s : Session) → Handles full n old d new
+    → session_of n old ≡ Some s
     → OneTaken n s d new
 one_taken full n old new d s h found =
     let t = h.takes in
@@ -89,7 +100,8 @@ one_taken full n old new d s h found =
     ap (session_of n) t.changed ∙ find_with n (with_incoming t.left) old.sessions t.session refl t.is_open.found in
     let k = step_keeps full n d h.taken (with_incoming t.left t.session) mid in
     let same : seen_in (session_of n new) ≡ Some (seen k.0) =
-    seen_taken n (roster_of (step full n d h.taken)) (roster_of new) h.settles.0.handed h.settles.0.taken ∙ ap seen_in k.1.0 in
+    seen_taken n (roster_of (step full n d h.taken)) (roster_of new) h.settles.0.handed h.settles.0.taken
+    ∙ ap seen_in k.1.0 in
     let u = seen_some (session_of n new) k.0 same in
     record {
       left = t.left;
@@ -102,7 +114,8 @@ open_left : (s : Session) (i : Incoming) → s.closed ≡ false → (s.closed �
     → (s.incoming ≡ i) × (s.server ≡ true)
 open_left s i e h = elim h [ inl k ↦ absurd (let z : true ≡ false = sym k ∙ e in cc) | inr k ↦ k ]
 
-taken_from : (c : Bool) (i j : Incoming) (s : Session) (frames : List Decided) (left : Incoming) → s.incoming ≡ i → s.server ≡ c
+taken_from : (c : Bool) (i j : Incoming) (s : Session) (frames : List Decided) (left : Incoming) → s.incoming ≡ i
+    → s.server ≡ c
     → TakesAll s.server s.incoming frames left → TakesAll c i frames left
 taken_from c i j s frames left e k t = subst (λ (x : Incoming). TakesAll c x frames left) e
     (subst (λ b. TakesAll b s.incoming frames left) k t)
@@ -118,14 +131,20 @@ taken full n old new (d ∷ []) s h found =
     record {
       left = k.left;
       takes = (k.left, (k.takes, refl));
-      leaves = record { session = k.leaves.session; found = ap (session_of n) h.2 ∙ k.leaves.found; is_left = k.leaves.is_left };
+      leaves = record {
+        session = k.leaves.session;
+        found = ap (session_of n) h.2 ∙ k.leaves.found;
+        is_left = k.leaves.is_left;
+      };
     }
 taken full n old new (d ∷ g ∷ frames) s h found =
     let k = one_taken full n old h.0 d s h.1 found in
     let next = h.2.1.takes in
-    let m : next.session ≡ k.leaves.session = same_session (session_of n h.0) next.session k.leaves.session next.is_open.found
+    let m : next.session ≡ k.leaves.session =
+    same_session (session_of n h.0) next.session k.leaves.session next.is_open.found
     k.leaves.found in
-    let e = open_left k.leaves.session k.left (ap (λ (x : Session). x.closed) (sym m) ∙ next.is_open.is_open) k.leaves.is_left in
+    let e = open_left k.leaves.session k.left (ap (λ (x : Session). x.closed) (sym m) ∙ next.is_open.is_open)
+    k.leaves.is_left in
     let r = taken full n h.0 new (g ∷ frames) k.leaves.session h.2 k.leaves.found in
     record {
       left = r.left;

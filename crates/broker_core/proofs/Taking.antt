@@ -11,8 +11,10 @@ use Rattle.broker_core.specs.Parts.Taking.{is_memory}
 use Rattle.broker_core.specs.Serving.{Decided}
 use Rattle.broker_core.specs.declared.incoming.Incoming.{Incoming}
 
-pub reads : (connected : Bool) (old new : Incoming) (f : Content) (decided : Decided) → old.waiting ≡ None → new.waiting ≡ None
-    → Nexts MAX_BODY old.decoder new.decoder (Ok (Some f)) → decided ≡ answer_of connected f → DecidesNext connected old decided new
+pub reads : (connected : Bool) (old new : Incoming) (f : Content) (decided : Decided) → old.waiting ≡ None
+    → new.waiting ≡ None
+    → Nexts MAX_BODY old.decoder new.decoder (Ok (Some f)) → decided ≡ answer_of connected f
+    → DecidesNext connected old decided new
 reads connected old new f decided w v n e = read f n.2 w n.0 n.3 n.4 n.1 v e
 
 same : (old new : Incoming) → old.waiting ≡ None → new.waiting ≡ None → new.decoder ≡ old.decoder → new ≡ old
@@ -25,7 +27,8 @@ pub none_of : (o : Option Decided) → ((x : Decided) → o ≡ Some x → ⊥) 
 none_of None h = refl
 none_of (Some x) h = absurd (h x refl)
 
-pub meets : (old new : Incoming) (fault : FrameFault) → is_memory fault ≡ false → old.waiting ≡ None → new.waiting ≡ None
+pub meets : (old new : Incoming) (fault : FrameFault) → is_memory fault ≡ false → old.waiting ≡ None
+    → new.waiting ≡ None
     → Nexts MAX_BODY old.decoder new.decoder (Err fault) → MeetsFault old new
 meets old new Memory e w v n = cc
 meets old new Failed e w v n = before w n.0 (same old new w v n.1)

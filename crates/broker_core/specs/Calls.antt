@@ -1,5 +1,6 @@
 -- What the other calls of a broker do.
-use Rattle.std.specs.Prelude.{◌≡◌, ℕ, ◌+◌, ◌-◌, ◌^◌, Bool, true, false, not, List, [], ◌∷◌, ◌++◌, filter, drop, Option, Some, None}
+use Rattle.std.specs.Prelude.{◌≡◌, ℕ, ◌+◌, ◌-◌, ◌^◌, Bool, true, false, not, List, [], ◌∷◌, ◌++◌, filter, drop, Option}
+use Rattle.std.specs.Prelude.{Some, None}
 use Rattle.std.specs.Prelude.{Result, Ok, Err}
 use Rattle.std.specs.List.{list_any}
 use Rattle.broker_book.specs.Books.{empty_book}
@@ -89,7 +90,8 @@ pub record NamesFresh (old : Server) (n : ℕ) (new : Server) : Type 0 where
   pub was_fresh : session.fresh ≡ true
   pub changed : new ≡ changing n named old
 
--- What `take_fresh` answers: a session with fresh octets, which is named; or that there is none, and nothing has changed.
+-- What `take_fresh` answers: a session with fresh octets, which is named; or that there is none, and nothing has
+-- changed.
 abbrev pub FreshAnswer : Server → Server → Option ℕ → Type 0
 FreshAnswer old new (Some n) = NamesFresh old n new
 FreshAnswer old new None = (list_any is_fresh old.sessions ≡ false) × (new ≡ old)

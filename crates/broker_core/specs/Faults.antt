@@ -2,9 +2,11 @@
 use Rattle.std.specs.Prelude.{ℕ, List, codes}
 use Rattle.stomp_session.specs.Faults.{session_fault_number, session_fault_name}
 use Rattle.broker_core.specs.declared.fault.FrameRefusal.{FrameRefusal}
-use Rattle.broker_core.specs.declared.fault.FrameRefusal.TheVariants.{BadFrame, Unaccepted, BadDestination, SubscriptionExists}
+use Rattle.broker_core.specs.declared.fault.FrameRefusal.TheVariants.{BadFrame, Unaccepted, BadDestination}
+use Rattle.broker_core.specs.declared.fault.FrameRefusal.TheVariants.{SubscriptionExists}
 use Rattle.broker_core.specs.declared.fault.FrameRefusal.TheVariants.{NoSubscription}
-use Rattle.broker_core.specs.declared.fault.FrameRefusal.TheVariants.{BadAckMode, TransactionExists, NoTransaction, NoSuchAck, QueueFull}
+use Rattle.broker_core.specs.declared.fault.FrameRefusal.TheVariants.{BadAckMode, TransactionExists, NoTransaction}
+use Rattle.broker_core.specs.declared.fault.FrameRefusal.TheVariants.{NoSuchAck, QueueFull}
 use Rattle.broker_core.specs.declared.fault.FrameRefusal.TheVariants.{TooMany}
 use Rattle.broker_core.specs.declared.fault.BrokerFault.{BrokerFault}
 use Rattle.broker_core.specs.declared.fault.BrokerFault.TheVariants.{Memory, NoSession, TooMany as NoNumber}

@@ -1,5 +1,6 @@
 -- What is fed to a session, what it is decided to be, and what handling it makes of the broker.
-use Rattle.std.specs.Prelude.{◌≡◌, ◌≢◌, ℕ, Bool, true, false, if◌then◌else◌, List, [], ◌∷◌, ◌++◌, length, Some, None, is_some}
+use Rattle.std.specs.Prelude.{◌≡◌, ◌≢◌, ℕ, Bool, true, false, if◌then◌else◌, List, [], ◌∷◌, ◌++◌, length, Some, None}
+use Rattle.std.specs.Prelude.{is_some}
 use Rattle.std.specs.Prelude.{Result, Ok, Err}
 use Rattle.base.specs.declared.limits.TheConstants.{MAX_BODY}
 use Rattle.stomp_frame.specs.Decoding.{NoFault}
@@ -13,7 +14,8 @@ use Rattle.stomp_session.specs.declared.fault.SessionFault.{SessionFault}
 use Rattle.stomp_session.specs.declared.request.Request.{Request}
 use Rattle.broker_book.specs.Books.{IsQuiet}
 use Rattle.broker_book.specs.Steps.{Handed, Dealt}
-use Rattle.broker_core.specs.Serving.{Decided, Roster, Server, roster_of, step, in_roster, changing, with_fault, session_of, writing}
+use Rattle.broker_core.specs.Serving.{Decided, Roster, Server, roster_of, step, in_roster, changing, with_fault}
+use Rattle.broker_core.specs.Serving.{session_of, writing}
 use Rattle.broker_core.specs.declared.fault.BrokerFault.{BrokerFault}
 use Rattle.broker_core.specs.declared.fault.BrokerFault.TheVariants.{Memory, NoSession, TooMany}
 use Rattle.broker_core.specs.declared.incoming.Incoming.{Incoming}
@@ -62,14 +64,16 @@ answer_of connected f = answer_by f (request_of connected f)
 
 -- a piece behind what was fed; it is thrown away where a fault was found
 abbrev pub fed : List ℕ → Incoming → Incoming
-fed piece i = if i.decoder.failed then i else record i { decoder = record i.decoder { octets = i.decoder.octets ++ piece } }
+fed piece i =
+    if i.decoder.failed then i else record i { decoder = record i.decoder { octets = i.decoder.octets ++ piece } }
 
 -- what is decided next, and what is left behind it
 pub data DecidesNext (connected : Bool) (old : Incoming) (decided : Decided) (new : Incoming) : Type 0 where
   -- what waits
   waited : old.waiting ≡ Some decided → new ≡ record old { waiting = None } → DecidesNext connected old decided new
   -- the frame whose gap and spelling begin the octets
-  read : (f : Content) → (front : List ℕ) → old.waiting ≡ None → old.decoder.failed ≡ false → SpellsAfterGap MAX_BODY f front
+  read : (f : Content) → (front : List ℕ) → old.waiting ≡ None → old.decoder.failed ≡ false
+      → SpellsAfterGap MAX_BODY f front
       → old.decoder.octets ≡ front ++ new.decoder.octets → new.decoder.failed ≡ false → new.waiting ≡ None
       → decided ≡ answer_of connected f → DecidesNext connected old decided new
 
@@ -150,13 +154,15 @@ pub record Feeds (full : ℕ) (old : Server) (n : ℕ) (piece : List ℕ) (new :
   pub ends : Ends handled n ended
   pub settles : Settles ended new
 
--- Where memory was refused: before a frame was taken; in its step, and it waits; in the deals behind it; as a fault was told; in the
--- deals at the end.
+-- Where memory was refused: before a frame was taken; in its step, and it waits; in the deals behind it; as a fault was
+-- told; in the deals at the end.
 pub data Stops (full n : ℕ) (old new : Server) : Type 0 where
   at_frame : new ≡ old → Stops full n old new
-  in_step : (decided : Decided) (s : Session) (left : Incoming) → IsOpen old n s → DecidesNext s.server s.incoming decided left
+  in_step : (decided : Decided) (s : Session) (left : Incoming) → IsOpen old n s
+      → DecidesNext s.server s.incoming decided left
       → new ≡ changing n (with_incoming (with_waiting decided left)) old → Stops full n old new
-  in_deals : (decided : Decided) (taken : Server) → TakesDecided old n decided taken → Dealing (step full n decided taken) new
+  in_deals : (decided : Decided) (taken : Server) → TakesDecided old n decided taken
+      → Dealing (step full n decided taken) new
       → Stops full n old new
   at_fault : (s : Session) (left : Incoming) → IsOpen old n s → MeetsFault s.incoming left
       → new ≡ changing n (with_incoming left) old → Stops full n old new
@@ -170,7 +176,8 @@ pub record FeedsPart (full : ℕ) (old : Server) (n : ℕ) (piece : List ℕ) (n
   pub handles : HandlesAll full n (changing n (taking piece) old) frames handled
   pub stops : Stops full n handled new
 
--- A piece with an octet wasn't taken, for want of memory, by an open session that has met no fault; nothing has changed.
+-- A piece with an octet wasn't taken, for want of memory, by an open session that has met no fault; nothing has
+-- changed.
 pub record FeedsNone (old : Server) (n : ℕ) (piece : List ℕ) (new : Server) : Type 0 where
   pub session : Session
   pub is_open : IsOpen old n session
@@ -178,7 +185,8 @@ pub record FeedsNone (old : Server) (n : ℕ) (piece : List ℕ) (new : Server) 
   pub some : piece ≢ []
   pub same : new ≡ old
 
--- What `feed` answers: the number of frames handled; memory was refused, with the piece taken or with nothing changed; no such session.
+-- What `feed` answers: the number of frames handled; memory was refused, with the piece taken or with nothing changed;
+-- no such session.
 abbrev pub FeedAnswer : ℕ → Server → ℕ → List ℕ → Server → Result ℕ BrokerFault → Type 0
 FeedAnswer full old n piece new (Ok count) = Feeds full old n piece new count
 FeedAnswer full old n piece new (Err (Memory true)) = FeedsPart full old n piece new

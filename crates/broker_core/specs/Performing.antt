@@ -6,14 +6,16 @@ use Rattle.base.specs.declared.limits.TheConstants.{MAX_SUBSCRIPTIONS}
 use Rattle.text.specs.Numerals.{number_of}
 use Rattle.stomp_session.specs.Requests.{ack_mode}
 use Rattle.stomp_session.specs.declared.request.Request.{Request}
-use Rattle.stomp_session.specs.declared.request.Request.TheVariants.{Connect, Send, Subscribe, Unsubscribe, Ack, Nack, Begin, Commit}
+use Rattle.stomp_session.specs.declared.request.Request.TheVariants.{Connect, Send, Subscribe, Unsubscribe, Ack, Nack}
+use Rattle.stomp_session.specs.declared.request.Request.TheVariants.{Begin, Commit}
 use Rattle.stomp_session.specs.declared.request.Request.TheVariants.{Abort, Disconnect}
 use Rattle.stomp_session.specs.declared.request.Send.{Send as SendParts}
 use Rattle.stomp_session.specs.declared.request.Subscribe.{Subscribe as SubscribeParts}
 use Rattle.broker_book.specs.Books.{Book, is_named}
 use Rattle.broker_book.specs.Steps.{put_of, ack_of, nack_of, apply_of, subscribed, released, holder}
 use Rattle.broker_book.specs.declared.fault.QueueFault.{QueueFault}
-use Rattle.broker_book.specs.declared.fault.QueueFault.TheVariants.{Memory as NoRoom, NoSuchAck as UnknownAck, QueueFull as IsFull}
+use Rattle.broker_book.specs.declared.fault.QueueFault.TheVariants.{Memory as NoRoom, NoSuchAck as UnknownAck}
+use Rattle.broker_book.specs.declared.fault.QueueFault.TheVariants.{QueueFull as IsFull}
 use Rattle.broker_book.specs.declared.fault.QueueFault.TheVariants.{TooMany as NoNumber}
 use Rattle.broker_book.specs.declared.parts.Sent.{Sent}
 use Rattle.broker_book.specs.declared.parts.Action.{Action}
@@ -21,12 +23,15 @@ use Rattle.broker_book.specs.declared.parts.Action.TheVariants.{Put, Ack as AckO
 use Rattle.broker_book.specs.declared.parts.Mode.{Mode}
 use Rattle.broker_tx.specs.Transactions.{Transaction, is_open, actions_of, begin_of, add_of, end_of}
 use Rattle.broker_tx.specs.declared.fault.TransactionFault.{TransactionFault}
-use Rattle.broker_tx.specs.declared.fault.TransactionFault.TheVariants.{TransactionExists as IsOpen, NoTransaction as IsClosed}
+use Rattle.broker_tx.specs.declared.fault.TransactionFault.TheVariants.{TransactionExists as IsOpen}
+use Rattle.broker_tx.specs.declared.fault.TransactionFault.TheVariants.{NoTransaction as IsClosed}
 use Rattle.broker_tx.specs.declared.fault.TransactionFault.TheVariants.{Memory as NoSpace, TooMany as IsLimit}
 use Rattle.broker_core.specs.Words.{is_destination, mode_of}
 use Rattle.broker_core.specs.declared.fault.FrameRefusal.{FrameRefusal}
-use Rattle.broker_core.specs.declared.fault.FrameRefusal.TheVariants.{BadDestination, SubscriptionExists, NoSubscription, BadAckMode}
-use Rattle.broker_core.specs.declared.fault.FrameRefusal.TheVariants.{TransactionExists, NoTransaction, NoSuchAck, QueueFull, TooMany}
+use Rattle.broker_core.specs.declared.fault.FrameRefusal.TheVariants.{BadDestination, SubscriptionExists}
+use Rattle.broker_core.specs.declared.fault.FrameRefusal.TheVariants.{NoSubscription, BadAckMode}
+use Rattle.broker_core.specs.declared.fault.FrameRefusal.TheVariants.{TransactionExists, NoTransaction, NoSuchAck}
+use Rattle.broker_core.specs.declared.fault.FrameRefusal.TheVariants.{QueueFull, TooMany}
 
 -- what a request may change
 pub record Reach : Type 0 where
@@ -94,7 +99,14 @@ subscribe_in r session s None = Err BadAckMode
 subscribe_in r session s (Some mode) =
     if has_named r.book session s.id then Err SubscriptionExists
     else if nat_lt (subscription_count r.book session) MAX_SUBSCRIPTIONS
-    then Ok (record r { book = subscribed r.book (record { session = session; id = s.id; destination = s.destination; mode = mode }) })
+    then Ok (record r {
+      book = subscribed r.book (record {
+        session = session;
+        id = s.id;
+        destination = s.destination;
+        mode = mode;
+      });
+    })
     else Err TooMany
 
 -- a subscription ends
@@ -124,7 +136,8 @@ abbrev pub answer_done : (Book → ℕ → ℕ → Result Book QueueFault) → (
     → Result Reach FrameRefusal
 answer_done by action r session number None = answer_now by r session number
 answer_done by action r session number (Some name) =
-    if is_open r.transactions name then answer_kept action r name (unanswered_number r.book session number) else Err NoTransaction
+    if is_open r.transactions name then answer_kept action r name (unanswered_number r.book session number)
+    else Err NoTransaction
 
 -- ---- BEGIN, COMMIT and ABORT
 
@@ -147,7 +160,8 @@ commit_done full r session name (Some actions) = ending name (in_book r (apply_o
 -- what a request of a session makes of what it reaches, or why it is refused
 abbrev pub performed : ℕ → ℕ → Reach → Request → Result Reach FrameRefusal
 performed full session r (Connect c) = Ok r
-performed full session r (Send s) = if is_destination s.destination then send_done full r (sent_of s) s.transaction else Err BadDestination
+performed full session r (Send s) =
+    if is_destination s.destination then send_done full r (sent_of s) s.transaction else Err BadDestination
 performed full session r (Subscribe s) =
     if is_destination s.destination then subscribe_in r session s (mode_of (ack_mode s.ack)) else Err BadDestination
 performed full session r (Unsubscribe u) = unsubscribe_done r session u.id

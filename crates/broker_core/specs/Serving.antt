@@ -1,5 +1,6 @@
 -- What a request, or the refusal of a frame, does to its session and to the broker.
-use Rattle.std.specs.Prelude.{ℕ, ◌==◌, ◌||◌, Bool, true, false, is_some, if◌then◌else◌, List, [], ◌++◌, Option, Some, None}
+use Rattle.std.specs.Prelude.{ℕ, ◌==◌, ◌||◌, Bool, true, false, is_some, if◌then◌else◌, List, [], ◌++◌, Option, Some}
+use Rattle.std.specs.Prelude.{None}
 use Rattle.std.specs.Prelude.{Result, Ok, Err}
 use Rattle.std.specs.List.{find}
 use Rattle.stomp_frame.specs.Frames.{Content, canonical}
@@ -77,7 +78,10 @@ closing p = record { book = ended p.book p.session.number; session = closed_of p
 -- an ERROR is written, and the session ends
 abbrev pub refused : FrameRefusal → Option (List ℕ) → Part → Part
 refused refusal receipt p =
-    closing (record p { session = writing (error_frame (refusal_number refusal) (refusal_name refusal) receipt) p.session })
+    closing (record p {
+      session = writing (error_frame (refusal_number refusal) (refusal_name refusal) receipt)
+          p.session;
+    })
 
 -- whether a request is the last of its session
 abbrev pub is_last : Request → Bool

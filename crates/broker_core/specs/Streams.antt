@@ -13,7 +13,8 @@ use Rattle.broker_core.specs.declared.session.Session.{Session}
 -- frames are taken one after another from what a session was fed; it is connected behind the first
 abbrev pub TakesAll : Bool → Incoming → List Decided → Incoming → Type 0
 TakesAll connected old [] new = new ≡ old
-TakesAll connected old (d ∷ frames) new = (mid : Incoming) × (DecidesNext connected old d mid × TakesAll true mid frames new)
+TakesAll connected old (d ∷ frames) new =
+    (mid : Incoming) × (DecidesNext connected old d mid × TakesAll true mid frames new)
 
 -- whether a session is connected behind some frames
 abbrev pub connected_after : Bool → List Decided → Bool
@@ -31,7 +32,8 @@ pub record SpellsFirst (connected : Bool) (decided : Decided) (text rest : List 
 -- a text is a gap and a spelling for each of these decided frames, in order
 abbrev pub SpellsEach : Bool → List Decided → List ℕ → Type 0
 SpellsEach connected [] text = text ≡ []
-SpellsEach connected (d ∷ frames) text = (rest : List ℕ) × (SpellsFirst connected d text rest × SpellsEach true frames rest)
+SpellsEach connected (d ∷ frames) text =
+    (rest : List ℕ) × (SpellsFirst connected d text rest × SpellsEach true frames rest)
 
 -- what is left of a session: it is closed, or this is what it was fed and has not handled, and whether it is connected
 pub record Leaves (n : ℕ) (b : Server) (left : Incoming) (connected : Bool) : Type 0 where
@@ -47,7 +49,8 @@ pub record WereTaken (n : ℕ) (s : Session) (frames : List Decided) (new : Serv
 
 -- whatever the deals between them did
 abbrev pub HandledAreTaken : Type 0
-HandledAreTaken = (full n : ℕ) (old new : Server) (frames : List Decided) (s : Session) → HandlesAll full n old frames new
+HandledAreTaken =
+    (full n : ℕ) (old new : Server) (frames : List Decided) (s : Session) → HandlesAll full n old frames new
     → session_of n old ≡ Some s → WereTaken n s frames new
 
 -- the octets of a session are spellings of some frames, one behind another, and what is left
@@ -59,7 +62,8 @@ pub record WereSpelled (connected : Bool) (old : Incoming) (frames : List Decide
 
 -- frames that were taken, with none waiting before, are spelled at the front of the octets
 abbrev pub TakenAreSpelled : Type 0
-TakenAreSpelled = (connected : Bool) (old new : Incoming) (frames : List Decided) → TakesAll connected old frames new → old.waiting ≡ None
+TakenAreSpelled = (connected : Bool) (old new : Incoming) (frames : List Decided) → TakesAll connected old frames new
+    → old.waiting ≡ None
     → WereSpelled connected old frames new
 
 -- ---- several calls of `feed`
@@ -105,8 +109,10 @@ pub record AreFirst (connected : Bool) (frames : List Decided) (text : List ℕ)
   pub spells : SpellsEach connected frames front
   pub whole : text ≡ front ++ rest
 
--- however its text was cut, the frames of a session that had their step are the first of all that it was fed, each once and in order
+-- however its text was cut, the frames of a session that had their step are the first of all that it was fed, each once
+-- and in order
 abbrev pub HandledAreFirst : Type 0
-HandledAreFirst = (full n : ℕ) (old new : Server) (feeds : List Fed) (s : Session) → FedInTurn full n old feeds new → session_of n old ≡
+HandledAreFirst = (full n : ℕ) (old new : Server) (feeds : List Fed) (s : Session) → FedInTurn full n old feeds new
+    → session_of n old ≡
     Some s
     → s.incoming ≡ nothing_incoming → AreFirst s.server (flat_map (λ f. f.frames) feeds) (flat_map (λ f. f.piece) feeds)

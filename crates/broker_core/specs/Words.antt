@@ -13,7 +13,8 @@ is_letter o = (nat_le 97 o && nat_le o 122) || (nat_le 65 o && nat_le o 90) || (
 
 -- `/queue/` and 1 to 64 of them
 abbrev pub is_destination : List ℕ → Bool
-is_destination d = nat_le 8 (length d) && nat_le (length d) 71 && bytes_eq (take 7 d) (codes "/queue/") && list_all is_letter (drop 7 d)
+is_destination d = nat_le 8 (length d) && nat_le (length d) 71 && bytes_eq (take 7 d) (codes "/queue/")
+    && list_all is_letter (drop 7 d)
 
 -- the acknowledge mode of a word
 abbrev pub mode_of : List ℕ → Option Mode

@@ -57,8 +57,8 @@ impl Written {
         self.outgoing.as_slice()
     }
 
-    /// Takes the first of them away. Where none is left and there is much room, its memory is given back: a session that rests keeps
-    /// little, whatever was written for it.
+    /// Takes the first of them away. Where none is left and there is much room, its memory is given back: a session
+    /// that rests keeps little, whatever was written for it.
     pub fn taken(&mut self, count: usize)
         requires { count ≤ length self.old }
         ensures { self.new ≡ drop count self.old }
@@ -122,7 +122,8 @@ impl Written {
         refusal: FrameRefusal,
         receipt: Option<&str>,
     ) -> Result<(), AllocError>
-        ensures ok { let f = error_frame (refusal_number refusal) (refusal_name refusal) (option_copied receipt.entry) in
+        ensures ok { let f = error_frame (refusal_number refusal) (refusal_name refusal) (option_copied receipt.entry)
+            in
             OnOk result (self.new ≡ self.old ++ canonical f) }
         ensures err { OnErr result (self.new ≡ self.old) }
     {

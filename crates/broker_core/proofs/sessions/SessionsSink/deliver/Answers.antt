@@ -14,6 +14,7 @@ invariant_of-self c =
       headers = c.as_slice.result.now;
       body = c.as_slice-2.result.now;
     } in
-    kept_unless c.self.inside.opened c.self.inside.items.items c.write_at-done.new.items.items c.in-Some.at (writing (message_frame d))
+    kept_unless c.self.inside.opened c.self.inside.items.items c.write_at-done.new.items.items c.in-Some.at
+    (writing (message_frame d))
     (λ s. refl) c.self.invariant
     c.write_at-done.result c.write_at-done.ensures.ok c.write_at-done.ensures.err
