@@ -15,7 +15,7 @@ use channel::Channel;
 use command_line::tell_bad_words;
 use laws_broker::{each_message_was_sent, no_message_is_lost};
 use receipts::{ReceiptFault, Receipts};
-use std::alloc::Global;
+use std::alloc::{AllocError, Global};
 use std::io;
 use stomp_client::{ClientFault, ClientSession};
 use stomp_frame::{Command, Decoder, Frame, FrameFault};
