@@ -149,7 +149,8 @@ words_size (part ∷ parts) words e = words_more part parts words (words_size pa
 
 number_size : (word : List ℕ) (n : ℕ) → number_of word ≡ Some n → length word ≤ 20
 number_size word n e =
-    rw (← number_only word n e) (length-decimal-le 20 n (omega arith) (omega arith) (number_small word n e))
+    let small : n < 2 ^ 64 = number_small word n e in
+    rw (← number_only word n e) (length-decimal-le 20 n (omega arith) (omega arith) small)
 
 seat_size : (word : List ℕ) (seat : ℕ) → seat_of word ≡ Some seat → length word ≤ 20
 seat_size word seat e = let number = bound (number_of word) seat_number seat e in number_size word number.0 number.1
