@@ -1,5 +1,5 @@
 -- How long the line of an event is.
-use Rattle.std.proofs.Common.{◌≡◌, ◌⊎◌, ◌<◌, ◌≤◌, ◌+◌, ◌*◌, ℕ, suc, List, [], ◌∷◌, length, drop, Bool, true, false}
+use Rattle.std.proofs.Common.{◌≡◌, ◌⊎◌, ◌<◌, ◌≤◌, ◌+◌, ◌*◌, ◌^◌, ℕ, suc, List, [], ◌∷◌, length, drop, Bool, true, false}
 use Rattle.std.proofs.Common.{◌||◌, cond, eqb}
 use Rattle.std.proofs.Common.{nat_eq, ltb, leb, refl, sym, ap, subst, ◌∙◌, arith, Option, Some, None, inl, inr}
 use Rattle.std.proofs.Common.{count_by}
