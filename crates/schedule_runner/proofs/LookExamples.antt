@@ -16,7 +16,7 @@ use Rattle.keep.specs.Seen.{Seen}
 use Rattle.keep.specs.Tables.{empty}
 use Rattle.laws_stores.specs.Sight.{OrderTables}
 use Rattle.schedule_mail.specs.Offices.{new_office}
-use Rattle.schedule_shows.specs.Printed.{shown_or_none, shown_order, shown_order_command, journal_lines, test_frames}
+use Rattle.schedule_shows.specs.Printed.{shown_or_none, shown_order, shown_order_command, journal_lines, frame_lines}
 use Rattle.schedule_text.specs.declared.outcome.Outcome.TheVariants as told
 use Rattle.schedule_service.specs.declared.site.Site.{Site}
 use Rattle.schedule_runner.specs.declared.looking.Listing.TheVariants.{Frames, Journal}
@@ -48,7 +48,7 @@ rows_are_shown = (refl, λ h. absurd (cc), λ h. absurd (cc))
 
 -- the journal's rows are listed, and of an outbox without letters none; a journal without rows has no line
 lists_are_shown : AreListed shown_order_command Journal marked (journal_lines shown_order_command (placing ∷ []))
-    × AreListed shown_order_command Frames marked (test_frames [])
+    × AreListed shown_order_command Frames marked (frame_lines [])
     × (AreListed shown_order_command Journal (record marked { journal = [] }) (10 ∷ []) → ⊥)
 lists_are_shown = (refl, ([], λ x after. refl, refl), λ h. let longer : 1 ≡ 0 = ap length h in omega (arith, longer))
 

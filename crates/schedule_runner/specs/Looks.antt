@@ -15,7 +15,7 @@ use Rattle.endpoint.specs.declared.fault.EndFault.{EndFault}
 use Rattle.schedule_mail.specs.Offices.{Office}
 use Rattle.schedule_text.specs.declared.outcome.Outcome.{Outcome}
 use Rattle.schedule_text.specs.declared.outcome.Outcome.TheVariants.{Shown}
-use Rattle.schedule_shows.specs.Printed.{show_line, test_frames, journal_lines}
+use Rattle.schedule_shows.specs.Printed.{show_line, frame_lines, journal_lines}
 use Rattle.schedule_service.specs.Deeds.{DoubtStays}
 use Rattle.schedule_service.specs.Channels.{After}
 use Rattle.schedule_service.specs.Outcomes.{fault_told}
@@ -42,7 +42,7 @@ IsRow shown e t lines = lines ≡ show_line shown e (t.entity e)
 -- the lines of the letters that aren't settled, or of the rows of the journal
 abbrev pub AreListed : {S C : Type 0} → (C → List ℕ) → Listing → Tables S C → List ℕ → Type 0
 AreListed shown Frames t lines =
-    (letters : List Letter) × AreFirst t.unsettled None most letters × (lines ≡ test_frames letters)
+    (letters : List Letter) × AreFirst t.unsettled None most letters × (lines ≡ frame_lines letters)
 AreListed shown Journal t lines = lines ≡ journal_lines shown (take most t.journal)
 
 -- what is told of a read that ended so: what was read, or the outcome of its fault

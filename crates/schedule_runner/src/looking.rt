@@ -71,7 +71,7 @@ where
 }
 
 /// The lines of the frames that the service is to send. One read of the store.
-fn test_frames<H, K>(alloc: Global, endpoint: &mut Endpoint<H, K>) -> Result<Vec<u8>, EndFault>
+fn frame_lines<H, K>(alloc: Global, endpoint: &mut Endpoint<H, K>) -> Result<Vec<u8>, EndFault>
 where
     H: Shown,
     K: Keep<State = H::State, Command = H::Command> + Drop,
@@ -115,7 +115,7 @@ where
     ensures stays { Stays K.seen endpoint.old endpoint.new }
 {
     match listing {
-        Listing::Frames => test_frames(alloc, endpoint),
+        Listing::Frames => frame_lines(alloc, endpoint),
         Listing::Journal => journal_lines(alloc, endpoint),
     }
 }

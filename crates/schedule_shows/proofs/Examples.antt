@@ -23,7 +23,7 @@ use Rattle.schedule_shows.specs.Printed.{shown_order, shown_stock, shown_account
 use Rattle.schedule_shows.specs.Printed.{shown_order_command}
 use Rattle.schedule_shows.specs.Printed.{shown_stock_command, shown_account_command, shown_message, journal_line}
 use Rattle.schedule_shows.specs.Printed.{journal_lines}
-use Rattle.schedule_shows.specs.Printed.{frame_line, test_frames}
+use Rattle.schedule_shows.specs.Printed.{frame_line, frame_lines}
 
 abbrev o1 : Name
 o1 = order_of (codes "o1")
@@ -114,6 +114,6 @@ request = record { pair = pair; number = 1; message = message.Request 500 }
 -- a letter is shown as the SEND that carries it, on one line, and letters one after another
 frames_are_shown : (frame_line request
     ≡ codes "SEND\\ncontent-length:24\\ndestination:/queue/billing\\nkind:message\\nfrom:order/o1\\nto:account/acme\\nnumber:1\\n\\n{\"n\":500,\"op\":\"request\"}\\x00\n")
-    × (test_frames (request ∷ request ∷ []) ≡ frame_line request ++ frame_line request) × (test_frames [] ≡ [])
+    × (frame_lines (request ∷ request ∷ []) ≡ frame_line request ++ frame_line request) × (frame_lines [] ≡ [])
 unfolding digits canonical line_of escape
 frames_are_shown = (refl, refl, refl)

@@ -108,5 +108,5 @@ abbrev pub frame_line : Letter → List ℕ
 frame_line letter = flat_map spelled (canonical (send_of (envelope.Letter letter))) ++ 10 ∷ []
 
 -- the lines of `frames`
-abbrev pub test_frames : List Letter → List ℕ
-test_frames letters = flat_map frame_line letters
+abbrev pub frame_lines : List Letter → List ℕ
+frame_lines letters = flat_map frame_line letters

@@ -1,7 +1,7 @@
 //! The frames that a service is to send.
 
 ghost use Rattle.std.specs.Prelude.{◌≡◌, ◌++◌, string_bytes, OnOk, IfOk};
-ghost use Rattle.schedule_shows.specs.Printed.{frame_line, test_frames};
+ghost use Rattle.schedule_shows.specs.Printed.{frame_line, frame_lines};
 
 use envelope::{Letter, letter_to_send};
 use std::alloc::{AllocError, Global};
@@ -30,7 +30,7 @@ fn push_frame(alloc: Global, line: &mut String, letter: &Letter) -> Result<(), A
 /// Where a growth was refused.
 #[tactic(auto, using(crate::proofs::Pieces::letters_more, std::proofs::Common::append_assoc))]
 pub fn show_frames(alloc: Global, letters: &[Letter]) -> Result<Vec<u8>, AllocError>
-    ensures { IfOk result (λ lines. lines.items ≡ test_frames letters.now) }
+    ensures { IfOk result (λ lines. lines.items ≡ frame_lines letters.now) }
 {
     let mut lines = String::new(alloc);
     for letter in letters {

@@ -1,5 +1,5 @@
 use Rattle.std.proofs.Common.{◌∙◌, refl}
-use Rattle.schedule_runner.proofs.looking.test_frames.Goals as goal
+use Rattle.schedule_runner.proofs.looking.frame_lines.Goals as goal
 
 pub returns-in-Ok-clause-read : goal.returns-in-Ok-clause-read
 returns-in-Ok-clause-read g c =
