@@ -4,7 +4,8 @@ use crate::fault::CallFault;
 use broker_core::{Broker, SessionId};
 use std::alloc::Global;
 use std::fmt::Write;
-use test_script::{push_octets, size};
+use test_script::size;
+use text::push_octets;
 
 const SEND: &[u8] = b"SEND\ndestination:/queue/a\n\nx\0";
 

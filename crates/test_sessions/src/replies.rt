@@ -7,7 +7,8 @@ use stomp_session::{
     Delivery, Refused, Request, Send, ServerSession, write_connected, write_error, write_message,
     write_receipt,
 };
-use test_script::{LineFault, natural, push_octets, read_text};
+use test_script::{LineFault, natural, read_text};
+use text::push_octets;
 
 /// Appends the ERROR of a number, a name and what follows them: nothing, or a receipt.
 fn error(alloc: Global, number: &str, rest: &str, out: &mut Vec<u8>) -> Result<(), CallFault> {

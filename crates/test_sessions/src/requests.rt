@@ -3,7 +3,7 @@
 use std::alloc::AllocError;
 use stomp_frame::Header;
 use stomp_session::{Acknowledge, Connect, Request, Send, Subscribe, Text};
-use test_script::push_octets;
+use text::push_octets;
 
 /// Appends a part.
 pub fn push_part(text: &mut String, name: &str, value: &[u8]) -> Result<(), AllocError> {
