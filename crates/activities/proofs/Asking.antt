@@ -1,6 +1,6 @@
 -- A service for examples, as small as one can be: an entity asks others, once, and remembers what it asked for.
 use Rattle.std.specs.Prelude.{codes, List, [], ◌∷◌, Option, Some, None, Result, Ok, Err, is_none}
-use Rattle.base.specs.Entity.{Name, order_of, stock_of, account_of}
+use Rattle.base.specs.Entity.{Entity, order_of, stock_of, account_of}
 use Rattle.base.specs.declared.entity.Kind.TheVariants.{Order}
 use Rattle.envelope.specs.declared.message.Message.TheVariants.{Request}
 use Rattle.activities.specs.declared.handler.Refusal.{Refusal}
@@ -24,13 +24,13 @@ asking_reactions = record { opening = None; on_command = on_asking; on_message =
 abbrev pub asking : Service (Option Asked) Asked
 asking = record { kind = Order; reactions = asking_reactions; is_none = is_none }
 
-abbrev pub o1 : Name
+abbrev pub o1 : Entity
 o1 = order_of (codes "o1")
 
-abbrev pub bolts : Name
+abbrev pub bolts : Entity
 bolts = stock_of (codes "bolts")
 
-abbrev pub acme : Name
+abbrev pub acme : Entity
 acme = account_of (codes "acme")
 
 -- 3 bolts, and 500 from acme

@@ -16,7 +16,7 @@ use Rattle.std.proofs.lemmas.Cmp.{by_ranked, ranked, nat_list_cmp_total}
 use Rattle.std.proofs.Math.Nat.{mul-le-mul_right, one-le-pow, pow-suc}
 use Rattle.base.specs.declared.entity.Kind.{Kind}
 use Rattle.base.specs.declared.entity.Kind.TheVariants.{Order, Stock, Account}
-use Rattle.base.specs.Entity.{Name, word_of, prefix_of, text_of}
+use Rattle.base.specs.Entity.{Entity, word_of, prefix_of, text_of}
 use Rattle.base.specs.Order.{entity_cmp}
 use Rattle.base.specs.Parts.Lead.{lead_of}
 
@@ -105,10 +105,10 @@ word_of_eight (a ∷ b ∷ c ∷ d ∷ e ∷ f ∷ g ∷ h ∷ xs) = omega arith
 -- ---- entities
 
 -- the first octet of an entity's text, and its key: they order as the text
-abbrev brief : Name → List ℕ
+abbrev brief : Entity → List ℕ
 brief e = get_or (word_of e.kind) 0 0 ∷ e.key
 
-brief_cmp : (a b : Name) → slice_cmp nat_cmp (brief a) (brief b) ≡ entity_cmp a b
+brief_cmp : (a b : Entity) → slice_cmp nat_cmp (brief a) (brief b) ≡ entity_cmp a b
 brief_cmp a b = by_kinds a.kind b.kind a.key b.key
   where
     by_kinds : (j k : Kind) (x y : List ℕ)
@@ -128,7 +128,7 @@ octets_behind : (xs ys : List ℕ) → AreOctets (xs ++ ys) → AreOctets ys
 octets_behind [] ys is = is
 octets_behind (x ∷ xs) ys is = octets_behind xs ys (λ i. is (suc i))
 
-brief-octets : (e : Name) → AreOctets (text_of e) → AreOctets (brief e)
+brief-octets : (e : Entity) → AreOctets (text_of e) → AreOctets (brief e)
 brief-octets e is zero = initial e.kind
   where
     initial : (k : Kind) → get_or (word_of k) 0 0 < 256
@@ -137,7 +137,7 @@ brief-octets e is zero = initial e.kind
     initial Account = omega arith
 brief-octets e is (suc i) = octets_behind (prefix_of e.kind) e.key is i
 
-lead_of-then : (a b : Name) → AreOctets (text_of a) → AreOctets (text_of b)
+lead_of-then : (a b : Entity) → AreOctets (text_of a) → AreOctets (text_of b)
     → ordering_then (nat_cmp (lead_of a) (lead_of b)) (entity_cmp a b) ≡ entity_cmp a b
 unfolding lead_of
 lead_of-then a b p q =
@@ -146,7 +146,7 @@ lead_of-then a b p q =
     (brief-octets b q)))
 
 -- where leads differ, they order the entities
-pub lead_of-decides : (a b : Name) (o : Ordering) → IsUtf8 (text_of a) → IsUtf8 (text_of b)
+pub lead_of-decides : (a b : Entity) (o : Ordering) → IsUtf8 (text_of a) → IsUtf8 (text_of b)
     → o ≡ nat_cmp (lead_of a) (lead_of b)
     → o ≢ Equal → o ≡ entity_cmp a b
 lead_of-decides a b o p q is unequal =

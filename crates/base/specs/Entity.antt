@@ -10,18 +10,18 @@ use Rattle.base.specs.declared.fault.EntityFault.{EntityFault}
 use Rattle.base.specs.declared.fault.EntityFault.TheVariants.{BadKey, BadKind, Memory}
 
 -- an entity as contracts see it: its kind and the octets of its key
-pub record Name : Type 0 where
+pub record Entity : Type 0 where
   pub kind : Kind
   pub key : List ℕ
 
 -- the order, the stock and the account of a key
-abbrev pub order_of : List ℕ → Name
+abbrev pub order_of : List ℕ → Entity
 order_of key = record { kind = Order; key = key }
 
-abbrev pub stock_of : List ℕ → Name
+abbrev pub stock_of : List ℕ → Entity
 stock_of key = record { kind = Stock; key = key }
 
-abbrev pub account_of : List ℕ → Name
+abbrev pub account_of : List ℕ → Entity
 account_of key = record { kind = Account; key = key }
 
 -- the word of a kind
@@ -35,7 +35,7 @@ abbrev pub prefix_of : Kind → List ℕ
 prefix_of kind = word_of kind ++ codes "/"
 
 -- an entity's text
-abbrev pub text_of : Name → List ℕ
+abbrev pub text_of : Entity → List ℕ
 text_of e = prefix_of e.kind ++ e.key
 
 -- where messages to entities of a kind go
@@ -49,15 +49,15 @@ abbrev pub is_key : List ℕ → Bool
 is_key key = nat_lt 0 (length key) && nat_le (length key) MAX_KEY && not (list_any (λ o. o == 0) key) && is_utf8 key
 
 -- what holds of every entity
-abbrev pub IsEntity : Name → Type 0
+abbrev pub IsEntity : Entity → Type 0
 IsEntity e = is_key e.key ≡ true
 
 -- what reading a text may answer: the entity that it names; or that it names none, for its key or for its kind; or want
 -- of memory
-abbrev pub IsReading : List ℕ → Result Name EntityFault → Type 0
+abbrev pub IsReading : List ℕ → Result Entity EntityFault → Type 0
 IsReading text (Ok e) = (text_of e ≡ text) × IsEntity e
-IsReading text (Err BadKind) = (e : Name) → text_of e ≢ text
-IsReading text (Err BadKey) = (e : Name) × (text_of e ≡ text) × (is_key e.key ≡ false)
+IsReading text (Err BadKind) = (e : Entity) → text_of e ≢ text
+IsReading text (Err BadKey) = (e : Entity) × (text_of e ≡ text) × (is_key e.key ≡ false)
 IsReading text (Err Memory) = Unit {0}
 
 -- what reading a key alone may answer: the text itself; or that it is none; or want of memory

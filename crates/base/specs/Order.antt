@@ -7,15 +7,15 @@ use Rattle.std.specs.Cmp.{both_tied}
 use Rattle.std.specs.Cmp.{partial_order_from_agreeing_total}
 use Rattle.std.specs.Cmp.Lexicographic.{slice_cmp, on_texts, on_texts_equal, texts_ties}
 use Rattle.std.specs.Str.{bytes_eq}
-use Rattle.base.specs.Entity.{Name, text_of}
+use Rattle.base.specs.Entity.{Entity, text_of}
 use Rattle.base.specs.declared.pair.Pair.{Pair}
 
 -- whether two entities are one: their texts are equal
-unfoldable pub same_entity : Name → Name → Bool
+unfoldable pub same_entity : Entity → Entity → Bool
 same_entity a b = bytes_eq (text_of a) (text_of b)
 
 -- entities by the octets of their texts
-abbrev pub entity_cmp : Name → Name → Ordering
+abbrev pub entity_cmp : Entity → Entity → Ordering
 entity_cmp = on text_of (slice_cmp nat_cmp)
 
 -- whether two pairs are one: the same sender and the same receiver
@@ -35,7 +35,7 @@ same_entity-equivalence = on_texts_equal text_of
 pub entity_cmp-total : IsTotalOrder entity_cmp
 entity_cmp-total = on_texts text_of
 
-pub same_entity-ties : (a b : Name) → same_entity a b ≡ is_eq (entity_cmp a b)
+pub same_entity-ties : (a b : Entity) → same_entity a b ≡ is_eq (entity_cmp a b)
 unfolding same_entity
 same_entity-ties a b = texts_ties (text_of a) (text_of b)
 

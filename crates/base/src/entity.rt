@@ -110,9 +110,9 @@ pub struct Entity {
 }
 
 impl Model for Entity {
-    ghost use Rattle.base.specs.Entity.{Name};
+    ghost use Rattle.base.specs.Entity.{Entity};
 
-    ghost Value = { Name };
+    ghost Value = { Entity };
 
     ghost use Rattle.base.specs.EntityView.{entity_of, IsWhole};
 

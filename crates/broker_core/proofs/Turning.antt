@@ -4,7 +4,7 @@ use Rattle.std.proofs.Common.{None}
 use Rattle.std.proofs.Common.{refl, ap, ◌∙◌, subst, arith, length-append}
 use Rattle.std.specs.Prelude.{is_some, is_err, OnOk, Result, Ok, Err}
 use Rattle.std.specs.List.{find}
-use Rattle.broker_core.specs.Feeding.{TakesDecided, Handles, HandlesAll, Settles, Dealing, Ends, Stops}
+use Rattle.broker_core.specs.Feeding.{TakesDecided, Handles, HandlesAll, DealsAll, Dealing, Ends, Stops}
 use Rattle.broker_core.specs.Feeding.{FeedAnswer, at_end, in_deals, taking, with_incoming}
 use Rattle.broker_core.specs.Parts.Taking.{BegunAnswer, EndAnswer, Handled, Stepped, Turned, left_of}
 use Rattle.broker_core.specs.Serving.{Decided, Server, roster_of, is_session, session_of, with_session, changing, step}
@@ -21,7 +21,7 @@ there_in None t e = cc
 there_in (Some s) t e = refl
 
 pub turned : (full n : ℕ) (old mid new : Server) (d : Decided) → TakesDecided old n d mid
-    → Settles (step full n d mid) new
+    → DealsAll (step full n d mid) new
     → Turned full n old new
 turned full n old mid new d t s =
     let found : session_of n mid ≡ Some (with_incoming t.left t.session) =
@@ -90,9 +90,9 @@ finished full n piece old handled ended new count a h e (Err TooMany) f = absurd
 -- ---- a turn
 
 -- a frame that had its step, and the deals behind it
-pub turned_step : (full n : ℕ) (old mid new : Server) → Stepped full n old mid → Settles mid new → Turned full n old new
+pub turned_step : (full n : ℕ) (old mid new : Server) → Stepped full n old mid → DealsAll mid new → Turned full n old new
 turned_step full n old mid new h s =
-    turned full n old h.taken new h.frame h.takes (subst (λ (b : Server). Settles b new) h.changed s)
+    turned full n old h.taken new h.frame h.takes (subst (λ (b : Server). DealsAll b new) h.changed s)
 
 -- memory was refused to these
 pub stops_behind : (full n : ℕ) (old mid new : Server) → Stepped full n old mid → Dealing mid new → Stops full n old new

@@ -43,12 +43,12 @@ abbrev pub Dealing : Server → Server → Type 0
 Dealing old new = Dealt Hands old.book (roster_of old) new.book (roster_of new)
 
 -- deals until nothing can be dealt
-abbrev pub Settles : Server → Server → Type 0
-Settles old new = Dealing old new × IsQuiet new.book
+abbrev pub DealsAll : Server → Server → Type 0
+DealsAll old new = Dealing old new × IsQuiet new.book
 
 -- What `dispatch` answers: deals until nothing can be dealt, or some deals before memory was refused.
 abbrev pub DispatchAnswer : {E : Type 0} → Server → Server → Result (Unit {0}) E → Type 0
-DispatchAnswer old new (Ok _) = Settles old new
+DispatchAnswer old new (Ok _) = DealsAll old new
 DispatchAnswer old new (Err _) = Dealing old new
 
 -- ---- what a session was fed: what waits, as it was decided, and the octets behind it
@@ -122,7 +122,7 @@ pub record TakesDecided (old : Server) (n : ℕ) (decided : Decided) (new : Serv
 pub record Handles (full n : ℕ) (old : Server) (decided : Decided) (new : Server) : Type 0 where
   pub taken : Server
   pub takes : TakesDecided old n decided taken
-  pub settles : Settles (step full n decided taken) new
+  pub settles : DealsAll (step full n decided taken) new
 
 -- these frames are handled, one after another
 abbrev pub HandlesAll : ℕ → ℕ → Server → List Decided → Server → Type 0
@@ -152,7 +152,7 @@ pub record Feeds (full : ℕ) (old : Server) (n : ℕ) (piece : List ℕ) (new :
   pub handles : HandlesAll full n (changing n (taking piece) old) frames handled
   pub counted : count ≡ length frames
   pub ends : Ends handled n ended
-  pub settles : Settles ended new
+  pub settles : DealsAll ended new
 
 -- Where memory was refused: before a frame was taken; in its step, and it waits; in the deals behind it; as a fault was
 -- told; in the deals at the end.

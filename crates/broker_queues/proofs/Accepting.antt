@@ -13,13 +13,13 @@ use Rattle.broker_book.specs.Steps.{put_of}
 use Rattle.broker_index.specs.Index.{Kept}
 use Rattle.broker_queues.specs.Parts.Facts.{living_of, queue_of}
 use Rattle.broker_queues.specs.Parts.Storing.{ListsOnly, PutsIn, PutsOne}
-use Rattle.broker_queues.specs.Parts.Whole.{Holding, IsSound, Moves, Puts, book_of, new_kept}
+use Rattle.broker_queues.specs.Parts.Whole.{Holding, IsSound, LooksElsewhere, Puts, book_of, new_kept}
 use Rattle.broker_queues.proofs.Listing.{all_found, push_filter}
 use Rattle.broker_queues.proofs.Living.{living_push}
 use Rattle.broker_queues.proofs.Moving.{moved}
 use Rattle.broker_queues.proofs.Putting.{put_keeps}
 
-pub memory_refused : {A : Type 0} (full : ℕ) (h : Holding) (sent : Sent) (i : Holding) → IsSound h → Moves h i
+pub memory_refused : {A : Type 0} (full : ℕ) (h : Holding) (sent : Sent) (i : Holding) → IsSound h → LooksElsewhere h i
     → (r : Result A QueueFault) → IsErrAnd r (λ fault. fault ≡ Memory) → PutsIn full h sent i r
 memory_refused full h sent i is m (Ok x) e = absurd e
 memory_refused full h sent i is m (Err fault) e = record { sound = moved h i is m; moves = m; refused = inl e }

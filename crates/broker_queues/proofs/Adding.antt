@@ -14,7 +14,7 @@ use Rattle.broker_queues.specs.Parts.Queues.{LooksFrom}
 use Rattle.broker_queues.specs.Parts.Facts.{kept_at, lists, queue_of, living_as, message_of}
 use Rattle.broker_queues.specs.Parts.Fates.{weight}
 use Rattle.broker_queues.specs.Parts.Storing.{Becomes, Closes, ListsOnly, adding}
-use Rattle.broker_queues.specs.Parts.Whole.{Holding, IsSound, Moves, Puts, Wakes, new_kept}
+use Rattle.broker_queues.specs.Parts.Whole.{Holding, IsSound, LooksElsewhere, Puts, Wakes, new_kept}
 use Rattle.broker_queues.proofs.Listing.{lists_still, lists_last, lists_was}
 use Rattle.broker_queues.proofs.Living.{count_zero}
 use Rattle.broker_queues.proofs.Subscribing.{same_texts, itself}
@@ -158,7 +158,7 @@ module _ (h : Holding) (is : IsSound h) (i : Holding) (c : Closes h.queues i.que
 
   pub shut : i.kept ≡ h.kept → i.subscribers ≡ h.subscribers → i.sessions ≡ h.sessions → i.awake ≡ h.awake
       → i.last ≡ h.last
-      → i.given ≡ h.given → Moves h i
+      → i.given ≡ h.given → LooksElsewhere h i
   shut kept subscribers sessions awake last given = record {
     kept = kept;
     subscribers = subscribers;
@@ -180,7 +180,7 @@ module _ (h : Holding) (is : IsSound h) (i : Holding) (c : Closes h.queues i.que
   }
 
 -- nothing happens
-pub stays : (h : Holding) → IsSound h → Moves h h
+pub stays : (h : Holding) → IsSound h → LooksElsewhere h h
 stays h is = record {
   kept = refl;
   subscribers = refl;

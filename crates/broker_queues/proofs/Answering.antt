@@ -14,7 +14,7 @@ use Rattle.broker_index.specs.Index.{Kept, Subscriber, with_fate, has_number}
 use Rattle.broker_index.specs.declared.places.Entry.{Entry}
 use Rattle.broker_index.specs.declared.places.Place.{Place}
 use Rattle.broker_queues.specs.Parts.Facts.{rise, kept_at, subscriber_at, lists, living_of, holds_number, notes}
-use Rattle.broker_queues.specs.Parts.Fates.{passes, fated, turn_if, turn_among, fate_of_kept, is_held, held_by}
+use Rattle.broker_queues.specs.Parts.Fates.{passes, fated, turn_if, turn_among, fate_of_kept, is_held, is_held_of}
 use Rattle.broker_queues.specs.Parts.Fates.{is_held_at}
 use Rattle.broker_queues.specs.Parts.Whole.{Holding, IsSound}
 use Rattle.broker_queues.proofs.Finding.{find_map, map_map, any_implies, SomePasses}
@@ -287,7 +287,7 @@ module _ (h : Holding) (is : IsSound h) (x number : ℕ) where
   held_there p s sits holds =
       let out : Bool =
       list_any (λ m. out_as s.subscription.session s.subscription.id number m.fate) (living_of h.kept) in
-      ap (held_by h.kept number) sits ∙ held_is h is p.number s sits number
+      ap (is_held_of h.kept number) sits ∙ held_is h is p.number s sits number
       ∙ (and_parts (s.subscription.session == x) out holds).1
 
   -- none at its places holds it: none holds it
@@ -336,12 +336,12 @@ module _ (h : Holding) (is : IsSound h) (x number : ℕ) where
 
       by_subscriber : (o : Option Subscriber) → subscriber_at p.number h.subscribers ≡ o
           → is_held_at h.kept h.subscribers number p ≡ true → IsHolder h x number p.number
-      by_subscriber None sits held = let never : false ≡ true = sym (ap (held_by h.kept number) sits) ∙ held in cc
+      by_subscriber None sits held = let never : false ≡ true = sym (ap (is_held_of h.kept number) sits) ∙ held in cc
       by_subscriber (Some s) sits held =
           let mine : s.subscription.session ≡ x = own h is x p.number s listed sits in
           let out : list_any (λ m. out_as s.subscription.session s.subscription.id number m.fate) (living_of h.kept)
           ≡ true =
-          sym (held_is h is p.number s sits number) ∙ (sym (ap (held_by h.kept number) sits) ∙ held) in
+          sym (held_is h is p.number s sits number) ∙ (sym (ap (is_held_of h.kept number) sits) ∙ held) in
           let holds : holds_out_in h x number s ≡ true = rw (eq-eqb s.subscription.session x mine, out) refl in
           record {
             subscriber = s;

@@ -13,7 +13,7 @@ use Rattle.broker_queues.specs.Parts.Fates.{passes, back, counts_in, turn_among}
 use Rattle.broker_queues.specs.Parts.Held.{Turns}
 use Rattle.broker_queues.specs.Parts.Facts.{kept_at, subscriber_at, destination_at, session_at, lists, queue_of}
 use Rattle.broker_queues.specs.Parts.Storing.{Detached, Detaches, Releases}
-use Rattle.broker_queues.specs.Parts.Whole.{Holding, IsSound, Leaves, Moves, book_of}
+use Rattle.broker_queues.specs.Parts.Whole.{Holding, IsSound, Leaves, LooksElsewhere, book_of}
 use Rattle.broker_queues.proofs.Adding.{closes, shut}
 use Rattle.broker_queues.proofs.Listing.{lists_gone, lists_other}
 use Rattle.broker_queues.proofs.Moving.{moved}
@@ -159,7 +159,7 @@ module _ (h i : Holding) (is : IsSound h) (age : ℕ) (s : Subscriber) (q : List
 
 -- ---- the book
 
-pub same_book : (h i : Holding) → Moves h i → (accepted : List Accepted) → book_of i accepted ≡ book_of h accepted
+pub same_book : (h i : Holding) → LooksElsewhere h i → (accepted : List Accepted) → book_of i accepted ≡ book_of h accepted
 same_book h i m accepted = rw (m.kept, m.subscribers, m.last, m.given) refl
 
 module _ (h i j : Holding) (is : IsSound h) (age : ℕ) (s : Subscriber) (sits : subscriber_at age h.subscribers ≡ Some s)

@@ -13,7 +13,7 @@ use Rattle.broker_queues.specs.Parts.Choosing.{Rests, Looked}
 use Rattle.broker_queues.specs.Parts.Dealings.{SeeksReady, SeeksTaker, FirstOf, is_open, is_free, opens, takes_more}
 use Rattle.broker_queues.specs.Parts.Fates.{passes}
 use Rattle.broker_queues.specs.Parts.Facts.{kept_at, subscriber_at, lists, may_have, queue_of, AreAhead, AreTakers}
-use Rattle.broker_queues.specs.Parts.Whole.{Holding, IsSound, Moves}
+use Rattle.broker_queues.specs.Parts.Whole.{Holding, IsSound, LooksElsewhere}
 use Rattle.broker_queues.proofs.Moving.{moved}
 use Rattle.broker_queues.proofs.Rising.{at_number}
 use Rattle.broker_queues.proofs.Subscribing.{itself, same_texts}
@@ -102,7 +102,7 @@ module _ (h : Holding) (is : IsSound h) (name : List ℕ) (q : List ℕ → Opti
       by_found None from never = absurd never
       by_found (Some p) from later = omega (arith, from, later)
 
-  ready_moves : Moves h (record h { queues = q })
+  ready_moves : LooksElsewhere h (record h { queues = q })
   ready_moves = record {
     kept = refl;
     subscribers = refl;

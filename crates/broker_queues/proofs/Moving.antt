@@ -7,11 +7,11 @@ use Rattle.broker_index.specs.Index.{Kept, Subscriber, has_age}
 use Rattle.broker_queues.specs.Parts.Facts.{kept_at, subscriber_at, session_at, destination_at, lists}
 use Rattle.broker_queues.specs.Parts.Facts.{queue_of, living_of, holds_number, may_have}
 use Rattle.broker_queues.specs.Parts.Facts.{AreNoted}
-use Rattle.broker_queues.specs.Parts.Whole.{Holding, IsSound, Renotes, Moves}
+use Rattle.broker_queues.specs.Parts.Whole.{Holding, IsSound, Renotes, LooksElsewhere}
 use Rattle.broker_queues.proofs.Finding.{IsMapped, is_mapped, find_map, option_map_map}
 use Rattle.broker_queues.proofs.Rising.{IsAmong, any_at, any_from_at, rise_map}
 
-module _ (h i : Holding) (is : IsSound h) (m : Moves h i) where
+module _ (h i : Holding) (is : IsSound h) (m : LooksElsewhere h i) where
   pub moved : IsSound i
   moved = record {
     placed = λ n k there. rw (m.numbers k.sent.destination) (is.placed n k (rw m.kept at there));

@@ -15,7 +15,7 @@ use Rattle.broker_queues.specs.Parts.Held.{TurnsAll, step_of}
 use Rattle.broker_queues.specs.Parts.Facts.{kept_at, subscriber_at, living_of, subscriptions_of, lists, notes, queue_of}
 use Rattle.broker_queues.specs.Parts.Facts.{holds_number}
 use Rattle.broker_queues.specs.Parts.Storing.{Forgets, Sweeps, Takes, Tidies, is_gone}
-use Rattle.broker_queues.specs.Parts.Whole.{Holding, IsSound, Moves, Purges, Renotes, book_of}
+use Rattle.broker_queues.specs.Parts.Whole.{Holding, IsSound, LooksElsewhere, Purges, Renotes, book_of}
 use Rattle.broker_queues.proofs.Adding.{closes, shut}
 use Rattle.broker_queues.proofs.Listing.{lists_gone, lists_other, map_after, notes_other}
 use Rattle.broker_queues.proofs.Living.{living_purge}
@@ -40,7 +40,7 @@ tidies h i j p q = record {
   given = q.given ∙ p.given;
 }
 
-pub tidy_moves : (h i : Holding) → IsSound h → Moves h i → Tidies h i
+pub tidy_moves : (h i : Holding) → IsSound h → LooksElsewhere h i → Tidies h i
 tidy_moves h i is m = record {
   sound = moved h i is m;
   living = ap living_of m.kept;
@@ -100,7 +100,7 @@ module _ (h i : Holding) (is : IsSound h) (n : ℕ) (k : Kept) (q : List ℕ →
       → i.awake ≡ h.awake → i.last ≡ h.last → i.given ≡ h.given → Tidies h i
   purged kept subscribers sessions awake last given =
       let before : IsSound taken = purge_keeps h n k taken is found gone takes_out in
-      let m : Moves taken i =
+      let m : LooksElsewhere taken i =
       shut taken before i (closes q i.queues name r) kept subscribers sessions awake last given in
       record {
         sound = moved taken i before m;
@@ -125,7 +125,7 @@ module _ (h i : Holding) (is : IsSound h) (n : ℕ) (k : Kept) (q : List ℕ →
       → i.sessions ≡ h.sessions → i.awake ≡ h.awake → i.last ≡ h.last → i.given ≡ h.given → Takes h n k i
   taken_away own kept subscribers sessions awake last given =
       let before : IsSound taken = purge_keeps h n k taken is found gone takes_out in
-      let m : Moves taken i =
+      let m : LooksElsewhere taken i =
       shut taken before i (closes q i.queues name r) kept subscribers sessions awake last given in
       record {
         kept = kept;

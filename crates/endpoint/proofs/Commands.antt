@@ -1,6 +1,6 @@
 -- A command needs no change of handled marks and held letters.
 use Rattle.std.proofs.Common.{ℕ, ◌<◌, ◌≡◌, List, [], ◌∷◌, ◌++◌, refl, sym, subst, ◌∙◌}
-use Rattle.base.specs.Entity.{Name}
+use Rattle.base.specs.Entity.{Entity}
 use Rattle.base.specs.declared.limits.TheConstants.{SEATS}
 use Rattle.base.specs.declared.pair.Pair.{Pair}
 use Rattle.activities.specs.Service.{Service}
@@ -12,7 +12,7 @@ use Rattle.keep.specs.Tables.{Tables}
 use Rattle.endpoint.specs.Matches.{TablesMatchWithin, MayBeHeld}
 use Rattle.endpoint.specs.Parts.Handling.{Prepares}
 
-pub command-prepares : {S C : Type 0} (ahead : ℕ) (service : Service S C) (old : Tables S C) (e : Name) (seat : ℕ)
+pub command-prepares : {S C : Type 0} (ahead : ℕ) (service : Service S C) (old : Tables S C) (e : Entity) (seat : ℕ)
     (command : C)
     (first : List (Change S C))
     → TablesMatchWithin ahead service old → seat < SEATS → first ≡ []

@@ -5,7 +5,7 @@ use Rattle.std.proofs.Common.{Result, Ok, Err, refl}
 use Rattle.std.proofs.Common.{sym, ap}
 use Rattle.std.proofs.Common.{subst, ◌∙◌, arith, length-append, true}
 use Rattle.std.specs.Prelude.{max, ⊤}
-use Rattle.base.specs.Entity.{Name}
+use Rattle.base.specs.Entity.{Entity}
 use Rattle.base.specs.declared.limits.TheConstants.{MAX_NUMBER}
 use Rattle.base.specs.declared.pair.Pair.{Pair}
 use Rattle.envelope.specs.declared.message.Message.{Message}
@@ -28,7 +28,7 @@ use Rattle.endpoint.specs.declared.fault.EndFault.TheVariants.{NotMine, Business
 use Rattle.endpoint.specs.declared.fault.EndFault.TheVariants.{Unusable, NumberLimit}
 use Rattle.endpoint.specs.declared.fault.EndFault.TheVariants.{NotSent}
 use Rattle.endpoint.specs.Arrivals.{row_of_letter, IngestMayWithin, DrainMay, SettleMay, IsDone}
-use Rattle.endpoint.specs.Calls.{IsCommitCall, IsCommit, Appends, IsMine, MayTurnAway, OfLetter, OfHeldLetter, Does}
+use Rattle.endpoint.specs.Calls.{IsCommitCall, IsCommit, Appends, IsMine, MayTurnAway, OfLetter, OfHeldLetter, DoesDeed}
 use Rattle.endpoint.specs.Deeds.{Kept, kept, Deed, Nothing, TakesIn, Holds, Settles, DidWithin}
 use Rattle.endpoint.specs.Faults.{end_of}
 use Rattle.endpoint.specs.Matches.{TablesMatchWithin, MayBeHeld}
@@ -106,7 +106,7 @@ module _ {E S C : Type 0} (seen : E → Seen (Tables S C)) (sound : (k : E) → 
   done next (Err NotSent) call did = absurd did.0
 
   -- the sender's name was copied, and the changes are a list of their own
-  pub handled_works : (from : Name) (first : List (Change S C)) → from ≡ l.pair.from → first ≡ letter_changes l
+  pub handled_works : (from : Entity) (first : List (Change S C)) → from ≡ l.pair.from → first ≡ letter_changes l
       → (seen old).usable ≡ true → (result : Result Committed EndFault)
       → Handles seen old new ahead service (record { entity = l.pair.to; input = FromEntity from l.number l.message })
       first result
@@ -218,7 +218,7 @@ module _ {S C : Type 0} (ahead : ℕ) (service : Service S C) where
 
 -- ---- the call that a caller sees
 
-module _ {E S C R : Type 0} (seen : E → Seen (Tables S C)) (ahead : ℕ) (service : Service S C) (old new : E) (e : Name)
+module _ {E S C R : Type 0} (seen : E → Seen (Tables S C)) (ahead : ℕ) (service : Service S C) (old new : E) (e : Entity)
     (mine : e.kind ≡ service.kind) (Reason : EndFault → Type 0) (never : Reason NotMine → ⊥) where
   seen_call : (result : Result R EndFault) → IsCall seen old new Reason (end_of result)
       → IsCall seen old new (MayTurnAway Reason old new service.kind e) (end_of result)
@@ -235,7 +235,7 @@ module _ {E S C R : Type 0} (seen : E → Seen (Tables S C)) (ahead : ℕ) (serv
 
   pub works_does : (may : Result R EndFault → Kept C → Deed C → Type 0) (result : Result R EndFault)
       → Works seen old new ahead service Reason (λ _. ⊤) may result
-      → Does seen old new ahead service Reason e may result
+      → DoesDeed seen old new ahead service Reason e may result
   works_does may result w = record {
     call = seen_call result w.call;
     doubt = w.doubt;

@@ -1,7 +1,7 @@
 -- From what a call tells of the store's use and of the tables, to what it tells of each content that a stop may leave.
 use Rattle.std.proofs.Common.{ℕ, suc, ◌≡◌, inl, inr, length, true, Result, Ok, Err, refl, sym, ap, ◌∙◌, subst, arith}
 use Rattle.std.proofs.Common.{length-append}
-use Rattle.base.specs.Entity.{Name}
+use Rattle.base.specs.Entity.{Entity}
 use Rattle.activities.specs.Service.{Service}
 use Rattle.activities.proofs.Sameness.{either}
 use Rattle.activities.proofs.Journals.{command_row}
@@ -66,13 +66,13 @@ module _ {E S C : Type 0} (seen : E → Seen (Tables S C)) (old new : E) (was : 
           did = refl;
         }
 
-    appended : (e : Name) (seat : ℕ) (c : C) (t : Tables S C)
+    appended : (e : Entity) (seat : ℕ) (c : C) (t : Tables S C)
         → Appends ahead service (seen old).tables (command_row e seat c) (seen old).tables.held t
         → DidWithin ahead service (kept (seen old).tables) (TakesIn (command_row e seat c)) (kept t)
     appended e seat c t a = (a.takes, a.settled, a.held)
 
     -- a commit, whatever it answers
-    pub commit_comes : (e : Name) (seat : ℕ) (c : C) (result : Result Committed EndFault)
+    pub commit_comes : (e : Entity) (seat : ℕ) (c : C) (result : Result Committed EndFault)
         → IsCommitCall seen old new service.kind (command_row e seat c) result
         → IsCommit ahead service (seen old).tables (command_row e seat c) (seen old).tables.held (seen new).tables
         (seen new).may_leave

@@ -5,7 +5,7 @@ use Rattle.std.proofs.Common.{sym, ap, ◌∙◌, subst, arith, length-append}
 use Rattle.std.specs.Prelude.{if◌then◌else◌, IsOk, IsSome}
 use Rattle.std.proofs.lemmas.List.{append-nil}
 use Rattle.base.specs.declared.limits.TheConstants.{MAX_NUMBER}
-use Rattle.base.specs.Entity.{Name}
+use Rattle.base.specs.Entity.{Entity}
 use Rattle.base.specs.Order.{same_entity}
 use Rattle.base.specs.declared.pair.Pair.{Pair}
 use Rattle.activities.specs.Service.{Service}
@@ -48,7 +48,7 @@ none_sent xs true = sym (append-nil xs)
 none_sent xs false = sym (append-nil xs)
 
 -- the numbers of a pair stay within the limit
-within_more : (e : Name) (outs : List Out) (sent : Pair → ℕ) (q : Pair) (xs : List Message) → sent q ≡ length xs
+within_more : (e : Entity) (outs : List Out) (sent : Pair → ℕ) (q : Pair) (xs : List Message) → sent q ≡ length xs
     → sent q ≤ MAX_NUMBER
     → NumbersFit sent e outs → length (xs ++ own e outs q) ≤ MAX_NUMBER
 within_more e outs sent q xs is small fits = either (same_entity-tells q.from e)
@@ -78,7 +78,7 @@ module _ {S C : Type 0} (ahead : ℕ) (service : Service S C) (old : Tables S C)
   -- tables that match this journal
   record Matches (j : List (JournalRow C)) (t : Tables S C) : Type 0 where
     legal : IsLegal service.reactions service.kind j
-    entities : (e : Name) → t.entity e ≡ row_of service j e
+    entities : (e : Entity) → t.entity e ≡ row_of service j e
     outbox : IsOutbox t (sent_of service.reactions j)
     numbers : (p : Pair) → t.sent p ≤ MAX_NUMBER
     handled : (p : Pair) → t.handled p ≡ handled_of j p
@@ -166,7 +166,7 @@ module _ {S C : Type 0} (ahead : ℕ) (service : Service S C) (old : Tables S C)
         let set : Bool → Option S → Option S = λ b x. if b then row_for service.is_none done.0 else x in
         let matches : Matches after v = record {
           legal = legal-more service.reactions service.kind j row h.legal may;
-          entities = λ x. ap (λ (c : Name → Option S). set (same_entity e x) (c x)) entity
+          entities = λ x. ap (λ (c : Entity → Option S). set (same_entity e x) (c x)) entity
               ∙ ap (set (same_entity e x)) (h.entities x)
               ∙ ap (λ b. set b (row_of service j x)) (same_entity-comm e x)
               ∙ sym (row_of-more service j row done accepted x);

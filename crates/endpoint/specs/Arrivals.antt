@@ -52,17 +52,17 @@ module _ {S C : Type 0} (ahead : ℕ) (service : Service S C) where
   IngestMayWithin l (Err NotSent) x d = ⊥
 
   -- a deed of those allowed leads from what was kept to this
-  abbrev pub Leads : (Deed C → Type 0) → Kept C → Kept C → Type 0
-  Leads allowed x y = (d : Deed C) × allowed d × DidWithin ahead service x d y
+  abbrev pub DidAllowed : (Deed C → Type 0) → Kept C → Kept C → Type 0
+  DidAllowed allowed x y = (d : Deed C) × allowed d × DidWithin ahead service x d y
 
   -- What a call does to the tables: a deed that its answer allows; where the store failed, in each content that a stop
   -- may leave. With an error else no table changes.
   abbrev pub IsDone : {R : Type 0} → (Result R EndFault → Kept C → Deed C → Type 0) → (old now : Tables S C)
       → (Tables S C → Type 0)
       → Result R EndFault → Type 0
-  IsDone may old now may_leave (Ok r) = Leads (may (Ok r) (kept old)) (kept old) (kept now)
+  IsDone may old now may_leave (Ok r) = DidAllowed (may (Ok r) (kept old)) (kept old) (kept now)
   IsDone may old now may_leave (Err StoreFailed) = (t : Tables S C) → may_leave t
-      → Leads (may (Err StoreFailed) (kept old)) (kept old) (kept t)
+      → DidAllowed (may (Err StoreFailed) (kept old)) (kept old) (kept t)
   IsDone may old now may_leave (Err fault) = may (Err fault) (kept old) Nothing × (now ≡ old)
 
 module _ {S C : Type 0} (service : Service S C) where

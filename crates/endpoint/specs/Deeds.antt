@@ -1,7 +1,7 @@
 -- What a call may do to a service, as its journal, its settled marks and its held letters show it. All else follows
 -- from these where the tables match their journal.
 use Rattle.std.specs.Prelude.{◌≡◌, ℕ, suc, ◌≤◌, ◌<◌, ◌⊎◌, max, List, length, Option, Some, None, Result, Ok, Err}
-use Rattle.base.specs.Entity.{Name}
+use Rattle.base.specs.Entity.{Entity}
 use Rattle.base.specs.declared.limits.TheConstants.{HELD_WINDOW}
 use Rattle.base.specs.declared.pair.Pair.{Pair}
 use Rattle.envelope.specs.declared.message.Message.{Message}
@@ -38,7 +38,7 @@ pub data Deed (C : Type 0) : Type 0 where
   Settles : Pair → (number : ℕ) → Deed C
 
 -- the held letters after an input was taken in: a letter that was handled isn't held any more
-abbrev pub held_after : {C : Type 0} → Name → Input C → Messages → Messages
+abbrev pub held_after : {C : Type 0} → Entity → Input C → Messages → Messages
 held_after e (FromSeat seat command) held = held
 held_after e (FromEntity sender number message) held = set_message (pair_between sender e) number None held
 

@@ -1,7 +1,7 @@
 -- When the tables of a service are those of its journal.
 use Rattle.std.specs.Prelude.{◌≡◌, ℕ, ◌+◌, ◌≤◌, ◌<◌, nat_lt, List, length, Option, None, IsSome, if◌then◌else◌}
 use Rattle.base.specs.declared.limits.TheConstants.{HELD_WINDOW, MAX_NUMBER}
-use Rattle.base.specs.Entity.{Name}
+use Rattle.base.specs.Entity.{Entity}
 use Rattle.base.specs.declared.entity.Kind.{Kind}
 use Rattle.base.specs.declared.pair.Pair.{Pair}
 use Rattle.envelope.specs.declared.message.Message.{Message}
@@ -28,7 +28,7 @@ pub record MayBeHeld (ahead : ℕ) (kind : Kind) (handled : ℕ) (p : Pair) (n :
 -- letters that may be held.
 pub record TablesMatchWithin (ahead : ℕ) {S C : Type 0} (service : Service S C) (t : Tables S C) : Type 0 where
   pub legal : IsLegal service.reactions service.kind t.journal
-  pub entities : (e : Name) → t.entity e ≡ row_of service t.journal e
+  pub entities : (e : Entity) → t.entity e ≡ row_of service t.journal e
   pub sent : (p : Pair) → t.sent p ≡ length (sent_of service.reactions t.journal p)
   pub numbers : (p : Pair) → t.sent p ≤ MAX_NUMBER
   pub settled : (p : Pair) → t.settled p ≤ length (sent_of service.reactions t.journal p)

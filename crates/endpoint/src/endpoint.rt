@@ -4,7 +4,7 @@ ghost use Rattle.activities.specs.Journal.{sent_of, handled_of};
 ghost use Rattle.activities.specs.Rows.{row_of};
 ghost use Rattle.activities.specs.declared.input.Input.TheVariants.{FromSeat};
 ghost use Rattle.endpoint.specs.Arrivals.{IngestMayWithin, DrainMay, SettleMay};
-ghost use Rattle.endpoint.specs.Calls.{CommitsWithin, ComesByWithin, Finds, StillMatchesWithin, Does, Stays, OfLetter};
+ghost use Rattle.endpoint.specs.Calls.{CommitsWithin, ComesByWithin, Finds, StillMatchesWithin, DoesDeed, Stays, OfLetter};
 ghost use Rattle.endpoint.specs.Calls.{OfHeldLetter, OfSettle, Views, Answers, TellsOfEach, Counts};
 ghost use Rattle.endpoint.specs.Deeds.{CommitMay};
 ghost use Rattle.endpoint.specs.Faults.{end_of};
@@ -147,7 +147,7 @@ where
     /// come at any call of the store and at any growth. After each of them nothing is changed, but after `StoreFailed`
     /// the tables, once reopened, may also be those with the letter taken in or held.
     pub fn ingest(&mut self, alloc: Global, letter: &Letter) -> Result<Ingested, EndFault>
-        ensures ingest { Does K.seen self.old self.new W.ahead H.service OfLetter letter.now.pair.to
+        ensures ingest { DoesDeed K.seen self.old self.new W.ahead H.service OfLetter letter.now.pair.to
             (IngestMayWithin W.ahead H.service letter.now) result }
         ensures comes { ComesByWithin K.seen self.old self.new W.ahead H.service
             (IngestMayWithin W.ahead H.service letter.now result) }
@@ -170,7 +170,7 @@ where
     /// In this order: `Unusable`; `NotMine` where the receiver is of another service; `NumberLimit` where the next is
     /// held, and its position or the number of a letter would be above 2^40. `StoreFailed` and `Memory` as in `ingest`.
     pub fn drain_held(&mut self, alloc: Global, pair: &Pair) -> Result<Option<u64>, EndFault>
-        ensures drain { Does K.seen self.old self.new W.ahead H.service OfHeldLetter pair.now.to
+        ensures drain { DoesDeed K.seen self.old self.new W.ahead H.service OfHeldLetter pair.now.to
             (DrainMay H.service pair.now) result }
         ensures comes { ComesByWithin K.seen self.old self.new W.ahead H.service (DrainMay H.service pair.now result) }
         ensures matches { StillMatchesWithin K.seen self.old self.new W.ahead H.service }
@@ -193,7 +193,7 @@ where
     /// In this order: `Unusable`; `NotMine` where the sender is of another service; `NotSent` where no letter of this
     /// number was sent. `StoreFailed` and `Memory` as in `ingest`.
     pub fn settle(&mut self, alloc: Global, pair: &Pair, number: u64) -> Result<u64, EndFault>
-        ensures settle { Does K.seen self.old self.new W.ahead H.service OfSettle pair.now.from
+        ensures settle { DoesDeed K.seen self.old self.new W.ahead H.service OfSettle pair.now.from
             (SettleMay H.service pair.now number) result }
         ensures comes { ComesByWithin K.seen self.old self.new W.ahead H.service
             (SettleMay H.service pair.now number result) }

@@ -1,7 +1,7 @@
 -- Examples: what a room does with commands and messages, and rooms that aren't this order's.
 use Rattle.std.proofs.Common.{◌≡◌, [], ◌∷◌, true, false, refl}
 use Rattle.std.specs.Prelude.{codes, Ok, Err}
-use Rattle.base.specs.Entity.{Name, order_of}
+use Rattle.base.specs.Entity.{Entity, order_of}
 use Rattle.base.specs.Order.{same_entity}
 use Rattle.envelope.specs.declared.message.Message.TheVariants.{Request, Tentative, Refused, Confirm, Cancel}
 use Rattle.activities.specs.declared.handler.Refusal.TheVariants.{NotOpen}
@@ -11,10 +11,10 @@ use Rattle.hotel.specs.declared.room.Room.TheVariants.{Free, Taken, Promised}
 use Rattle.hotel.specs.declared.room.RoomCommand.TheVariants.{Reserve, Release}
 use Rattle.hotel.specs.Rooms.{is_free, is_promised, on_room_command, on_room_message, room_reactions}
 
-abbrev o1 : Name
+abbrev o1 : Entity
 o1 = order_of (codes "o1")
 
-abbrev o2 : Name
+abbrev o2 : Entity
 o2 = order_of (codes "o2")
 
 -- a promised room isn't free, and is promised to one order alone

@@ -1,7 +1,7 @@
 -- The reactions of a room.
 use Rattle.std.specs.Prelude.{◌≡◌, Bool, true, false, ◌&&◌, nat_le, List, [], Result, Ok, Err, if◌then◌else◌, refl}
 use Rattle.std.proofs.lemmas.Bool.{false≢true}
-use Rattle.base.specs.Entity.{Name}
+use Rattle.base.specs.Entity.{Entity}
 use Rattle.base.specs.Order.{same_entity}
 use Rattle.envelope.specs.declared.message.Message.{Message}
 use Rattle.envelope.specs.declared.message.Message.TheVariants.{Request, Tentative, Refused, Confirm, Cancel}
@@ -21,7 +21,7 @@ is_free Free = true
 is_free _ = false
 
 -- whether the room is promised to this order
-abbrev pub is_promised : Room → Name → Bool
+abbrev pub is_promised : Room → Entity → Bool
 is_promised (Promised to) order = same_entity to order
 is_promised _ order = false
 
@@ -33,7 +33,7 @@ on_room_command room command = Err NotOpen
 
 -- a free room is promised to an order that asks for no more guests than it has beds for, and else the request is
 -- refused; the order that it is promised to takes it or gives it back; anything else changes nothing
-abbrev pub on_room_message : Room → Name → Message → Room × List Out
+abbrev pub on_room_message : Room → Entity → Message → Room × List Out
 on_room_message room order (Request n) =
     if is_free room && nat_le n BEDS then (Promised order, reply order Tentative) else (room, reply order Refused)
 on_room_message room order Confirm = (if is_promised room order then Taken else room, [])

@@ -8,7 +8,7 @@ use Rattle.std.specs.BTreeMap.{BTreeMap}
 use Rattle.std.specs.Global.{Vec}
 use Rattle.std.proofs.Math.Path.{fun_ext}
 use Rattle.std.proofs.lemmas.Bool.{cases_Bool}
-use Rattle.base.specs.Entity.{Name}
+use Rattle.base.specs.Entity.{Entity}
 use Rattle.base.specs.declared.pair.Pair.{Pair}
 use Rattle.base.specs.Order.{entity_cmp, pair_cmp, same_entity-ties, same_pair, same_pair-ties}
 use Rattle.base.proofs.Entities.{same_pair-Decides}
@@ -34,7 +34,7 @@ use Rattle.keep_plain.proofs.Upto.{set_at, emptied_is}
 
 -- ---- one table
 
-sets_entity : {S : Type 0} (e : Name) (row : Option S) (old new : BTreeMap Name (Option S))
+sets_entity : {S : Type 0} (e : Entity) (row : Option S) (old new : BTreeMap Entity (Option S))
     → SetsAt entity_cmp e row old new
     → at entity_cmp new ≡ set_entity e row (at entity_cmp old)
 sets_entity e row old new h =
@@ -124,7 +124,7 @@ same_tables old new h = same_parts (tables_in new) (tables_in old)
     (fun_ext (λ q. fun_ext (λ k. h.arrivals.held (record { pair = q; number = k }))))
 
 module _ {S C : Type 0} (old : Maps S C) where
-  pub state_made : (e : Name) (row : Option S) (rows : BTreeMap Name (Option S)) → SetsAt entity_cmp e row old.rows rows
+  pub state_made : (e : Entity) (row : Option S) (rows : BTreeMap Entity (Option S)) → SetsAt entity_cmp e row old.rows rows
       → tables_in (record old { rows = rows }) ≡ changed_by (State e row) (tables_in old)
   state_made e row rows h = ap (λ x. record (tables_in old) { entity = x }) (sets_entity e row old.rows rows h)
 

@@ -7,7 +7,7 @@ use Rattle.std.specs.Ordering.{is_eq}
 use Rattle.std.specs.Map.{lookup}
 use Rattle.std.specs.BTreeMap.{BTreeMap}
 use Rattle.std.specs.declared.ops.Bound.TheVariants.{Excluded, Unbounded}
-use Rattle.base.specs.Entity.{Name, order_of, stock_of}
+use Rattle.base.specs.Entity.{Entity, order_of, stock_of}
 use Rattle.base.specs.Order.{entity_cmp, pair_cmp, same_entity, same_pair}
 use Rattle.base.specs.declared.pair.Pair.{Pair}
 use Rattle.activities.specs.declared.input.JournalRow.{JournalRow}
@@ -28,13 +28,13 @@ use Rattle.keep_plain.specs.declared.maps.Maps.{Maps}
 use Rattle.keep_plain.specs.declared.marks.Marks.{Marks}
 use Rattle.keep_plain.specs.declared.marks.Mark.TheVariants as mark
 
-abbrev o1 : Name
+abbrev o1 : Entity
 o1 = order_of (codes "o1")
 
-abbrev o2 : Name
+abbrev o2 : Entity
 o2 = order_of (codes "o2")
 
-abbrev bolts : Name
+abbrev bolts : Entity
 bolts = stock_of (codes "bolts")
 
 abbrev there : Pair
@@ -54,7 +54,7 @@ slots_are_filled : (filled {V = ℕ} None ≡ None) × (filled {V = ℕ} (Some N
 slots_are_filled = (refl, refl, refl)
 
 -- what rows have at an entity
-abbrev row_in : List (Name × Option ℕ) → Name → Option ℕ
+abbrev row_in : List (Entity × Option ℕ) → Entity → Option ℕ
 row_in es x = filled (lookup (λ y. is_eq (entity_cmp x y)) es)
 
 -- of two slots the filled one is a row
@@ -70,12 +70,12 @@ hidden true = refl
 hidden false = refl
 
 -- an empty slot more changes no row; a filled one does
-a_slot_changes_nothing : (old new : BTreeMap Name (Option ℕ)) → old.entries ≡ [] → new.entries ≡ (o1, None) ∷ []
+a_slot_changes_nothing : (old new : BTreeMap Entity (Option ℕ)) → old.entries ≡ [] → new.entries ≡ (o1, None) ∷ []
     → SameAt entity_cmp old new
 a_slot_changes_nothing old new e f =
     λ q. ap (λ es. row_in es q) f ∙ hidden (is_eq (entity_cmp q o1)) ∙ sym (ap (λ es. row_in es q) e)
 
-a_row_changes : (old new : BTreeMap Name (Option ℕ)) → old.entries ≡ [] → new.entries ≡ (o1, Some 8) ∷ []
+a_row_changes : (old new : BTreeMap Entity (Option ℕ)) → old.entries ≡ [] → new.entries ≡ (o1, Some 8) ∷ []
     → SameAt entity_cmp old new → ⊥
 a_row_changes old new e f h =
     let z : some_row ≡ None = sym (ap (λ es. row_in es o1) f) ∙ h o1 ∙ ap (λ es. row_in es o1) e in cc

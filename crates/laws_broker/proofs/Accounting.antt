@@ -15,7 +15,7 @@ use Rattle.broker_core.specs.declared.session.Session.{Session}
 use Rattle.broker_core.specs.declared.fault.BrokerFault.{BrokerFault}
 use Rattle.broker_core.specs.declared.fault.BrokerFault.TheVariants.{Memory, NoSession, TooMany}
 use Rattle.laws_broker.specs.Lives.{Account, BrokerCall, Opened, FedTo, Dispatched, TakenFrom, Dropped, Named, Told}
-use Rattle.laws_broker.specs.Lives.{Does, Lives, account}
+use Rattle.laws_broker.specs.Lives.{DoesCall, Lives, account}
 use Rattle.laws_broker.specs.Lives.{handled_in, octets_by, octets_in}
 use Rattle.laws_broker.proofs.Calling.{after, after_all, no_account}
 use Rattle.laws_broker.proofs.Hearing.{Answered, Heard, answered, gone, handled_by, handled_more, heard_call, never}
@@ -48,7 +48,7 @@ fed_rises full k old f new answer (thrown was same none) = still old new same
 dealing_rises : (old new : Server) → Dealing old new → old.opened ≤ new.opened
 dealing_rises old new d = level old new (same_opened 0 0 d.handed (roster_of old) (roster_of new) d.taken)
 
-rises : (full : ℕ) (c : BrokerCall) (old new : Server) → Does full old c new → old.opened ≤ new.opened
+rises : (full : ℕ) (c : BrokerCall) (old new : Server) → DoesCall full old c new → old.opened ≤ new.opened
 rises full (Opened (Ok k)) old new d =
     let e : new.opened ≡ old.opened + 1 = ap (λ (b : Server). b.opened) d.changed in omega (arith, e)
 rises full (Opened (Err (Memory took))) old new d = still old new d.1
@@ -78,7 +78,7 @@ none_there n h t b (gone low none f) high = none
 
 none_taken : (full n : ℕ) (h : List Decided) (t : List ℕ) (m : ℕ) (octets : List ℕ) (old new : Server) (v : Bool)
     → (n == m) ≡ v
-    → Does full old (TakenFrom m octets) new → Heard n h t old → old.opened < n → octets_by n (TakenFrom m octets) ≡ []
+    → DoesCall full old (TakenFrom m octets) new → Heard n h t old → old.opened < n → octets_by n (TakenFrom m octets) ≡ []
 none_taken full n h t m octets old new true e d g high =
     let z : n ≡ m = eqb-true n m e in
     let none : out_in (session_of m old) ≡ [] =
@@ -86,7 +86,7 @@ none_taken full n h t m octets old new true e d g high =
     rw e (d.2 ∙ ap (take d.0) none ∙ take-nil d.0)
 none_taken full n h t m octets old new false e d g high = rw e refl
 
-still_none : (full n : ℕ) (h : List Decided) (t : List ℕ) (c : BrokerCall) (old new : Server) → Does full old c new
+still_none : (full n : ℕ) (h : List Decided) (t : List ℕ) (c : BrokerCall) (old new : Server) → DoesCall full old c new
     → Heard n h t old
     → old.opened < n → octets_by n c ≡ []
 still_none full n h t (TakenFrom m octets) old new d g high =
@@ -119,7 +119,7 @@ same_account : (x : List ℕ) (h : List Decided) → of x h ≡ of (x ++ []) (h 
 same_account x h = rw (append-nil x, append-nil h) refl
 
 one_more : (full n : ℕ) (x : List ℕ) (h : List Decided) (t : List ℕ) (c : BrokerCall) (old new : Server)
-    → Does full old c new
+    → DoesCall full old c new
     → Heard n h t old → (old.opened < n → x ≡ []) → after n (of x h) c ≡ of (x ++ octets_by n c) (h ++ handled_by n c)
 one_more full n x h t (Opened (Ok m)) old new d g none =
     let next : m ≡ old.opened + 1 = d.next in

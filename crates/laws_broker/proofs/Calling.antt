@@ -25,7 +25,7 @@ use Rattle.broker_core.specs.declared.session.Session.{Session}
 use Rattle.broker_core.specs.declared.fault.BrokerFault.{BrokerFault}
 use Rattle.broker_core.specs.declared.fault.BrokerFault.TheVariants.{Memory, NoSession, TooMany}
 use Rattle.laws_broker.specs.Lives.{Account, BrokerCall, Opened, FedTo, Dispatched, TakenFrom, Dropped, Named, Told}
-use Rattle.laws_broker.specs.Lives.{Does, Lives}
+use Rattle.laws_broker.specs.Lives.{DoesCall, Lives}
 use Rattle.laws_broker.proofs.Hearing.{Answered, answered, taken, thrown}
 use Rattle.laws_broker.specs.Written.{IsLater, Speaks, nothing}
 use Rattle.laws_broker.proofs.Dealing.{dealing_stands}
@@ -301,7 +301,7 @@ module _ (R : Sent → Type 0) (Q : Subscription → Type 0) (n : ℕ) where
   fed_call full m a old f new answer (thrown was same none) k h =
       subst (λ x. Stands R Q n x new) (sym (ap (handling_all n m a) none ∙ none_more n m a (n == m) refl)) (rw same h)
 
-  call_stands : (full : ℕ) (c : BrokerCall) (a : Account) (old new : Server) → Does full old c new → KnowsCall c
+  call_stands : (full : ℕ) (c : BrokerCall) (a : Account) (old new : Server) → DoesCall full old c new → KnowsCall c
       → Stands R Q n a old
       → Stands R Q n (after n a c) new
   call_stands full (Opened (Ok m)) a old new t k h = opens_step m a old new (n == m) refl t h

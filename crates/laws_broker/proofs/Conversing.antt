@@ -11,7 +11,7 @@ use Rattle.stomp_frame.specs.declared.command.Command.TheVariants as command
 use Rattle.stomp_session.specs.declared.request.Request.TheVariants.{Subscribe}
 use Rattle.stomp_session.specs.Replies.{Delivered, connected_frame, message_frame, receipt_frame}
 use Rattle.stomp_client.proofs.Writing.{awaited}
-use Rattle.stomp_client.specs.Accepting.{Accepts, Tells, is_closed, is_open, receipt_number, unaccepted}
+use Rattle.stomp_client.specs.Accepting.{Accepts, TellsFrame, is_closed, is_open, receipt_number, unaccepted}
 use Rattle.stomp_client.specs.Clients.{Client}
 use Rattle.stomp_client.specs.declared.event.ClientEvent.{ClientEvent}
 use Rattle.stomp_client.specs.declared.event.ClientEvent.TheVariants as event
@@ -64,7 +64,7 @@ receipt_taken c value is stage = rw (stage, is) refl
 event_told : {T : Type 0} (f : Content) (old new : Client T) (r : Result (ClientEvent T) ClientFault)
     → unaccepted old f ≡ None
     → Accepts f old new r
-    → (e : ClientEvent T) × (r ≡ Ok e) × Tells f old new e
+    → (e : ClientEvent T) × (r ≡ Ok e) × TellsFrame f old new e
 event_told f old new (Ok e) none a = (e, refl, a.1)
 event_told f old new (Err fault.Closed) none a = absurd (let z : None ≡ Some fault.Closed = sym none ∙ a.0 in cc)
 event_told f old new (Err fault.Unexpected) none a =
@@ -95,7 +95,7 @@ module _ (T : Type 0) (R : Sent → Type 0) (Q : Subscription → Type 0) (n : �
   neither c P (inr e) (inl k) = absurd cc
   neither c P (inr e) (inr k) = absurd cc
 
-  later_stage : (f : Content) (old new : Client T) (e : ClientEvent T) → IsLater R Q n f → Tells f old new e
+  later_stage : (f : Content) (old new : Client T) (e : ClientEvent T) → IsLater R Q n f → TellsFrame f old new e
       → new.stage ≡ old.stage
   later_stage f old new event.Connected is k = neither f.command _ (later_command f is) (inl k.0)
   later_stage f old new (event.Message m) is k = ap (λ (c : Client T). c.stage) k.2
@@ -184,7 +184,7 @@ module _ (T : Type 0) (R : Sent → Type 0) (Q : Subscription → Type 0) (n : �
   connected_taken : (c : Client T) → c.stage ≡ Connecting → unaccepted c connected_frame ≡ None
   connected_taken c stage = rw stage refl
 
-  connected_stage : (old new : Client T) (e : ClientEvent T) → Tells connected_frame old new e → new.stage ≡ Connected
+  connected_stage : (old new : Client T) (e : ClientEvent T) → TellsFrame connected_frame old new e → new.stage ≡ Connected
   connected_stage old new event.Connected k = ap (λ (c : Client T). c.stage) k.1
   connected_stage old new (event.Message m) k =
       absurd (let z : command.Connected ≡ command.Message = ap (λ (g : Content). g.command) (sym k.0) ∙ k.1.command

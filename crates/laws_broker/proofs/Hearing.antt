@@ -17,7 +17,7 @@ use Rattle.broker_core.proofs.Feedings.{Is, held, moved, took}
 use Rattle.broker_core.proofs.Left.{Seen, seen_in, seen_some, seen_taken}
 use Rattle.broker_core.specs.declared.fault.BrokerFault.{BrokerFault}
 use Rattle.broker_core.specs.declared.fault.BrokerFault.TheVariants.{Memory, NoSession, TooMany}
-use Rattle.laws_broker.specs.Lives.{BrokerCall, Opened, FedTo, Dispatched, TakenFrom, Dropped, Named, Told, Does}
+use Rattle.laws_broker.specs.Lives.{BrokerCall, Opened, FedTo, Dispatched, TakenFrom, Dropped, Named, Told, DoesCall}
 use Rattle.laws_broker.specs.Lives.{FeedsWith, Lives, fed_by}
 use Rattle.laws_broker.specs.Lives.{fed_in, handled_in, pieces_in, was_taken}
 use Rattle.laws_broker.proofs.Sessions.{new_other, none_left, others_left, turned}
@@ -220,7 +220,7 @@ dealt_call m h t old new d g =
     heard_same m h t old new (seen_taken m (roster_of old) (roster_of new) d.handed d.taken)
     (same_opened m m d.handed (roster_of old) (roster_of new) d.taken) g
 
-pub heard_call : (full m : ℕ) (h : List Decided) (t : List ℕ) (c : BrokerCall) (old new : Server) → Does full old c new
+pub heard_call : (full m : ℕ) (h : List Decided) (t : List ℕ) (c : BrokerCall) (old new : Server) → DoesCall full old c new
     → Heard m h t old
     → Heard m (h ++ handled_by m c) (t ++ pieces_by m c) new
 heard_call full m h t (Opened (Ok k)) old new d g =

@@ -13,7 +13,7 @@ use Rattle.stomp_frame.specs.declared.command.Command.TheVariants as command
 use Rattle.stomp_frame.specs.Frames.{Content, Header, value_of}
 use Rattle.stomp_session.proofs.Owning.{all_append}
 use Rattle.stomp_session.specs.Replies.{receipt_frame, receipt_told}
-use Rattle.stomp_client.specs.Accepting.{Accepts, Tells, is_open, receipt_number}
+use Rattle.stomp_client.specs.Accepting.{Accepts, TellsFrame, is_open, receipt_number}
 use Rattle.stomp_client.specs.Clients.{Client}
 use Rattle.stomp_client.specs.Frames.{connect_frame, with_receipt}
 use Rattle.stomp_client.specs.Served.{IsClients, IsTakeable, sends_with_receipt}
@@ -202,7 +202,7 @@ module _ (T : Type 0) where
     apart : (c : Command) → f.command ≡ c → (c ≡ command.Receipt → ⊥) → f.command ≡ command.Receipt → ⊥
     apart c e other k = other (sym e ∙ k)
 
-    told_tally : (e : ClientEvent T) → Tells f old new e → Tallies f read book new.receipts
+    told_tally : (e : ClientEvent T) → TellsFrame f old new e → Tallies f read book new.receipts
     told_tally event.Connected k =
         others_tally (apart command.Connected k.0 (λ z. cc)) (ap (λ (c : Client T). c.receipts) k.1)
     told_tally (event.Message m) k = others_tally

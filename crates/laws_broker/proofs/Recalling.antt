@@ -11,7 +11,7 @@ use Rattle.broker_core.specs.Calls.{empty}
 use Rattle.broker_core.specs.Serving.{Decided, Server, session_of}
 use Rattle.broker_core.specs.Streams.{Fed}
 use Rattle.broker_core.specs.declared.fault.BrokerFault.{BrokerFault}
-use Rattle.laws_broker.specs.Lives.{BrokerCall, FedTo, Does, Lives, fed_by, fed_in, handled_in}
+use Rattle.laws_broker.specs.Lives.{BrokerCall, FedTo, DoesCall, Lives, fed_by, fed_in, handled_in}
 use Rattle.laws_broker.specs.Written.{BrokersSpeak, IsAsked, IsBrought, IsLater, Speaks}
 use Rattle.laws_broker.proofs.Accounting.{account_is}
 use Rattle.laws_broker.proofs.Hearing.{Answered, answered, handled_by, handled_more, taken, thrown}
@@ -58,7 +58,7 @@ fed_known full m all front calls old f new answer e (taken was t) =
 fed_known full m all front calls old f new answer e (thrown was same none) =
     subst (AllByRecursion (Knows (IsBrought all) (IsAsked all) m)) (sym none) tt
 
-call_known : (full n : ℕ) (all front calls : List BrokerCall) (c : BrokerCall) (old new : Server) → Does full old c new
+call_known : (full n : ℕ) (all front calls : List BrokerCall) (c : BrokerCall) (old new : Server) → DoesCall full old c new
     → all ≡ front ++ c ∷ calls → KnowsCall (IsBrought all) (IsAsked all) n c
 call_known full n all front calls (FedTo m f answer) old new h e =
     fed_known full m all front calls old f new answer e (answered full m old f new answer h)

@@ -30,7 +30,7 @@ use Rattle.broker_core.specs.declared.session.Session.{Session}
 use Rattle.broker_core.proofs.Left.{served_number}
 use Rattle.laws_broker.specs.Deeds.{BrokerDeed, asked_in, asked_of, deeds_by, done_in}
 use Rattle.laws_broker.specs.Lives.{BrokerCall, Opened, FedTo, Dispatched, TakenFrom, Dropped, Named, Told, Dispatches}
-use Rattle.laws_broker.specs.Lives.{Does, Lives, told_by}
+use Rattle.laws_broker.specs.Lives.{DoesCall, Lives, told_by}
 use Rattle.laws_broker.specs.Lives.{told_in}
 use Rattle.laws_broker.specs.Lives.{dealt_behind, dealt_before, dealt_feeding, dealt_dispatching, dealt_by, dealt_in}
 use Rattle.laws_broker.specs.Lives.{frames_feeding}
@@ -268,7 +268,7 @@ naming_carries old new (Some n) h =
     changed n named old new (record { number = λ s. refl; transactions = λ s. refl }) h.changed
 naming_carries old new None h = same old new h.1
 
-told_carries : (old new : Server) (accepted : List Accepted) → Does 0 old (Told accepted) new
+told_carries : (old new : Server) (accepted : List Accepted) → DoesCall 0 old (Told accepted) new
     → Carries old accepted [] [] new
 told_carries old new accepted h = record {
   runs = record {
@@ -280,7 +280,7 @@ told_carries old new accepted h = record {
   owed = λ p. let l : load p new ≡ load p old = ap (λ (b : Server). load p b) h.1 in omega (arith, l);
 }
 
-pub call_carries : (full : ℕ) (old new : Server) (c : BrokerCall) (h : Does full old c new)
+pub call_carries : (full : ℕ) (old new : Server) (c : BrokerCall) (h : DoesCall full old c new)
     → Carries old (told_by c) (dealt_by full old c new h) (deeds_by c) new
 call_carries full old new (Opened answer) h = opening_carries old new answer h
 call_carries full old new (FedTo n fed answer) h =

@@ -77,13 +77,13 @@ pub record Pays (session : ℕ) (old : Book) (before : List Transaction) (asked 
       → count_by p (done_in runs.events) + weight p session after ≤ weight p session before + count_by p asked
 
 -- so it is where it wasn't refused
-abbrev Leads : ℕ → Reach → List BrokerDeed → Result Reach FrameRefusal → Type 0
-Leads session old asked (Ok r) = Pays session old.book old.transactions asked r.book r.transactions
-Leads session old asked (Err refusal) = Unit {0}
+abbrev PaysWhereDone : ℕ → Reach → List BrokerDeed → Result Reach FrameRefusal → Type 0
+PaysWhereDone session old asked (Ok r) = Pays session old.book old.transactions asked r.book r.transactions
+PaysWhereDone session old asked (Err refusal) = Unit {0}
 
 either : (session : ℕ) (old : Reach) (asked : List BrokerDeed) (b : Bool) (x y : Result Reach FrameRefusal)
-    → Leads session old asked x
-    → Leads session old asked y → Leads session old asked (cond b x y)
+    → PaysWhereDone session old asked x
+    → PaysWhereDone session old asked y → PaysWhereDone session old asked (cond b x y)
 either session old asked true x y h k = h
 either session old asked false x y h k = k
 
@@ -102,7 +102,7 @@ pays_one session old new ts asked e h t k less =
 
 book_leads : (session : ℕ) (r : Reach) (asked : List BrokerDeed) (q : Result Book QueueFault)
     → ((new : Book) → q ≡ Ok new → Pays session r.book r.transactions asked new r.transactions)
-    → Leads session r asked (in_book r q)
+    → PaysWhereDone session r asked (in_book r q)
 book_leads session r asked (Ok b) h = h b refl
 book_leads session r asked (Err fault) h = tt
 
@@ -110,7 +110,7 @@ book_leads session r asked (Err fault) h = tt
 kept_leads : (session : ℕ) (r : Reach) (asked : List BrokerDeed) (q : Result (List Transaction) TransactionFault)
     → ((ts : List Transaction) → q ≡ Ok ts → (p : BrokerDeed → Bool)
     → weight p session ts ≤ weight p session r.transactions + count_by p asked)
-    → Leads session r asked (in_transactions r q)
+    → PaysWhereDone session r asked (in_transactions r q)
 kept_leads session r asked (Ok ts) h =
     record { runs = stays r.book r.book refl; owed = λ p. let l = h ts refl p in omega arith }
 kept_leads session r asked (Err fault) h = tt
@@ -133,7 +133,7 @@ add_weight p session name action before ts (Some actions) e =
 
 -- an action is kept
 adds : (session : ℕ) (r : Reach) (name : List ℕ) (action : Action)
-    → Leads session r (deed_of session action ∷ []) (in_transactions r (add_of r.transactions name action))
+    → PaysWhereDone session r (deed_of session action ∷ []) (in_transactions r (add_of r.transactions name action))
 adds session r name action =
     kept_leads session r (deed_of session action ∷ []) (add_of r.transactions name action)
     (λ ts e p. add_weight p session name action r.transactions ts (actions_of r.transactions name) e)
@@ -145,7 +145,7 @@ begin_is true room x ts e = absurd cc
 begin_is false room x ts e = room_is room x ts e
 
 begins_kept : (session : ℕ) (r : Reach) (name : List ℕ)
-    → Leads session r [] (in_transactions r (begin_of r.transactions name))
+    → PaysWhereDone session r [] (in_transactions r (begin_of r.transactions name))
 begins_kept session r name =
     kept_leads session r [] (begin_of r.transactions name) (λ ts e p.
     let k = begin_is _ _ (r.transactions ++ record { name = name; actions = [] } ∷ []) ts e in
@@ -161,7 +161,7 @@ abbrev but : List ℕ → List Transaction → List Transaction
 but name ts = filter (λ t. not (is_transaction name t)) ts
 
 ends_kept : (session : ℕ) (r : Reach) (name : List ℕ)
-    → Leads session r [] (in_transactions r (end_of r.transactions name))
+    → PaysWhereDone session r [] (in_transactions r (end_of r.transactions name))
 ends_kept session r name =
     kept_leads session r [] (end_of r.transactions name) (λ ts e p.
     let k = end_is _ (but name r.transactions) ts e in
@@ -170,7 +170,7 @@ ends_kept session r name =
 -- ---- SEND and SUBSCRIBE
 
 put_leads : (full session : ℕ) (r : Reach) (sent : Sent) (name : Option (List ℕ))
-    → Leads session r (Brings sent ∷ []) (send_done full r sent name)
+    → PaysWhereDone session r (Brings sent ∷ []) (send_done full r sent name)
 put_leads full session r sent None = book_leads session r (Brings sent ∷ []) (put_of full r.book sent)
     (λ new e. pays_one session r.book new r.transactions (Brings sent ∷ []) (Puts full sent) e refl refl
     (λ p. omega arith))
@@ -179,7 +179,7 @@ put_leads full session r sent (Some name) = adds session r name (Put sent)
 -- a subscription begins only where its name is free
 begins : (session : ℕ) (r : Reach) (s : Subscription) (taken room : Bool)
     → list_any (is_named s.session s.id) r.book.subscriptions ≡ taken
-    → Leads session r [] (cond taken (Err SubscriptionExists) (cond room (Ok (record r { book = subscribed r.book s }))
+    → PaysWhereDone session r [] (cond taken (Err SubscriptionExists) (cond room (Ok (record r { book = subscribed r.book s }))
     (Err TooMany)))
 begins session r s true room e = tt
 begins session r s false true e =
@@ -188,7 +188,7 @@ begins session r s false true e =
 begins session r s false false e = tt
 
 subscribe_leads : (r : Reach) (session : ℕ) (s : SubscribeParts) (mode : Option Mode)
-    → Leads session r [] (subscribe_in r session s mode)
+    → PaysWhereDone session r [] (subscribe_in r session s mode)
 subscribe_leads r session s None = tt
 subscribe_leads r session s (Some mode) =
     begins session r (record { session = session; id = s.id; destination = s.destination; mode = mode }) _ _ refl
@@ -199,9 +199,9 @@ subscribe_leads r session s (Some mode) =
 answer_keeps : (deed : ℕ → BrokerDeed) (action : ℕ → Action) (r : Reach) (session : ℕ) (name : List ℕ) (k : ℕ)
     (there : Bool)
     → deed_of session (action k) ≡ deed k
-    → Leads session r (deed k ∷ []) (answer_kept action r name (cond there (Some k) None))
+    → PaysWhereDone session r (deed k ∷ []) (answer_kept action r name (cond there (Some k) None))
 answer_keeps deed action r session name k true e =
-    subst (λ d. Leads session r (d ∷ []) (in_transactions r (add_of r.transactions name (action k)))) e
+    subst (λ d. PaysWhereDone session r (d ∷ []) (in_transactions r (add_of r.transactions name (action k)))) e
     (adds session r name (action k))
 answer_keeps deed action r session name k false e = tt
 
@@ -211,7 +211,7 @@ answered : (by : Book → ℕ → ℕ → Result Book QueueFault) (deed : ℕ �
     → ((k : ℕ) (new : Book) → by r.book session k ≡ Ok new
     → Pays session r.book r.transactions (deed k ∷ []) new r.transactions)
     → (number : Option ℕ) (name : Option (List ℕ))
-    → Leads session r (answering deed number) (answer_done by action r session number name)
+    → PaysWhereDone session r (answering deed number) (answer_done by action r session number name)
 answered by deed action r session e h None None = tt
 answered by deed action r session e h (Some k) None = book_leads session r (deed k ∷ []) (by r.book session k) (h k)
 answered by deed action r session e h None (Some name) =
@@ -260,21 +260,21 @@ carried_out full session name r new actions found e =
 -- it is there, so it ends
 ends_by : (session : ℕ) (r : Reach) (b : Book) (name : List ℕ) (there : Bool)
     → Pays session r.book r.transactions [] b (but name r.transactions)
-    → Leads session r [] (in_transactions (record r { book = b }) (cond there (Ok (but name r.transactions))
+    → PaysWhereDone session r [] (in_transactions (record r { book = b }) (cond there (Ok (but name r.transactions))
     (Err IsClosed)))
 ends_by session r b name true h = h
 ends_by session r b name false h = tt
 
 commits : (full : ℕ) (r : Reach) (session : ℕ) (name : List ℕ) (actions : List Action) (q : Result Book QueueFault)
     → actions_of r.transactions name ≡ Some actions → apply_of full session r.book actions ≡ q
-    → Leads session r [] (ending name (in_book r q))
+    → PaysWhereDone session r [] (ending name (in_book r q))
 commits full r session name actions (Err fault) found e = tt
 commits full r session name actions (Ok new) found e =
     ends_by session r new name (is_open r.transactions name) (carried_out full session name r new actions found e)
 
 commit_leads : (full : ℕ) (r : Reach) (session : ℕ) (name : List ℕ) (o : Option (List Action))
     → actions_of r.transactions name ≡ o
-    → Leads session r [] (commit_done full r session name o)
+    → PaysWhereDone session r [] (commit_done full r session name o)
 commit_leads full r session name None found = tt
 commit_leads full r session name (Some actions) found =
     commits full r session name actions (apply_of full session r.book actions) found refl
@@ -282,7 +282,7 @@ commit_leads full r session name (Some actions) found =
 -- ---- each request
 
 performed_leads : (full session : ℕ) (r : Reach) (request : Request)
-    → Leads session r (asked_of session (Ok request)) (performed full session r request)
+    → PaysWhereDone session r (asked_of session (Ok request)) (performed full session r request)
 performed_leads full session r (Connect c) = pays_none session r.book r.transactions []
 performed_leads full session r (Send s) =
     either session r (Brings (sent_of s) ∷ []) (is_destination s.destination) _ _
@@ -334,7 +334,7 @@ closes n true old p asked h = record {
 closes n false old p asked h = h
 
 finishes : (n : ℕ) (request : Request) (p : Part) (asked : List BrokerDeed) (r : Result Reach FrameRefusal)
-    → Leads n (reached p) asked r
+    → PaysWhereDone n (reached p) asked r
     → PaysAt n p asked (finished request p r)
 finishes n request p asked (Ok r) h = closes n (is_last request) p (confirmed request p r) asked h
 finishes n request p asked (Err refusal) h = pays_end n p.session.number p.book p.session.transactions asked

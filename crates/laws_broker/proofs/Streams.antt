@@ -17,7 +17,7 @@ use Rattle.broker_core.proofs.Feedings.{handled_first}
 use Rattle.broker_core.proofs.Left.{Seen, seen_in, seen_some, seen_taken}
 use Rattle.broker_core.proofs.Streams.{same_session}
 use Rattle.laws_broker.specs.Lives.{BrokerCall, Opened, FedTo, Dispatched, TakenFrom, Dropped, Named, Told, Dispatches}
-use Rattle.laws_broker.specs.Lives.{Does, fed_by}
+use Rattle.laws_broker.specs.Lives.{DoesCall, fed_by}
 use Rattle.laws_broker.specs.Lives.{FeedsWith, fed_in, was_taken}
 use Rattle.laws_broker.specs.Streams.{drops, touches, OtherCallsLeaveIt, LivesFeedInTurn, LivesAreHandledInOrder}
 use Rattle.laws_broker.proofs.Sessions.{others_left, turned}
@@ -92,7 +92,7 @@ feeding full n m old new fed (Err (Memory false)) d h = still n old new h.same
 feeding full n m old new fed (Err NoSession) d h = still n old new h.1
 feeding full n m old new fed (Err TooMany) d h = absurd h
 
-other_stays : (full n : ℕ) (old new : Server) (c : BrokerCall) (s : Session) → touches n c ≡ false → Does full old c new
+other_stays : (full n : ℕ) (old new : Server) (c : BrokerCall) (s : Session) → touches n c ≡ false → DoesCall full old c new
     → session_of n old ≡ Some s → Stays n old new
 other_stays full n old new (Opened answer) s d h found = opening n old new s answer found h
 other_stays full n old new (FedTo m fed answer) s d h found = feeding full n m old new fed answer d h.0
@@ -189,13 +189,13 @@ piece_turn full n m old mid new fed answer s rest false e found h k =
     (untouched_by n old mid s found (feeding_other full n m old mid fed.piece answer (turned n m e) h.0)) k
 
 quiet_turn : (full n : ℕ) (old mid new : Server) (c : BrokerCall) (s : Session) (rest : List Fed) → touches n c ≡ false
-    → session_of n old ≡ Some s → Does full old c mid → Rest full n mid rest new → FedInTurn full n old rest new
+    → session_of n old ≡ Some s → DoesCall full old c mid → Rest full n mid rest new → FedInTurn full n old rest new
 quiet_turn full n old mid new c s rest d found h k =
     untouched_turn full n old mid new rest (others_leave full n old mid c s d h found) k
 
 call_turn : (full n : ℕ) (old mid new : Server) (c : BrokerCall) (s : Session) (rest : List Fed) → drops n c ≡ false
     → session_of n old ≡ Some s
-    → Does full old c mid → Rest full n mid rest new → FedInTurn full n old (fed_by n c ++ rest) new
+    → DoesCall full old c mid → Rest full n mid rest new → FedInTurn full n old (fed_by n c ++ rest) new
 call_turn full n old mid new (FedTo m fed answer) s rest d found h k =
     piece_turn full n m old mid new fed answer s rest (n == m) refl found h k
 call_turn full n old mid new (Opened answer) s rest d found h k =

@@ -6,7 +6,7 @@ use Rattle.std.specs.List.{flat_map}
 use Rattle.broker_book.specs.Steps.{Handed}
 use Rattle.broker_book.specs.declared.parts.Accepted.{Accepted}
 use Rattle.broker_core.specs.Calls.{FreshAnswer, OpenAnswer, dropped, out_in, without_first}
-use Rattle.broker_core.specs.Feeding.{Dealing, FeedAnswer, HandlesAll, Settles, Stops, at_frame, in_step, in_deals}
+use Rattle.broker_core.specs.Feeding.{Dealing, FeedAnswer, HandlesAll, DealsAll, Stops, at_frame, in_step, in_deals}
 use Rattle.broker_core.specs.Feeding.{at_fault, at_end}
 use Rattle.broker_core.specs.Serving.{Decided, Server, changing, session_of}
 use Rattle.broker_core.specs.Streams.{Fed, stopped_frames}
@@ -43,7 +43,7 @@ FeedsWith full old n fed new answer =
 
 -- a dispatch dealt until nothing could be dealt, or some deals before memory was refused
 abbrev pub Dispatches : Bool → Server → Server → Type 0
-Dispatches true old new = Settles old new
+Dispatches true old new = DealsAll old new
 Dispatches false old new = Dealing old new
 
 -- octets for a session were taken: the first so many
@@ -53,20 +53,20 @@ TakesFrom old n octets new =
     × (new ≡ changing n (without_first count) old)
 
 -- what a call does to a broker of which each queue holds so many messages
-abbrev pub Does : ℕ → Server → BrokerCall → Server → Type 0
-Does full old (Opened answer) new = OpenAnswer old new answer
-Does full old (FedTo n fed answer) new = FeedsWith full old n fed new answer
-Does full old (Dispatched whole) new = Dispatches whole old new
-Does full old (TakenFrom n octets) new = TakesFrom old n octets new
-Does full old (Dropped n) new = new ≡ dropped n old (session_of n old)
-Does full old (Named answer) new = FreshAnswer old new answer
-Does full old (Told accepted) new =
+abbrev pub DoesCall : ℕ → Server → BrokerCall → Server → Type 0
+DoesCall full old (Opened answer) new = OpenAnswer old new answer
+DoesCall full old (FedTo n fed answer) new = FeedsWith full old n fed new answer
+DoesCall full old (Dispatched whole) new = Dispatches whole old new
+DoesCall full old (TakenFrom n octets) new = TakesFrom old n octets new
+DoesCall full old (Dropped n) new = new ≡ dropped n old (session_of n old)
+DoesCall full old (Named answer) new = FreshAnswer old new answer
+DoesCall full old (Told accepted) new =
     (accepted ≡ old.book.accepted) × (new ≡ record old { book = record old.book { accepted = [] } })
 
 -- one call after another leads there
 abbrev pub Lives : ℕ → Server → List BrokerCall → Server → Type 0
 Lives full old [] new = new ≡ old
-Lives full old (c ∷ calls) new = (mid : Server) × Does full old c mid × Lives full mid calls new
+Lives full old (c ∷ calls) new = (mid : Server) × DoesCall full old c mid × Lives full mid calls new
 
 -- ---- what is told
 
@@ -118,7 +118,7 @@ dealt_dispatching true old new h = h.0.handed
 dealt_dispatching false old new h = h.handed
 
 -- what was dealt in a call
-abbrev pub dealt_by : (full : ℕ) (old : Server) (c : BrokerCall) (new : Server) → Does full old c new → List Handed
+abbrev pub dealt_by : (full : ℕ) (old : Server) (c : BrokerCall) (new : Server) → DoesCall full old c new → List Handed
 dealt_by full old (FedTo n fed answer) new h = dealt_feeding full old n fed.piece new answer h.0
 dealt_by full old (Dispatched whole) new h = dealt_dispatching whole old new h
 dealt_by full old (Opened answer) new h = []

@@ -11,7 +11,7 @@ use Rattle.broker_book.specs.declared.parts.Accepted.{Accepted}
 use Rattle.broker_book.specs.declared.parts.Sent.{Sent}
 use Rattle.broker_core.specs.Calls.{empty}
 use Rattle.broker_core.specs.Serving.{Decided, Server, step}
-use Rattle.laws_broker.specs.Lives.{BrokerCall, Does, Lives, accepted_in, dealt_by, dealt_in, told_by, told_in}
+use Rattle.laws_broker.specs.Lives.{BrokerCall, DoesCall, Lives, accepted_in, dealt_by, dealt_in, told_by, told_in}
 use Rattle.laws_broker.specs.Deeds.{BrokerDeed, WereAsked, asked_in, done_in}
 
 -- ---- runs of the book
@@ -47,7 +47,7 @@ StepsAreRuns = (full n : ℕ) (decided : Decided) (b : Server) → Runs b.book [
 
 -- each call is a run of the book, along which is taken what it tells, and handed out what it deals
 abbrev pub CallsAreRuns : Type 0
-CallsAreRuns = (full : ℕ) (old new : Server) (c : BrokerCall) (h : Does full old c new)
+CallsAreRuns = (full : ℕ) (old new : Server) (c : BrokerCall) (h : DoesCall full old c new)
     → Runs old.book (told_by c) (dealt_by full old c new h) new.book
 
 -- so are calls, one after another

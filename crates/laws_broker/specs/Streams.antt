@@ -4,7 +4,7 @@ use Rattle.std.specs.List.{list_any}
 use Rattle.broker_core.specs.Serving.{Server, nothing_incoming, session_of}
 use Rattle.broker_core.specs.Streams.{AreFirst, FedInTurn, Untouched}
 use Rattle.broker_core.specs.declared.session.Session.{Session}
-use Rattle.laws_broker.specs.Lives.{BrokerCall, Does, Dropped, FedTo, Lives, fed_in, handled_in, pieces_in, was_taken}
+use Rattle.laws_broker.specs.Lives.{BrokerCall, DoesCall, Dropped, FedTo, Lives, fed_in, handled_in, pieces_in, was_taken}
 
 -- whether a call takes a session away
 abbrev pub drops : ℕ → BrokerCall → Bool
@@ -19,7 +19,7 @@ touches n c = drops n c
 -- any other call leaves it there, with what it was fed, closed or not and connected or not as it was
 abbrev pub OtherCallsLeaveIt : Type 0
 OtherCallsLeaveIt =
-    (full n : ℕ) (old new : Server) (c : BrokerCall) (s : Session) → touches n c ≡ false → Does full old c new
+    (full n : ℕ) (old new : Server) (c : BrokerCall) (s : Session) → touches n c ≡ false → DoesCall full old c new
     → session_of n old ≡ Some s → Untouched n old new
 
 -- what a session takes in calls, of which none takes it away, is fed to it in turn

@@ -6,7 +6,7 @@
 ghost use Rattle.std.specs.Prelude.{◌≤◌, List, [], length, is_ok, take};
 ghost use Rattle.broker_core.specs.Calls.{empty, out_in};
 ghost use Rattle.broker_core.specs.Serving.{Decided, session_of};
-ghost use Rattle.laws_broker.specs.Lives.{Does, Dispatched, Dropped, FedTo, Lives, Named, Opened, TakenFrom, Told};
+ghost use Rattle.laws_broker.specs.Lives.{DoesCall, Dispatched, Dropped, FedTo, Lives, Named, Opened, TakenFrom, Told};
 
 use broker_book::Accepted;
 use broker_core::{Broker, BrokerFault, SessionId};
@@ -24,7 +24,7 @@ pub fn begin<const FULL: usize>(alloc: Global) -> Broker<FULL>
 /// # Errors
 /// Those of `Broker::open`; nothing has changed then.
 pub fn open<const FULL: usize>(broker: &mut Broker<FULL>) -> Result<SessionId, BrokerFault>
-    ensures { Does FULL broker.old (Opened result) broker.new }
+    ensures { DoesCall FULL broker.old (Opened result) broker.new }
 {
     broker.open()
 }
@@ -39,7 +39,7 @@ pub fn feed<const FULL: usize>(
     piece: &[u8],
 ) -> Result<usize, BrokerFault>
     ensures { (frames : List Decided)
-        × Does FULL broker.old (FedTo session (record { piece = piece.now; frames = frames }) result) broker.new }
+        × DoesCall FULL broker.old (FedTo session (record { piece = piece.now; frames = frames }) result) broker.new }
 {
     broker.feed(session, piece)
 }
@@ -49,7 +49,7 @@ pub fn feed<const FULL: usize>(
 /// # Errors
 /// Where a growth was refused; what was handed out before stays so.
 pub fn dispatch<const FULL: usize>(broker: &mut Broker<FULL>) -> Result<(), AllocError>
-    ensures { Does FULL broker.old (Dispatched (is_ok result)) broker.new }
+    ensures { DoesCall FULL broker.old (Dispatched (is_ok result)) broker.new }
 {
     match broker.dispatch() {
         Ok(()) => Ok(()),
@@ -60,7 +60,7 @@ pub fn dispatch<const FULL: usize>(broker: &mut Broker<FULL>) -> Result<(), Allo
 /// Takes the first octets for a session away. It takes no memory.
 pub fn taken<const FULL: usize>(broker: &mut Broker<FULL>, session: SessionId, count: usize)
     requires { count ≤ length (out_in (session_of session broker.old)) }
-    ensures { Does FULL broker.old (TakenFrom session (take count (out_in (session_of session broker.old))))
+    ensures { DoesCall FULL broker.old (TakenFrom session (take count (out_in (session_of session broker.old))))
         broker.new }
 {
     broker.taken(session, count);
@@ -68,21 +68,21 @@ pub fn taken<const FULL: usize>(broker: &mut Broker<FULL>, session: SessionId, c
 
 /// Takes a session away. It takes no memory.
 pub fn drop_session<const FULL: usize>(broker: &mut Broker<FULL>, session: SessionId)
-    ensures { Does FULL broker.old (Dropped session) broker.new }
+    ensures { DoesCall FULL broker.old (Dropped session) broker.new }
 {
     broker.drop_session(session);
 }
 
 /// A session for which octets were written since it was last named. It takes no memory.
 pub fn take_fresh<const FULL: usize>(broker: &mut Broker<FULL>) -> Option<SessionId>
-    ensures { Does FULL broker.old (Named result) broker.new }
+    ensures { DoesCall FULL broker.old (Named result) broker.new }
 {
     broker.take_fresh()
 }
 
 /// The SENDs that were accepted since the last call, in order. It takes no memory.
 pub fn take_accepted<const FULL: usize>(broker: &mut Broker<FULL>) -> Vec<Accepted>
-    ensures { Does FULL broker.old (Told result.items) broker.new }
+    ensures { DoesCall FULL broker.old (Told result.items) broker.new }
 {
     broker.take_accepted()
 }

@@ -37,7 +37,7 @@ use Rattle.reception.specs.declared.taken.Taken.TheVariants.{Connected, Receipt,
 use Rattle.reception.specs.declared.taken.Taken.TheVariants.{Error}
 use Rattle.laws_mail.specs.Passing.{GoodFrame, GoodNext}
 use Rattle.laws_mail.proofs.Frames.{ack_good, begin_good, commit_good, nack_good, send_within_good, subscribe_good}
-use Rattle.schedule_service.specs.Happenings.{waiting_of}
+use Rattle.schedule_service.specs.SiteSteps.{waiting_of}
 
 -- ---- a letter that was read
 
@@ -79,12 +79,12 @@ module _ (ok : Envelope → Type 0) where
   all_fit (f ∷ frames) each = (each.0.fits, all_fit frames each.1)
 
   -- what a client is told of a letter, which it then settles so far
-  abbrev pub Settles : Content → Result Taken ReceptionFault → Type 0
-  Settles f (Ok (Handled position)) =
+  abbrev pub MaySettle : Content → Result Taken ReceptionFault → Type 0
+  MaySettle f (Ok (Handled position)) =
       (l : Letter) → read_frame f ≡ Some (envelope.Letter l) → ok (envelope.Settle l.pair l.number)
-  Settles f (Ok (Repeated number)) = (l : Letter) → read_frame f ≡ Some (envelope.Letter l)
+  MaySettle f (Ok (Repeated number)) = (l : Letter) → read_frame f ≡ Some (envelope.Letter l)
       → IsNumber number × ok (envelope.Settle l.pair number)
-  Settles f _ = ⊤
+  MaySettle f _ = ⊤
 
   settling_good : (f : Content) (transaction : ℕ) (p : Pair) (n : ℕ) → IsEnvelope (envelope.Settle p n)
       → ok (envelope.Settle p n)
@@ -120,7 +120,7 @@ module _ (ok : Envelope → Type 0) where
 
   pub answers_good : (kind : Kind) (f : Content) (old new : Client ℕ) (r : Result Taken ReceptionFault)
       → Answers kind f old new r
-      → Settles f r → WritesGood old new
+      → MaySettle f r → WritesGood old new
   answers_good kind f old new (Ok Connected) h told = record {
     frames = subscribe_frame (queue_of kind) ∷ [];
     each = (subscribe_good ok (queue_of kind) h.2.each.0, tt);

@@ -23,7 +23,7 @@ use Rattle.keep.specs.Listing.{AreFirst, place_of}
 use Rattle.keep.specs.Seen.{Seen, IsSound}
 use Rattle.keep.specs.Tables.{Tables, Messages}
 use Rattle.endpoint.specs.Matches.{AllMatch}
-use Rattle.schedule_mail.specs.Offices.{Office}
+use Rattle.schedule_mail.specs.Mails.{Mail}
 use Rattle.laws_mail.specs.Passing.{GoodFrame, HasWritten}
 use Rattle.relay.specs.Calls.{Fills, Gives, idle_answer}
 use Rattle.relay.specs.Filling.{SendState, sends_of, unsent, with_sent}
@@ -38,7 +38,7 @@ use Rattle.laws_mail.proofs.Writing.{adds_written}
 use Rattle.laws_events.proofs.Replying.{WritesGood, writes_none}
 use Rattle.laws_events.proofs.Telling.{inner_usable}
 use Rattle.schedule_service.proofs.Cursors.{channel_has}
-use Rattle.schedule_service.specs.Happenings.{SendsRows}
+use Rattle.schedule_service.specs.SiteSteps.{SendsRows}
 use Rattle.schedule_service.specs.Cursors.{AreRight, KnowsEach}
 use Rattle.schedule_service.specs.Channels.{channel_of, sending}
 use Rattle.schedule_service.specs.declared.site_channel.SiteChannel.{SiteChannel}
@@ -116,7 +116,7 @@ module _ (ok : Envelope → Type 0) where
 
   module _ {H K S C : Type 0} (seen : K → Seen (Tables S C)) (sound : (k : K) → IsSound (seen k))
       (service : Service S C)
-      (s : Site H K S C) (from : Office) (t : Site H K S C) (to : Office) (clean : (seen t.endpoint.keep).doubt ≡ 0)
+      (s : Site H K S C) (from : Mail) (t : Site H K S C) (to : Mail) (clean : (seen t.endpoint.keep).doubt ≡ 0)
       (match : AllMatch service (seen s.endpoint.keep).may_leave) (right : AreRight seen service s)
       (true_ok : (e : Envelope) → IsTrue service (seen t.endpoint.keep).may_leave e → ok e) where
     module _ (number : ConnectionNumber) (limit : ℕ) (l : SiteChannel) (is : channel_of number s ≡ Some l)

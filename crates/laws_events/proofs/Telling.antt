@@ -32,7 +32,7 @@ use Rattle.reception.specs.declared.taken.Taken.TheVariants.{Connected, Receipt,
 use Rattle.reception.specs.declared.taken.Taken.TheVariants.{Error}
 use Rattle.laws_events.specs.Writing.{IsTrue}
 use Rattle.laws_stores.proofs.Writing.{handled_true, repeated_true, drained_true}
-use Rattle.laws_events.proofs.Replying.{Settles, WritesGood, letter_written, writes_none, writes_these}
+use Rattle.laws_events.proofs.Replying.{MaySettle, WritesGood, letter_written, writes_none, writes_these}
 use Rattle.laws_events.proofs.Settling.{settle_good}
 
 one_letter : (o : Option Envelope) (l k : Letter) → o ≡ Some (envelope.Letter l) → o ≡ Some (envelope.Letter k) → l ≡ k
@@ -99,7 +99,7 @@ module _ {K S C : Type 0} (ok : Envelope → Type 0) (seen : K → Seen (Tables 
   -- what is settled behind a frame
   pub settles_ok : (f : Content) (r : Result Taken ReceptionFault)
       → ComesBy (through seen) old new service (TakeMay service f r)
-      → TellsOfUse (through seen) service.kind f old new r → Settles ok f r
+      → TellsOfUse (through seen) service.kind f old new r → MaySettle ok f r
   settles_ok f (Ok (Handled position)) comes used = handled_ok f position comes
   settles_ok f (Ok (Repeated number)) comes used =
       λ l read. (again_is f number comes used.0.1, again_ok f number comes l read)

@@ -4,7 +4,7 @@ ghost use Rattle.std.specs.Prelude.{◌≡◌, Bool, Some, true};
 ghost use Rattle.stomp_frame.specs.Frames.{Content};
 ghost use Rattle.envelope.specs.Reading.{read_frame};
 ghost use Rattle.envelope.specs.declared.message.Envelope.{Envelope};
-ghost use Rattle.schedule_mail.specs.Offices.{Office};
+ghost use Rattle.schedule_mail.specs.Mails.{Mail};
 ghost use Rattle.laws_mail.specs.Passing.{passing};
 ghost use Rattle.laws_events.specs.Laws.{EventPasses, FirstKeeps};
 ghost use Rattle.laws_events.specs.Three.{Genuine};
@@ -22,7 +22,7 @@ pub fn each_event_makes_nothing_up<H, K>()
 where
     H: Handler,
     K: Keep<State = H::State, Command = H::Command> + Drop,
-    ensures { (test : Envelope → Bool) (s t : Site H K H.State H.Command) (from to : Office)
+    ensures { (test : Envelope → Bool) (s t : Site H K H.State H.Command) (from to : Mail)
         → EventPasses K.seen H.service test s t from to }
 {}
 
@@ -36,9 +36,9 @@ where
     J: Handler,
     M: Keep<State = J::State, Command = J::Command> + Drop,
     ensures acts { (test : Envelope → Bool) (s t : Site H K H.State H.Command) (b : Site I L I.State I.Command)
-        (c : Site J M J.State J.Command) (from to : Office) → FirstKeeps K.seen H.service test s t from to b c }
+        (c : Site J M J.State J.Command) (from to : Mail) → FirstKeeps K.seen H.service test s t from to b c }
     ensures turned { (test : Envelope → Bool) (a : Site H K H.State H.Command) (b : Site I L I.State I.Command)
-        (c : Site J M J.State J.Command) (o : Office) → Genuine (passing test) a b c o
+        (c : Site J M J.State J.Command) (o : Mail) → Genuine (passing test) a b c o
         → Genuine (passing test) b c a o }
 {}
 
@@ -52,7 +52,7 @@ where
     J: Handler,
     M: Keep<State = J::State, Command = J::Command> + Drop,
     ensures { (test : Envelope → Bool) (a : Site H K H.State H.Command) (b : Site I L I.State I.Command)
-        (c : Site J M J.State J.Command) (o : Office) → Genuine (passing test) a b c o
+        (c : Site J M J.State J.Command) (o : Mail) → Genuine (passing test) a b c o
         → (number : ConnectionNumber) (f : Content) → CameOn (channels_of a number) f
         → (e : Envelope) → read_frame f ≡ Some e → test e ≡ true }
 {}

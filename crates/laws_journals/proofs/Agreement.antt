@@ -8,7 +8,7 @@ use Rattle.envelope.specs.declared.message.Message.{Message}
 use Rattle.envelope.specs.declared.message.Message.TheVariants.{Request, Tentative, Confirm, Cancel}
 use Rattle.trade.specs.declared.line_phase.LinePhase.{LinePhase}
 use Rattle.trade.specs.declared.line_phase.LinePhase.TheVariants.{Done, Released}
-use Rattle.base.specs.Entity.{Name}
+use Rattle.base.specs.Entity.{Entity}
 use Rattle.base.specs.declared.pair.Pair.{Pair}
 use Rattle.activities.specs.Reaction.{course, messages_to, letters_from}
 use Rattle.activities.specs.Journal.{part}
@@ -29,7 +29,7 @@ use Rattle.activities.proofs.Invariants.{invariant-always}
 use Rattle.trade.proofs.Sound.{orders-invariant, stocks-invariant, accounts-invariant}
 
 -- a sender and a receiver
-abbrev from_to : Name → Name → Pair
+abbrev from_to : Entity → Entity → Pair
 from_to s r = record { from = s; to = r }
 
 -- what was heard was told
@@ -39,7 +39,7 @@ heard-numbered m n [] h = h
 heard-numbered m n (x ∷ ms) (inl e) = inl e
 heard-numbered m n (x ∷ ms) (inr h) = inr (heard-numbered m (suc n) ms h)
 
-told-in : (js : Journals) → HandlesPrefixes js → (m : Message) (s r : Name) → Heard m (letters_in js (from_to s r))
+told-in : (js : Journals) → HandlesPrefixes js → (m : Message) (s r : Entity) → Heard m (letters_in js (from_to s r))
     → Told m (sent_in js (from_to s r))
 told-in js prefixes m s r h =
     let p = prefixes (from_to s r) in
@@ -47,23 +47,23 @@ told-in js prefixes m s r h =
     h))
 
 -- a line tells what its stock or account heard of the order and told it
-line_tells : (js : Journals) (k : Kind) (at o : Name) (l : Line) → line_by (states_in js) o k at ≡ Some l
+line_tells : (js : Journals) (k : Kind) (at o : Entity) (l : Line) → line_by (states_in js) o k at ≡ Some l
     → ByLine (Some l) (letters_by js k (from_to o at)) (sent_by js k (from_to at o))
 line_tells js Order at o l e = absurd (cc)
 line_tells js Stock at o l e = rw e at (stock_line-tells o (part at js.stocks))
 line_tells js Account at o l e = rw e at (account_line-tells o (part at js.accounts))
 
 -- what an order sends and handles stands in the journal of orders
-order_sent : (js : Journals) (o : Name) → o.kind ≡ Order → (r : Name)
+order_sent : (js : Journals) (o : Entity) → o.kind ≡ Order → (r : Entity)
     → sent_in js (from_to o r) ≡ messages_to r (course order_reactions (part o js.orders)).1
 order_sent js o k r = rw k refl
 
-order_handled : (js : Journals) (o : Name) → o.kind ≡ Order → (s : Name)
+order_handled : (js : Journals) (o : Entity) → o.kind ≡ Order → (s : Entity)
     → letters_in js (from_to s o) ≡ letters_from s (part o js.orders)
 order_handled js o k s = rw k refl
 
 -- where a partner's line is done, no partner's line is released or refused
-one_way : (js : Journals) → HandlesPrefixes js → (o : Name) → o.kind ≡ Order → (p q : Name)
+one_way : (js : Journals) → HandlesPrefixes js → (o : Entity) → o.kind ≡ Order → (p q : Entity)
     → IsPartner ((states_in js).orders o) q
     → (l : Line) → line_at (states_in js) o p ≡ Some l → l.phase ≡ Done → (m : Line)
     → line_at (states_in js) o q ≡ Some m
@@ -100,7 +100,7 @@ none_or : (l : Option Line) → ((x : Line) → l ≡ Some x → ⊥) → IsNone
 none_or None f = refl
 none_or (Some x) f = absurd (f x refl)
 
-pub partners_agree : (js : Journals) → HandlesPrefixes js → (o : Name) → o.kind ≡ Order
+pub partners_agree : (js : Journals) → HandlesPrefixes js → (o : Entity) → o.kind ≡ Order
     → PartnersAgree ((states_in js).orders o) (line_at (states_in js) o)
 partners_agree js prefixes o k = record {
   one_way = λ p q a b d u. go p q b (line_at (states_in js) o p) (line_at (states_in js) o q) refl refl d u;
@@ -111,13 +111,13 @@ partners_agree js prefixes o k = record {
       (rw (order_sent js o k at) at (told-in js prefixes (Request asked.0) o at asked.1))));
 }
   where
-    go : (p q : Name) → IsPartner ((states_in js).orders o) q → (x y : Option Line) → line_at (states_in js) o p ≡ x
+    go : (p q : Entity) → IsPartner ((states_in js).orders o) q → (x y : Option Line) → line_at (states_in js) o p ≡ x
         → line_at (states_in js) o q ≡ y → IsShippedOrBilled x → IsReleasedOrRefused y → ⊥
     go p q b None y e f d u = d
     go p q b (Some l) None e f d u = u
     go p q b (Some l) (Some m) e f d u = one_way js prefixes o k p q b l e d m f u
 
-pub refused_left : (js : Journals) (o : Name) → o.kind ≡ Order
+pub refused_left : (js : Journals) (o : Entity) → o.kind ≡ Order
     → RefusedAreLeftAlone ((states_in js).orders o) (λ p. sent_in js (from_to o p))
 refused_left js o k p refused there =
     let told : Told Cancel (sent_in js (from_to o p)) =
@@ -127,13 +127,13 @@ refused_left js o k p refused there =
 
 -- ---- soundness
 
-pub order_sound : (js : Journals) (e : Name) → IsOrderSound ((states_in js).orders e)
+pub order_sound : (js : Journals) (e : Entity) → IsOrderSound ((states_in js).orders e)
 order_sound js e = invariant-always order_reactions IsOrderSound orders-invariant (part e js.orders)
 
-pub stock_sound : (js : Journals) (e : Name) → IsStockSound ((states_in js).stocks e)
+pub stock_sound : (js : Journals) (e : Entity) → IsStockSound ((states_in js).stocks e)
 stock_sound js e = invariant-always stock_reactions IsStockSound stocks-invariant (part e js.stocks)
 
-pub account_sound : (js : Journals) (e : Name) → IsAccountSound ((states_in js).accounts e)
+pub account_sound : (js : Journals) (e : Entity) → IsAccountSound ((states_in js).accounts e)
 account_sound js e = invariant-always account_reactions IsAccountSound accounts-invariant (part e js.accounts)
 
 pub sound : (js : Journals) → HandlesPrefixes js → AreSound (states_in js)

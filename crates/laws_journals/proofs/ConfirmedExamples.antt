@@ -1,7 +1,7 @@
 -- Example: one order from its placing to its confirmation, computed.
 use Rattle.std.proofs.Common.{◌≡◌, ℕ, List, [], ◌∷◌, refl, take, Option, Some}
 use Rattle.std.specs.Prelude.{codes}
-use Rattle.base.specs.Entity.{Name, order_of, stock_of, account_of}
+use Rattle.base.specs.Entity.{Entity, order_of, stock_of, account_of}
 use Rattle.base.specs.Order.{same_entity, same_pair}
 use Rattle.base.specs.declared.pair.Pair.{Pair}
 use Rattle.envelope.specs.declared.message.Message.TheVariants.{Request, Tentative, Confirm}
@@ -26,17 +26,17 @@ use Rattle.laws_journals.proofs.Machine.{Action, ToOrder, ToStock, ToAccount, Se
 use Rattle.laws_journals.proofs.Machine.{act_all, acts_reach}
 
 -- the order o1, its stock bolts and its account acme
-abbrev pub order : Name
+abbrev pub order : Entity
 order = order_of (codes "o1")
 
-abbrev pub stock : Name
+abbrev pub stock : Entity
 stock = stock_of (codes "bolts")
 
-abbrev pub account : Name
+abbrev pub account : Entity
 account = account_of (codes "acme")
 
 -- a pair
-abbrev pub from_to : Name → Name → Pair
+abbrev pub from_to : Entity → Entity → Pair
 from_to sender receiver = record { from = sender; to = receiver }
 
 -- ten bolts came in and the limit is 500; the order asks for 3 of them and for all of the limit; every letter arrives,

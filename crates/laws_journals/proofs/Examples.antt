@@ -1,7 +1,7 @@
 -- Examples: rows that a service adds, what the laws deny, and steps.
 use Rattle.std.proofs.Common.{◌≡◌, ℕ, [], ◌∷◌, length, take, refl, ap, arith, inl, inr, Some}
 use Rattle.std.specs.Prelude.{codes, Contains, if◌then◌else◌}
-use Rattle.base.specs.Entity.{Name}
+use Rattle.base.specs.Entity.{Entity}
 use Rattle.base.specs.Order.{same_entity, same_pair}
 use Rattle.base.specs.declared.entity.Kind.TheVariants.{Stock, Account}
 use Rattle.envelope.specs.declared.message.Envelope.{Envelope}
@@ -62,7 +62,7 @@ a_letter_is_known = ((0, omega arith, refl), λ h. let none = h.1 in omega arith
 
 -- ---- envelopes and marks
 
-abbrev letter : Name → Name → ℕ → Message → Envelope
+abbrev letter : Entity → Entity → ℕ → Message → Envelope
 letter sender receiver number message =
     Letter (record { pair = from_to sender receiver; number = number; message = message })
 
@@ -163,7 +163,7 @@ the_refused_is_left_alone : RefusedAreLeftAlone (order_at Cancelled Phase.Cancel
 unfolding same_entity
 the_refused_is_left_alone = (alone, λ h. h account (inr (inl (refl, refl))) (0, omega arith, refl))
   where
-    alone : (p : Name) → HasRefused (order_at Cancelled Phase.Cancelled Phase.Refused) p
+    alone : (p : Entity) → HasRefused (order_at Cancelled Phase.Cancelled Phase.Refused) p
         → Contains (if same_entity p stock then Cancel ∷ [] else []) Cancel → ⊥
     alone p (inl e) told = let phases = e.1 in absurd (cc)
     alone p (inr (inl e)) told = let none : Contains [] Cancel = rw e.0 at told in let short = none.1 in omega arith

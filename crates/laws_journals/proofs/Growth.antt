@@ -3,7 +3,7 @@
 use Rattle.std.proofs.Common.{◌≡◌, ℕ, suc, ◌≤◌, Bool, true, false, List, [], ◌∷◌, ◌++◌, ◌⊎◌, refl, arith, sym, inl, inr}
 use Rattle.std.proofs.Common.{Some, length}
 use Rattle.std.proofs.Common.{subst}
-use Rattle.base.specs.Entity.{Name}
+use Rattle.base.specs.Entity.{Entity}
 use Rattle.base.proofs.Entities.{same_pair-Decides}
 use Rattle.base.specs.Order.{same_pair}
 use Rattle.base.specs.declared.entity.Kind.{Kind}
@@ -46,7 +46,7 @@ pub record Follows (js later : Journals) : Type 0 where
 
 -- ---- rows of letters that are known to be authentic
 
-from-known : {C : Type 0} (known more : Envelope → Type 0) (e : Name) (input : Input C)
+from-known : {C : Type 0} (known more : Envelope → Type 0) (e : Entity) (input : Input C)
     → ((x : Envelope) → known x → more x)
     → IsFrom known e input → IsFrom more e input
 from-known known more e (FromSeat seat c) all h = tt
@@ -64,10 +64,10 @@ adds-known known more js later all (AddsAccount row may from e) =
 
 -- ---- one row
 
-abbrev pair_of : Name → Name → Pair
+abbrev pair_of : Entity → Entity → Pair
 pair_of s r = record { from = s; to = r }
 
-row_handles : {C : Type 0} (js : Journals) (rows : List (JournalRow C)) (e : Name) (input : Input C)
+row_handles : {C : Type 0} (js : Journals) (rows : List (JournalRow C)) (e : Entity) (input : Input C)
     → HasNextNumber rows e input
     → IsFrom (IsAuthentic js) e input
     → (pair : Pair) → HandlesNext js pair (letters_of rows pair) (letters_of

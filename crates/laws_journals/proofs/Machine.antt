@@ -4,7 +4,7 @@ use Rattle.std.proofs.Common.{inl, inr, Option}
 use Rattle.std.proofs.Common.{Some, None, Result, Ok, Err, length}
 use Rattle.std.specs.Prelude.{Contains, slice_get, max, ◌==◌, nat_le, nat_lt, if◌then◌else◌}
 use Rattle.std.proofs.lemmas.Bool.Decides.{nat_tests}
-use Rattle.base.specs.Entity.{Name, order_of, stock_of, account_of}
+use Rattle.base.specs.Entity.{Entity, order_of, stock_of, account_of}
 use Rattle.base.specs.Order.{same_pair}
 use Rattle.base.specs.declared.entity.Kind.{Kind}
 use Rattle.base.specs.declared.entity.Kind.TheVariants.{Order, Stock, Account}
@@ -53,7 +53,7 @@ unless_refused (Ok done) rows row = rows ++ row ∷ []
 unless_refused (Err refusal) rows row = rows
 
 -- a journal after a command, from one of the seats 0 to 15
-abbrev pub with_command : {S C : Type 0} → Reactions S C → Name → ℕ → C → List (JournalRow C) → List (JournalRow C)
+abbrev pub with_command : {S C : Type 0} → Reactions S C → Entity → ℕ → C → List (JournalRow C) → List (JournalRow C)
 with_command t e seat command rows =
     if nat_lt seat SEATS
     then unless_refused (react t (state_of t rows e) (FromSeat seat command)) rows
@@ -116,7 +116,7 @@ abbrev Commanded : {S C : Type 0} → Reactions S C → Kind → List (JournalRo
     → Type 0
 Commanded t kind rows row later = (later ≡ rows) ⊎ (MayFollow t kind rows row × (later ≡ rows ++ row ∷ []))
 
-answered : {S C : Type 0} (t : Reactions S C) (kind : Kind) (e : Name) (seat : ℕ) (c : C) (rows : List (JournalRow C))
+answered : {S C : Type 0} (t : Reactions S C) (kind : Kind) (e : Entity) (seat : ℕ) (c : C) (rows : List (JournalRow C))
     (answer : Result (S × List Out) Refusal)
     → e.kind ≡ kind → nat_lt seat 16 ≡ true → react t (state_of t rows e) (FromSeat seat c) ≡ answer
     → Commanded t kind rows (command_row e seat c) (unless_refused answer rows (command_row e seat c))
@@ -124,7 +124,7 @@ answered t kind e seat c rows (Err refusal) k seated is = inl refl
 answered t kind e seat c rows (Ok done) k seated is =
     inr (record { of_kind = k; seated = grind (arith, nat_tests); accepted = rw is refl; next = tt }, refl)
 
-commanded : {S C : Type 0} (t : Reactions S C) (kind : Kind) (e : Name) (seat : ℕ) (c : C) (rows : List (JournalRow C))
+commanded : {S C : Type 0} (t : Reactions S C) (kind : Kind) (e : Entity) (seat : ℕ) (c : C) (rows : List (JournalRow C))
     → e.kind ≡ kind → Commanded t kind rows (command_row e seat c) (with_command t e seat c rows)
 commanded t kind e seat c rows k = by_case (nat_lt seat 16) refl
   where
@@ -136,8 +136,8 @@ commanded t kind e seat c rows k = by_case (nat_lt seat 16) refl
 -- ---- each action is a step, or nothing
 
 -- nothing is changed, or a step is made
-abbrev Does : Configuration → Configuration → Type 0
-Does old new = (new ≡ old) ⊎ ConfigurationStep old new
+abbrev StepsOrRests : Configuration → Configuration → Type 0
+StepsOrRests old new = (new ≡ old) ⊎ ConfigurationStep old new
 
 -- the next letter of its pair adds a row, if it is known
 letter_adds : (known : Envelope → Type 0) (js : Journals) (k : Kind) (l : LetterOf) → l.pair.to.kind ≡ k
@@ -150,10 +150,10 @@ letter_adds known js Stock l k from next =
 letter_adds known js Account l k from next =
     AddsAccount _ (record { of_kind = k; seated = tt; accepted = refl; next = next }) from refl
 
-letter_does : (w : Configuration) (l : LetterOf) → Contains w.sent (Letter l) → Does w (arrives w (Some (Letter l)))
+letter_does : (w : Configuration) (l : LetterOf) → Contains w.sent (Letter l) → StepsOrRests w (arrives w (Some (Letter l)))
 letter_does w l there = by_case (l.number == suc (handled_in w.journals l.pair)) refl
   where
-    by_case : (b : Bool) → (l.number == suc (handled_in w.journals l.pair)) ≡ b → Does w (arrives w (Some (Letter l)))
+    by_case : (b : Bool) → (l.number == suc (handled_in w.journals l.pair)) ≡ b → StepsOrRests w (arrives w (Some (Letter l)))
     by_case true e =
         let next : l.number ≡ suc (handled_in w.journals l.pair) = grind (arith, nat_tests) in
         rw e (inr (Writes (letter_adds (Contains w.sent) w.journals l.pair.to.kind l refl there next) refl refl))
@@ -172,10 +172,10 @@ mark_raises pair count settled = record {
     by_case other apart false e = rw e refl
 
 settle_does : (w : Configuration) (pair : Pair) (count : ℕ) → Contains w.sent (Settle pair count)
-    → Does w (arrives w (Some (Settle pair count)))
+    → StepsOrRests w (arrives w (Some (Settle pair count)))
 settle_does w pair count there = by_case (nat_le count (length (sent_in w.journals pair)))
   where
-    by_case : (b : Bool) → Does w (if b then record w { settled = with_mark pair count w.settled } else w)
+    by_case : (b : Bool) → StepsOrRests w (if b then record w { settled = with_mark pair count w.settled } else w)
     by_case true = inr (Marks pair count there (mark_raises pair count w.settled) refl refl)
     by_case false = inl refl
 
@@ -185,18 +185,18 @@ there (x ∷ es) zero e at = (0, omega arith, cc)
 there (x ∷ es) (suc k) e at = let rest = there es k e at in (suc rest.0, omega arith, rest.2)
 
 arrives_does : (w : Configuration) (e : Option Envelope) → ((x : Envelope) → e ≡ Some x → Contains w.sent x)
-    → Does w (arrives w e)
+    → StepsOrRests w (arrives w e)
 arrives_does w None at = inl refl
 arrives_does w (Some (Letter l)) at = letter_does w l (at _ refl)
 arrives_does w (Some (Settle pair count)) at = settle_does w pair count (at _ refl)
 
 sends_does : (w : Configuration) (pair : Pair) (number : ℕ) (m : Option Message)
     → nth (sent_in w.journals pair) number ≡ m
-    → Does w (sends w pair number m)
+    → StepsOrRests w (sends w pair number m)
 sends_does w pair number None at = inl refl
 sends_does w pair number (Some m) at = inr (Sends _ at refl)
 
-act_does : (w : Configuration) (a : Action) → Does w (act w a)
+act_does : (w : Configuration) (a : Action) → StepsOrRests w (act w a)
 act_does w (ToOrder key seat c) = either (commanded order_reactions Order (order_of key) seat c w.journals.orders refl)
     (λ e. inl (ap (λ rows. record w { journals = record w.journals { orders = rows } }) e))
     (λ e. inr (Writes (AddsOrder _ e.0 tt (rw e.1 refl)) refl refl))

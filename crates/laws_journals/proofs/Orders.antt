@@ -8,7 +8,7 @@ use Rattle.envelope.specs.declared.message.Message.TheVariants.{Request, Tentati
 use Rattle.activities.specs.declared.phase.Phase.{Phase}
 use Rattle.trade.specs.declared.status.Status.{Status}
 use Rattle.trade.specs.declared.status.Status.TheVariants.{Open, Confirmed, Cancelled}
-use Rattle.base.specs.Entity.{Name}
+use Rattle.base.specs.Entity.{Entity}
 use Rattle.base.specs.Order.{same_entity}
 use Rattle.trade.specs.declared.commands.OrderCommand.{OrderCommand}
 use Rattle.trade.specs.declared.commands.OrderCommand.TheVariants.{Place, CancelOrder}
@@ -24,7 +24,7 @@ use Rattle.trade.specs.Orders.{to_all}
 use Rattle.trade.specs.Orders.{to_others, requests, placed, partners_of, tentative_from, refused_by, on_order_message}
 use Rattle.trade.specs.Orders.{order_reactions}
 use Rattle.laws_journals.specs.Agreement.{IsAmong, IsPartner, IsRefusing, HasRefused}
-use Rattle.activities.proofs.Sameness.{Tells, same_entity-tells, same_entity-same, either}
+use Rattle.activities.proofs.Sameness.{TellsSame, same_entity-tells, same_entity-same, either}
 use Rattle.activities.proofs.Reactions.{holds_along, messages_to-append, letters_from-append}
 use Rattle.laws_journals.proofs.Partners.{Heard, Told, heard-left, heard-right}
 
@@ -75,7 +75,7 @@ ByOrder (Some o) inputs outs = ToPartners o.partners outs × ByStatus o.status o
 
 -- more inputs
 
-heard-more : {C : Type 0} (m : Message) (e : Name) (inputs more : List (Input C)) → Heard m (letters_from e inputs)
+heard-more : {C : Type 0} (m : Message) (e : Entity) (inputs more : List (Input C)) → Heard m (letters_from e inputs)
     → Heard m (letters_from e (inputs ++ more))
 heard-more m e inputs more h = rw letters_from-append (heard-left m (letters_from e inputs) (letters_from e more) h)
 
@@ -106,7 +106,7 @@ by_order-more (Some o) inputs more outs h = (h.0, by_status-more o.status o.part
 
 -- changes of phases
 
-among-with_phase : (e s : Name) (phase : Phase) (ps : List Partner) → IsAmong e ps → IsAmong e (with_phase s phase ps)
+among-with_phase : (e s : Entity) (phase : Phase) (ps : List Partner) → IsAmong e ps → IsAmong e (with_phase s phase ps)
 among-with_phase e s phase [] h = h
 among-with_phase e s phase (p ∷ ps) h = by_case (same_entity s p.entity) h (among-with_phase e s phase ps)
   where
@@ -116,19 +116,19 @@ among-with_phase e s phase (p ∷ ps) h = by_case (same_entity s p.entity) h (am
     by_case false (inl x) f = inl x
     by_case false (inr x) f = inr (f x)
 
-among-all_in : (e : Name) (phase : Phase) (ps : List Partner) → IsAmong e ps → IsAmong e (all_in phase ps)
+among-all_in : (e : Entity) (phase : Phase) (ps : List Partner) → IsAmong e ps → IsAmong e (all_in phase ps)
 among-all_in e phase [] h = h
 among-all_in e phase (p ∷ ps) (inl x) = inl x
 among-all_in e phase (p ∷ ps) (inr x) = inr (among-all_in e phase ps x)
 
-tentative_marked : {C : Type 0} (inputs : List (Input C)) (s : Name) (ps : List Partner)
+tentative_marked : {C : Type 0} (inputs : List (Input C)) (s : Entity) (ps : List Partner)
     → Heard Tentative (letters_from s inputs)
     → TentativeHeard inputs ps → TentativeHeard inputs (with_phase s Phase.Tentative ps)
 tentative_marked inputs s [] here h = tt
 tentative_marked inputs s (p ∷ ps) here h =
     by_case (tentative_marked inputs s ps here h.1) (same_entity-tells s p.entity)
   where
-    by_case : TentativeHeard inputs (with_phase s Phase.Tentative ps) → Tells s p.entity (same_entity s p.entity)
+    by_case : TentativeHeard inputs (with_phase s Phase.Tentative ps) → TellsSame s p.entity (same_entity s p.entity)
         → TentativeHeard inputs (with_phase s Phase.Tentative (p ∷ ps))
     by_case rest (inl e) = rw e.0 ((λ _. rw (← e.1) here), h.1)
     by_case rest (inr e) = rw e.0 (h.0, rest)
@@ -141,7 +141,7 @@ all_tentative-heard inputs (p ∷ ps) t h =
     let both : (is_tentative p.phase ≡ true) × (all_tentative ps ≡ true) = grind arith in
     (h.0 both.0, all_tentative-heard inputs ps both.1 h.1)
 
-all_heard-unmarked : {C : Type 0} (inputs : List (Input C)) (s : Name) (phase : Phase) (ps : List Partner)
+all_heard-unmarked : {C : Type 0} (inputs : List (Input C)) (s : Entity) (phase : Phase) (ps : List Partner)
     → AllHeard inputs (with_phase s phase ps) → AllHeard inputs ps
 all_heard-unmarked inputs s phase [] h = tt
 all_heard-unmarked inputs s phase (p ∷ ps) h = by_case (same_entity s p.entity) h (all_heard-unmarked inputs s phase ps)
@@ -166,10 +166,10 @@ to_all-partners m [] = tt
 to_all-partners m (p ∷ ps) = (inl refl, among-tail p ps (to_all m ps) (to_all-partners m ps))
 
 -- the partners but one
-abbrev others : Name → List Partner → List Partner
+abbrev others : Entity → List Partner → List Partner
 others s ps = filter (λ (p : Partner). not (same_entity s p.entity)) ps
 
-to_others-partners : (s : Name) (m : Message) (ps : List Partner) → ToPartners ps (to_others s m ps)
+to_others-partners : (s : Entity) (m : Message) (ps : List Partner) → ToPartners ps (to_others s m ps)
 to_others-partners s m [] = tt
 to_others-partners s m (p ∷ ps) =
     by_case (same_entity s p.entity) (among-tail p ps (to_others s m ps) (to_others-partners s m ps))
@@ -183,7 +183,7 @@ to_all-never : (m k : Message) (ps : List Partner) → (m ≡ k → ⊥) → Nev
 to_all-never m k [] ne = tt
 to_all-never m k (p ∷ ps) ne = (ne, to_all-never m k ps ne)
 
-to_others-never : (s : Name) (m k : Message) (ps : List Partner) → (m ≡ k → ⊥) → Never k (to_others s m ps)
+to_others-never : (s : Entity) (m k : Message) (ps : List Partner) → (m ≡ k → ⊥) → Never k (to_others s m ps)
 to_others-never s m k [] ne = tt
 to_others-never s m k (p ∷ ps) ne = by_case (same_entity s p.entity) (to_others-never s m k ps ne)
   where
@@ -202,22 +202,22 @@ requests-never k (p ∷ ps) ne = (ne p.n, requests-never k ps ne)
 
 -- what one receiver was sent
 
-told-each : (P : Out → Type 0) (r : Name) (m : Message) (outs : List Out) → Each P outs → Told m (messages_to r outs)
+told-each : (P : Out → Type 0) (r : Entity) (m : Message) (outs : List Out) → Each P outs → Told m (messages_to r outs)
     → (out : Out) × P out × (r ≡ out.receiver) × (out.message ≡ m)
 told-each P r m [] h t = absurd t
 told-each P r m (x ∷ xs) h t = by_case (same_entity-tells r x.receiver) (told-each P r m xs h.1)
   where
-    by_case : Tells r x.receiver (same_entity r x.receiver)
+    by_case : TellsSame r x.receiver (same_entity r x.receiver)
         → (Told m (messages_to r xs) → (out : Out) × P out × (r ≡ out.receiver) × (out.message ≡ m))
         → (out : Out) × P out × (r ≡ out.receiver) × (out.message ≡ m)
     by_case (inl e) f =
         let k : (x.message ≡ m) ⊎ Told m (messages_to r xs) = rw e.0 at t in either k (λ is. (x, h.0, e.1, is)) f
     by_case (inr e) f = let k : Told m (messages_to r xs) = rw e.0 at t in f k
 
-pub told-never : (r : Name) (m : Message) (outs : List Out) → Never m outs → Told m (messages_to r outs) → ⊥
+pub told-never : (r : Entity) (m : Message) (outs : List Out) → Never m outs → Told m (messages_to r outs) → ⊥
 told-never r m outs h t = let w = told-each (λ out. out.message ≡ m → ⊥) r m outs h t in w.1 w.3
 
-others_apart : (s : Name) (m : Message) (ps : List Partner) → messages_to s (to_others s m ps) ≡ []
+others_apart : (s : Entity) (m : Message) (ps : List Partner) → messages_to s (to_others s m ps) ≡ []
 others_apart s m [] = refl
 others_apart s m (p ∷ ps) = by_case (same_entity s p.entity) refl (others_apart s m ps)
   where
@@ -230,12 +230,12 @@ refused-none : (ps : List Partner) (outs : List Out) → RefusedLeft (all_in Pha
 refused-none [] outs = tt
 refused-none (p ∷ ps) outs = ((λ e. absurd (cc)), refused-none ps outs)
 
-refused-one : (s : Name) (ps : List Partner) (outs : List Out) → (Told Cancel (messages_to s outs) → ⊥)
+refused-one : (s : Entity) (ps : List Partner) (outs : List Out) → (Told Cancel (messages_to s outs) → ⊥)
     → RefusedLeft (with_phase s Phase.Refused (all_in Phase.Cancelled ps)) outs
 refused-one s [] outs h = tt
 refused-one s (p ∷ ps) outs h = by_case (same_entity-tells s p.entity) (refused-one s ps outs h)
   where
-    by_case : Tells s p.entity (same_entity s p.entity)
+    by_case : TellsSame s p.entity (same_entity s p.entity)
         → RefusedLeft (with_phase s Phase.Refused (all_in Phase.Cancelled ps)) outs
         → RefusedLeft (with_phase s Phase.Refused (all_in Phase.Cancelled (p ∷ ps))) outs
     by_case (inl e) rest = rw e.0 ((λ _. rw (← e.1) h), refused-none ps outs)
@@ -295,7 +295,7 @@ cancelled_keeps inputs outs o e h =
       ),
     )
 
-tentative_keeps : (inputs : List (Input OrderCommand)) (outs : List Out) (o : OrderState) (s : Name)
+tentative_keeps : (inputs : List (Input OrderCommand)) (outs : List Out) (o : OrderState) (s : Entity)
     → is_open o.status ≡ true
     → Heard Tentative (letters_from s inputs) → ByOrder (Some o) inputs outs
     → Keeps inputs outs (tentative_from o s)
@@ -326,7 +326,7 @@ tentative_keeps inputs outs o s e here h = by_case (all_tentative (with_phase s 
           (k.1.0, k.1.1, marked),
     )
 
-refused_keeps : (inputs : List (Input OrderCommand)) (outs : List Out) (o : OrderState) (s : Name)
+refused_keeps : (inputs : List (Input OrderCommand)) (outs : List Out) (o : OrderState) (s : Entity)
     → is_open o.status ≡ true
     → ByOrder (Some o) inputs outs → Keeps inputs outs (refused_by o s)
 refused_keeps inputs outs o s e h =
@@ -343,7 +343,7 @@ refused_keeps inputs outs o s e h =
       ),
     )
 
-message_keeps : (inputs : List (Input OrderCommand)) (outs : List Out) (o : Option OrderState) (s : Name) (n : ℕ)
+message_keeps : (inputs : List (Input OrderCommand)) (outs : List Out) (o : Option OrderState) (s : Entity) (n : ℕ)
     (m : Message)
     → ByOrder o inputs outs
     → Keeps (inputs ++ FromEntity s n m ∷ []) outs (on_order_message o s m)
@@ -430,7 +430,7 @@ pub order_tells : (inputs : List (Input OrderCommand))
 order_tells inputs = holds_along order_reactions (λ xs at. ByOrder at.0 xs at.1) refl order_step inputs
 
 -- who is told anything is a partner
-pub told-partner : {C : Type 0} (o : Option OrderState) (inputs : List (Input C)) (outs : List Out) (r : Name)
+pub told-partner : {C : Type 0} (o : Option OrderState) (inputs : List (Input C)) (outs : List Out) (r : Entity)
     (m : Message)
     → ByOrder o inputs outs → Told m (messages_to r outs) → IsPartner o r
 told-partner None inputs outs r m h t = absurd (rw h at t)
@@ -439,25 +439,25 @@ told-partner (Some o) inputs outs r m h t =
 
 -- where one partner is told to confirm, each was heard and none is told to cancel
 pub record Agreed {C : Type 0} (o : Option OrderState) (inputs : List (Input C)) (outs : List Out) : Type 0 where
-  pub heard : (r : Name) → IsPartner o r → Heard Tentative (letters_from r inputs)
-  pub never : (r : Name) → Told Cancel (messages_to r outs) → ⊥
+  pub heard : (r : Entity) → IsPartner o r → Heard Tentative (letters_from r inputs)
+  pub never : (r : Entity) → Told Cancel (messages_to r outs) → ⊥
 
-all_heard-among : {C : Type 0} (inputs : List (Input C)) (r : Name) (ps : List Partner) → AllHeard inputs ps
+all_heard-among : {C : Type 0} (inputs : List (Input C)) (r : Entity) (ps : List Partner) → AllHeard inputs ps
     → IsAmong r ps
     → Heard Tentative (letters_from r inputs)
 all_heard-among inputs r [] h a = absurd a
 all_heard-among inputs r (p ∷ ps) h (inl e) = rw e h.0
 all_heard-among inputs r (p ∷ ps) h (inr a) = all_heard-among inputs r ps h.1 a
 
-agreed_by : {C : Type 0} (s : Status) (ps : List Partner) (inputs : List (Input C)) (outs : List Out) (r : Name)
+agreed_by : {C : Type 0} (s : Status) (ps : List Partner) (inputs : List (Input C)) (outs : List Out) (r : Entity)
     → ByStatus s ps inputs outs
     → Told Confirm (messages_to r outs)
-    → AllHeard inputs ps × ((q : Name) → Told Cancel (messages_to q outs) → ⊥)
+    → AllHeard inputs ps × ((q : Entity) → Told Cancel (messages_to q outs) → ⊥)
 agreed_by Open ps inputs outs r h t = absurd (told-never r Confirm outs h.0 t)
 agreed_by Confirmed ps inputs outs r h t = (h.1, λ q. told-never q Cancel outs h.0)
 agreed_by Cancelled ps inputs outs r h t = absurd (told-never r Confirm outs h.0 t)
 
-pub agreed : {C : Type 0} (o : Option OrderState) (inputs : List (Input C)) (outs : List Out) (r : Name)
+pub agreed : {C : Type 0} (o : Option OrderState) (inputs : List (Input C)) (outs : List Out) (r : Entity)
     → ByOrder o inputs outs
     → Told Confirm (messages_to r outs) → Agreed o inputs outs
 agreed None inputs outs r h t = absurd (rw h at t)
@@ -467,21 +467,21 @@ agreed (Some o) inputs outs r h t =
 
 -- a partner that refused is never told to cancel
 
-refused_among : (ps : List Partner) (outs : List Out) (r : Name) → RefusedLeft ps outs → IsRefusing r ps
+refused_among : (ps : List Partner) (outs : List Out) (r : Entity) → RefusedLeft ps outs → IsRefusing r ps
     → Told Cancel (messages_to r outs)
     → ⊥
 refused_among [] outs r h a t = a
 refused_among (p ∷ ps) outs r h (inl e) t = h.0 e.1 (rw e.0 at t)
 refused_among (p ∷ ps) outs r h (inr a) t = refused_among ps outs r h.1 a t
 
-left_by : {C : Type 0} (s : Status) (ps : List Partner) (inputs : List (Input C)) (outs : List Out) (r : Name)
+left_by : {C : Type 0} (s : Status) (ps : List Partner) (inputs : List (Input C)) (outs : List Out) (r : Entity)
     → ByStatus s ps inputs outs
     → IsRefusing r ps → Told Cancel (messages_to r outs) → ⊥
 left_by Open ps inputs outs r h a t = told-never r Cancel outs h.1 t
 left_by Confirmed ps inputs outs r h a t = told-never r Cancel outs h.0 t
 left_by Cancelled ps inputs outs r h a t = refused_among ps outs r h.1 a t
 
-pub left_alone : {C : Type 0} (o : Option OrderState) (inputs : List (Input C)) (outs : List Out) (r : Name)
+pub left_alone : {C : Type 0} (o : Option OrderState) (inputs : List (Input C)) (outs : List Out) (r : Entity)
     → ByOrder o inputs outs
     → HasRefused o r → Told Cancel (messages_to r outs) → ⊥
 left_alone None inputs outs r h a t = a

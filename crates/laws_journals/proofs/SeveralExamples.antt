@@ -1,7 +1,7 @@
 -- Example: an order of two stocks, which is confirmed once all hold, and is cancelled where one refuses, computed.
 use Rattle.std.proofs.Common.{◌≡◌, ℕ, List, [], ◌∷◌, refl, inl, inr, take, Option, Some}
 use Rattle.std.specs.Prelude.{codes}
-use Rattle.base.specs.Entity.{Name, stock_of}
+use Rattle.base.specs.Entity.{Entity, stock_of}
 use Rattle.base.specs.Order.{same_entity, same_pair}
 use Rattle.envelope.specs.declared.message.Message.TheVariants.{Request, Confirm, Cancel}
 use Rattle.trade.specs.declared.commands.OrderCommand.TheVariants.{Place}
@@ -22,7 +22,7 @@ use Rattle.laws_journals.specs.Steps.{Configuration, Reaches, start}
 use Rattle.laws_journals.proofs.ConfirmedExamples.{order, stock, account, from_to, stock_at, account_at}
 use Rattle.laws_journals.proofs.Machine.{Action, ToOrder, ToStock, ToAccount, SendsLetter, Arrives, act_all, acts_reach}
 
-abbrev nuts : Name
+abbrev nuts : Entity
 nuts = stock_of (codes "nuts")
 
 -- ten bolts and four nuts came in; the order asks for 3 bolts, so many nuts and all of the limit; the nuts answer

@@ -1,7 +1,7 @@
 -- Examples: journals that grow, and others that lost something; journals that are sound, and others that aren't.
 use Rattle.std.proofs.Common.{[], ◌∷◌, refl, arith, inl, inr, Some}
 use Rattle.std.specs.Prelude.{codes, IsNone}
-use Rattle.base.specs.Entity.{Name}
+use Rattle.base.specs.Entity.{Entity}
 use Rattle.base.specs.Order.{same_entity, same_pair}
 use Rattle.base.specs.declared.entity.Kind.{Kind}
 use Rattle.base.specs.declared.entity.Kind.TheVariants.{Order, Stock, Account}
@@ -64,7 +64,7 @@ nothing_is_sound = record {
   };
 }
   where
-    no_line : (order : Name) (kind : Kind) (at : Name) → IsNone (line_by (states_in start.journals) order kind at)
+    no_line : (order : Entity) (kind : Kind) (at : Entity) → IsNone (line_by (states_in start.journals) order kind at)
     no_line order Order at = refl
     no_line order Stock at = refl
     no_line order Account at = refl

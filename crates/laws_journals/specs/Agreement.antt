@@ -1,6 +1,6 @@
 -- What follows for orders, stocks and accounts, read off their states: partners agree, and nothing is lost.
 use Rattle.std.specs.Prelude.{◌≡◌, ◌⊎◌, List, [], ◌∷◌, Option, Some, None, IsNone, Contains}
-use Rattle.base.specs.Entity.{Name}
+use Rattle.base.specs.Entity.{Entity}
 use Rattle.base.specs.declared.entity.Kind.{Kind}
 use Rattle.base.specs.declared.entity.Kind.TheVariants.{Order, Stock, Account}
 use Rattle.envelope.specs.declared.message.Message.{Message}
@@ -17,9 +17,9 @@ use Rattle.laws_journals.specs.Journals.{Journals}
 
 -- the states of all orders, stocks and accounts
 pub record States : Type 0 where
-  pub orders : Name → Option OrderState
-  pub stocks : Name → StockState
-  pub accounts : Name → AccountState
+  pub orders : Entity → Option OrderState
+  pub stocks : Entity → StockState
+  pub accounts : Entity → AccountState
 
 -- those of three journals
 abbrev pub states_in : Journals → States
@@ -30,13 +30,13 @@ states_in js = record {
 }
 
 -- the line of an order at an entity of this kind
-abbrev pub line_by : States → Name → Kind → Name → Option Line
+abbrev pub line_by : States → Entity → Kind → Entity → Option Line
 line_by x order Order at = None
 line_by x order Stock at = line_of order (x.stocks at).lines
 line_by x order Account at = line_of order (x.accounts at).lines
 
 -- the line of an order at a stock or an account
-abbrev pub line_at : States → Name → Name → Option Line
+abbrev pub line_at : States → Entity → Entity → Option Line
 line_at x order at = line_by x order at.kind at
 
 -- there is a line, and it is shipped or billed
@@ -50,39 +50,39 @@ IsReleasedOrRefused None = ⊥
 IsReleasedOrRefused (Some l) = (l.phase ≡ Released) ⊎ (l.phase ≡ Refused)
 
 -- it is one of these partners
-abbrev pub IsAmong : Name → List Partner → Type 0
+abbrev pub IsAmong : Entity → List Partner → Type 0
 IsAmong e [] = ⊥
 IsAmong e (p ∷ ps) = (e ≡ p.entity) ⊎ IsAmong e ps
 
 -- it is one of the order's partners
-abbrev pub IsPartner : Option OrderState → Name → Type 0
+abbrev pub IsPartner : Option OrderState → Entity → Type 0
 IsPartner None e = ⊥
 IsPartner (Some o) e = IsAmong e o.partners
 
 -- it is one of these partners, and its phase is refused
-abbrev pub IsRefusing : Name → List Partner → Type 0
+abbrev pub IsRefusing : Entity → List Partner → Type 0
 IsRefusing e [] = ⊥
 IsRefusing e (p ∷ ps) = ((e ≡ p.entity) × (p.phase ≡ Phase.Refused)) ⊎ IsRefusing e ps
 
 -- it is one of the order's partners, and the order knows that it refused
-abbrev pub HasRefused : Option OrderState → Name → Type 0
+abbrev pub HasRefused : Option OrderState → Entity → Type 0
 HasRefused None e = ⊥
 HasRefused (Some o) e = IsRefusing e o.partners
 
 -- Of an order in this state, with its line at each entity: no partner's line is shipped or billed while another's is
 -- released or refused, and its lines stand at partners alone.
-pub record PartnersAgree (order : Option OrderState) (line : Name → Option Line) : Type 0 where
-  pub one_way : (p q : Name) → IsPartner order p → IsPartner order q → IsShippedOrBilled (line p)
+pub record PartnersAgree (order : Option OrderState) (line : Entity → Option Line) : Type 0 where
+  pub one_way : (p q : Entity) → IsPartner order p → IsPartner order q → IsShippedOrBilled (line p)
       → IsReleasedOrRefused (line q) → ⊥
-  pub nowhere_else : (at : Name) → (IsPartner order at → ⊥) → IsNone (line at)
+  pub nowhere_else : (at : Entity) → (IsPartner order at → ⊥) → IsNone (line at)
 
 -- of an order in this state, with what it told each entity: a partner that refused isn't told to give anything back
-abbrev pub RefusedAreLeftAlone : Option OrderState → (Name → List Message) → Type 0
-RefusedAreLeftAlone order told = (p : Name) → HasRefused order p → Contains (told p) Cancel → ⊥
+abbrev pub RefusedAreLeftAlone : Option OrderState → (Entity → List Message) → Type 0
+RefusedAreLeftAlone order told = (p : Entity) → HasRefused order p → Contains (told p) Cancel → ⊥
 
 -- the partners of each order agree, and each order, each stock and each account is sound
 pub record AreSound (x : States) : Type 0 where
-  pub agree : (order : Name) → order.kind ≡ Order → PartnersAgree (x.orders order) (line_at x order)
-  pub orders : (e : Name) → IsOrderSound (x.orders e)
-  pub stocks : (e : Name) → IsStockSound (x.stocks e)
-  pub accounts : (e : Name) → IsAccountSound (x.accounts e)
+  pub agree : (order : Entity) → order.kind ≡ Order → PartnersAgree (x.orders order) (line_at x order)
+  pub orders : (e : Entity) → IsOrderSound (x.orders e)
+  pub stocks : (e : Entity) → IsStockSound (x.stocks e)
+  pub accounts : (e : Entity) → IsAccountSound (x.accounts e)

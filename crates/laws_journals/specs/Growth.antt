@@ -1,6 +1,6 @@
 -- How the three journals grow: by one row of one service at a time.
 use Rattle.std.specs.Prelude.{◌≡◌, ◌≤◌, [], ◌∷◌, ◌++◌, ⊤}
-use Rattle.base.specs.Entity.{Name}
+use Rattle.base.specs.Entity.{Entity}
 use Rattle.base.specs.declared.entity.Kind.TheVariants.{Order, Stock, Account}
 use Rattle.base.specs.declared.pair.Pair.{Pair}
 use Rattle.envelope.specs.declared.message.Envelope.{Envelope}
@@ -20,7 +20,7 @@ use Rattle.laws_journals.specs.Journals.{Journals, sent_in, handled_in}
 use Rattle.laws_journals.specs.Envelopes.{IsAuthentic}
 
 -- a letter that an entity takes in is one of the known envelopes; a command needs nothing
-abbrev pub IsFrom : {C : Type 0} → (Envelope → Type 0) → Name → Input C → Type 0
+abbrev pub IsFrom : {C : Type 0} → (Envelope → Type 0) → Entity → Input C → Type 0
 IsFrom known e (FromSeat seat command) = ⊤
 IsFrom known e (FromEntity sender number message) =
     known (Letter (record { pair = record { from = sender; to = e }; number = number; message = message }))

@@ -1,7 +1,7 @@
 //! The laws: each is the contract of a function with nothing to do.
 
 ghost use Rattle.std.specs.Prelude.{◌≡◌, ◌≤◌, ℕ};
-ghost use Rattle.base.specs.Entity.{Name};
+ghost use Rattle.base.specs.Entity.{Entity};
 ghost use Rattle.base.specs.declared.entity.Kind.TheVariants.{Order};
 ghost use Rattle.base.specs.declared.pair.Pair.{Pair};
 ghost use Rattle.envelope.specs.declared.message.Envelope.{Envelope};
@@ -56,17 +56,17 @@ pub fn stays_authentic()
 /// Where each receiver handled a beginning of what was sent to it, the partners of each order agree; and nothing that
 /// came into a stock, and nothing of an account's limit, is ever lost or used twice.
 pub fn agree()
-    ensures partners { (js : Journals) → HandlesPrefixes js → (order : Name) → order.kind ≡ Order →
+    ensures partners { (js : Journals) → HandlesPrefixes js → (order : Entity) → order.kind ≡ Order →
         PartnersAgree ((states_in js).orders order) (line_at (states_in js) order) }
-    ensures orders { (js : Journals) (e : Name) → IsOrderSound ((states_in js).orders e) }
-    ensures stocks { (js : Journals) (e : Name) → IsStockSound ((states_in js).stocks e) }
-    ensures accounts { (js : Journals) (e : Name) → IsAccountSound ((states_in js).accounts e) }
+    ensures orders { (js : Journals) (e : Entity) → IsOrderSound ((states_in js).orders e) }
+    ensures stocks { (js : Journals) (e : Entity) → IsStockSound ((states_in js).stocks e) }
+    ensures accounts { (js : Journals) (e : Entity) → IsAccountSound ((states_in js).accounts e) }
     ensures lawful { (js : Journals) → AreLawful js → AreSound (states_in js) }
     ensures in_each { (new : Configuration) → Reaches start new → AreSound (states_in new.journals) }
 {}
 
 /// A partner that refused isn't told to give anything back, whatever else happened.
 pub fn refused_are_left_alone()
-    ensures { (js : Journals) (order : Name) → order.kind ≡ Order →
+    ensures { (js : Journals) (order : Entity) → order.kind ≡ Order →
         RefusedAreLeftAlone ((states_in js).orders order) (λ p. sent_in js (record { from = order; to = p })) }
 {}

@@ -5,7 +5,7 @@ pub mod Feeding
 pub mod Frames
 pub mod More
 pub mod Moving
-pub mod Offices
+pub mod Mails
 pub mod Placing
 pub mod Repeating
 pub mod Rising

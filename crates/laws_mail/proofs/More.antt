@@ -15,9 +15,9 @@ use Rattle.laws_broker.specs.Fitting.{AcceptedFits, ActionFits, MessageFits, Sen
 use Rattle.laws_broker.proofs.Lists.{all_weaker}
 use Rattle.broker_tx.specs.Transactions.{Transaction}
 use Rattle.envelope.specs.declared.message.Envelope.{Envelope}
-use Rattle.schedule_mail.specs.Offices.{Office}
+use Rattle.schedule_mail.specs.Mails.{Mail}
 use Rattle.schedule_mail.specs.declared.connection.Connection.{Connection}
-use Rattle.laws_mail.specs.Passing.{Brought, GoodBook, GoodConnection, GoodDecided, GoodFrame, GoodNext, GoodOffice}
+use Rattle.laws_mail.specs.Passing.{Brought, GoodBook, GoodConnection, GoodDecided, GoodFrame, GoodNext, GoodMail}
 use Rattle.laws_mail.specs.Passing.{GoodRequest, GoodServer}
 use Rattle.laws_mail.specs.Passing.{GoodSession, GoodWaiting, Spelled}
 
@@ -97,8 +97,8 @@ module _ (ok more : Envelope → Type 0) (k : (e : Envelope) → ok e → more e
 
   -- ---- the mail and its connections
 
-  pub office_more : (up down : ℕ → List ℕ) (o : Office) → GoodOffice ok up down o → GoodOffice more up down o
-  office_more up down o h = record {
+  pub mail_more : (up down : ℕ → List ℕ) (o : Mail) → GoodMail ok up down o → GoodMail more up down o
+  mail_more up down o h = record {
     server = server_more up down o.broker h.server;
     earlier = all_weaker (AcceptedFits (Brought ok)) (AcceptedFits (Brought more)) o.earlier (λ a g. sent_more a.sent g)
         h.earlier;

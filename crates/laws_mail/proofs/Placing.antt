@@ -1,9 +1,9 @@
 -- The mail with other texts on their way.
 use Rattle.std.proofs.Common.{◌≡◌, ℕ, ◌<◌, List, [], sym, ◌∙◌}
 use Rattle.envelope.specs.declared.message.Envelope.{Envelope}
-use Rattle.schedule_mail.specs.Offices.{Office}
+use Rattle.schedule_mail.specs.Mails.{Mail}
 use Rattle.schedule_mail.specs.declared.connection.Connection.{Connection}
-use Rattle.laws_mail.specs.Passing.{GoodOffice, GoodWith, at, coming, going}
+use Rattle.laws_mail.specs.Passing.{GoodMail, GoodWith, at, coming, going}
 use Rattle.laws_mail.proofs.Texts.{at_each, retold, retold_at, same_down, same_up}
 
 -- nothing is on its way to or from these numbers
@@ -20,8 +20,8 @@ above_at up down n rise fall last h u d m lt = (
 
 module _ (ok : Envelope → Type 0) (up down : ℕ → List ℕ) where
   -- the texts are pointwise the same
-  pub same_texts : (up' down' : ℕ → List ℕ) (o : Office) → ((n : ℕ) → up' n ≡ up n) → ((n : ℕ) → down' n ≡ down n)
-      → GoodOffice ok up down o → GoodOffice ok up' down' o
+  pub same_texts : (up' down' : ℕ → List ℕ) (o : Mail) → ((n : ℕ) → up' n ≡ up n) → ((n : ℕ) → down' n ≡ down n)
+      → GoodMail ok up down o → GoodMail ok up' down' o
   same_texts up' down' o u d h = record {
     server = retold ok up up' down down' o.broker (λ n. same_up ok (up n) (up' n) (u n))
         (λ n. same_down ok (down n) (down' n) (d n)) h.server;
@@ -30,8 +30,8 @@ module _ (ok : Envelope → Type 0) (up down : ℕ → List ℕ) where
   }
 
   -- at one number they are what they are
-  pub unchanged : (n : ℕ) (rise fall : List ℕ) (o : Office) → up n ≡ rise → down n ≡ fall → GoodOffice ok up down o
-      → GoodOffice ok (at n rise up) (at n fall down) o
+  pub unchanged : (n : ℕ) (rise fall : List ℕ) (o : Mail) → up n ≡ rise → down n ≡ fall → GoodMail ok up down o
+      → GoodMail ok (at n rise up) (at n fall down) o
   unchanged n rise fall o u d h = record {
     server = retold_at ok up down n rise fall o.broker (same_up ok (up n) rise (sym u))
         (same_down ok (down n) fall (sym d)) h.server;
@@ -41,7 +41,7 @@ module _ (ok : Envelope → Type 0) (up down : ℕ → List ℕ) where
   }
 
   -- the texts of one number are those of a connection
-  pub office_with : (n : ℕ) (rise fall : List ℕ) (c : Connection) (o : Office) → c.session ≡ n → going c ≡ rise
+  pub mail_with : (n : ℕ) (rise fall : List ℕ) (c : Connection) (o : Mail) → c.session ≡ n → going c ≡ rise
       → coming c ≡ fall
-      → GoodOffice ok (at n rise up) (at n fall down) o → GoodWith ok c up down o
-  office_with n rise fall c o s u d h = rw (s, u, d) h
+      → GoodMail ok (at n rise up) (at n fall down) o → GoodWith ok c up down o
+  mail_with n rise fall c o s u d h = rw (s, u, d) h

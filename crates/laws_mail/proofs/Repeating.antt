@@ -21,15 +21,15 @@ use Rattle.laws_broker.specs.Fitting.{AcceptedFits, SentFits}
 use Rattle.envelope.specs.declared.message.Envelope.{Envelope}
 use Rattle.envelope.proofs.Headers.{read_envelope-before}
 use Rattle.schedule_mail.specs.Accepted.{sent_at, sent_in}
-use Rattle.schedule_mail.specs.Offices.{Office, collected, taken_from}
-use Rattle.schedule_mail.specs.Repeating.{Fails, Repeats, SentAgain, refused, uncollected, unfound, unsent}
+use Rattle.schedule_mail.specs.Mails.{Mail, collected, taken_from}
+use Rattle.schedule_mail.specs.Repeating.{FailsToRepeat, Repeats, SentAgain, refused, uncollected, unfound, unsent}
 use Rattle.schedule_mail.specs.Texts.{again_text, send_frame}
 use Rattle.schedule_mail.specs.declared.repeat_fault.RepeatFault.{RepeatFault}
-use Rattle.laws_mail.specs.Passing.{Brought, GoodFrame, GoodOffice, GoodServer, Spelled, at}
+use Rattle.laws_mail.specs.Passing.{Brought, GoodFrame, GoodMail, GoodServer, Spelled, at}
 use Rattle.laws_mail.proofs.Feeding.{GoodFed, feed_good}
 use Rattle.laws_mail.proofs.Frames.{connect_good}
 use Rattle.laws_mail.proofs.Moving.{dropped_good, new_session_good}
-use Rattle.laws_mail.proofs.Offices.{all_accepted_good}
+use Rattle.laws_mail.proofs.Mails.{all_accepted_good}
 use Rattle.laws_mail.proofs.Rising.{again_opened, unsent_same}
 use Rattle.laws_mail.proofs.Spelling.{spelled_more}
 use Rattle.laws_mail.proofs.Texts.{apart, here, retold, retold_at, same_down, same_up}
@@ -91,7 +91,7 @@ module _ (ok : Envelope → Type 0) where
     gone = h.gone;
   }
 
-  collected_good : (up down : ℕ → List ℕ) (o : Office) → GoodOffice ok up down o → GoodOffice ok up down (collected o)
+  collected_good : (up down : ℕ → List ℕ) (o : Mail) → GoodMail ok up down o → GoodMail ok up down (collected o)
   collected_good up down o h = record {
     server = taken_from_good up down o.broker h.server;
     earlier = all_accepted_good ok up down o h;
@@ -159,8 +159,8 @@ module _ (ok : Envelope → Type 0) (up down : ℕ → List ℕ) where
 
   -- ---- each answer
 
-  sent_again_good : (sent : Sent) (old new : Office) (r : Result (Option ℕ) RepeatFault) → SentAgain sent old new r
-      → SentFits (Brought ok) sent → GoodOffice ok up down old → GoodOffice ok up down new
+  sent_again_good : (sent : Sent) (old new : Mail) (r : Result (Option ℕ) RepeatFault) → SentAgain sent old new r
+      → SentFits (Brought ok) sent → GoodMail ok up down old → GoodMail ok up down new
   sent_again_good sent old new r h s g =
       let n = h.session in
       let none = g.above n (omega (arith, h.opens.next)) in
@@ -170,31 +170,31 @@ module _ (ok : Envelope → Type 0) (up down : ℕ → List ℕ) where
       let last = again_opened sent old new r h in
       let server = again_good n none.0 none.1 sent h.opened.broker h.feeds.fed h.feeds.answer s opened h.feeds.feeds in
       record {
-        server = subst (λ (o : Office). GoodServer ok up down o.broker) (sym h.feeds.left) server;
+        server = subst (λ (o : Mail). GoodServer ok up down o.broker) (sym h.feeds.left) server;
         earlier = subst (λ l. AllByRecursion (AcceptedFits (Brought ok)) l)
-            (sym (ap (λ (o : Office). o.earlier) h.feeds.left ∙ h.earlier)) g.earlier;
+            (sym (ap (λ (o : Mail). o.earlier) h.feeds.left ∙ h.earlier)) g.earlier;
         above = λ m lt. g.above m (omega (arith, last, lt));
       }
 
-  fails_good : (place : ℕ) (old new : Office) (fault : RepeatFault) → Fails place old new fault
-      → GoodOffice ok up down old
-      → GoodOffice ok up down new
-  fails_good place old new fault (uncollected e k) g = subst (GoodOffice ok up down) (sym k) g
+  fails_good : (place : ℕ) (old new : Mail) (fault : RepeatFault) → FailsToRepeat place old new fault
+      → GoodMail ok up down old
+      → GoodMail ok up down new
+  fails_good place old new fault (uncollected e k) g = subst (GoodMail ok up down) (sym k) g
   fails_good place old new fault (unfound e k) g =
-      subst (GoodOffice ok up down) (sym k) (collected_good ok up down old g)
+      subst (GoodMail ok up down) (sym k) (collected_good ok up down old g)
   fails_good place old new fault (unsent sent found k) g =
-      subst (GoodOffice ok up down) (sym (unsent_same (collected old) new fault k)) (collected_good ok up down old g)
+      subst (GoodMail ok up down) (sym (unsent_same (collected old) new fault k)) (collected_good ok up down old g)
   fails_good place old new fault (refused sent found k) g =
       sent_again_good sent (collected old) new (Err fault) k
       (sent_found ok place (old.earlier ++ old.broker.book.accepted) sent (all_accepted_good ok up down old g) found)
       (collected_good ok up down old g)
 
-  pub repeated_good : (place : ℕ) (old new : Office) (r : Result (Option ℕ) RepeatFault) → Repeats place old new r
-      → GoodOffice ok up down old → GoodOffice ok up down new
+  pub repeated_good : (place : ℕ) (old new : Mail) (r : Result (Option ℕ) RepeatFault) → Repeats place old new r
+      → GoodMail ok up down old → GoodMail ok up down new
   repeated_good place old new (Ok (Some number)) h g =
       sent_again_good h.sent (collected old) new (Ok (Some number)) h.again
       (sent_found ok place (old.earlier ++ old.broker.book.accepted) h.sent (all_accepted_good ok up down old g)
       h.found)
       (collected_good ok up down old g)
-  repeated_good place old new (Ok None) h g = subst (GoodOffice ok up down) (sym h.1) (collected_good ok up down old g)
+  repeated_good place old new (Ok None) h g = subst (GoodMail ok up down) (sym h.1) (collected_good ok up down old g)
   repeated_good place old new (Err fault) h g = fails_good place old new fault h g

@@ -17,8 +17,8 @@ use Rattle.broker_core.specs.declared.fault.BrokerFault.TheVariants.{Memory, NoS
 use Rattle.broker_core.specs.declared.fault.FrameRefusal.TheVariants.{BadFrame}
 use Rattle.broker_core.specs.declared.session.Session.{Session}
 use Rattle.schedule_mail.specs.Connecting.{CarriesDown, CarriesUp, Cuts, Opens, without_session}
-use Rattle.schedule_mail.specs.Offices.{Office, collected, taken_from}
-use Rattle.schedule_mail.specs.Repeating.{Fails, Repeats, SentAgain, Unsent, refused as wasnt_sent, uncollected}
+use Rattle.schedule_mail.specs.Mails.{Mail, collected, taken_from}
+use Rattle.schedule_mail.specs.Repeating.{FailsToRepeat, Repeats, SentAgain, Unsent, refused as wasnt_sent, uncollected}
 use Rattle.schedule_mail.specs.Repeating.{unfound, unsent}
 use Rattle.schedule_mail.specs.declared.connection.Connection.{Connection}
 use Rattle.schedule_mail.specs.declared.repeat_fault.RepeatFault.{RepeatFault}
@@ -99,15 +99,15 @@ dropped_last n b (Some s) = refl
 -- ---- the mail
 
 -- the last number that its broker gave
-abbrev pub last_of : Office → ℕ
+abbrev pub last_of : Mail → ℕ
 last_of o = o.broker.opened
 
 -- a new connection has the next number, and it is the last
-pub opened_number : (from : Office) (c : Connection) (to : Office) → Opens from to (Ok c)
+pub opened_number : (from : Mail) (c : Connection) (to : Mail) → Opens from to (Ok c)
     → (c.session ≡ last_of from + 1) × (last_of to ≡ last_of from + 1)
 opened_number from c to h = (h.session.next, ap last h.session.changed)
 
-pub carried_up_opened : (most : ℕ) (old : Connection) (from : Office) (new : Connection) (to : Office)
+pub carried_up_opened : (most : ℕ) (old : Connection) (from : Mail) (new : Connection) (to : Mail)
     (r : Result ℕ BrokerFault)
     → CarriesUp most old from new to r → last_of to ≡ last_of from
 carried_up_opened most old from new to (Ok count) h =
@@ -118,18 +118,18 @@ carried_up_opened most old from new to (Err (Memory false)) h = ap last_of h.1
 carried_up_opened most old from new to (Err NoSession) h = ap last_of h.1
 carried_up_opened most old from new to (Err TooMany) h = ap last_of h.1
 
-pub carried_down_opened : (most : ℕ) (old : Connection) (from : Office) (new : Connection) (to : Office)
+pub carried_down_opened : (most : ℕ) (old : Connection) (from : Mail) (new : Connection) (to : Mail)
     (r : Result ℕ FrameFault)
     → CarriesDown most old from new to r → last_of to ≡ last_of from
 carried_down_opened most old from new to (Ok count) h = ap last_of h.left
 carried_down_opened most old from new to (Err fault) h = ap last_of h.1
 
-pub dispatched_opened : {E : Type 0} (from to : Office) (r : Result (Unit {0}) E)
+pub dispatched_opened : {E : Type 0} (from to : Mail) (r : Result (Unit {0}) E)
     → DispatchAnswer from.broker to.broker r
     → last_of to ≡ last_of from
 dispatched_opened from to r h = dispatch_last from.broker to.broker r h
 
-pub cut_opened : {E : Type 0} (c : Connection) (from to : Office) (r : Result (Unit {0}) E) → Cuts c from to r
+pub cut_opened : {E : Type 0} (c : Connection) (from to : Mail) (r : Result (Unit {0}) E) → Cuts c from to r
     → last_of to ≡ last_of from
 cut_opened c from to r h =
     dispatch_last (without_session c.session from).broker to.broker r h.deals
@@ -137,14 +137,14 @@ cut_opened c from to r h =
 
 -- ---- a repeat
 
-pub again_opened : (sent : Sent) (old new : Office) (r : Result (Option ℕ) RepeatFault) → SentAgain sent old new r
+pub again_opened : (sent : Sent) (old new : Mail) (r : Result (Option ℕ) RepeatFault) → SentAgain sent old new r
     → last_of new ≡ last_of old + 1
 again_opened sent old new r h =
     ap last_of h.feeds.left ∙ dropped_last h.session (taken_from h.feeds.fed) (session_of h.session h.feeds.fed)
     ∙ feed_last MAX_QUEUED h.session h.opened.broker h.feeds.fed _ h.feeds.answer h.feeds.feeds
     ∙ ap last h.opens.changed
 
-pub unsent_same : (old new : Office) (fault : RepeatFault) → Unsent old new fault → new ≡ old
+pub unsent_same : (old new : Mail) (fault : RepeatFault) → Unsent old new fault → new ≡ old
 unsent_same old new repeat_fault.Memory h = h
 unsent_same old new repeat_fault.TooMany h = h.1
 unsent_same old new repeat_fault.QueueFull h = absurd h
@@ -155,7 +155,7 @@ not_less n m e = omega (arith, e)
 one_more : (n m : ℕ) → m ≡ n + 1 → n ≤ m
 one_more n m e = omega (arith, e)
 
-fails_opened : (place : ℕ) (old new : Office) (fault : RepeatFault) → Fails place old new fault
+fails_opened : (place : ℕ) (old new : Mail) (fault : RepeatFault) → FailsToRepeat place old new fault
     → last_of old ≤ last_of new
 fails_opened place old new fault (uncollected e k) = not_less _ _ (ap last_of k)
 fails_opened place old new fault (unfound e k) = not_less _ _ (ap last_of k)
@@ -164,7 +164,7 @@ fails_opened place old new fault (unsent sent found k) =
 fails_opened place old new fault (wasnt_sent sent found k) =
     one_more _ _ (again_opened sent (collected old) new (Err fault) k)
 
-pub repeated_opened : (place : ℕ) (old new : Office) (r : Result (Option ℕ) RepeatFault) → Repeats place old new r
+pub repeated_opened : (place : ℕ) (old new : Mail) (r : Result (Option ℕ) RepeatFault) → Repeats place old new r
     → last_of old ≤ last_of new
 repeated_opened place old new (Ok (Some number)) h =
     one_more _ _ (again_opened h.sent (collected old) new (Ok (Some number)) h.again)

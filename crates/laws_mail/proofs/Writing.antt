@@ -11,12 +11,12 @@ use Rattle.stomp_session.proofs.Owning.{all_append}
 use Rattle.stomp_client.specs.Written.{Adds, Wrote}
 use Rattle.laws_broker.proofs.Lists.{all_split}
 use Rattle.envelope.specs.declared.message.Envelope.{Envelope}
-use Rattle.schedule_mail.specs.Offices.{Office}
+use Rattle.schedule_mail.specs.Mails.{Mail}
 use Rattle.schedule_mail.specs.declared.connection.Connection.{Connection}
-use Rattle.laws_mail.specs.Passing.{AreOf, GoodFrame, GoodOffice, GoodWith, HasWritten, Spelled, at, coming, going}
+use Rattle.laws_mail.specs.Passing.{AreOf, GoodFrame, GoodMail, GoodWith, HasWritten, Spelled, at, coming, going}
 use Rattle.laws_mail.proofs.Spelling.{spelled_all}
 use Rattle.laws_mail.proofs.Texts.{retold_at, same_down}
-use Rattle.laws_mail.proofs.Placing.{above_at, office_with, unchanged}
+use Rattle.laws_mail.proofs.Placing.{above_at, mail_with, unchanged}
 
 -- ---- what was written are frames
 
@@ -70,9 +70,9 @@ module _ (ok : Envelope → Type 0) (up down : ℕ → List ℕ) where
   not_above P n m le lt = absurd (omega (arith, le, lt))
 
   -- the octets on their way to a session that was opened are more
-  more_at : (n : ℕ) (fall : List ℕ) (frames : List Content) (o : Office) → n ≤ o.broker.opened → down n ≡ fall
-      → AllByRecursion (GoodFrame ok) frames → GoodOffice ok up down o
-      → GoodOffice ok (at n (up n ++ canonical_texts frames) up) (at n fall down) o
+  more_at : (n : ℕ) (fall : List ℕ) (frames : List Content) (o : Mail) → n ≤ o.broker.opened → down n ≡ fall
+      → AllByRecursion (GoodFrame ok) frames → GoodMail ok up down o
+      → GoodMail ok (at n (up n ++ canonical_texts frames) up) (at n fall down) o
   more_at n fall frames o there low all h = record {
     server = retold_at ok up down n (up n ++ canonical_texts frames) fall o.broker
         (λ held k. subst (Spelled ok) (append_assoc held (up n) (canonical_texts frames))
@@ -85,27 +85,27 @@ module _ (ok : Envelope → Type 0) (up down : ℕ → List ℕ) where
   }
 
   -- a client wrote them
-  pub client_written_good : (old new : Connection) (frames : List Content) (o : Office) → old.session ≤ o.broker.opened
+  pub client_written_good : (old new : Connection) (frames : List Content) (o : Mail) → old.session ≤ o.broker.opened
       → new.session ≡ old.session → new.channel.decoder ≡ old.channel.decoder
       → new.channel.client.client.out ≡ old.channel.client.client.out ++ canonical_texts frames
       → AllByRecursion (GoodFrame ok) frames → AreOf old up down
-      → GoodOffice ok up down o → GoodWith ok new up down o
+      → GoodMail ok up down o → GoodWith ok new up down o
   client_written_good old new frames o there session decoder out all are h =
-      office_with ok up down old.session (up old.session ++ canonical_texts frames) (coming old) new o session
+      mail_with ok up down old.session (up old.session ++ canonical_texts frames) (coming old) new o session
       (out ∙ ap (λ l. l ++ canonical_texts frames) (sym are.0)) (ap (λ (d : Held). d.octets) decoder)
       (more_at old.session (coming old) frames o there are.1 all h)
 
   -- it wrote nothing
-  pub client_same_good : (old new : Connection) (o : Office) → new.session ≡ old.session
+  pub client_same_good : (old new : Connection) (o : Mail) → new.session ≡ old.session
       → new.channel.decoder ≡ old.channel.decoder
-      → new.channel.client.client.out ≡ old.channel.client.client.out → AreOf old up down → GoodOffice ok up down o
+      → new.channel.client.client.out ≡ old.channel.client.client.out → AreOf old up down → GoodMail ok up down o
       → GoodWith ok new up down o
   client_same_good old new o session decoder out are h =
-      office_with ok up down old.session (going old) (coming old) new o session out
+      mail_with ok up down old.session (going old) (coming old) new o session out
       (ap (λ (d : Held). d.octets) decoder)
       (unchanged ok up down old.session (going old) (coming old) o are.0 are.1 h)
 
-  pub written_good : (n : ℕ) (frames : List Content) (o : Office) → n ≤ o.broker.opened
+  pub written_good : (n : ℕ) (frames : List Content) (o : Mail) → n ≤ o.broker.opened
       → AllByRecursion (GoodFrame ok) frames
-      → GoodOffice ok up down o → GoodOffice ok (at n (up n ++ canonical_texts frames) up) (at n (down n) down) o
+      → GoodMail ok up down o → GoodMail ok (at n (up n ++ canonical_texts frames) up) (at n (down n) down) o
   written_good n frames o there all h = more_at n (down n) frames o there refl all h

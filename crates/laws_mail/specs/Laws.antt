@@ -13,17 +13,17 @@ use Rattle.envelope.specs.Reading.{read_frame}
 use Rattle.envelope.specs.Written.{IsEnvelope, send_of}
 use Rattle.envelope.specs.declared.message.Envelope.{Envelope}
 use Rattle.schedule_mail.specs.Connecting.{CarriesDown, CarriesUp, Cuts, Opens, TakesNext}
-use Rattle.schedule_mail.specs.Offices.{Office, new_office, restarted}
+use Rattle.schedule_mail.specs.Mails.{Mail, new_mail, restarted}
 use Rattle.schedule_mail.specs.Repeating.{Repeats}
 use Rattle.schedule_mail.specs.declared.connection.Connection.{Connection}
 use Rattle.schedule_mail.specs.declared.repeat_fault.RepeatFault.{RepeatFault}
-use Rattle.laws_mail.specs.Passing.{AreOf, GoodConnection, GoodFrame, GoodOffice, GoodWith, at, carries, passing}
+use Rattle.laws_mail.specs.Passing.{AreOf, GoodConnection, GoodFrame, GoodMail, GoodWith, at, carries, passing}
 
 -- ---- what the next frame's answer leaves
 
 -- A given frame is good and all is kept. For want of memory nothing has changed; behind another fault the connection is
 -- to be cut, and the mail is as good as it was.
-abbrev pub TakenGood : (Envelope → Type 0) → (up down : ℕ → List ℕ) → (old new : Connection) → Office
+abbrev pub TakenGood : (Envelope → Type 0) → (up down : ℕ → List ℕ) → (old new : Connection) → Mail
     → Result (Option Content) FrameFault
     → Type 0
 TakenGood ok up down old new o (Ok (Some f)) = GoodFrame ok f × (GoodConnection ok new × GoodWith ok new up down o)
@@ -35,59 +35,59 @@ TakenGood ok up down old new o (Err fault) = Unit {0}
 
 module _ (test : Envelope → Bool) (up down : ℕ → List ℕ) where
   -- all that is on its way passes
-  abbrev pub IsGood : Office → Type 0
-  IsGood o = GoodOffice (passing test) up down o
+  abbrev pub IsGood : Mail → Type 0
+  IsGood o = GoodMail (passing test) up down o
 
   -- the same with what a connection has on its way now
-  abbrev pub IsGoodWith : Connection → Office → Type 0
+  abbrev pub IsGoodWith : Connection → Mail → Type 0
   IsGoodWith c o = GoodWith (passing test) c up down o
 
   abbrev pub OpeningIsGood : Type 0
-  OpeningIsGood = (from : Office) (c : Connection) (to : Office) → Opens from to (Ok c) → IsGood from
+  OpeningIsGood = (from : Mail) (c : Connection) (to : Mail) → Opens from to (Ok c) → IsGood from
       → GoodConnection (passing test) c × IsGoodWith c to
 
   abbrev pub CarryingUpIsGood : Type 0
   CarryingUpIsGood =
-      (most : ℕ) (old : Connection) (from : Office) (new : Connection) (to : Office) (r : Result ℕ BrokerFault)
+      (most : ℕ) (old : Connection) (from : Mail) (new : Connection) (to : Mail) (r : Result ℕ BrokerFault)
       → CarriesUp most old from new to r → AreOf old up down → IsGood from → IsGoodWith new to
 
   abbrev pub CarryingDownIsGood : Type 0
   CarryingDownIsGood =
-      (most : ℕ) (old : Connection) (from : Office) (new : Connection) (to : Office) (r : Result ℕ FrameFault)
+      (most : ℕ) (old : Connection) (from : Mail) (new : Connection) (to : Mail) (r : Result ℕ FrameFault)
       → CarriesDown most old from new to r → old.session ≤ from.broker.opened → AreOf old up down → IsGood from
       → IsGoodWith new to
 
   abbrev pub TakingIsGood : Type 0
-  TakingIsGood = (old new : Connection) (o : Office) (r : Result (Option Content) FrameFault) → TakesNext old new r
+  TakingIsGood = (old new : Connection) (o : Mail) (r : Result (Option Content) FrameFault) → TakesNext old new r
       → AreOf old up down
       → GoodConnection (passing test) old → IsGood o → TakenGood (passing test) up down old new o r
 
   -- what a client writes behind its text
   abbrev pub WritingIsGood : Type 0
-  WritingIsGood = (n : ℕ) (frames : List Content) (o : Office) → n ≤ o.broker.opened
+  WritingIsGood = (n : ℕ) (frames : List Content) (o : Mail) → n ≤ o.broker.opened
       → AllByRecursion (GoodFrame (passing test)) frames
       → IsGood o
-      → GoodOffice (passing test) (at n (up n ++ canonical_texts frames) up) (at n (down n) down) o
+      → GoodMail (passing test) (at n (up n ++ canonical_texts frames) up) (at n (down n) down) o
 
   -- all that was on its way is lost
   abbrev pub CuttingIsGood : Type 0 → Type 0
-  CuttingIsGood E = (c : Connection) (from to : Office) (r : Result (Unit {0}) E) → Cuts c from to r → IsGood from
-      → GoodOffice (passing test) (at c.session [] up) (at c.session [] down) to
+  CuttingIsGood E = (c : Connection) (from to : Mail) (r : Result (Unit {0}) E) → Cuts c from to r → IsGood from
+      → GoodMail (passing test) (at c.session [] up) (at c.session [] down) to
 
   abbrev pub DealingIsGood : Type 0 → Type 0
-  DealingIsGood E = (from to : Office) (r : Result (Unit {0}) E) → DispatchAnswer from.broker to.broker r
+  DealingIsGood E = (from to : Mail) (r : Result (Unit {0}) E) → DispatchAnswer from.broker to.broker r
       → to.earlier ≡ from.earlier → IsGood from → IsGood to
 
   abbrev pub RepeatingIsGood : Type 0
-  RepeatingIsGood = (place : ℕ) (from to : Office) (r : Result (Option ℕ) RepeatFault) → Repeats place from to r
+  RepeatingIsGood = (place : ℕ) (from to : Mail) (r : Result (Option ℕ) RepeatFault) → Repeats place from to r
       → IsGood from → IsGood to
 
   abbrev pub RestartingIsGood : Type 0
-  RestartingIsGood = (o : Office) → IsGood o → GoodOffice (passing test) (λ _. []) (λ _. []) (restarted o)
+  RestartingIsGood = (o : Mail) → IsGood o → GoodMail (passing test) (λ _. []) (λ _. []) (restarted o)
 
 -- nothing is on its way at first
 abbrev pub NothingIsGood : (Envelope → Bool) → Type 0
-NothingIsGood test = GoodOffice (passing test) (λ _. []) (λ _. []) new_office
+NothingIsGood test = GoodMail (passing test) (λ _. []) (λ _. []) new_mail
 
 -- ---- frames
 
@@ -115,5 +115,5 @@ ReadingPasses = (test : Envelope → Bool) (f : Content) (e : Envelope) → Good
 -- where more envelopes pass, what was good is
 abbrev pub MoreMayPass : Type 0
 MoreMayPass = (test other : Envelope → Bool) → ((e : Envelope) → test e ≡ true → other e ≡ true)
-    → (up down : ℕ → List ℕ) (o : Office)
-    → GoodOffice (passing test) up down o → GoodOffice (passing other) up down o
+    → (up down : ℕ → List ℕ) (o : Mail)
+    → GoodMail (passing test) up down o → GoodMail (passing other) up down o

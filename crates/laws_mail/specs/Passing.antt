@@ -20,7 +20,7 @@ use Rattle.broker_core.specs.declared.session.Session.{Session}
 use Rattle.laws_broker.specs.Fitting.{AcceptedFits, BookFits, TransactionFits}
 use Rattle.envelope.specs.Reading.{read_envelope}
 use Rattle.envelope.specs.declared.message.Envelope.{Envelope}
-use Rattle.schedule_mail.specs.Offices.{Office}
+use Rattle.schedule_mail.specs.Mails.{Mail}
 use Rattle.schedule_mail.specs.declared.connection.Connection.{Connection}
 
 -- those that pass a test
@@ -98,7 +98,7 @@ module _ (ok : Envelope → Type 0) where
   -- ---- the mail and its connections
 
   -- all SENDs that were ever accepted, too; and nothing is on its way to or from a session that wasn't opened yet
-  pub record GoodOffice (up down : ℕ → List ℕ) (o : Office) : Type 0 where
+  pub record GoodMail (up down : ℕ → List ℕ) (o : Mail) : Type 0 where
     pub server : GoodServer up down o.broker
     pub earlier : AllByRecursion (AcceptedFits Brought) o.earlier
     pub above : (n : ℕ) → o.broker.opened < n → (up n ≡ []) × (down n ≡ [])
@@ -138,5 +138,5 @@ abbrev pub AreOf : Connection → (up down : ℕ → List ℕ) → Type 0
 AreOf c up down = (up c.session ≡ going c) × (down c.session ≡ coming c)
 
 -- the mail is good, with the texts that a connection has now
-abbrev pub GoodWith : (Envelope → Type 0) → Connection → (up down : ℕ → List ℕ) → Office → Type 0
-GoodWith ok c up down o = GoodOffice ok (at c.session (going c) up) (at c.session (coming c) down) o
+abbrev pub GoodWith : (Envelope → Type 0) → Connection → (up down : ℕ → List ℕ) → Mail → Type 0
+GoodWith ok c up down o = GoodMail ok (at c.session (going c) up) (at c.session (coming c) down) o

@@ -4,7 +4,7 @@ use Rattle.std.proofs.Common.{Option, Some, None, Ok, IsSome, length, length-app
 use Rattle.std.specs.Prelude.{◌&&◌, ◌==◌, slice_get, nat_lt}
 use Rattle.std.proofs.lemmas.Bool.Decides.{nat_tests}
 use Rattle.std.proofs.lemmas.List.{append-nil}
-use Rattle.base.specs.Entity.{Name}
+use Rattle.base.specs.Entity.{Entity}
 use Rattle.base.specs.Order.{same_pair}
 use Rattle.base.specs.declared.pair.Pair.{Pair}
 use Rattle.base.proofs.Entities.{same_pair-Decides}
@@ -61,7 +61,7 @@ left_held : (q : Pair) (k : ℕ) (held : Messages) (p : Pair) (n : ℕ) (b : Boo
 left_held q k held p n true e apart h = let s = both_same q p k n (same_pair q p) refl e in absurd (apart s.0 s.1)
 left_held q k held p n false e apart h = rw e h
 
-row_arrived : {C : Type 0} (rows : List (JournalRow C)) (e : Name) (input : Input C) (held : Messages) (p : Pair)
+row_arrived : {C : Type 0} (rows : List (JournalRow C)) (e : Entity) (input : Input C) (held : Messages) (p : Pair)
     (n : ℕ)
     → HasNextNumber rows e input → handled_of rows p ≤ handled_of (rows ++ record { entity = e; input = input } ∷ []) p
     → (handled_of rows p < n → IsSome (held p n)) → handled_of (rows ++ record { entity = e; input = input } ∷ []) p < n

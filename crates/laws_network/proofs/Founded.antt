@@ -12,7 +12,7 @@ use Rattle.laws_network.specs.declared.event.Event.TheVariants.{Commit, Send, Te
 use Rattle.laws_network.specs.declared.event.Outcome.{Outcome}
 use Rattle.laws_network.specs.declared.event.Outcome.TheVariants.{Committed, Sent, Told, Taken, Settled, Drained}
 use Rattle.laws_network.specs.declared.event.Outcome.TheVariants.{Reopened, Missing}
-use Rattle.laws_network.specs.Turns.{MayDo}
+use Rattle.laws_network.specs.SideSteps.{MayDo}
 use Rattle.laws_stores.proofs.Founded.{nothing_is, commit_is, ingest_is, settle_is, drain_is}
 use Rattle.laws_stores.specs.Deeds.{DeedIs}
 use Rattle.laws_stores.specs.Good.{IsHeldIn}

@@ -1,4 +1,4 @@
--- One side's turn keeps both following each other, and all that was ever sent authentic.
+-- One side's step keeps both following each other, and all that was ever sent authentic.
 use Rattle.std.proofs.Common.{◌≡◌, ℕ, zero, suc, ◌≤◌, List, [], ◌∷◌, ◌++◌, ◌⊎◌, refl, arith, sym, inl, inr}
 use Rattle.std.proofs.Common.{Some, None, Ok, subst}
 use Rattle.std.specs.Prelude.{map, slice_get}
@@ -21,7 +21,7 @@ use Rattle.laws_network.specs.declared.event.Outcome.{Outcome}
 use Rattle.laws_network.specs.declared.event.Outcome.TheVariants.{Sent, Told}
 use Rattle.laws_network.specs.Envelopes.{AreAuthentic}
 use Rattle.laws_network.specs.Fair.{Follows}
-use Rattle.laws_network.specs.Turns.{MaySend, Turn}
+use Rattle.laws_network.specs.SideSteps.{MaySend, SideStep}
 use Rattle.laws_stores.specs.Deeds.{DeedIs}
 use Rattle.laws_stores.specs.Writing.{IsTrueIn}
 use Rattle.laws_stores.proofs.Doing.{did_sent, did_handled, did_letters, did_settled, did_held}
@@ -115,23 +115,23 @@ module _ {S C : Type 0} (s : Service S C) (y : Kept C) where
   sends_grow (Tell p) (Told (Ok n)) sent later m = (envelope.Settle p n ∷ [], sym m.1)
   sends_grow _ _ sent later m = prefix-same sent later (sym m)
 
--- ---- a turn
+-- ---- a step
 
 module _ {S C T D : Type 0} (s : Service S C) (partner : Reactions T D) (event : Event C) (outcome : Outcome)
     (arriving sent later : List Envelope) (x y : Kept C) (z : Kept D)
     (arrives : AreAuthentic partner z.journal arriving) (follows : Follows partner z x)
-    (turn : Turn s event outcome arriving sent later x y) where
-  founded : DeedIs (IsTrueIn partner z.journal) turn.deed
-  founded = may_do_is s (IsTrueIn partner z.journal) arriving arrives event outcome x turn.deed
+    (side : SideStep s event outcome arriving sent later x y) where
+  founded : DeedIs (IsTrueIn partner z.journal) side.deed
+  founded = may_do_is s (IsTrueIn partner z.journal) arriving arrives event outcome x side.deed
       (λ p n m h. follows.held p n m h)
-      turn.may
+      side.may
 
-  pub turn_right : Follows s.reactions x z → Follows s.reactions y z
-  turn_right = partner_follows s partner x y z turn.deed turn.did founded
+  pub side_right : Follows s.reactions x z → Follows s.reactions y z
+  side_right = partner_follows s partner x y z side.deed side.did founded
 
-  pub turn_left : Follows partner z y
-  turn_left = follows_partner s partner x y z turn.deed turn.did founded follows
+  pub side_left : Follows partner z y
+  side_left = follows_partner s partner x y z side.deed side.did founded follows
 
-  pub turn_authentic : AreAuthentic s.reactions x.journal sent → AreAuthentic s.reactions y.journal later
-  turn_authentic h = sends_authentic s y event outcome sent later
-      (λ i e at. authentic-later s x y turn.deed turn.did e (h i e at)) turn.sends
+  pub side_authentic : AreAuthentic s.reactions x.journal sent → AreAuthentic s.reactions y.journal later
+  side_authentic h = sends_authentic s y event outcome sent later
+      (λ i e at. authentic-later s x y side.deed side.did e (h i e at)) side.sends

@@ -3,5 +3,5 @@ mod Keeping
 mod Arriving
 mod Facts
 mod Paths
-mod Turning
+mod SideStepping
 mod Delivering

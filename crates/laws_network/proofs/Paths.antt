@@ -25,7 +25,7 @@ use Rattle.laws_network.specs.Runs.{Step, IsPath, Led, Runs, StaysFair}
 use Rattle.laws_network.specs.Runs.{TakenAreHandledIn, TakenAreHandled}
 use Rattle.laws_network.proofs.Arriving.{HasArrived, did_arrived, ingest_arrived, all_arrived}
 use Rattle.laws_network.proofs.Facts.{fair-prop, taken-prop}
-use Rattle.laws_network.proofs.Keeping.{turn_right, turn_left, turn_authentic, sends_grow}
+use Rattle.laws_network.proofs.Keeping.{side_right, side_left, side_authentic, sends_grow}
 
 module _ {S C T D : Type 0} (one : Service S C) (other : Service T D) where
   -- ---- fair
@@ -33,28 +33,28 @@ module _ {S C T D : Type 0} (one : Service S C) (other : Service T D) where
   step_fair : (delivery : Delivery C D) (outcome : Outcome) (a b : Sides S C T D) → Step one other delivery outcome a b
       → IsFair one other a → IsFair one other b
   step_fair (Left event) outcome a b step fair =
-      let turn = step.0 in
+      let side = step.0 in
       let x = kept a.left in let y = kept b.left in let z = kept a.right in
       let arriving = a.network.from_right in let sent = a.network.from_left in let later = b.network.from_left in
-      let right = turn_right one other.reactions event outcome arriving sent later x y z fair.from_right fair.left turn
+      let right = side_right one other.reactions event outcome arriving sent later x y z fair.from_right fair.left side
       fair.right in
-      let left = turn_left one other.reactions event outcome arriving sent later x y z fair.from_right fair.left turn in
+      let left = side_left one other.reactions event outcome arriving sent later x y z fair.from_right fair.left side in
       record {
         right = subst (λ t. Follows one.reactions y (kept t)) (sym step.1) right;
         left = subst (λ t. Follows other.reactions (kept t) y) (sym step.1) left;
         from_left =
-            turn_authentic one other.reactions event outcome arriving sent later x y z fair.from_right fair.left turn
+            side_authentic one other.reactions event outcome arriving sent later x y z fair.from_right fair.left side
             fair.from_left;
         from_right = subst (λ t. AreAuthentic other.reactions t.journal b.network.from_right) (sym step.1)
             (subst (AreAuthentic other.reactions a.right.journal) (sym step.2) fair.from_right);
       }
   step_fair (Right event) outcome a b step fair =
-      let turn = step.0 in
+      let side = step.0 in
       let x = kept a.right in let y = kept b.right in let z = kept a.left in
       let arriving = a.network.from_left in let sent = a.network.from_right in let later = b.network.from_right in
       let right =
-      turn_left other one.reactions event outcome arriving sent later x y z fair.from_left fair.right turn in
-      let left = turn_right other one.reactions event outcome arriving sent later x y z fair.from_left fair.right turn
+      side_left other one.reactions event outcome arriving sent later x y z fair.from_left fair.right side in
+      let left = side_right other one.reactions event outcome arriving sent later x y z fair.from_left fair.right side
       fair.left in
       record {
         right = subst (λ t. Follows one.reactions (kept t) y) (sym step.1) right;
@@ -62,7 +62,7 @@ module _ {S C T D : Type 0} (one : Service S C) (other : Service T D) where
         from_left = subst (λ t. AreAuthentic one.reactions t.journal b.network.from_left) (sym step.1)
             (subst (AreAuthentic one.reactions a.left.journal) (sym step.2) fair.from_left);
         from_right =
-            turn_authentic other one.reactions event outcome arriving sent later x y z fair.from_left fair.right turn
+            side_authentic other one.reactions event outcome arriving sent later x y z fair.from_left fair.right side
             fair.from_right;
       }
 

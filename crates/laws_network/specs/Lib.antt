@@ -1,5 +1,5 @@
 pub mod Envelopes
-pub mod Turns
+pub mod SideSteps
 pub mod Sides
 pub mod Fair
 pub mod Runs

@@ -17,16 +17,16 @@ use Rattle.laws_network.specs.declared.event.Outcome.{Outcome}
 use Rattle.laws_network.specs.declared.event.Outcome.TheVariants.{Taken}
 use Rattle.laws_network.specs.Fair.{IsFair, HandledAll}
 use Rattle.laws_network.specs.Sides.{Sides, Contents, AreClean, AreMatching, Everywhere}
-use Rattle.laws_network.specs.Turns.{Turn}
+use Rattle.laws_network.specs.SideSteps.{SideStep}
 
 module _ {S C T D : Type 0} (one : Service S C) (other : Service T D) where
-  -- one side takes its turn, and the other stays as it is
+  -- one side makes a step, and the other stays as it is
   abbrev pub Step : Delivery C D → Outcome → Sides S C T D → Sides S C T D → Type 0
   Step (Left event) outcome a b =
-      Turn one event outcome a.network.from_right a.network.from_left b.network.from_left (kept a.left) (kept b.left)
+      SideStep one event outcome a.network.from_right a.network.from_left b.network.from_left (kept a.left) (kept b.left)
       × (b.right ≡ a.right) × (b.network.from_right ≡ a.network.from_right)
   Step (Right event) outcome a b =
-      Turn other event outcome a.network.from_left a.network.from_right b.network.from_right (kept a.right)
+      SideStep other event outcome a.network.from_left a.network.from_right b.network.from_right (kept a.right)
       (kept b.right)
       × (b.left ≡ a.left) × (b.network.from_left ≡ a.network.from_left)
 

@@ -3,10 +3,10 @@
 ghost use Rattle.std.specs.Prelude.{◌≡◌, ◌∷◌, [], IfOk, OnErr};
 ghost use Rattle.endpoint.specs.Calls.{StillMatches};
 ghost use Rattle.laws_network.specs.Sides.{contents};
-ghost use Rattle.laws_network.specs.Turns.{TellsOfSide};
+ghost use Rattle.laws_network.specs.SideSteps.{TellsOfSide};
 ghost use Rattle.laws_network.specs.Runs.{DoubtStays, Runs, StaysFair, TakenAreHandled};
 
-use crate::turn::act;
+use crate::side::act;
 use crate::{Delivery, Network, Outcome};
 use activities::Handler;
 use endpoint::Endpoint;

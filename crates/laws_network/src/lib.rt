@@ -39,10 +39,10 @@ mod both;
 mod event;
 mod laws;
 mod network;
-mod turn;
+mod side;
 
 pub use both::{deliver, exchange};
 pub use event::{Delivery, Event, Outcome};
 pub use laws::{all_was_handled, nothing_was_exchanged};
 pub use network::{Network, Post};
-pub use turn::act;
+pub use side::act;

@@ -8,7 +8,7 @@ use Rattle.envelope.specs.declared.message.Envelope.TheVariants.{Letter, Settle}
 use Rattle.laws_journals.specs.Journals.{AreLawful}
 use Rattle.laws_journals.specs.Envelopes.{SettledAreHandled}
 use Rattle.laws_journals.proofs.Steps.{start_good}
-use Rattle.laws_stores.specs.Good.{journals_of, settled_by, settled_in, held_by, IsHeldIn, HoldsAuthentic, IsGood}
+use Rattle.laws_stores.specs.Good.{journals_of, settled_by, settled_in, letters_held_by, IsHeldIn, HoldsAuthentic, IsGood}
 use Rattle.laws_stores.specs.Sight.{AllTables, Sight, MayLeave, all_empty}
 
 empty_settled : (kind : Kind) (p : Pair) → settled_by all_empty kind p ≡ 0
@@ -19,7 +19,7 @@ empty_settled Account p = refl
 pub empty_marks : SettledAreHandled (journals_of all_empty) (settled_in all_empty)
 empty_marks p = let none = empty_settled p.from.kind p in omega (arith, none)
 
-empty_held : (kind : Kind) (e : Envelope) → IsHeldIn (held_by all_empty kind) e → ⊥
+empty_held : (kind : Kind) (e : Envelope) → IsHeldIn (letters_held_by all_empty kind) e → ⊥
 empty_held Order (Letter l) h = cc
 empty_held Stock (Letter l) h = cc
 empty_held Account (Letter l) h = cc
@@ -35,5 +35,5 @@ pub empty_good : (s : Sight) → ((t : AllTables) → MayLeave s t → t ≡ all
 empty_good s only = record {
   lawful = λ t may. subst (λ u. AreLawful (journals_of u)) (sym (only t may)) empty_lawful;
   settled = λ t may. subst (λ u. SettledAreHandled (journals_of u) (settled_in u)) (sym (only t may)) empty_marks;
-  held = λ t may kind e h. absurd (empty_held kind e (subst (λ u. IsHeldIn (held_by u kind) e) (only t may) h));
+  held = λ t may kind e h. absurd (empty_held kind e (subst (λ u. IsHeldIn (letters_held_by u kind) e) (only t may) h));
 }

@@ -4,7 +4,7 @@ use Rattle.std.proofs.Common.{inl, inr}
 use Rattle.std.proofs.Common.{Option, Some, None, length, subst}
 use Rattle.std.specs.Prelude.{max, ◌&&◌, ◌==◌}
 use Rattle.std.proofs.lemmas.Bool.Decides.{nat_tests}
-use Rattle.base.specs.Entity.{Name}
+use Rattle.base.specs.Entity.{Entity}
 use Rattle.base.specs.Order.{same_pair}
 use Rattle.base.specs.declared.pair.Pair.{Pair}
 use Rattle.base.proofs.Entities.{same_pair-Decides}
@@ -50,7 +50,7 @@ abbrev pub HandlesNext : (Envelope → Type 0) → Pair → (before later : List
 HandlesNext P p before later = (later ≡ before) ⊎ ((m : Message) × (later ≡ before ++ (suc (length before), m) ∷ [])
     × P (Letter (record { pair = p; number = suc (length before); message = m })))
 
-row_letters : {C : Type 0} (P : Envelope → Type 0) (rows : List (JournalRow C)) (e : Name) (input : Input C)
+row_letters : {C : Type 0} (P : Envelope → Type 0) (rows : List (JournalRow C)) (e : Entity) (input : Input C)
     → HasNextNumber rows e input
     → IsFrom P e input
     → (p : Pair) → HandlesNext P p (letters_of rows p) (letters_of (rows ++ record { entity = e; input = input } ∷ [])
@@ -122,7 +122,7 @@ or_else-is : (a : Option Message) (m k : Message) → or_else a (Some m) ≡ Som
 or_else-is (Some x) m k h = inl h
 or_else-is None m k h = inr (grind arith)
 
-held_input : {C : Type 0} (e : Name) (input : Input C) (held : Messages) (p : Pair) (n : ℕ) (m : Message)
+held_input : {C : Type 0} (e : Entity) (input : Input C) (held : Messages) (p : Pair) (n : ℕ) (m : Message)
     → held_after e input held p n ≡ Some m → held p n ≡ Some m
 held_input e (FromSeat seat c) held p n m h = h
 held_input e (FromEntity s k g) held p n m h = either (message_is (pair_between s e) k None held p n m _ refl h)

@@ -4,7 +4,7 @@ use Rattle.std.proofs.Common.{None}
 use Rattle.std.proofs.Common.{refl, sym, ap, subst, arith, inl, inr}
 use Rattle.std.proofs.Math.Logic.{∥∥₁_elim}
 use Rattle.std.specs.Prelude.{nat_lt, ⊤, if◌then◌else◌}
-use Rattle.base.specs.Entity.{Name}
+use Rattle.base.specs.Entity.{Entity}
 use Rattle.base.specs.Order.{same_entity, same_pair}
 use Rattle.base.specs.declared.entity.Kind.TheVariants.{Order, Stock, Account}
 use Rattle.base.specs.declared.pair.Pair.{Pair}
@@ -35,8 +35,8 @@ use Rattle.keep.specs.Tables.{empty, set_message}
 use Rattle.endpoint.specs.Deeds.{Kept, kept, Did, Deed, Nothing, TakesIn, Holds, Settles}
 use Rattle.endpoint.specs.Matches.{AllMatch, TablesMatchJournal}
 use Rattle.endpoint.proofs.Examples.{o1, bolts, acme}
-use Rattle.laws_stores.specs.Deeds.{DeedIs, Moves, Turns, OfPurchasing, OfWarehouse, OfBilling, ComesOf}
-use Rattle.laws_stores.specs.Good.{journals_of, settled_by, settled_in, held_by, IsHeldIn, HoldsAuthentic, IsGenuine}
+use Rattle.laws_stores.specs.Deeds.{DeedIs, FoundedDeed, DeedOfOne, OfPurchasing, OfWarehouse, OfBilling, ComesOf}
+use Rattle.laws_stores.specs.Good.{journals_of, settled_by, settled_in, letters_held_by, IsHeldIn, HoldsAuthentic, IsGenuine}
 use Rattle.laws_stores.specs.Good.{IsGood, AllAgree}
 use Rattle.laws_stores.specs.Sight.{AllTables, Sight, MayLeave, AreClean, AreMatching, OrderTables, StockTables}
 use Rattle.laws_stores.specs.Sight.{AccountTables, all_empty}
@@ -47,7 +47,7 @@ use Rattle.laws_stores.proofs.Doing.{both_same}
 use Rattle.laws_stores.proofs.Placed.{placing, before, after, before_matches, taken_in}
 
 -- the pair of an order and its stock, or another
-abbrev from_to : Name → Name → Pair
+abbrev from_to : Entity → Entity → Pair
 from_to sender receiver = record { from = sender; to = receiver }
 
 -- the letter by which the order asks the stock, and one with other content
@@ -82,9 +82,9 @@ each_service_has_its_own : (settled_by marked Order (from_to bolts o1) ≡ 1)
     × (settled_by marked Account (from_to bolts o1) ≡ 3)
     × (settled_in marked (from_to o1 bolts) ≡ 1) × (settled_in marked (from_to bolts o1) ≡ 2)
     × (settled_in marked (from_to acme o1) ≡ 3)
-    × (held_by marked Stock (from_to o1 bolts) 1 ≡ Some (Request 3))
-    × (held_by marked Order (from_to o1 bolts) 1 ≡ None)
-    × (held_by marked Account (from_to o1 bolts) 1 ≡ None)
+    × (letters_held_by marked Stock (from_to o1 bolts) 1 ≡ Some (Request 3))
+    × (letters_held_by marked Order (from_to o1 bolts) 1 ≡ None)
+    × (letters_held_by marked Account (from_to o1 bolts) 1 ≡ None)
 unfolding same_entity same_pair
 each_service_has_its_own = (refl, refl, refl, refl, refl, refl, refl, refl)
 
@@ -382,7 +382,7 @@ stocked = record empty { journal = received ∷ [] }
 abbrev no_stocks : StockTables
 no_stocks = empty
 
-bolts_come_in : Moves stocks_service (λ e. ⊥) empty stocked
+bolts_come_in : FoundedDeed stocks_service (λ e. ⊥) empty stocked
 bolts_come_in = record {
   deed = TakesIn received;
   founded = tt;
@@ -399,7 +399,7 @@ bolts_come_in = record {
 }
 
 -- no deed takes back what was done
-nothing_is_taken_back : Moves stocks_service (λ e. ⊤) stocked no_stocks → ⊥
+nothing_is_taken_back : FoundedDeed stocks_service (λ e. ⊤) stocked no_stocks → ⊥
 nothing_is_taken_back moves = back moves.deed moves.did
   where
     back : (deed : Deed StockCommand) → Did stocks_service (kept stocked) deed (kept no_stocks) → ⊥
@@ -410,12 +410,12 @@ nothing_is_taken_back moves = back moves.deed moves.did
     back (Settles p n) did =
         let none : 0 ≡ 1 = ap (λ (k : Kept StockCommand). length k.journal) did.2 in omega (arith, none)
 
--- one service turns, and the other two stay; two don't in one turn
-one_service_turns : Turns (λ e. ⊥) all_empty (tables empty stocked)
-    × (Turns (λ e. ⊤) all_empty (tables orders_placed stocked) → ⊥)
-one_service_turns = (OfWarehouse bolts_come_in refl refl, two)
+-- one service turns, and the other two stay; two don't in one deed
+one_service_acts : DeedOfOne (λ e. ⊥) all_empty (tables empty stocked)
+    × (DeedOfOne (λ e. ⊤) all_empty (tables orders_placed stocked) → ⊥)
+one_service_acts = (OfWarehouse bolts_come_in refl refl, two)
   where
-    two : Turns (λ e. ⊤) all_empty (tables orders_placed stocked) → ⊥
+    two : DeedOfOne (λ e. ⊤) all_empty (tables orders_placed stocked) → ⊥
     two (OfPurchasing moves warehouse billing) =
         let more : 1 ≡ 0 = ap (λ (t : StockTables). length t.journal) warehouse in omega (arith, more)
     two (OfWarehouse moves purchasing billing) =
@@ -424,32 +424,32 @@ one_service_turns = (OfWarehouse bolts_come_in refl refl, two)
         let more : 1 ≡ 0 = ap (λ (t : OrderTables). length t.journal) purchasing in omega (arith, more)
 
 -- where warehouse's store failed while the bolts came in, each content that it may leave comes of the empty one
-contents_come_of_turns : ComesOf (Turns (λ e. ⊥)) (sees (only empty) (only empty))
+contents_come_of_deeds : ComesOf (DeedOfOne (λ e. ⊥)) (sees (only empty) (only empty))
     (sees (only empty) (either empty stocked))
-contents_come_of_turns y may =
+contents_come_of_deeds y may =
     ∣ (
       all_empty,
       record { purchasing = refl; warehouse = refl; billing = refl },
       OfWarehouse (moved y.warehouse may.warehouse) may.purchasing may.billing,
     ) ∣₁
   where
-    moved : (t : StockTables) → (t ≡ empty) ⊎ (t ≡ stocked) → Moves stocks_service (λ e. ⊥) empty t
+    moved : (t : StockTables) → (t ≡ empty) ⊎ (t ≡ stocked) → FoundedDeed stocks_service (λ e. ⊥) empty t
     moved t (inl old) = record { deed = Nothing; founded = tt; did = ap kept old }
-    moved t (inr new) = subst (Moves stocks_service (λ e. ⊥) empty) (sym new) bolts_come_in
+    moved t (inr new) = subst (FoundedDeed stocks_service (λ e. ⊥) empty) (sym new) bolts_come_in
 
 -- tables that lost what a store has kept come of nothing
-lost_rows_come_of_nothing : ComesOf (Turns (λ e. ⊤)) (sees (only empty) (only stocked)) (sees (only empty) (only empty))
+lost_rows_come_of_nothing : ComesOf (DeedOfOne (λ e. ⊤)) (sees (only empty) (only stocked)) (sees (only empty) (only empty))
     → ⊥
 lost_rows_come_of_nothing h =
     ∥∥₁_elim (h all_empty (record { purchasing = refl; warehouse = refl; billing = refl })) (λ a b. absurd a)
     (λ led. lost led.0 led.1 led.2)
   where
-    lost : (x : AllTables) → MayLeave (sees (only empty) (only stocked)) x → Turns (λ e. ⊤) x all_empty → ⊥
+    lost : (x : AllTables) → MayLeave (sees (only empty) (only stocked)) x → DeedOfOne (λ e. ⊤) x all_empty → ⊥
     lost x was (OfPurchasing moves warehouse billing) =
         let same : empty ≡ stocked = warehouse ∙ was.warehouse in
         let none : 0 ≡ 1 = ap (λ (t : StockTables). length t.journal) same in omega (arith, none)
     lost x was (OfWarehouse moves purchasing billing) =
-        nothing_is_taken_back (subst (λ t. Moves stocks_service (λ e. ⊤) t empty) was.warehouse moves)
+        nothing_is_taken_back (subst (λ t. FoundedDeed stocks_service (λ e. ⊤) t empty) was.warehouse moves)
     lost x was (OfBilling moves purchasing warehouse) =
         let same : empty ≡ stocked = warehouse ∙ was.warehouse in
         let none : 0 ≡ 1 = ap (λ (t : StockTables). length t.journal) same in omega (arith, none)

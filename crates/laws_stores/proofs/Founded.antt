@@ -7,7 +7,7 @@ use Rattle.envelope.specs.declared.message.Letter.{Letter}
 use Rattle.activities.specs.declared.input.Input.TheVariants.{FromSeat}
 use Rattle.activities.specs.Service.{Service}
 use Rattle.activities.proofs.Sameness.{either}
-use Rattle.base.specs.Entity.{Name}
+use Rattle.base.specs.Entity.{Entity}
 use Rattle.endpoint.specs.declared.answer.Committed.{Committed}
 use Rattle.endpoint.specs.declared.answer.Ingested.{Ingested}
 use Rattle.endpoint.specs.declared.answer.Ingested.TheVariants as ingested
@@ -24,11 +24,11 @@ module _ {S C : Type 0} (s : Service S C) (P : Envelope → Type 0) where
   pub nothing_is : (d : Deed C) → d ≡ Nothing → DeedIs P d
   nothing_is d is = subst (DeedIs P) (sym is) tt
 
-  pub command_is : (e : Name) (seat : ℕ) (c : C) (d : Deed C)
+  pub command_is : (e : Entity) (seat : ℕ) (c : C) (d : Deed C)
       → d ≡ TakesIn (record { entity = e; input = FromSeat seat c }) → DeedIs P d
   command_is e seat c d is = subst (DeedIs P) (sym is) tt
 
-  pub commit_is : (e : Name) (seat : ℕ) (c : C) (r : Result Committed EndFault) (x : Kept C) (d : Deed C)
+  pub commit_is : (e : Entity) (seat : ℕ) (c : C) (r : Result Committed EndFault) (x : Kept C) (d : Deed C)
       → CommitMay s (record { entity = e; input = FromSeat seat c }) r x d → DeedIs P d
   commit_is e seat c (Ok done) x d may = command_is e seat c d may.0
   commit_is e seat c (Err (Business refusal)) x d may = nothing_is d may.0

@@ -12,10 +12,10 @@ use Rattle.laws_journals.specs.Growth.{AddsRow, Grows}
 use Rattle.laws_journals.proofs.Growth.{lawful-later, grows, grows-same, authentic-later, settled-later}
 use Rattle.laws_journals.proofs.Agreement.{sound}
 use Rattle.laws_journals.proofs.Propositions.{lawful-prop, authentic-prop, settled-prop}
-use Rattle.laws_stores.specs.Deeds.{Turns, ComesOf}
+use Rattle.laws_stores.specs.Deeds.{DeedOfOne, ComesOf}
 use Rattle.laws_stores.specs.Good.{journals_of, settled_in, HoldsAuthentic, IsGenuine, IsGood, AllAgree}
 use Rattle.laws_stores.specs.Sight.{AllTables, Sight, MayLeave}
-use Rattle.laws_stores.proofs.Turning.{turn_journals, turn_marks, turn_held}
+use Rattle.laws_stores.proofs.OneDeed.{one_journals, one_marks, one_held}
 
 pub genuine-prop : (s : Sight) (e : Envelope) → IsProp (IsGenuine s e)
 genuine-prop s e = hlevel (λ (t : AllTables). authentic-prop (journals_of t) e)
@@ -36,36 +36,36 @@ mark_after js p old new behind h = either h
     (λ same. omega (arith, same, behind))
     (λ up. let to = up.1 in let most = up.2 in omega (arith, to, most, behind))
 
--- ---- one turn
+-- ---- one deed
 
-module _ (known : Envelope → Type 0) (x y : AllTables) (turn : Turns known x y)
+module _ (known : Envelope → Type 0) (x y : AllTables) (one : DeedOfOne known x y)
     (all : (e : Envelope) → known e → IsAuthentic (journals_of x) e) (held : HoldsAuthentic x) where
   adds : (journals_of y ≡ journals_of x) ⊎ AddsRow (journals_of x) (journals_of y)
-  adds = turn_journals known (IsAuthentic (journals_of x)) x y all held turn
+  adds = one_journals known (IsAuthentic (journals_of x)) x y all held one
 
-  pub turn_lawful : AreLawful (journals_of x) → AreLawful (journals_of y)
-  turn_lawful = lawful_after (journals_of x) (journals_of y) adds
+  pub one_lawful : AreLawful (journals_of x) → AreLawful (journals_of y)
+  one_lawful = lawful_after (journals_of x) (journals_of y) adds
 
   more : Grows (journals_of x) (journals_of y)
   more = grows_after (journals_of x) (journals_of y) adds
 
-  pub turn_authentic : (e : Envelope) → IsAuthentic (journals_of x) e → IsAuthentic (journals_of y) e
-  turn_authentic = authentic-later (journals_of x) (journals_of y) more
+  pub one_authentic : (e : Envelope) → IsAuthentic (journals_of x) e → IsAuthentic (journals_of y) e
+  one_authentic = authentic-later (journals_of x) (journals_of y) more
 
-  pub turn_settled : SettledAreHandled (journals_of x) (settled_in x) → SettledAreHandled (journals_of y) (settled_in y)
-  turn_settled h p = mark_after (journals_of y) p (settled_in x p) (settled_in y p)
+  pub one_settled : SettledAreHandled (journals_of x) (settled_in x) → SettledAreHandled (journals_of y) (settled_in y)
+  one_settled h p = mark_after (journals_of y) p (settled_in x p) (settled_in y p)
       (settled-later (journals_of x) (journals_of y) more (settled_in x) h p)
-      (turn_marks known (IsAuthentic (journals_of y)) x y (λ e k. turn_authentic e (all e k))
-      (λ kind e i. turn_authentic e (held kind e i))
-      turn p.from.kind p)
+      (one_marks known (IsAuthentic (journals_of y)) x y (λ e k. one_authentic e (all e k))
+      (λ kind e i. one_authentic e (held kind e i))
+      one p.from.kind p)
 
-  pub turn_holds : HoldsAuthentic y
-  turn_holds = turn_held known (IsAuthentic (journals_of y)) x y (λ e k. turn_authentic e (all e k))
-      (λ kind e i. turn_authentic e (held kind e i)) turn
+  pub one_holds : HoldsAuthentic y
+  one_holds = one_held known (IsAuthentic (journals_of y)) x y (λ e k. one_authentic e (all e k))
+      (λ kind e i. one_authentic e (held kind e i)) one
 
 -- ---- what comes of good tables is good
 
-module _ (old new : Sight) (good : IsGood old) (comes : ComesOf (Turns (IsGenuine old)) old new) where
+module _ (old new : Sight) (good : IsGood old) (comes : ComesOf (DeedOfOne (IsGenuine old)) old new) where
   known_at : (x : AllTables) → MayLeave old x → (e : Envelope) → IsGenuine old e → IsAuthentic (journals_of x) e
   known_at x was e genuine = genuine x was
 
@@ -75,18 +75,18 @@ module _ (old new : Sight) (good : IsGood old) (comes : ComesOf (Turns (IsGenuin
   -- what is genuine stays so
   pub genuine_later : (e : Envelope) → IsGenuine old e → IsGenuine new e
   genuine_later e genuine y may = ∥∥₁_elim (comes y may) (authentic-prop (journals_of y) e) (λ led.
-      turn_authentic (IsGenuine old) led.0 y led.2 (known_at led.0 led.1) (held_at led.0 led.1) e (genuine led.0 led.1))
+      one_authentic (IsGenuine old) led.0 y led.2 (known_at led.0 led.1) (held_at led.0 led.1) e (genuine led.0 led.1))
 
   pub good_later : IsGood new
   good_later = record {
     lawful = λ y may. ∥∥₁_elim (comes y may) (lawful-prop (journals_of y)) (λ led.
-        turn_lawful (IsGenuine old) led.0 y led.2 (known_at led.0 led.1) (held_at led.0 led.1)
+        one_lawful (IsGenuine old) led.0 y led.2 (known_at led.0 led.1) (held_at led.0 led.1)
         (good.lawful led.0 led.1));
     settled = λ y may. ∥∥₁_elim (comes y may) (settled-prop (journals_of y) (settled_in y)) (λ led.
-        turn_settled (IsGenuine old) led.0 y led.2 (known_at led.0 led.1) (held_at led.0 led.1)
+        one_settled (IsGenuine old) led.0 y led.2 (known_at led.0 led.1) (held_at led.0 led.1)
         (good.settled led.0 led.1));
     held = λ y may kind e h. ∥∥₁_elim (comes y may) (genuine-prop new e) (λ led.
-        turn_held (IsGenuine old) (IsGenuine new) led.0 y genuine_later (λ k x i. genuine_later x
+        one_held (IsGenuine old) (IsGenuine new) led.0 y genuine_later (λ k x i. genuine_later x
         (good.held led.0 led.1 k x i)) led.2
         kind e h);
   }

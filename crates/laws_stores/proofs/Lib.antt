@@ -1,6 +1,6 @@
 pub mod Doing
 pub mod Founded
-pub mod Turning
+pub mod OneDeed
 pub mod Keeping
 pub mod Writing
 pub mod Genuine

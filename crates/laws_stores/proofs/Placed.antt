@@ -1,7 +1,7 @@
 -- Examples: purchasing before and after an order is placed, its tables and what its endpoint answers.
 use Rattle.std.proofs.Common.{◌≡◌, ◌≤◌, List, [], ◌∷◌, length, refl, ap, arith}
 use Rattle.std.specs.Prelude.{codes, Option, Some, Result, Ok, Err}
-use Rattle.base.specs.Entity.{Name}
+use Rattle.base.specs.Entity.{Entity}
 use Rattle.base.specs.Order.{same_entity}
 use Rattle.base.specs.declared.entity.Kind.TheVariants.{Order}
 use Rattle.base.specs.declared.limits.TheConstants.{HELD_WINDOW}
@@ -48,7 +48,7 @@ abbrev requests : List Out
 requests = record { receiver = bolts; message = Request 3 } ∷ record { receiver = acme; message = Request 500 } ∷ []
 
 -- to one receiver go no more messages than are sent
-few : (r : Name) (outs : List Out) → length (messages_to r outs) ≤ length outs
+few : (r : Entity) (outs : List Out) → length (messages_to r outs) ≤ length outs
 few r [] = omega arith
 few r (out ∷ outs) = grind (arith, few r outs)
 

@@ -3,7 +3,7 @@ use Rattle.std.proofs.Common.{◌≡◌, ℕ, zero, suc, ◌+◌, ◌≤◌, Lis
 use Rattle.std.proofs.Common.{sym, ◌∙◌}
 use Rattle.std.proofs.Common.{Option, Some, None, Ok, inl, inr, length, subst}
 use Rattle.std.specs.Prelude.{nat_lt, slice_get}
-use Rattle.base.specs.Entity.{Name}
+use Rattle.base.specs.Entity.{Entity}
 use Rattle.base.specs.Order.{same_pair}
 use Rattle.base.specs.declared.entity.Kind.{Kind}
 use Rattle.base.specs.declared.pair.Pair.{Pair}
@@ -34,7 +34,7 @@ use Rattle.laws_stores.proofs.Doing.{did_handled}
 -- ---- settles
 
 -- after a letter was handled its number is that of the last
-pub handled-now : {C : Type 0} (rows : List (JournalRow C)) (s e : Name) (n : ℕ) (m : Message)
+pub handled-now : {C : Type 0} (rows : List (JournalRow C)) (s e : Entity) (n : ℕ) (m : Message)
     → n ≡ suc (handled_of rows (pair_between s e))
     → handled_of (rows ++ record { entity = e; input = FromEntity s n m } ∷ []) (pair_between s e) ≡ n
 handled-now rows s e n m next =
@@ -104,11 +104,11 @@ outbox_true s t match l h = unsettled_true s.reactions t.journal t.settled l (sy
 -- ---- whose letters they are
 
 -- who has a part in a journal is of its kind
-part-kind : {C : Type 0} (kind : Kind) (e : Name) (rows : List (JournalRow C)) → AreOf kind rows → (part e rows ≡ [])
+part-kind : {C : Type 0} (kind : Kind) (e : Entity) (rows : List (JournalRow C)) → AreOf kind rows → (part e rows ≡ [])
     ⊎ (e.kind ≡ kind)
 part-kind kind e [] all = inl refl
 part-kind kind e (row ∷ rows) all = either (same_entity-tells e row.entity)
-    (λ h. inr (ap (λ (x : Name). x.kind) h.1 ∙ all.0))
+    (λ h. inr (ap (λ (x : Entity). x.kind) h.1 ∙ all.0))
     (λ h. rw h.0 (part-kind kind e rows all.1))
 
 nth-none : (n : ℕ) (m : Message) → nth [] n ≡ Some m → ⊥

@@ -17,20 +17,20 @@ DeedIs P (Holds l) = P (Letter l)
 DeedIs P (Settles p n) = P (Settle p n)
 
 -- a deed leads from tables to these, and what it takes in, holds or settles is known or was held
-pub record Moves {S C : Type 0} (service : Service S C) (known : Envelope → Type 0) (x y : Tables S C) : Type 0 where
+pub record FoundedDeed {S C : Type 0} (service : Service S C) (known : Envelope → Type 0) (x y : Tables S C) : Type 0 where
   pub deed : Deed C
   pub founded : DeedIs (λ e. known e ⊎ IsHeldIn x.held e) deed
   pub did : Did service (kept x) deed (kept y)
 
 -- one of three services does so, and the tables of the other two stay as they are
-pub data Turns (known : Envelope → Type 0) (x y : AllTables) : Type 0 where
-  OfPurchasing : Moves orders_service known x.purchasing y.purchasing → y.warehouse ≡ x.warehouse
+pub data DeedOfOne (known : Envelope → Type 0) (x y : AllTables) : Type 0 where
+  OfPurchasing : FoundedDeed orders_service known x.purchasing y.purchasing → y.warehouse ≡ x.warehouse
       → y.billing ≡ x.billing
-      → Turns known x y
-  OfWarehouse : Moves stocks_service known x.warehouse y.warehouse → y.purchasing ≡ x.purchasing → y.billing ≡ x.billing
-      → Turns known x y
-  OfBilling : Moves accounts_service known x.billing y.billing → y.purchasing ≡ x.purchasing → y.warehouse ≡ x.warehouse
-      → Turns known x y
+      → DeedOfOne known x y
+  OfWarehouse : FoundedDeed stocks_service known x.warehouse y.warehouse → y.purchasing ≡ x.purchasing → y.billing ≡ x.billing
+      → DeedOfOne known x y
+  OfBilling : FoundedDeed accounts_service known x.billing y.billing → y.purchasing ≡ x.purchasing → y.warehouse ≡ x.warehouse
+      → DeedOfOne known x y
 
 -- what a stop may leave now comes so of what it might leave before
 abbrev pub ComesOf : (AllTables → AllTables → Type 0) → (old new : Sight) → Type 0

@@ -26,10 +26,10 @@ abbrev pub settled_in : AllTables → Pair → ℕ
 settled_in t pair = settled_by t pair.from.kind pair
 
 -- the letters that a service holds, by the kind of its entities
-abbrev pub held_by : AllTables → Kind → Messages
-held_by t Order = t.purchasing.held
-held_by t Stock = t.warehouse.held
-held_by t Account = t.billing.held
+abbrev pub letters_held_by : AllTables → Kind → Messages
+letters_held_by t Order = t.purchasing.held
+letters_held_by t Stock = t.warehouse.held
+letters_held_by t Account = t.billing.held
 
 -- a letter of this pair, number and message is held
 abbrev pub IsHeldIn : Messages → Envelope → Type 0
@@ -38,7 +38,7 @@ IsHeldIn held (Settle pair count) = ⊥
 
 -- all letters that are held are authentic
 abbrev pub HoldsAuthentic : AllTables → Type 0
-HoldsAuthentic t = (kind : Kind) (e : Envelope) → IsHeldIn (held_by t kind) e → IsAuthentic (journals_of t) e
+HoldsAuthentic t = (kind : Kind) (e : Envelope) → IsHeldIn (letters_held_by t kind) e → IsAuthentic (journals_of t) e
 
 -- The envelope is authentic, whatever a stop leaves: a letter is what its sender's journal sends under that number, and
 -- a settle isn't ahead of what its receiver's journal handled.
@@ -50,7 +50,7 @@ IsGenuine s e = (t : AllTables) → MayLeave s t → IsAuthentic (journals_of t)
 pub record IsGood (s : Sight) : Type 0 where
   pub lawful : (t : AllTables) → MayLeave s t → AreLawful (journals_of t)
   pub settled : (t : AllTables) → MayLeave s t → SettledAreHandled (journals_of t) (settled_in t)
-  pub held : (t : AllTables) → MayLeave s t → (kind : Kind) (e : Envelope) → IsHeldIn (held_by t kind) e → IsGenuine s e
+  pub held : (t : AllTables) → MayLeave s t → (kind : Kind) (e : Envelope) → IsHeldIn (letters_held_by t kind) e → IsGenuine s e
 
 -- Whatever a stop leaves: the partners of each order agree, and of each stock and each account nothing is lost or used
 -- twice.

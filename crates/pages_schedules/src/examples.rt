@@ -3,7 +3,7 @@
 ghost use Rattle.std.specs.Prelude.{Bool};
 ghost use Rattle.envelope.specs.declared.message.Envelope.{Envelope};
 ghost use Rattle.laws_events.specs.Laws.{EventPasses};
-ghost use Rattle.schedule_mail.specs.Offices.{Office};
+ghost use Rattle.schedule_mail.specs.Mails.{Mail};
 ghost use Rattle.laws_mail.specs.Laws.{ReadingPasses};
 ghost use Rattle.schedule_service.specs.declared.site.Site.{Site};
 
@@ -58,7 +58,7 @@ pub fn a_service_that_acts_makes_nothing_up<H, K>()
 where
     H: Handler,
     K: Keep<State = H::State, Command = H::Command> + Drop,
-    ensures { (test : Envelope → Bool) (s t : Site H K H.State H.Command) (from to : Office)
+    ensures { (test : Envelope → Bool) (s t : Site H K H.State H.Command) (from to : Mail)
         → EventPasses K.seen H.service test s t from to }
 {
     each_event_makes_nothing_up::<H, K>();

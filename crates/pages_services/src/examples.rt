@@ -1,7 +1,7 @@
 //! One example for the page of each library of services.
 
 ghost use Rattle.std.specs.Prelude.{◌≤◌};
-ghost use Rattle.laws_stores.specs.Deeds.{Turns};
+ghost use Rattle.laws_stores.specs.Deeds.{DeedOfOne};
 ghost use Rattle.laws_stores.specs.Good.{HoldsAuthentic, journals_of};
 ghost use Rattle.laws_stores.specs.Sight.{AllTables};
 ghost use Rattle.laws_journals.specs.Envelopes.{IsAuthentic};
@@ -20,7 +20,7 @@ use keep::{Change, Keep, KeepFault};
 use keep_plain::PlainKeep;
 use laws_journals::stays_authentic;
 use laws_network::{Delivery, Event, Network, Outcome, exchange};
-use laws_stores::a_turn_keeps_the_laws;
+use laws_stores::a_deed_keeps_the_laws;
 use outbox::settle;
 use purchasing::Orders;
 use reception::{ReceptionFault, take_frame};
@@ -100,10 +100,10 @@ pub fn no_mark_is_taken_back()
 }
 
 pub fn lawful_journals_stay_lawful()
-    ensures { (x y : AllTables) → Turns (IsAuthentic (journals_of x)) x y → HoldsAuthentic x →
+    ensures { (x y : AllTables) → DeedOfOne (IsAuthentic (journals_of x)) x y → HoldsAuthentic x →
         AreLawful (journals_of x) → AreLawful (journals_of y) }
 {
-    a_turn_keeps_the_laws();
+    a_deed_keeps_the_laws();
 }
 
 pub fn a_mark_is_read<K: Keep>(keep: &mut K, alloc: Global, pair: &Pair) -> Result<u64, KeepFault> {

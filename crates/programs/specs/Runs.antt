@@ -17,7 +17,7 @@ use Rattle.keep_plain.specs.declared.plain.PlainKeep.{PlainKeep}
 use Rattle.endpoint.specs.Matches.{TablesMatchJournal}
 use Rattle.schedule_text.specs.declared.event.Event.{Event}
 use Rattle.schedule_text.specs.declared.outcome.Outcome.{Outcome}
-use Rattle.schedule_mail.specs.Offices.{new_office}
+use Rattle.schedule_mail.specs.Mails.{new_mail}
 use Rattle.schedule_runner.specs.Paths.{IsPath, Makes}
 use Rattle.laws_stores.specs.Sight.{AllTables, orders_service, stocks_service, accounts_service}
 use Rattle.laws_stores.specs.Good.{AllAgree}
@@ -60,7 +60,7 @@ pub record IsBeginning (world : PlainWorld) : Type 0 where
   pub purchasing : (world.purchasing.zero ≡ None) × (world.purchasing.one ≡ None)
   pub warehouse : (world.warehouse.zero ≡ None) × (world.warehouse.one ≡ None)
   pub billing : (world.billing.zero ≡ None) × (world.billing.one ≡ None)
-  pub mail : world.mail ≡ new_office
+  pub mail : world.mail ≡ new_mail
 
 -- the tables of each service match its journal
 abbrev pub AllTablesMatch : AllTables → Type 0

@@ -8,7 +8,7 @@ use Rattle.std.proofs.lemmas.List.{append-nil}
 use Rattle.std.specs.Prelude.{map, nat_lt, nat_le, ◌&&◌, not, filter, if◌then◌else◌}
 use Rattle.std.specs.List.{AllByRecursion}
 use Rattle.std.proofs.lemmas.Bool.Decides.{nat_tests}
-use Rattle.base.specs.Entity.{Name}
+use Rattle.base.specs.Entity.{Entity}
 use Rattle.base.specs.Number.{is_number}
 use Rattle.base.specs.Order.{same_entity}
 use Rattle.base.specs.declared.entity.Kind.{Kind}
@@ -31,7 +31,7 @@ use Rattle.purchasing.specs.Parts.Partners.{names, stands_in, is_stock, is_accou
 use Rattle.purchasing.specs.Parts.Partners.{are_partners}
 
 -- whether all are tentative: with this one's phase set to it, until it is found
-abbrev pub waits : Bool → Name → List Partner → Bool
+abbrev pub waits : Bool → Entity → List Partner → Bool
 waits true s ps = all_tentative ps
 waits false s ps = all_tentative (with_phase s Phase.Tentative ps)
 
@@ -49,13 +49,13 @@ isnt : (a : Bool) → not a ≡ true → a ≡ false
 isnt true h = absurd (cc)
 isnt false h = refl
 
-apart : (e : Name) (es : List Name) → stands_in e es ≡ false → AllByRecursion (λ other. e ≢ other) es
+apart : (e : Entity) (es : List Entity) → stands_in e es ≡ false → AllByRecursion (λ other. e ≢ other) es
 apart e [] h = tt
 apart e (o ∷ os) h =
     let both : (same_entity e o ≡ false) × (stands_in e os ≡ false) = grind arith in
     (λ same. let t : same_entity e o ≡ true = (same_entity-Decides e o).1 same in absurd (cc), apart e os both.1)
 
-stands_nowhere : (e : Name) (es : List Name) → AllByRecursion (λ other. e ≢ other) es → stands_in e es ≡ false
+stands_nowhere : (e : Entity) (es : List Entity) → AllByRecursion (λ other. e ≢ other) es → stands_in e es ≡ false
 stands_nowhere e [] h = refl
 stands_nowhere e (o ∷ os) h =
     either (same_entity-tells e o) (λ k. absurd (h.0 k.1)) (λ k. rw k.0 (stands_nowhere e os h.1))
@@ -70,27 +70,27 @@ account_is Order h = absurd (cc)
 account_is Stock h = absurd (cc)
 account_is Account h = refl
 
-in_order : (es : List Name) → are_stocks_then_account es ≡ true → AreStocksThenAccount es
+in_order : (es : List Entity) → are_stocks_then_account es ≡ true → AreStocksThenAccount es
 in_order [] h = absurd (cc)
 in_order (e ∷ []) h = account_is e.kind h
 in_order (e ∷ f ∷ es) h =
     let all = all_three (is_stock e.kind) (not (stands_in e (f ∷ es))) (are_stocks_then_account (f ∷ es)) h in
     (stock_is e.kind all.0, apart e (f ∷ es) (isnt (stands_in e (f ∷ es)) all.1), in_order (f ∷ es) all.2)
 
-tested : (es : List Name) → AreStocksThenAccount es → are_stocks_then_account es ≡ true
+tested : (es : List Entity) → AreStocksThenAccount es → are_stocks_then_account es ≡ true
 tested [] h = absurd h
 tested (e ∷ []) h = rw h refl
 tested (e ∷ f ∷ es) h = three (is_stock e.kind) (not (stands_in e (f ∷ es))) (are_stocks_then_account (f ∷ es))
     (ap is_stock h.0) (ap not (stands_nowhere e (f ∷ es) h.1)) (tested (f ∷ es) h.2)
 
-pub partners_are : (es : List Name) → are_partners es ≡ true → ArePartners es
+pub partners_are : (es : List Entity) → are_partners es ≡ true → ArePartners es
 partners_are es h =
     let all = all_three (nat_lt 1 (length es)) (nat_le (length es) 9) (are_stocks_then_account es) h in
     let some : 1 < length es = let t = all.0 in grind (arith, nat_tests) in
     let few : length es ≤ 9 = let t = all.1 in grind (arith, nat_tests) in
     record { in_order = in_order es all.2; some = some; few = few }
 
-pub partners_are_not : (es : List Name) → are_partners es ≡ false → ArePartners es → ⊥
+pub partners_are_not : (es : List Entity) → are_partners es ≡ false → ArePartners es → ⊥
 partners_are_not es h is =
     let order = tested es is.in_order in
     let some : nat_lt 1 (length es) ≡ true = let s = is.some in grind (arith, nat_tests) in
@@ -101,7 +101,7 @@ partners_are_not es h is =
 
 -- ---- one partner's phase
 
-pub with_phase-at : (e : Name) (phase : Phase) (ps : List Partner) (at : ℕ) (b d : Partner)
+pub with_phase-at : (e : Entity) (phase : Phase) (ps : List Partner) (at : ℕ) (b d : Partner)
     → stands_in e (names (take at ps)) ≡ false
     → at < length ps → same_entity e (get_or ps at b).entity ≡ true
     → with_phase e phase ps ≡ set ps at (record (get_or ps at d) { phase = phase })
@@ -111,14 +111,14 @@ with_phase-at e phase (p ∷ ps) (suc at) b d h lt same =
     let both : (same_entity e p.entity ≡ false) × (stands_in e (names (take at ps)) ≡ false) = grind arith in
     rw both.0 (ap (λ qs. p ∷ qs) (with_phase-at e phase ps at b d both.1 (omega arith) same))
 
-pub with_phase-none : (e : Name) (phase : Phase) (ps : List Partner) → stands_in e (names ps) ≡ false
+pub with_phase-none : (e : Entity) (phase : Phase) (ps : List Partner) → stands_in e (names ps) ≡ false
     → with_phase e phase ps ≡ ps
 with_phase-none e phase [] h = refl
 with_phase-none e phase (p ∷ ps) h =
     let both : (same_entity e p.entity ≡ false) × (stands_in e (names ps) ≡ false) = grind arith in
     rw both.0 (ap (λ qs. p ∷ qs) (with_phase-none e phase ps both.1))
 
-pub not_before : (e : Name) (ps : List Partner) (at : ℕ) (d : Partner) → stands_in e (names (take at ps)) ≡ false
+pub not_before : (e : Entity) (ps : List Partner) (at : ℕ) (d : Partner) → stands_in e (names (take at ps)) ≡ false
     → at < length ps → same_entity e (get_or ps at d).entity ≡ false → stands_in e (names (take (suc at) ps)) ≡ false
 not_before e [] at d h lt other = absurd (omega arith)
 not_before e (p ∷ ps) zero d h lt other = rw other refl
@@ -138,12 +138,12 @@ all_in-next phase (p ∷ ps) (suc at) d lt =
     ap (λ qs. (record p { phase = phase }) ∷ qs) (all_in-next phase ps at d (omega arith))
 
 -- what the first and the others are told, where the first is the sender or isn't
-abbrev Told : Name → Message → Partner → List Partner → Bool → List Out
+abbrev Told : Entity → Message → Partner → List Partner → Bool → List Out
 Told s m p ps t = to_all m (if not t then p ∷ filter (λ (q : Partner). not (same_entity s q.entity)) ps
     else filter (λ (q : Partner). not (same_entity s q.entity)) ps)
 
 -- one that isn't the sender is told something
-pub others-some : (s : Name) (m : Message) (ps : List Partner) (at : ℕ) (d : Partner) → at < length ps
+pub others-some : (s : Entity) (m : Message) (ps : List Partner) (at : ℕ) (d : Partner) → at < length ps
     → same_entity s (get_or ps at d).entity ≡ false → to_others s m ps ≢ []
 others-some s m [] at d lt other = absurd (omega arith)
 others-some s m (p ∷ ps) zero d lt other = told (same_entity s p.entity) other
@@ -181,7 +181,7 @@ pub all_kept : (phase : Phase) (old new : List Partner) (n : ℕ) → new ≡ al
     → ArePartners (names (take n (new ++ drop (length new) old)))
 all_kept phase old new n e k h = kept old new n (ap names e ∙ entities-all_in phase old) k h
 
-pub phase_kept : (s : Name) (phase : Phase) (old new : List Partner) (n : ℕ) → new ≡ with_phase s phase old
+pub phase_kept : (s : Entity) (phase : Phase) (old new : List Partner) (n : ℕ) → new ≡ with_phase s phase old
     → n ≡ length old
     → ArePartners (names old) → ArePartners (names (take n (new ++ drop (length new) old)))
 phase_kept s phase old new n e k h = kept old new n (ap names e ∙ entities-with_phase s phase old) k h

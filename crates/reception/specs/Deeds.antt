@@ -1,6 +1,6 @@
 -- What a service's store has of one frame that came, by what is told of it.
 use Rattle.std.specs.Prelude.{◌≡◌, ◌≢◌, ◌⊎◌, ℕ, Option, Some, None, Result, Ok, Err}
-use Rattle.base.specs.Entity.{Name}
+use Rattle.base.specs.Entity.{Entity}
 use Rattle.base.specs.declared.entity.Kind.{Kind}
 use Rattle.base.specs.declared.pair.Pair.{Pair}
 use Rattle.stomp_frame.specs.Frames.{Content}
@@ -47,17 +47,17 @@ module _ {S C : Type 0} (service : Service S C) (f : Content) where
   TakeMay _ x d = d ≡ Nothing
 
 -- the entity that an envelope concerns: the receiver of a letter, the sender of what is settled
-abbrev pub concerned : Option Envelope → Option Name
+abbrev pub concerned : Option Envelope → Option Entity
 concerned (Some (envelope.Letter l)) = Some l.pair.to
 concerned (Some (envelope.Settle pair number)) = Some pair.from
 concerned None = None
 
 -- a frame concerns an entity of this kind, or one of another
 abbrev pub IsOurs : Kind → Content → Type 0
-IsOurs kind f = (e : Name) × (concerned (read_frame f) ≡ Some e) × (e.kind ≡ kind)
+IsOurs kind f = (e : Entity) × (concerned (read_frame f) ≡ Some e) × (e.kind ≡ kind)
 
 abbrev pub IsAnothers : Kind → Content → Type 0
-IsAnothers kind f = (e : Name) × (concerned (read_frame f) ≡ Some e) × (e.kind ≢ kind)
+IsAnothers kind f = (e : Entity) × (concerned (read_frame f) ≡ Some e) × (e.kind ≢ kind)
 
 -- why the endpoint may refuse what a frame carries, whatever the disk did: that it's another service's, or something
 -- else of what is ours

@@ -3,7 +3,7 @@ use Rattle.std.proofs.Common.{◌≡◌, ◌≤◌, ℕ, zero, suc, ◌^◌, ◌
 use Rattle.std.proofs.Common.{refl, ap}
 use Rattle.std.proofs.Common.{arith, inl, inr}
 use Rattle.std.specs.Prelude.{IsSome, if◌then◌else◌}
-use Rattle.base.specs.Entity.{Name}
+use Rattle.base.specs.Entity.{Entity}
 use Rattle.base.specs.Order.{same_entity, same_pair}
 use Rattle.base.specs.declared.pair.Pair.{Pair}
 use Rattle.stomp_client.specs.declared.fault.ClientFault.TheVariants as client
@@ -33,7 +33,7 @@ what_was_sent_is_left_out : (unsent (λ _. 1) (λ _ _. Some Cancel) (from_order 
     × (unsent (λ _. 1) (λ _ _. Some Cancel) (from_order bolts) 2 ≡ Some Cancel)
 what_was_sent_is_left_out = (refl, refl)
 
-abbrev letter : Name → ℕ → Letter
+abbrev letter : Entity → ℕ → Letter
 letter receiver number = record { pair = from_order receiver; number = number; message = Cancel }
 
 -- the first that are due up to the limit; a letter that stands twice is due once, and one that was sent isn't
@@ -60,7 +60,7 @@ relays_are_idle =
 
 -- ---- what a cursor tells
 
-abbrev at : Name → ℕ → Place
+abbrev at : Entity → ℕ → Place
 at receiver number = record { pair = from_order receiver; number = number }
 
 -- a place stands up to itself, and what comes before it does: a lower number, a receiver before in order; nothing

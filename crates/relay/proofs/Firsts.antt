@@ -5,7 +5,7 @@ use Rattle.std.proofs.Common.{Equal}
 use Rattle.std.proofs.Common.{sym, ap, subst, ◌∙◌, arith, get_or, add-one}
 use Rattle.std.specs.Prelude.{MatchOption, IfSome, if◌then◌else◌}
 use Rattle.std.specs.Cmp.{tied_itself}
-use Rattle.base.specs.Entity.{Name}
+use Rattle.base.specs.Entity.{Entity}
 use Rattle.base.specs.Order.{entity_cmp, entity_cmp-total, same_entity}
 use Rattle.activities.specs.declared.input.Input.{Input}
 use Rattle.activities.specs.declared.input.JournalRow.{JournalRow}
@@ -15,14 +15,14 @@ use Rattle.keep.specs.declared.change.Place.{Place}
 use Rattle.relay.specs.Parts.News.{IsFrom, IsFirstFrom}
 
 -- the first entity of these rows, where it is known as something else
-abbrev pub Best : {C A : Type 0} → (now : A → Name) → List (JournalRow C) → Option Place → Option A → Type 0
+abbrev pub Best : {C A : Type 0} → (now : A → Entity) → List (JournalRow C) → Option Place → Option A → Type 0
 Best now news behind best =
     MatchOption best (IsFirstFrom news behind None) (λ e. IsFirstFrom news behind (Some (now e)))
 
-none_less : (f : Name) → entity_cmp f f ≡ Less → ⊥
+none_less : (f : Entity) → entity_cmp f f ≡ Less → ⊥
 none_less f h = let e = tied_itself entity_cmp-total f in let z : Less ≡ Equal = sym h ∙ e in cc
 
-differs : (e f : Name) → e ≢ f → same_entity e f ≡ false
+differs : (e f : Entity) → e ≢ f → same_entity e f ≡ false
 differs e f ne = either (same_entity-tells e f) (λ h. absurd (ne h.1)) (λ h. h.0)
 
 one_part : {C : Type 0} (b : Bool) (input : Input C) (xs ys : List (Input C)) → (if b then input ∷ xs else xs) ≡ []
@@ -32,7 +32,7 @@ one_part true input xs ys e h = absurd (omega (arith, ap length e))
 one_part false input xs ys e h = h e
 
 -- a row of another entity is none of this one
-one_more_row : {C : Type 0} (news : List (JournalRow C)) (i : ℕ) (row : JournalRow C) (f : Name) → i < length news
+one_more_row : {C : Type 0} (news : List (JournalRow C)) (i : ℕ) (row : JournalRow C) (f : Entity) → i < length news
     → row ≡ get_or news i row
     → f ≢ row.entity → part f (take i news) ≡ [] → part f (take (suc i) news) ≡ []
 one_more_row [] i row f lt at ne none = absurd (omega (arith, lt))
@@ -42,10 +42,10 @@ one_more_row (x ∷ xs) (suc i) row f lt at ne none =
     one_part (same_entity f x.entity) x.input (part f (take i xs)) (part f (take (suc i) xs)) none
     (λ none'. one_more_row xs i row f (omega (arith, lt)) at ne none')
 
-module _ {C A : Type 0} (now : A → Name) (news : List (JournalRow C)) (i : ℕ) (row : JournalRow C)
+module _ {C A : Type 0} (now : A → Entity) (news : List (JournalRow C)) (i : ℕ) (row : JournalRow C)
     (behind : Option Place)
     (lt : i < length news) (at : row ≡ get_or news i row) where
-  more : (f : Name) → f ≢ row.entity → part f (take i news) ≡ [] → part f (take (i + 1) news) ≡ []
+  more : (f : Entity) → f ≢ row.entity → part f (take i news) ≡ [] → part f (take (i + 1) news) ≡ []
   more f ne none = rw add-one (one_more_row news i row f lt at ne none)
 
   -- a row that comes too early

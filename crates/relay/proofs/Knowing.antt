@@ -37,7 +37,7 @@ use Rattle.endpoint.specs.Deeds.{Kept, kept, Deed, Nothing, TakesIn, Holds, Sett
 use Rattle.endpoint.specs.Matches.{AllMatch}
 use Rattle.relay.specs.Filling.{marks_of, unsent, due}
 use Rattle.relay.specs.Knowing.{IsUpto, AllSent, KnowsRows, Knows, KnowsAll}
-use Rattle.relay.specs.Parts.Pages.{AreSent, Jumps, Moves}
+use Rattle.relay.specs.Parts.Pages.{AreSent, Jumps, StaysOrJumps}
 use Rattle.relay.specs.declared.relay.Relay.{Relay}
 use Rattle.relay.proofs.Letters.{due_no, due_yes}
 use Rattle.relay.proofs.Places.{numbers_rise, gap, gap_over, pair_between_places}
@@ -147,7 +147,7 @@ module _ (messages : Messages) (m : Pair → ℕ) where
   jump (Some here) (Some next) j sent = jumped here next j sent
 
   -- and behind all of the last one's pair
-  pub moved_sent : (here next : Option Place) → Moves m here next → AllSent m messages here → AllSent m messages next
+  pub moved_sent : (here next : Option Place) → StaysOrJumps m here next → AllSent m messages here → AllSent m messages next
   moved_sent here next (inl same) sent = subst (λ (x : Option Place). AllSent m messages x) (sym same) sent
   moved_sent here next (inr j) sent = jump here next j sent
 

@@ -29,7 +29,7 @@ use Rattle.endpoint.specs.Faults.{end_cause, end_of}
 use Rattle.relay.specs.Knowing.{AllSent}
 use Rattle.activities.specs.declared.input.JournalRow.{JournalRow}
 use Rattle.relay.specs.Parts.News.{SentBut, Skips}
-use Rattle.relay.specs.Parts.Pages.{FillsPage, HasFilled, HasRead, Jumps, Moves, AreSent}
+use Rattle.relay.specs.Parts.Pages.{FillsPage, HasFilled, HasRead, Jumps, StaysOrJumps, AreSent}
 use Rattle.relay.proofs.Sending.{marked, marks_after, stage_after, sends_none, sends_append}
 use Rattle.relay.proofs.Places.{numbers_rise, gap, before_in_pair, pair_between_places}
 use Rattle.relay.proofs.Due.{first_due, all_due, none_behind, due_within, one_more, not_due}
@@ -206,7 +206,7 @@ jump_behind messages m (Some here) None jumps k more are = absurd jumps
 jump_behind messages m (Some here) (Some next) jumps k more are = jump_over messages m here next jumps k more are
 
 -- or from that page's own place
-move_behind : (messages : Messages) (m : Pair → ℕ) (here next : Option Place) → Moves m here next
+move_behind : (messages : Messages) (m : Pair → ℕ) (here next : Option Place) → StaysOrJumps m here next
     → (k : ℕ) (more : List Letter)
     → AreFirst (unsent m messages) next k more → AreFirst (unsent m messages) here k more
 move_behind messages m here next (inl same) k more are =
@@ -221,7 +221,7 @@ module _ (clean : Type 0) (messages : Messages) (after next : Option Place) (pag
   small = not_full clean messages after next page limit rows old new are count f other
 
   -- the page is followed by others, which are read behind a place to which the relay moves
-  pub page_more : Moves new.marks (place_behind after rows) next
+  pub page_more : StaysOrJumps new.marks (place_behind after rows) next
       → FillsPage clean messages after next limit old new (Ok (count, true))
   page_more moves = record {
     letters = due limit old.marks rows;
@@ -289,7 +289,7 @@ module _ (messages : Messages) (page limit : ℕ) (rows : List Letter) (r s t : 
 
   -- or behind the whole page
   pub goes_whole : (count : ℕ) → FillsLetters limit rows (send_state r c) (send_state s d) (Ok count) → count ≢ limit
-      → Moves (marks_of s) (place_behind s.behind rows) t.behind → t.marks ≡ s.marks
+      → StaysOrJumps (marks_of s) (place_behind s.behind rows) t.behind → t.marks ≡ s.marks
       → AllSent (marks_of t) messages t.behind
   goes_whole count f other moves marks =
       subst (λ (m : BTreeMap Pair ℕ). AllSent (λ p. mark_in m p) messages t.behind) (sym marks)
@@ -308,7 +308,7 @@ sent_on m n b d here there e f s =
 -- the cursor goes behind some rows that stand first, and were sent
 pub goes_behind : (messages : Messages) (r t : Relay) (n page : ℕ) (rows : List Letter)
     → AreSent (marks_of r) (take n rows)
-    → Moves (marks_of r) (place_behind r.behind (take n rows)) t.behind
+    → StaysOrJumps (marks_of r) (place_behind r.behind (take n rows)) t.behind
     → t.marks ≡ r.marks
     → AreFirst messages r.behind page rows → AllSent (marks_of r) messages r.behind
     → AllSent (marks_of t) messages t.behind
@@ -326,7 +326,7 @@ behind_last after (l ∷ ls) last = behind_last (Some (place_of l)) ls last
 pub jumps_behind : (m : Pair → ℕ) (after : Option Place) (rows front : List Letter) (last : Letter) (n mark : ℕ)
     → rows ≡ front ++ last ∷ []
     → last.number ≤ n → (n ≡ last.number) ⊎ (n ≡ mark) → mark ≡ m last.pair
-    → Moves m (place_behind after rows) (Some (place last.pair n))
+    → StaysOrJumps m (place_behind after rows) (Some (place last.pair n))
 jumps_behind m after rows front last n mark cut least which is = inr (
     subst (λ (x : Option Place). Jumps m x (Some (place last.pair n))) (sym
     (ap (λ (x : List Letter). place_behind after x) cut

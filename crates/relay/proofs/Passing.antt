@@ -3,7 +3,7 @@ use Rattle.std.proofs.Common.{◌≡◌, ◌≢◌, inl, inr, ℕ, List}
 use Rattle.std.proofs.Common.{Option, Some, None, Ordering, Less, Equal, Greater, refl, sym, ap, subst, ◌∙◌}
 use Rattle.std.specs.Ordering.{ordering_then, nat_cmp}
 use Rattle.std.specs.Cmp.{tied_itself}
-use Rattle.base.specs.Entity.{Name}
+use Rattle.base.specs.Entity.{Entity}
 use Rattle.base.specs.Order.{entity_cmp, entity_cmp-total}
 use Rattle.base.specs.declared.pair.Pair.{Pair}
 use Rattle.activities.specs.declared.input.JournalRow.{JournalRow}
@@ -31,7 +31,7 @@ less_greater e = absurd cc
 equal_greater : Equal ≡ Greater → ⊥
 equal_greater e = absurd cc
 
-never_self_entity : (f : Name) → entity_cmp f f ≢ Greater
+never_self_entity : (f : Entity) → entity_cmp f f ≢ Greater
 never_self_entity f e = equal_greater (sym (tied_itself entity_cmp-total f) ∙ e)
 
 after_from : (behind : Option Place) (x : Place) → IsAfter behind x → IsFrom behind x.pair.from
@@ -76,7 +76,7 @@ stays_put m messages (Some a) = (λ x h. h, λ x h up some. absurd (both a x h u
 
 -- ---- the first entity
 
-upto_less : (f p e : Name) → entity_cmp f p ≢ Greater → entity_cmp p e ≡ Less → entity_cmp f e ≡ Less
+upto_less : (f p e : Entity) → entity_cmp f p ≢ Greater → entity_cmp p e ≡ Less → entity_cmp f e ≡ Less
 upto_less f p e near less = by (entity_cmp f p) refl
   where
     by : (o : Ordering) → entity_cmp f p ≡ o → entity_cmp f e ≡ Less
@@ -89,6 +89,6 @@ pub clear_none : {C : Type 0} (news : List (JournalRow C)) (behind : Option Plac
     → IsClear news behind place
 clear_none news behind place none = λ f from near. none f from
 
-pub clear_before : {C : Type 0} (news : List (JournalRow C)) (behind : Option Place) (place : Place) (e : Name)
+pub clear_before : {C : Type 0} (news : List (JournalRow C)) (behind : Option Place) (place : Place) (e : Entity)
     → IsFirstFrom news behind (Some e) → entity_cmp place.pair.from e ≡ Less → IsClear news behind place
 clear_before news behind place e first less = λ f from near. first f from (upto_less f place.pair.from e near less)

@@ -2,7 +2,7 @@
 //! alone.
 
 ghost use Rattle.std.specs.Prelude.{◌≡◌, ◌≢◌, false, true, IfSome, MatchOption, Some, None};
-ghost use Rattle.base.specs.Entity.{Name};
+ghost use Rattle.base.specs.Entity.{Entity};
 ghost use Rattle.base.specs.Order.{entity_cmp};
 ghost use Rattle.std.specs.declared.cmp.Ordering.TheVariants.{Less};
 ghost use Rattle.relay.specs.Parts.News.{IsFrom, IsFirstFrom, IsClear};

@@ -16,7 +16,7 @@ ghost use Rattle.stomp_client.specs.declared.session.Stage.TheVariants.{Connecte
 ghost use Rattle.relay.specs.Filling.{marks_of, send_state};
 ghost use Rattle.relay.specs.Knowing.{AllSent, KnowsAll};
 ghost use Rattle.relay.specs.Calls.{Fills, store_end};
-ghost use Rattle.relay.specs.Parts.Pages.{FillsPage, Moves, HasRead};
+ghost use Rattle.relay.specs.Parts.Pages.{FillsPage, StaysOrJumps, HasRead};
 ghost use Rattle.relay.specs.Parts.News.{SentBut, Skips};
 ghost use Rattle.keep.specs.Listing.{IsAfter};
 
@@ -147,7 +147,7 @@ impl Relay {
         }
     }
 
-    /// Moves the cursor over what was sent: up to a place all was but letters that these rows' entities sent.
+    /// StaysOrJumps the cursor over what was sent: up to a place all was but letters that these rows' entities sent.
     fn pass_over<C>(&mut self, news: &[JournalRow<C>], reach: &Option<Place>)
         ensures skips { (messages : Messages) → SentBut news.now (marks_of self.old) messages reach.now
             → Skips (marks_of self.old) messages self.old.behind self.new.behind }
@@ -259,7 +259,7 @@ impl Relay {
         Ok((sent, true))
     }
 
-    /// Moves the cursor behind those of these rows that stand before the first one that is due.
+    /// StaysOrJumps the cursor behind those of these rows that stand before the first one that is due.
     fn go_behind_sent(&mut self, mut rows: Vec<Letter>)
         ensures sent { (messages : Messages) (page : ℕ) → AreFirst messages self.old.behind page rows.items
             → AllSent (marks_of self.old) messages self.old.behind
@@ -272,9 +272,9 @@ impl Relay {
         self.go_behind(rows);
     }
 
-    /// Moves the cursor behind these rows, which were sent; of the last one's pair all up to its mark was.
+    /// StaysOrJumps the cursor behind these rows, which were sent; of the last one's pair all up to its mark was.
     fn go_behind(&mut self, mut rows: Vec<Letter>)
-        ensures behind { Moves (marks_of self.old) (place_behind self.old.behind rows.items) self.new.behind }
+        ensures behind { StaysOrJumps (marks_of self.old) (place_behind self.old.behind rows.items) self.new.behind }
         ensures marks { self.new.marks ≡ self.old.marks }
         ensures rows { self.new.rows ≡ self.old.rows }
     {

@@ -2,7 +2,7 @@
 use Rattle.std.proofs.Common.{◌≡◌, ℕ, List, [], ◌∷◌, Bool, true, false, Option, Some, None, Ok, Err, refl, ap, arith}
 use Rattle.std.proofs.Common.{inl, inr}
 use Rattle.std.specs.Prelude.{codes}
-use Rattle.base.specs.Entity.{Name, order_of}
+use Rattle.base.specs.Entity.{Entity, order_of}
 use Rattle.base.specs.Order.{same_entity}
 use Rattle.base.specs.declared.entity.Kind.TheVariants.{Order, Stock, Account}
 use Rattle.trade.specs.declared.line_phase.LinePhase.{LinePhase}
@@ -16,12 +16,12 @@ use Rattle.laws_stores.specs.Sight.{OrderTables, StockTables, AccountTables}
 use Rattle.schedule_audit.specs.Agree.{phase_in, stock_lines, account_lines, is_taken, is_given_back, go_one_way}
 use Rattle.schedule_audit.specs.Agree.{phase_by, phases_at}
 use Rattle.schedule_audit.specs.Agree.{order_agrees, row_agrees, rows_agree, partners_agree}
-use Rattle.schedule_audit.specs.Looks.{StandsFor, Rests, Fails, LooksAtPartners, Looks}
+use Rattle.schedule_audit.specs.Looks.{StandsFor, Rests, FailsToRead, LooksAtPartners, Looks}
 use Rattle.schedule_audit.specs.declared.fault.AuditFault.TheVariants.{Purchasing, Warehouse, Billing}
 use Rattle.laws_stores.proofs.Placed.{placing, placed}
 
 -- an order that nobody placed
-abbrev o2 : Name
+abbrev o2 : Entity
 o2 = order_of (codes "o2")
 
 -- ---- phases
@@ -147,9 +147,9 @@ stores_rest = (inl refl, counted, changed)
     changed (inr reads) = let phase : Some Held ≡ Some Done = ap line (reads.clean refl).1 in absurd (cc)
 
 -- a read that fails counts a failure and leaves the store unusable; want of memory doesn't
-reads_fail : Fails seen stocks (false, 5, stocks_with Done) StoreFailed × Fails seen stocks stocks Memory
-    × Fails seen (false, 5, stocks_with Done) (false, 5, stocks_with Done) Unusable
-    × (Fails seen stocks stocks StoreFailed → ⊥) × (Fails seen stocks (false, 5, stocks_with Done) Memory → ⊥)
+reads_fail : FailsToRead seen stocks (false, 5, stocks_with Done) StoreFailed × FailsToRead seen stocks stocks Memory
+    × FailsToRead seen (false, 5, stocks_with Done) (false, 5, stocks_with Done) Unusable
+    × (FailsToRead seen stocks stocks StoreFailed → ⊥) × (FailsToRead seen stocks (false, 5, stocks_with Done) Memory → ⊥)
 reads_fail = (
   record { call = (refl, refl, (omega arith, omega arith), inl refl); doubt = omega arith; clean = λ _ t h. h },
   record { call = (refl, refl, refl, refl); doubt = omega arith; clean = λ _. refl },

@@ -1,7 +1,7 @@
 -- What one call finds, as the call around it tells it.
 use Rattle.std.proofs.Common.{◌≡◌, ◌||◌, inr, Bool, Some, sym, ◌∙◌, ap}
 use Rattle.std.specs.Prelude.{Option, Result, Ok, Err, not}
-use Rattle.base.specs.Entity.{Name}
+use Rattle.base.specs.Entity.{Entity}
 use Rattle.base.specs.declared.entity.Kind.{Kind}
 use Rattle.base.specs.declared.entity.Kind.TheVariants.{Order}
 use Rattle.activities.specs.declared.input.JournalRow.{JournalRow}
@@ -21,7 +21,7 @@ module _ {KO KS KA : Type 0} (orders : KO → Seen OrderTables) (stocks : KS →
     (accounts : KA → Seen AccountTables)
     (o p : KO) (s t : KS) (a b : KA) where
   -- an order that is placed was read, and then its lines at its partners
-  pub order_looked : (order : Name) (placed : OrderState) (result : Result Bool AuditFault)
+  pub order_looked : (order : Entity) (placed : OrderState) (result : Result Bool AuditFault)
       → Reads orders o p {R = Option (Option OrderState)} {F = EndFault} (λ x row. row ≡ x.entity order)
       (Ok (Some (Some placed)))
       → LooksAtPartners stocks accounts (λ y z (agrees : Bool). agrees

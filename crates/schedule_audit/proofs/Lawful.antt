@@ -4,7 +4,7 @@ use Rattle.std.proofs.Common.{sym, ◌∙◌, ap}
 use Rattle.std.specs.Prelude.{Option, not, is_none}
 use Rattle.std.specs.List.{list_all, list_any}
 use Rattle.std.specs.Option.{option_map}
-use Rattle.base.specs.Entity.{Name}
+use Rattle.base.specs.Entity.{Entity}
 use Rattle.base.specs.declared.entity.Kind.{Kind}
 use Rattle.base.specs.declared.entity.Kind.TheVariants.{Order, Stock, Account}
 use Rattle.activities.specs.declared.input.Input.{Input}
@@ -93,7 +93,7 @@ module _ (t : AllTables) (orders : TablesMatchJournal orders_service t.purchasin
     (stocks : TablesMatchJournal stocks_service t.warehouse)
     (accounts : TablesMatchJournal accounts_service t.billing) (sound : AreSound (states_in (journals_of t))) where
   -- what is read of a partner is its line's phase
-  phase_is : (order : Name) (kind : Kind) (at : Name)
+  phase_is : (order : Entity) (kind : Kind) (at : Entity)
       → phase_by t.warehouse t.billing order kind at ≡ option_map (λ (k : Line). k.phase)
       (line_by (states_in (journals_of t)) order kind at)
   phase_is order Order at = refl
@@ -102,7 +102,7 @@ module _ (t : AllTables) (orders : TablesMatchJournal orders_service t.purchasin
   phase_is order Account at = ap (λ row. phase_in order (account_lines row)) (accounts.entities at)
       ∙ ap (phase_in order) (lines_of_account (part at t.billing.journal))
 
-  one_way : (order : Name) (o : OrderState) → PartnersAgree (Some o) (line_at (states_in (journals_of t)) order)
+  one_way : (order : Entity) (o : OrderState) → PartnersAgree (Some o) (line_at (states_in (journals_of t)) order)
       → go_one_way (phases_at t.warehouse t.billing order o.partners) ≡ true
   one_way order o agree = never_both _ _ (λ taken given_back.
       let p = one_of is_taken (λ (k : Partner). phase_by t.warehouse t.billing order k.entity.kind k.entity) o.partners
@@ -113,19 +113,19 @@ module _ (t : AllTables) (orders : TablesMatchJournal orders_service t.purchasin
       (shipped _ (ap is_taken (sym (phase_is order p.0.entity.kind p.0.entity)) ∙ p.2))
       (released _ (ap is_given_back (sym (phase_is order q.0.entity.kind q.0.entity)) ∙ q.2)))
 
-  by_state : (order : Name) (s : Option OrderState) → PartnersAgree s (line_at (states_in (journals_of t)) order)
+  by_state : (order : Entity) (s : Option OrderState) → PartnersAgree s (line_at (states_in (journals_of t)) order)
       → order_agrees t.warehouse t.billing order (row_for is_none s) ≡ true
   by_state order None agree = refl
   by_state order (Some o) agree = one_way order o agree
 
   -- by what an order took in
-  by_inputs : (order : Name) (inputs : List (Input OrderCommand))
+  by_inputs : (order : Entity) (inputs : List (Input OrderCommand))
       → PartnersAgree (state order_reactions inputs) (line_at (states_in (journals_of t)) order)
       → order_agrees t.warehouse t.billing order (row_after orders_service inputs) ≡ true
   by_inputs order [] agree = refl
   by_inputs order (input ∷ inputs) agree = by_state order (state order_reactions (input ∷ inputs)) agree
 
-  by_kind : (e : Name) (kind : Kind) → e.kind ≡ kind
+  by_kind : (e : Entity) (kind : Kind) → e.kind ≡ kind
       → (not (is_order kind) || order_agrees t.warehouse t.billing e (t.purchasing.entity e)) ≡ true
   by_kind e Order is = ap (order_agrees t.warehouse t.billing e) (orders.entities e)
       ∙ by_inputs e (part e t.purchasing.journal) (sound.agree e is)

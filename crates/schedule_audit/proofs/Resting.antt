@@ -6,7 +6,7 @@ use Rattle.keep.proofs.Arms.{then_served, then_failed}
 use Rattle.keep.specs.Seen.{Seen, no_memory, failed, unusable, refused, End}
 use Rattle.endpoint.specs.Faults.{end_cause}
 use Rattle.endpoint.specs.declared.fault.EndFault.{EndFault}
-use Rattle.schedule_audit.specs.Looks.{StandsFor, Rests, Fails}
+use Rattle.schedule_audit.specs.Looks.{StandsFor, Rests, FailsToRead}
 
 abbrev Any : {T R : Type 0} → T → R → Type 0
 Any _ _ = ⊤
@@ -44,8 +44,8 @@ module _ {E T : Type 0} (seen : E → Seen T) where
   rests_on old mid new had (inl same) = subst (λ (k : E). Rests seen old k) (sym same) had
   rests_on old mid new had (inr h) = inr (read_again old mid new (Ok tt) had h)
 
-  pub fails_on : (old mid new : E) (fault : EndFault) → Rests seen old mid → Fails seen mid new fault
-      → Fails seen old new fault
+  pub fails_on : (old mid new : E) (fault : EndFault) → Rests seen old mid → FailsToRead seen mid new fault
+      → FailsToRead seen old new fault
   fails_on old mid new fault had h = read_again old mid new (Err (end_cause fault)) had h
 
   pub rests_clean : (old new : E) → Rests seen old new → (seen new).doubt ≡ 0 → (seen old).doubt ≡ 0

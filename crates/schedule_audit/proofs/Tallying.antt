@@ -4,7 +4,7 @@ use Rattle.std.proofs.Common.{Some, refl, sym, ◌∙◌}
 use Rattle.std.proofs.Common.{ap, subst}
 use Rattle.std.specs.Prelude.{Option, Ok, Err, slice_get, not, ◌&&◌}
 use Rattle.std.specs.List.{list_any}
-use Rattle.base.specs.Entity.{Name}
+use Rattle.base.specs.Entity.{Entity}
 use Rattle.keep.specs.Seen.{Seen}
 use Rattle.trade.specs.declared.line_phase.LinePhase.{LinePhase}
 use Rattle.trade.specs.Orders.{Partner}
@@ -35,7 +35,7 @@ take_whole (y ∷ ys) i e = rw e (ap (λ l. y ∷ l) (take_whole ys (length ys) 
 
 module _ {KS KA : Type 0} (stocks : KS → Seen StockTables) (accounts : KA → Seen AccountTables) where
   -- at these partners, which are those before the next one
-  pub record SoFar (order : Name) (partners : List Partner) (taken given_back : Bool) (s t : KS) (a b : KA) : Type 0
+  pub record SoFar (order : Entity) (partners : List Partner) (taken given_back : Bool) (s t : KS) (a b : KA) : Type 0
     where
       pub warehouse : Rests stocks s t
       pub billing : Rests accounts a b
@@ -46,7 +46,7 @@ module _ {KS KA : Type 0} (stocks : KS → Seen StockTables) (accounts : KA → 
           → StandsFor stocks s y
           → StandsFor accounts a z → given_back ≡ list_any is_given_back (phases_at y z order partners)
 
-  pub none_yet : (order : Name) (s : KS) (a : KA) → SoFar order [] false false s s a a
+  pub none_yet : (order : Entity) (s : KS) (a : KA) → SoFar order [] false false s s a a
   none_yet order s a = record {
     warehouse = inl refl;
     billing = inl refl;
@@ -55,7 +55,7 @@ module _ {KS KA : Type 0} (stocks : KS → Seen StockTables) (accounts : KA → 
   }
 
   -- one more
-  pub one_more : (order : Name) (partners : List Partner) (p : Partner) (phase : Option LinePhase)
+  pub one_more : (order : Entity) (partners : List Partner) (p : Partner) (phase : Option LinePhase)
       (taken given_back : Bool) (s t u : KS)
       (a b c : KA) → SoFar order partners taken given_back s t a b
       → LooksAtPartners stocks accounts (λ x y (found : Option LinePhase). found
@@ -88,7 +88,7 @@ module _ {KS KA : Type 0} (stocks : KS → Seen StockTables) (accounts : KA → 
   -- a read that wasn't done ends it
   pub stopped : {R : Type 0} (gives : StockTables → AccountTables → R → Type 0) {Q : Type 0} (wants : StockTables
       → AccountTables → Q → Type 0)
-      (order : Name) (partners : List Partner) (taken given_back : Bool) (fault : AuditFault) (s t u : KS) (a b c : KA)
+      (order : Entity) (partners : List Partner) (taken given_back : Bool) (fault : AuditFault) (s t u : KS) (a b c : KA)
       → SoFar order partners taken given_back s t a b → LooksAtPartners stocks accounts gives (Err fault) t u b c
       → LooksAtPartners stocks accounts wants (Err fault) s u a c
   stopped gives wants order partners taken given_back (Purchasing fault) s t u a b c far look = absurd look
@@ -98,7 +98,7 @@ module _ {KS KA : Type 0} (stocks : KS → Seen StockTables) (accounts : KA → 
       (rests_on stocks s t u far.warehouse look.0, fails_on accounts a b c fault far.billing look.1)
 
   -- the partner at this place
-  pub next_one : (order : Name) (partners : List Partner) (i j : ℕ) (p : Partner) (e : Name) (phase : Option LinePhase)
+  pub next_one : (order : Entity) (partners : List Partner) (i j : ℕ) (p : Partner) (e : Entity) (phase : Option LinePhase)
       (taken given_back is_taken_now is_given_back_now : Bool) (s t u : KS) (a b c : KA) → j ≡ suc i
       → slice_get partners i ≡ Some p
       → e ≡ p.entity → is_taken_now ≡ is_taken phase → is_given_back_now ≡ is_given_back phase
@@ -116,7 +116,7 @@ module _ {KS KA : Type 0} (stocks : KS → Seen StockTables) (accounts : KA → 
       rw (longer, first, second) (one_more order (take i partners) p phase taken given_back s t u a b c far there)
 
   -- all were looked at
-  pub finished : (order : Name) (partners : List Partner) (i : ℕ) (taken given_back both : Bool) (s t : KS) (a b : KA)
+  pub finished : (order : Entity) (partners : List Partner) (i : ℕ) (taken given_back both : Bool) (s t : KS) (a b : KA)
       → i ≡ length partners
       → both ≡ (taken && given_back) → SoFar order (take i partners) taken given_back s t a b
       → LooksAtPartners stocks accounts (λ x y (agrees : Bool). agrees ≡ go_one_way (phases_at x y order partners))

@@ -2,7 +2,7 @@
 use Rattle.std.specs.Prelude.{Bool, true, false, ◌&&◌, ◌||◌, not, List, [], map, Option, Some, None}
 use Rattle.std.specs.List.{list_any, list_all}
 use Rattle.std.specs.Option.{option_map}
-use Rattle.base.specs.Entity.{Name}
+use Rattle.base.specs.Entity.{Entity}
 use Rattle.base.specs.declared.entity.Kind.{Kind}
 use Rattle.base.specs.declared.entity.Kind.TheVariants.{Order, Stock, Account}
 use Rattle.activities.specs.declared.input.JournalRow.{JournalRow}
@@ -16,7 +16,7 @@ use Rattle.trade.specs.Stocks.{StockState}
 use Rattle.laws_stores.specs.Sight.{OrderTables, StockTables, AccountTables}
 
 -- how far the line of an order is, if it has one among these
-abbrev pub phase_in : Name → List Line → Option LinePhase
+abbrev pub phase_in : Entity → List Line → Option LinePhase
 phase_in order lines = option_map (λ (l : Line). l.phase) (line_of order lines)
 
 -- the lines of a stock's row and of an account's: none where there is no row
@@ -44,18 +44,18 @@ abbrev pub go_one_way : List (Option LinePhase) → Bool
 go_one_way phases = not (list_any is_taken phases && list_any is_given_back phases)
 
 -- an order's line at an entity of this kind
-abbrev pub phase_by : StockTables → AccountTables → Name → Kind → Name → Option LinePhase
+abbrev pub phase_by : StockTables → AccountTables → Entity → Kind → Entity → Option LinePhase
 phase_by warehouse billing order Order at = None
 phase_by warehouse billing order Stock at = phase_in order (stock_lines (warehouse.entity at))
 phase_by warehouse billing order Account at = phase_in order (account_lines (billing.entity at))
 
 -- how far an order's line is at each of these partners
-abbrev pub phases_at : StockTables → AccountTables → Name → List Partner → List (Option LinePhase)
+abbrev pub phases_at : StockTables → AccountTables → Entity → List Partner → List (Option LinePhase)
 phases_at warehouse billing order partners =
     map (λ (p : Partner). phase_by warehouse billing order p.entity.kind p.entity) partners
 
 -- whether the lines of an order with this row go one way
-abbrev pub order_agrees : StockTables → AccountTables → Name → Option (Option OrderState) → Bool
+abbrev pub order_agrees : StockTables → AccountTables → Entity → Option (Option OrderState) → Bool
 order_agrees warehouse billing order (Some (Some o)) = go_one_way (phases_at warehouse billing order o.partners)
 order_agrees warehouse billing order _ = true
 

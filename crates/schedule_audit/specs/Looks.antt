@@ -19,8 +19,8 @@ module _ {E T : Type 0} (seen : E → Seen T) (old new : E) where
   Rests = (new ≡ old) ⊎ Reads seen old new {R = Unit {0}} {F = EndFault} (λ _ _. ⊤) (Ok tt)
 
   -- a read of the store wasn't done
-  abbrev pub Fails : EndFault → Type 0
-  Fails fault = Reads seen old new {R = Unit {0}} {F = EndFault} (λ _ _. ⊤) (Err (end_cause fault))
+  abbrev pub FailsToRead : EndFault → Type 0
+  FailsToRead fault = Reads seen old new {R = Unit {0}} {F = EndFault} (λ _ _. ⊤) (Err (end_cause fault))
 
 module _ {KS KA : Type 0} (stocks : KS → Seen StockTables) (accounts : KA → Seen AccountTables) where
   -- What is read at warehouse and billing: it is what their tables give while no file is in doubt, whatever stands for
@@ -31,8 +31,8 @@ module _ {KS KA : Type 0} (stocks : KS → Seen StockTables) (accounts : KA → 
       × ((stocks t).doubt ≡ 0 → (accounts b).doubt ≡ 0 → (y : StockTables) (z : AccountTables) → StandsFor stocks s y
       → StandsFor accounts a z → gives y z r)
   LooksAtPartners gives (Err (Purchasing fault)) s t a b = ⊥
-  LooksAtPartners gives (Err (Warehouse fault)) s t a b = Fails stocks s t fault × Rests accounts a b
-  LooksAtPartners gives (Err (Billing fault)) s t a b = Rests stocks s t × Fails accounts a b fault
+  LooksAtPartners gives (Err (Warehouse fault)) s t a b = FailsToRead stocks s t fault × Rests accounts a b
+  LooksAtPartners gives (Err (Billing fault)) s t a b = Rests stocks s t × FailsToRead accounts a b fault
 
 module _ {KO KS KA : Type 0} (orders : KO → Seen OrderTables) (stocks : KS → Seen StockTables)
     (accounts : KA → Seen AccountTables) where
@@ -44,6 +44,6 @@ module _ {KO KS KA : Type 0} (orders : KO → Seen OrderTables) (stocks : KS →
       → (x : OrderTables) (y : StockTables) (z : AccountTables) → StandsFor orders o x → StandsFor stocks s y
       → StandsFor accounts a z
       → gives x y z r)
-  Looks gives (Err (Purchasing fault)) o p s t a b = Fails orders o p fault × Rests stocks s t × Rests accounts a b
-  Looks gives (Err (Warehouse fault)) o p s t a b = Rests orders o p × Fails stocks s t fault × Rests accounts a b
-  Looks gives (Err (Billing fault)) o p s t a b = Rests orders o p × Rests stocks s t × Fails accounts a b fault
+  Looks gives (Err (Purchasing fault)) o p s t a b = FailsToRead orders o p fault × Rests stocks s t × Rests accounts a b
+  Looks gives (Err (Warehouse fault)) o p s t a b = Rests orders o p × FailsToRead stocks s t fault × Rests accounts a b
+  Looks gives (Err (Billing fault)) o p s t a b = Rests orders o p × Rests stocks s t × FailsToRead accounts a b fault

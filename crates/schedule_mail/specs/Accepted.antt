@@ -53,9 +53,9 @@ IsAgain sent number accepted = accepted ≡ record { number = number; sent = sen
 
 -- What is answered: the new message's number where the SEND was accepted; else what its session was told, and for want
 -- of memory neither.
-abbrev pub Tells : Sent → List Accepted → List ℕ → Result (Option ℕ) RepeatFault → Type 0
-Tells sent accepted out (Ok (Some number)) = IsAgain sent number accepted
-Tells sent accepted out (Ok None) = ⊥
-Tells sent accepted out (Err QueueFull) = ((m : ℕ) → IsAgain sent m accepted → ⊥) × (out ≡ told_full)
-Tells sent accepted out (Err TooMany) = ((m : ℕ) → IsAgain sent m accepted → ⊥) × (out ≡ told_used)
-Tells sent accepted out (Err Memory) = ((m : ℕ) → IsAgain sent m accepted → ⊥) × (out ≢ told_full) × (out ≢ told_used)
+abbrev pub TellsRepeat : Sent → List Accepted → List ℕ → Result (Option ℕ) RepeatFault → Type 0
+TellsRepeat sent accepted out (Ok (Some number)) = IsAgain sent number accepted
+TellsRepeat sent accepted out (Ok None) = ⊥
+TellsRepeat sent accepted out (Err QueueFull) = ((m : ℕ) → IsAgain sent m accepted → ⊥) × (out ≡ told_full)
+TellsRepeat sent accepted out (Err TooMany) = ((m : ℕ) → IsAgain sent m accepted → ⊥) × (out ≡ told_used)
+TellsRepeat sent accepted out (Err Memory) = ((m : ℕ) → IsAgain sent m accepted → ⊥) × (out ≢ told_full) × (out ≢ told_used)

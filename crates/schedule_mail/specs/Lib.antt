@@ -1,7 +1,7 @@
 pub mod Accepted
 pub mod Connecting
 pub mod Faults
-pub mod Offices
+pub mod Mails
 pub mod RepeatFaults
 pub mod Repeating
 pub mod Sessions

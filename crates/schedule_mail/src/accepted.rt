@@ -3,7 +3,7 @@
 ghost use Rattle.std.specs.Prelude.{◌≡◌};
 ghost use Rattle.std.specs.List.{flat_map};
 ghost use Rattle.std.specs.Option.{option_copied};
-ghost use Rattle.schedule_mail.specs.Accepted.{Tells, again_of, at_place, same_header, same_headers, same_sent};
+ghost use Rattle.schedule_mail.specs.Accepted.{TellsRepeat, again_of, at_place, same_header, same_headers, same_sent};
 ghost use Rattle.schedule_mail.specs.Texts.{AreTexts};
 
 use crate::RepeatFault;
@@ -83,7 +83,7 @@ pub(crate) fn answer_of(
     texts: &Texts,
 ) -> Result<Option<u64>, RepeatFault>
     requires { AreTexts sent.now texts.now.asked.items texts.now.full.items texts.now.used.items }
-    ensures { Tells sent.now accepted.now out.now result }
+    ensures { TellsRepeat sent.now accepted.now out.now result }
 {
     match again(accepted, sent) {
         Some(number) => return Ok(Some(number)),

@@ -7,7 +7,7 @@ ghost use Rattle.broker_core.specs.Calls.{OpenAnswer, dropped, out_in, without_f
 ghost use Rattle.broker_core.specs.Feeding.{DispatchAnswer, FeedAnswer};
 ghost use Rattle.broker_core.specs.Serving.{changing, session_of};
 ghost use Rattle.broker_core.specs.declared.fault.BrokerFault.TheVariants.{NoSession};
-ghost use Rattle.schedule_mail.specs.Offices.{new_office, restarted, collected, taken_from};
+ghost use Rattle.schedule_mail.specs.Mails.{new_mail, restarted, collected, taken_from};
 ghost use Rattle.schedule_mail.specs.Sessions.{KeepsOthers, KeepsSessions, has_session};
 
 use base::limits::MAX_QUEUED;
@@ -37,9 +37,9 @@ impl Drop for Mail {
 
 impl Model for Mail {
     ghost use Rattle.std.specs.List.{flat_map};
-    ghost use Rattle.schedule_mail.specs.Offices.{Office};
+    ghost use Rattle.schedule_mail.specs.Mails.{Mail};
 
-    ghost Value = { Office };
+    ghost Value = { Mail };
 
     ghost view = { λ m. record { broker = m.broker; earlier = flat_map (λ list. list.items) m.earlier.items } };
 }
@@ -47,7 +47,7 @@ impl Model for Mail {
 impl Mail {
     /// A broker with no session and no message; nothing was accepted. It takes no memory.
     pub fn new(alloc: Global) -> Mail
-        ensures { result ≡ new_office }
+        ensures { result ≡ new_mail }
     {
         Mail {
             alloc,

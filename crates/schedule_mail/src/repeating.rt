@@ -2,7 +2,7 @@
 
 ghost use Rattle.std.specs.Prelude.{◌≡◌, IfOk};
 ghost use Rattle.schedule_mail.specs.Accepted.{sent_at};
-ghost use Rattle.schedule_mail.specs.Offices.{all_accepted};
+ghost use Rattle.schedule_mail.specs.Mails.{all_accepted};
 ghost use Rattle.schedule_mail.specs.Repeating.{FedAgain, Repeats, SendsAgain};
 ghost use Rattle.schedule_mail.specs.Sessions.{KeepsSessions};
 ghost use Rattle.schedule_mail.specs.Texts.{AreTexts};

@@ -12,7 +12,7 @@ use Rattle.keep.specs.Seen.{Seen, IsSound, End, no_memory, failed, unusable, ref
 use Rattle.keep.specs.Tables.{Tables}
 use Rattle.endpoint.specs.Faults.{end_cause}
 use Rattle.endpoint.specs.declared.fault.EndFault.{EndFault}
-use Rattle.schedule_audit.specs.Looks.{StandsFor, Rests, Fails, Looks}
+use Rattle.schedule_audit.specs.Looks.{StandsFor, Rests, FailsToRead, Looks}
 use Rattle.schedule_audit.specs.declared.fault.AuditFault.{AuditFault}
 use Rattle.schedule_audit.specs.declared.fault.AuditFault.TheVariants.{Purchasing, Warehouse, Billing}
 use Rattle.laws_stores.specs.Sight.{AllTables, OrderTables, StockTables, AccountTables, MayLeave}
@@ -22,7 +22,7 @@ use Rattle.schedule_text.specs.declared.outcome.Outcome.{Outcome}
 use Rattle.schedule_service.specs.Channels.{After, ChannelsHave}
 use Rattle.schedule_service.proofs.Cursors.{RelaysRest, after_has}
 use Rattle.schedule_service.specs.declared.site.Site.{Site}
-use Rattle.schedule_mail.specs.Offices.{Office}
+use Rattle.schedule_mail.specs.Mails.{Mail}
 use Rattle.purchasing.specs.declared.orders.Orders.{Orders}
 use Rattle.warehouse.specs.declared.stocks.Stocks.{Stocks}
 use Rattle.billing.specs.declared.accounts.Accounts.{Accounts}
@@ -90,7 +90,7 @@ module _ {H K S C : Type 0} (seen : K → Seen (Tables S C)) (whole : (k : K) �
     }
     rest_stays (inr h) = of_read (Ok tt) h
 
-    fail_stays : (fault : EndFault) → Fails (through seen) s.endpoint t.endpoint fault → StoreStays seen s t
+    fail_stays : (fault : EndFault) → FailsToRead (through seen) s.endpoint t.endpoint fault → StoreStays seen s t
     fail_stays fault h = of_read (Err (end_cause fault)) h
 
 module _ {KO KS KA : Type 0} (orders : KO → Seen OrderTables) (stocks : KS → Seen StockTables)
@@ -233,7 +233,7 @@ module _ {KO KS KA : Type 0} (orders : KO → Seen OrderTables) (stocks : KS →
 
   -- behind a fault the service's connections may be cut
   pub found_purchasing : (fault : EndFault) (old mid : W) (site : Site Orders KO (Option OrderState) OrderCommand)
-      (mail : Office)
+      (mail : Mail)
       → AsksAll orders stocks accounts (Err (Purchasing fault)) old mid
       → After {R = Bool} (Err fault) mid.purchasing mid.mail site mail
       → site.endpoint ≡ mid.purchasing.endpoint
@@ -254,7 +254,7 @@ module _ {KO KS KA : Type 0} (orders : KO → Seen OrderTables) (stocks : KS →
         subst (λ w. AfterFault (Purchasing fault) w new) (sym same) (after, refl, refl),
       )
 
-  pub found_warehouse : (fault : EndFault) (old mid : W) (site : Site Stocks KS StockState StockCommand) (mail : Office)
+  pub found_warehouse : (fault : EndFault) (old mid : W) (site : Site Stocks KS StockState StockCommand) (mail : Mail)
       → AsksAll orders stocks accounts (Err (Warehouse fault)) old mid
       → After {R = Bool} (Err fault) mid.warehouse mid.mail site mail
       → site.endpoint ≡ mid.warehouse.endpoint
@@ -276,7 +276,7 @@ module _ {KO KS KA : Type 0} (orders : KO → Seen OrderTables) (stocks : KS →
       )
 
   pub found_billing : (fault : EndFault) (old mid : W) (site : Site Accounts KA AccountState AccountCommand)
-      (mail : Office)
+      (mail : Mail)
       → AsksAll orders stocks accounts (Err (Billing fault)) old mid
       → After {R = Bool} (Err fault) mid.billing mid.mail site mail
       → site.endpoint ≡ mid.billing.endpoint

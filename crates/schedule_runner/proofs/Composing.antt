@@ -15,7 +15,7 @@ use Rattle.schedule_runner.specs.Paths.{Leads, Makes, MakesApart}
 use Rattle.schedule_runner.specs.Rounds.{takes, round_events, all_rounds}
 use Rattle.laws_stores.specs.Sight.{OrderTables, StockTables, AccountTables}
 use Rattle.schedule_runner.specs.Sight.{StaysClean, StaysMatching}
-use Rattle.schedule_runner.specs.Steps.{Happened}
+use Rattle.schedule_runner.specs.Steps.{WorldStep}
 use Rattle.schedule_runner.proofs.Following.{leads_append, leads_none, leads_one}
 use Rattle.schedule_runner.proofs.Righting.{good_agree}
 
@@ -84,7 +84,7 @@ module _ {KO KS KA : Type 0} (orders : KO → Seen OrderTables) (stocks : KS →
 
   -- what an event does alone, and what holds behind it
   abbrev A : Event → Outcome → W → W → Type 0
-  A = Happened orders stocks accounts
+  A = WorldStep orders stocks accounts
 
   abbrev H : Event → Outcome → W → W → Type 0
   H = Passed orders stocks accounts

@@ -22,7 +22,7 @@ use Rattle.schedule_text.specs.declared.event.SeatCommand.{SeatCommand}
 use Rattle.schedule_text.specs.declared.outcome.Outcome.{Outcome}
 use Rattle.schedule_text.specs.declared.outcome.Outcome.TheVariants as outcome
 use Rattle.schedule_service.specs.Deeds.{Channels, CameOn, CommandMay, FrameMay, HeldMay, SiteMay}
-use Rattle.schedule_service.specs.Happenings.{command_row}
+use Rattle.schedule_service.specs.SiteSteps.{command_row}
 use Rattle.schedule_service.specs.SiteEvents.{SiteEvent, Commits, Opens, Cuts, Fills, Resends, Carries, Takes, Drains}
 use Rattle.schedule_service.specs.SiteEvents.{Arms, Reopens, Stops}
 use Rattle.laws_stores.specs.Deeds.{DeedIs}

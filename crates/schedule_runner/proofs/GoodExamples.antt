@@ -11,11 +11,11 @@ use Rattle.keep.specs.Tables.{empty, set_message}
 use Rattle.endpoint.specs.Arrivals.{row_of_letter}
 use Rattle.endpoint.specs.Deeds.{TakesIn}
 use Rattle.endpoint.proofs.Examples.{o1, bolts, from_order}
-use Rattle.laws_stores.specs.Deeds.{Turns, OfPurchasing, ComesOf}
+use Rattle.laws_stores.specs.Deeds.{DeedOfOne, OfPurchasing, ComesOf}
 use Rattle.laws_stores.specs.Good.{IsGenuine}
 use Rattle.laws_stores.specs.Sight.{OrderTables, StockTables, AllTables, MayLeave, all_empty}
 use Rattle.laws_stores.proofs.Keeping.{good_later}
-use Rattle.schedule_mail.specs.Offices.{Office}
+use Rattle.schedule_mail.specs.Mails.{Mail}
 use Rattle.schedule_service.specs.declared.site_channel.SiteChannel.{SiteChannel}
 use Rattle.schedule_runner.specs.Good.{AllRight, IsGoodWorld, MailIs, StaysGood, Agrees}
 use Rattle.schedule_runner.specs.Sight.{sight}
@@ -60,12 +60,12 @@ module _ (any : TheWorld) where
       nothing_done : IsGoodWorld seen seen seen new
       nothing_done = new_good seen seen seen new refl refl refl refl refl refl refl (only any before)
 
-      placed : ComesOf (Turns (IsGenuine (sight seen seen seen new))) (sight seen seen seen new)
+      placed : ComesOf (DeedOfOne (IsGenuine (sight seen seen seen new))) (sight seen seen seen new)
           (sight seen seen seen done)
       placed y may = ∣ (
         tables any before,
         record { purchasing = refl; warehouse = refl; billing = refl },
-        subst (Turns (IsGenuine (sight seen seen seen new)) (tables any before)) (sym (only any after y may))
+        subst (DeedOfOne (IsGenuine (sight seen seen seen new)) (tables any before)) (sym (only any after y may))
             (OfPurchasing (record { deed = TakesIn placing; founded = tt; did = (taken_in.takes, refl, refl) }) refl
             refl),
       ) ∣₁
@@ -94,7 +94,7 @@ module _ (any : TheWorld) where
   )
 
   -- a broker that accepted a letter with another content than the order's journal sends
-  module _ (mail : Office) (forged : _) (more : _) (accepted : mail.earlier ≡ forged ∷ more)
+  module _ (mail : Mail) (forged : _) (more : _) (accepted : mail.earlier ≡ forged ∷ more)
       (reads : read_envelope forged.sent.headers forged.sent.body ≡ Some (OfLetter (asks 4))) where
     mail_is_not_good : (MailIs (IsGenuine (sight seen seen seen done)) (record done { mail = mail }) → ⊥)
         × (IsGoodWorld seen seen seen (record done { mail = mail }) → ⊥)
@@ -107,7 +107,7 @@ module _ (any : TheWorld) where
 
         forged_mail : MailIs (IsGenuine (sight seen seen seen done)) (record done { mail = mail }) → ⊥
         forged_mail h =
-            let all = subst (AllByRecursion _) accepted h.office.earlier in is_forged (all.0.brought _ reads)
+            let all = subst (AllByRecursion _) accepted h.mail.earlier in is_forged (all.0.brought _ reads)
 
   -- a relay whose cursor stands behind more rows than the journal has
   module _ (l : SiteChannel) where

@@ -18,7 +18,7 @@ use Rattle.schedule_text.specs.declared.event.ServiceName.TheVariants.{Purchasin
 use Rattle.schedule_text.specs.declared.outcome.Outcome.{Outcome}
 use Rattle.schedule_text.specs.declared.outcome.Outcome.TheVariants as outcome
 use Rattle.schedule_service.specs.Deeds.{Channels, SiteMay, channels_of, CameOn}
-use Rattle.schedule_service.specs.Happenings.{command_row}
+use Rattle.schedule_service.specs.SiteSteps.{command_row}
 use Rattle.schedule_service.specs.SiteEvents.{Commits}
 use Rattle.keep.specs.Seen.{Seen}
 use Rattle.keep.specs.Tables.{Tables}
@@ -26,7 +26,7 @@ use Rattle.schedule_runner.specs.declared.acting.ServiceEvent.{ServiceEvent}
 use Rattle.schedule_runner.specs.declared.acting.ServiceEvent.TheVariants.{Open, Cut, Fill, Resend, Carry, Take, Drain}
 use Rattle.schedule_runner.specs.declared.acting.ServiceEvent.TheVariants.{Fail, Reopen, Stop}
 use Rattle.schedule_runner.specs.Events.{asked_of}
-use Rattle.schedule_runner.specs.Deeds.{Moment, In, Turn, Step, Goes}
+use Rattle.schedule_runner.specs.Deeds.{Moment, In, TablesStep, Step, Goes}
 use Rattle.schedule_runner.specs.Paths.{IsPath, Leads, Makes}
 use Rattle.schedule_runner.specs.Rounds.{takes, connection_events, service_events, round_events, all_rounds, named}
 use Rattle.schedule_runner.specs.declared.world.World.{World}
@@ -165,44 +165,44 @@ module _ {KO KS KA : Type 0} where
         h.0.0 h.0.1 h.0.2,
   )
 
-  turn_told : (e : Event) (o : Outcome) (a b : Moment KO KS KA) → Turn e o a b → AllOne e o a.tables b.tables
-  turn_told (event.Order asked) o a b h = (
+  step_told : (e : Event) (o : Outcome) (a b : Moment KO KS KA) → TablesStep e o a b → AllOne e o a.tables b.tables
+  step_told (event.Order asked) o a b h = (
     commit_tells orders_service (channels_of a.world.purchasing) asked o (kept a.tables.purchasing)
         (kept b.tables.purchasing) h.0.0 h.0.1
         h.0.2,
     same_journal a.tables.warehouse.journal b.tables.warehouse.journal (ap (λ (t : Tables _ _). t.journal) h.1),
     same_journal a.tables.billing.journal b.tables.billing.journal (ap (λ (t : Tables _ _). t.journal) h.2),
   )
-  turn_told (event.Stock asked) o a b h = (
+  step_told (event.Stock asked) o a b h = (
     same_journal a.tables.purchasing.journal b.tables.purchasing.journal (ap (λ (t : Tables _ _). t.journal) h.1),
     commit_tells stocks_service (channels_of a.world.warehouse) asked o (kept a.tables.warehouse)
         (kept b.tables.warehouse) h.0.0 h.0.1 h.0.2,
     same_journal a.tables.billing.journal b.tables.billing.journal (ap (λ (t : Tables _ _). t.journal) h.2),
   )
-  turn_told (event.Account asked) o a b h = (
+  step_told (event.Account asked) o a b h = (
     same_journal a.tables.purchasing.journal b.tables.purchasing.journal (ap (λ (t : Tables _ _). t.journal) h.1),
     same_journal a.tables.warehouse.journal b.tables.warehouse.journal (ap (λ (t : Tables _ _). t.journal) h.2),
     commit_tells accounts_service (channels_of a.world.billing) asked o (kept a.tables.billing) (kept b.tables.billing)
         h.0.0 h.0.1 h.0.2,
   )
-  turn_told (event.Open c) o a b h = quiet c.service (Open c.number) o a b h
-  turn_told (event.Cut c) o a b h = quiet c.service (Cut c.number) o a b h
-  turn_told (event.Fill c limit) o a b h = quiet c.service (Fill c.number limit) o a b h
-  turn_told (event.Resend c) o a b h = quiet c.service (Resend c.number) o a b h
-  turn_told (event.Carry c way most) o a b h = quiet c.service (Carry c.number way most) o a b h
-  turn_told (event.Take c) o a b h = quiet c.service (Take c.number) o a b h
-  turn_told (event.Drain c) o a b h = quiet c.service (Drain c.number) o a b h
-  turn_told (event.Fail service n leaves) o a b h = quiet service (Fail n leaves) o a b h
-  turn_told (event.Reopen service) o a b h = quiet service Reopen o a b h
-  turn_told (event.Stop service) o a b h = quiet service Stop o a b h
-  turn_told (event.Pump rounds) o a b h = absurd h
-  turn_told (event.Repeat place) o a b h = same_tables a.tables b.tables h
-  turn_told event.StopBroker o a b h = same_tables a.tables b.tables h
-  turn_told (event.Show entity) o a b h = same_tables a.tables b.tables h
-  turn_told (event.Pair pair) o a b h = same_tables a.tables b.tables h
-  turn_told (event.Frames service) o a b h = same_tables a.tables b.tables h
-  turn_told (event.Journal service) o a b h = same_tables a.tables b.tables h
-  turn_told event.Agreement o a b h = same_tables a.tables b.tables h
+  step_told (event.Open c) o a b h = quiet c.service (Open c.number) o a b h
+  step_told (event.Cut c) o a b h = quiet c.service (Cut c.number) o a b h
+  step_told (event.Fill c limit) o a b h = quiet c.service (Fill c.number limit) o a b h
+  step_told (event.Resend c) o a b h = quiet c.service (Resend c.number) o a b h
+  step_told (event.Carry c way most) o a b h = quiet c.service (Carry c.number way most) o a b h
+  step_told (event.Take c) o a b h = quiet c.service (Take c.number) o a b h
+  step_told (event.Drain c) o a b h = quiet c.service (Drain c.number) o a b h
+  step_told (event.Fail service n leaves) o a b h = quiet service (Fail n leaves) o a b h
+  step_told (event.Reopen service) o a b h = quiet service Reopen o a b h
+  step_told (event.Stop service) o a b h = quiet service Stop o a b h
+  step_told (event.Pump rounds) o a b h = absurd h
+  step_told (event.Repeat place) o a b h = same_tables a.tables b.tables h
+  step_told event.StopBroker o a b h = same_tables a.tables b.tables h
+  step_told (event.Show entity) o a b h = same_tables a.tables b.tables h
+  step_told (event.Pair pair) o a b h = same_tables a.tables b.tables h
+  step_told (event.Frames service) o a b h = same_tables a.tables b.tables h
+  step_told (event.Journal service) o a b h = same_tables a.tables b.tables h
+  step_told event.Agreement o a b h = same_tables a.tables b.tables h
 
 -- ---- rounds ask for nothing
 
@@ -263,39 +263,39 @@ module _ {KO KS KA : Type 0} (orders : KO → Seen OrderTables) (stocks : KS →
   pumped n a b leads = (
     none_told asks_orders (all_rounds n) leads.0 _ _ (orders_rest n) (path_told S asks_orders
         (λ m. m.tables.purchasing.journal)
-        (λ e o a b h. (turn_told e o a b h.1).0) (all_rounds n) leads.0 a b leads.1),
+        (λ e o a b h. (step_told e o a b h.1).0) (all_rounds n) leads.0 a b leads.1),
     none_told asks_stocks (all_rounds n) leads.0 _ _ (stocks_rest n) (path_told S asks_stocks
         (λ m. m.tables.warehouse.journal)
-        (λ e o a b h. (turn_told e o a b h.1).1) (all_rounds n) leads.0 a b leads.1),
+        (λ e o a b h. (step_told e o a b h.1).1) (all_rounds n) leads.0 a b leads.1),
     none_told asks_accounts (all_rounds n) leads.0 _ _ (accounts_rest n) (path_told S asks_accounts
         (λ m. m.tables.billing.journal)
-        (λ e o a b h. (turn_told e o a b h.1).2) (all_rounds n) leads.0 a b leads.1),
+        (λ e o a b h. (step_told e o a b h.1).2) (all_rounds n) leads.0 a b leads.1),
   )
 
   -- ---- all events
 
   makes_told : (e : Event) (o : Outcome) (a b : M) → Makes S e o a b → AllOne e o a.tables b.tables
   makes_told (event.Pump rounds) o a b h = pumped rounds a b h.1
-  makes_told (event.Order asked) o a b h = turn_told (event.Order asked) o a b h.1
-  makes_told (event.Stock asked) o a b h = turn_told (event.Stock asked) o a b h.1
-  makes_told (event.Account asked) o a b h = turn_told (event.Account asked) o a b h.1
-  makes_told (event.Open c) o a b h = turn_told (event.Open c) o a b h.1
-  makes_told (event.Cut c) o a b h = turn_told (event.Cut c) o a b h.1
-  makes_told (event.Fill c limit) o a b h = turn_told (event.Fill c limit) o a b h.1
-  makes_told (event.Resend c) o a b h = turn_told (event.Resend c) o a b h.1
-  makes_told (event.Carry c way most) o a b h = turn_told (event.Carry c way most) o a b h.1
-  makes_told (event.Take c) o a b h = turn_told (event.Take c) o a b h.1
-  makes_told (event.Drain c) o a b h = turn_told (event.Drain c) o a b h.1
-  makes_told (event.Fail service n leaves) o a b h = turn_told (event.Fail service n leaves) o a b h.1
-  makes_told (event.Reopen service) o a b h = turn_told (event.Reopen service) o a b h.1
-  makes_told (event.Stop service) o a b h = turn_told (event.Stop service) o a b h.1
-  makes_told (event.Repeat place) o a b h = turn_told (event.Repeat place) o a b h.1
-  makes_told event.StopBroker o a b h = turn_told event.StopBroker o a b h.1
-  makes_told (event.Show entity) o a b h = turn_told (event.Show entity) o a b h.1
-  makes_told (event.Pair pair) o a b h = turn_told (event.Pair pair) o a b h.1
-  makes_told (event.Frames service) o a b h = turn_told (event.Frames service) o a b h.1
-  makes_told (event.Journal service) o a b h = turn_told (event.Journal service) o a b h.1
-  makes_told event.Agreement o a b h = turn_told event.Agreement o a b h.1
+  makes_told (event.Order asked) o a b h = step_told (event.Order asked) o a b h.1
+  makes_told (event.Stock asked) o a b h = step_told (event.Stock asked) o a b h.1
+  makes_told (event.Account asked) o a b h = step_told (event.Account asked) o a b h.1
+  makes_told (event.Open c) o a b h = step_told (event.Open c) o a b h.1
+  makes_told (event.Cut c) o a b h = step_told (event.Cut c) o a b h.1
+  makes_told (event.Fill c limit) o a b h = step_told (event.Fill c limit) o a b h.1
+  makes_told (event.Resend c) o a b h = step_told (event.Resend c) o a b h.1
+  makes_told (event.Carry c way most) o a b h = step_told (event.Carry c way most) o a b h.1
+  makes_told (event.Take c) o a b h = step_told (event.Take c) o a b h.1
+  makes_told (event.Drain c) o a b h = step_told (event.Drain c) o a b h.1
+  makes_told (event.Fail service n leaves) o a b h = step_told (event.Fail service n leaves) o a b h.1
+  makes_told (event.Reopen service) o a b h = step_told (event.Reopen service) o a b h.1
+  makes_told (event.Stop service) o a b h = step_told (event.Stop service) o a b h.1
+  makes_told (event.Repeat place) o a b h = step_told (event.Repeat place) o a b h.1
+  makes_told event.StopBroker o a b h = step_told event.StopBroker o a b h.1
+  makes_told (event.Show entity) o a b h = step_told (event.Show entity) o a b h.1
+  makes_told (event.Pair pair) o a b h = step_told (event.Pair pair) o a b h.1
+  makes_told (event.Frames service) o a b h = step_told (event.Frames service) o a b h.1
+  makes_told (event.Journal service) o a b h = step_told (event.Journal service) o a b h.1
+  makes_told event.Agreement o a b h = step_told event.Agreement o a b h.1
 
   -- what a schedule's outcomes tell of all three journals
   all_told : (es : List Event) (os : List Outcome) (a b : M) → IsPath (Makes S) es os a b

@@ -11,7 +11,7 @@ use Rattle.envelope.specs.declared.message.Envelope.{Envelope}
 use Rattle.endpoint.specs.Matches.{AllMatch}
 use Rattle.keep.specs.Failing.{through}
 use Rattle.keep.specs.Seen.{Seen, IsSound}
-use Rattle.schedule_mail.specs.Offices.{Office}
+use Rattle.schedule_mail.specs.Mails.{Mail}
 use Rattle.purchasing.specs.declared.orders.Orders.{Orders}
 use Rattle.warehouse.specs.declared.stocks.Stocks.{Stocks}
 use Rattle.billing.specs.declared.accounts.Accounts.{Accounts}
@@ -19,7 +19,7 @@ use Rattle.schedule_text.specs.declared.outcome.Outcome.{Outcome}
 use Rattle.schedule_text.specs.declared.outcome.Outcome.TheVariants.{Stopped, Refused}
 use Rattle.schedule_service.specs.declared.site.Site.{Site}
 use Rattle.schedule_service.specs.Deeds.{DoubtStays, Matches, Goes, SiteMay, channels_of}
-use Rattle.schedule_service.specs.Happenings.{Happens}
+use Rattle.schedule_service.specs.SiteSteps.{SiteStep}
 use Rattle.schedule_service.specs.Channels.{CutsBoth}
 use Rattle.schedule_service.proofs.Cursors.{RelaysRest, cut_has, stored_right}
 use Rattle.laws_events.specs.Three.{Genuine}
@@ -37,12 +37,12 @@ use Rattle.schedule_runner.proofs.Righting.{purchasing_good, warehouse_good, bil
 
 module _ {KO KS KA : Type 0} (orders : KO → Seen OrderTables) (stocks : KS → Seen StockTables)
     (accounts : KA → Seen AccountTables)
-    (w : World KO KS KA) (mail : Office) where
+    (w : World KO KS KA) (mail : Mail) where
   pub lift_purchasing : ((k : KO) → IsSound (orders k)) → (e : SiteEvent OrderCommand) (o : Outcome)
       (site : Site Orders KO (Option OrderState) OrderCommand)
       → DoubtStays orders w.purchasing site → Matches orders w.purchasing site orders_service
       → Goes orders w.purchasing site orders_service (SiteMay orders_service (channels_of w.purchasing) e o)
-      → Happens orders orders_service e o w.purchasing w.mail site mail
+      → SiteStep orders orders_service e o w.purchasing w.mail site mail
       → Passes orders stocks accounts (AtPurchasing orders stocks accounts e o)
       (Both (AtPurchasing orders stocks accounts e o) (InPurchasing e o)) w
       (record w { purchasing = site; mail = mail })
@@ -63,7 +63,7 @@ module _ {KO KS KA : Type 0} (orders : KO → Seen OrderTables) (stocks : KS →
       (site : Site Stocks KS StockState StockCommand)
       → DoubtStays stocks w.warehouse site → Matches stocks w.warehouse site stocks_service
       → Goes stocks w.warehouse site stocks_service (SiteMay stocks_service (channels_of w.warehouse) e o)
-      → Happens stocks stocks_service e o w.warehouse w.mail site mail
+      → SiteStep stocks stocks_service e o w.warehouse w.mail site mail
       → Passes orders stocks accounts (AtWarehouse orders stocks accounts e o)
       (Both (AtWarehouse orders stocks accounts e o) (InWarehouse e o)) w
       (record w { warehouse = site; mail = mail })
@@ -84,7 +84,7 @@ module _ {KO KS KA : Type 0} (orders : KO → Seen OrderTables) (stocks : KS →
       (site : Site Accounts KA AccountState AccountCommand)
       → DoubtStays accounts w.billing site → Matches accounts w.billing site accounts_service
       → Goes accounts w.billing site accounts_service (SiteMay accounts_service (channels_of w.billing) e o)
-      → Happens accounts accounts_service e o w.billing w.mail site mail
+      → SiteStep accounts accounts_service e o w.billing w.mail site mail
       → Passes orders stocks accounts (AtBilling orders stocks accounts e o)
       (Both (AtBilling orders stocks accounts e o) (InBilling e o)) w
       (record w { billing = site; mail = mail })
@@ -145,7 +145,7 @@ lift_same orders stocks accounts R old new p q r mail x y z did = record {
 module _ {KO KS KA : Type 0} (orders : KO → Seen OrderTables) (stocks : KS → Seen StockTables)
     (accounts : KA → Seen AccountTables) where
   -- an accepted message is sent again
-  pub lift_again : (place : ℕ) (o : Outcome) (w : World KO KS KA) (mail : Office) → SendsAgain place o w.mail mail
+  pub lift_again : (place : ℕ) (o : Outcome) (w : World KO KS KA) (mail : Mail) → SendsAgain place o w.mail mail
       → Passes orders stocks accounts (AtMail (SendsAgain place o)) (Both (AtMail (SendsAgain place o)) Same) w
       (record w { mail = mail })
   lift_again place o w mail did =
@@ -154,10 +154,10 @@ module _ {KO KS KA : Type 0} (orders : KO → Seen OrderTables) (stocks : KS →
       (λ Is h. h) (λ Is h. h) (λ Is h. h) (did, refl, refl, refl)
 
   -- what was cut, and lost, leaves the others good
-  module _ (ok : Envelope → Type 0) (old new : World KO KS KA) (one two three : Office)
+  module _ (ok : Envelope → Type 0) (old new : World KO KS KA) (one two three : Mail)
       (p : CutsBoth old.purchasing old.mail new.purchasing one) (q : CutsBoth old.warehouse one new.warehouse two)
       (r : CutsBoth old.billing two new.billing three) where
-    anew_is : (o : Outcome) (later : Office) → IsNewBroker o three later → MailIs ok old
+    anew_is : (o : Outcome) (later : Mail) → IsNewBroker o three later → MailIs ok old
         → Genuine ok new.purchasing new.warehouse new.billing later
     anew_is Stopped later is good = subst (Genuine ok new.purchasing new.warehouse new.billing) (sym is)
         (restarted_keeps ok old.purchasing new.purchasing old.warehouse new.warehouse old.billing new.billing old.mail

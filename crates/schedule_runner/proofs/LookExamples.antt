@@ -15,7 +15,7 @@ use Rattle.endpoint.specs.Faults.{end_of}
 use Rattle.keep.specs.Seen.{Seen}
 use Rattle.keep.specs.Tables.{empty}
 use Rattle.laws_stores.specs.Sight.{OrderTables}
-use Rattle.schedule_mail.specs.Offices.{new_office}
+use Rattle.schedule_mail.specs.Mails.{new_mail}
 use Rattle.schedule_shows.specs.Printed.{shown_or_none, shown_order, shown_order_command, journal_lines, frame_lines}
 use Rattle.schedule_text.specs.declared.outcome.Outcome.TheVariants as told
 use Rattle.schedule_service.specs.declared.site.Site.{Site}
@@ -97,10 +97,10 @@ module _ {H : Type 0} where
   }
 
   -- the journal's one row is counted; a store that isn't usable tells that; another number isn't told of it
-  services_are_read : ReadsSite {H = H} seen gives (Ok 1) (site (true, 0)) new_office (site (true, 0)) new_office
-      × ReadsSite {H = H} seen gives (Err (told.Refused 65)) (site (false, 0)) new_office (site (false, 0)) new_office
-      × (ReadsSite {H = H} seen gives (Ok 2) (site (true, 0)) new_office (site (true, 0)) new_office → ⊥)
-      × (ReadsSite {H = H} seen gives (Ok 1) (site (false, 0)) new_office (site (false, 0)) new_office → ⊥)
+  services_are_read : ReadsSite {H = H} seen gives (Ok 1) (site (true, 0)) new_mail (site (true, 0)) new_mail
+      × ReadsSite {H = H} seen gives (Err (told.Refused 65)) (site (false, 0)) new_mail (site (false, 0)) new_mail
+      × (ReadsSite {H = H} seen gives (Ok 2) (site (true, 0)) new_mail (site (true, 0)) new_mail → ⊥)
+      × (ReadsSite {H = H} seen gives (Ok 1) (site (false, 0)) new_mail (site (false, 0)) new_mail → ⊥)
   services_are_read = (
     record {
       answer = Ok 1;

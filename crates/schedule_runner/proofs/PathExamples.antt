@@ -27,19 +27,19 @@ use Rattle.endpoint.specs.Matches.{TablesMatchJournal}
 use Rattle.endpoint.proofs.Examples.{o1}
 use Rattle.laws_stores.specs.Sight.{OrderTables, StockTables, AccountTables, AllTables, all_empty, orders_service}
 use Rattle.laws_stores.specs.Sight.{AreMatching, MayLeave}
-use Rattle.schedule_mail.specs.Offices.{new_office}
+use Rattle.schedule_mail.specs.Mails.{new_mail}
 use Rattle.schedule_text.specs.declared.event.Event.{Event}
 use Rattle.schedule_text.specs.declared.event.Event.TheVariants as event
 use Rattle.schedule_text.specs.declared.event.SeatCommand.{SeatCommand}
 use Rattle.schedule_text.specs.declared.outcome.Outcome.{Outcome}
 use Rattle.schedule_text.specs.declared.outcome.Outcome.TheVariants.{Committed, NotDone, Stopped, Pumped}
-use Rattle.schedule_service.specs.Happenings.{command_row}
+use Rattle.schedule_service.specs.SiteSteps.{command_row}
 use Rattle.schedule_service.specs.Outcomes.{commit_told}
 use Rattle.schedule_runner.specs.declared.world.World.{World}
 use Rattle.schedule_runner.specs.Deeds.{Moment, moment, Step, Goes}
 use Rattle.schedule_runner.specs.Paths.{IsPath, Leads, Makes}
 use Rattle.schedule_runner.specs.Sight.{sight, StaysMatching}
-use Rattle.schedule_runner.specs.Steps.{Happened}
+use Rattle.schedule_runner.specs.Steps.{WorldStep}
 use Rattle.schedule_runner.specs.Told.{asks_orders, commands_from, AreTold, RecordsTold, AllTold, Told}
 use Rattle.laws_stores.proofs.Placed.{placing, a_placed_order_is_committed, it_is_placed_once, before, after}
 use Rattle.laws_stores.proofs.Placed.{before_matches, taken_in}
@@ -91,7 +91,7 @@ module _ (any : TheWorld) where
     purchasing = record { endpoint = store purchasing; zero = None; one = None };
     warehouse = record { endpoint = store warehouse; zero = None; one = None };
     billing = record { endpoint = store empty; zero = None; one = None };
-    mail = new_office;
+    mail = new_mail;
   }
 
   -- before and after the order was placed
@@ -129,7 +129,7 @@ module _ (any : TheWorld) where
   outcomes = Committed 1 ∷ NotDone AlreadyPlaced ∷ []
 
   -- the order is placed and answered committed at the first row
-  it_is_placed : Happened seen seen seen (event.Order asked) (Committed 1) new done
+  it_is_placed : WorldStep seen seen seen (event.Order asked) (Committed 1) new done
   it_is_placed = (
     record {
       result = Ok (record { pos = 1 });
@@ -146,7 +146,7 @@ module _ (any : TheWorld) where
   )
 
   -- to place it again is refused, and nothing changes
-  it_is_placed_once_only : Happened seen seen seen (event.Order asked) (NotDone AlreadyPlaced) done done
+  it_is_placed_once_only : WorldStep seen seen seen (event.Order asked) (NotDone AlreadyPlaced) done done
   it_is_placed_once_only = (
     record {
       result = Err (Business AlreadyPlaced);
@@ -167,12 +167,12 @@ module _ (any : TheWorld) where
   rows w = length w.purchasing.endpoint.keep.journal
 
   -- both are a path, and a pump of no round is none; a path has an outcome for each event
-  events_are_a_path : IsPath (Makes (Happened seen seen seen)) events outcomes new done
-      × Makes (Happened seen seen seen) (event.Pump 0) Pumped done done
-      × Leads (Makes (Happened seen seen seen)) events new done
-      × (IsPath (Makes (Happened seen seen seen)) events (Committed 1 ∷ []) new done → ⊥)
-      × (IsPath (Makes (Happened seen seen seen)) [] [] new done → ⊥)
-      × (Makes (Happened seen seen seen) (event.Pump 0) Stopped done done → ⊥)
+  events_are_a_path : IsPath (Makes (WorldStep seen seen seen)) events outcomes new done
+      × Makes (WorldStep seen seen seen) (event.Pump 0) Pumped done done
+      × Leads (Makes (WorldStep seen seen seen)) events new done
+      × (IsPath (Makes (WorldStep seen seen seen)) events (Committed 1 ∷ []) new done → ⊥)
+      × (IsPath (Makes (WorldStep seen seen seen)) [] [] new done → ⊥)
+      × (Makes (WorldStep seen seen seen) (event.Pump 0) Stopped done done → ⊥)
   events_are_a_path = (
     path,
     (refl, ([], refl)),
@@ -182,11 +182,11 @@ module _ (any : TheWorld) where
     λ h. let told = h.0 in absurd (cc),
   )
     where
-      path : IsPath (Makes (Happened seen seen seen)) events outcomes new done
+      path : IsPath (Makes (WorldStep seen seen seen)) events outcomes new done
       path = (done, it_is_placed, (done, it_is_placed_once_only, refl))
 
   -- what was answered committed is in the journal, so that no world stays as it was
-  nothing_is_lost : IsPath (Makes (Happened seen seen seen)) (event.Order asked ∷ []) (Committed 1 ∷ []) new new → ⊥
+  nothing_is_lost : IsPath (Makes (WorldStep seen seen seen)) (event.Order asked ∷ []) (Committed 1 ∷ []) new new → ⊥
   nothing_is_lost (next, happened, end) = lost next happened.0.result happened.0.tells happened.0.commits end
     where
       lost : (next : TheWorld) (r : Result Position EndFault) → Committed 1 ≡ commit_told r

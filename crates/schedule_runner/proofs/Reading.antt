@@ -2,14 +2,14 @@
 use Rattle.std.proofs.Common.{◌≡◌, ℕ, List, refl, sym, ◌∙◌, subst, arith}
 use Rattle.std.specs.Prelude.{Result, Ok, Err}
 use Rattle.std.specs.Global.{Vec}
-use Rattle.base.specs.Entity.{Name}
+use Rattle.base.specs.Entity.{Entity}
 use Rattle.base.specs.declared.entity.Kind.{Kind}
 use Rattle.base.specs.declared.pair.Pair.{Pair}
 use Rattle.envelope.specs.declared.message.Envelope.{Envelope}
 use Rattle.keep.specs.Seen.{Seen}
 use Rattle.keep.specs.Tables.{Tables}
 use Rattle.schedule_text.specs.declared.outcome.Outcome.{Outcome}
-use Rattle.schedule_service.specs.Happenings.{with_store}
+use Rattle.schedule_service.specs.SiteSteps.{with_store}
 use Rattle.schedule_service.specs.Channels.{ChannelsHave}
 use Rattle.schedule_service.specs.declared.site.Site.{Site}
 use Rattle.schedule_service.proofs.Cursors.{RelaysRest, after_has, still_right}
@@ -20,7 +20,7 @@ use Rattle.schedule_runner.specs.Deeds.{Moment, Same}
 use Rattle.schedule_runner.specs.Looks.{shown_told, ReadsSite, StoreStays}
 use Rattle.schedule_runner.specs.Good.{MailIs}
 use Rattle.schedule_runner.specs.Passing.{Both, Passes}
-use Rattle.schedule_runner.specs.Shows.{Tells, Behind, Marks, MarkOf, RowOf, MayShow, ShowsLine}
+use Rattle.schedule_runner.specs.Shows.{TellsReading, Behind, Marks, MarkOf, RowOf, MayShow, ShowsLine}
 use Rattle.laws_stores.specs.Sight.{OrderTables, StockTables, AccountTables, orders_service, stocks_service}
 use Rattle.laws_stores.specs.Sight.{accounts_service}
 use Rattle.schedule_runner.proofs.Composing.{passes_map, passes_then}
@@ -131,7 +131,7 @@ module _ {KO KS KA : Type 0} (orders : KO → Seen OrderTables) (stocks : KS →
       reads.after h) did
 
   -- the row of an entity of that kind
-  pub passes_row : (found kind : Kind) (e : Name) (result : Result (Vec ℕ) Outcome) (old new : W) → found ≡ kind
+  pub passes_row : (found kind : Kind) (e : Entity) (result : Result (Vec ℕ) Outcome) (old new : W) → found ≡ kind
       → Passes orders stocks accounts (RowOf orders stocks accounts found e result)
       (Both (RowOf orders stocks accounts found e result) Same)
       old new
@@ -146,9 +146,9 @@ module _ {KO KS KA : Type 0} (orders : KO → Seen OrderTables) (stocks : KS →
   pub passes_told : (D : Result (Vec ℕ) Outcome → W → W → Type 0) (result : Result (Vec ℕ) Outcome) (o : Outcome)
       (old new : W)
       → o ≡ shown_told result → Passes orders stocks accounts (D result) (Both (D result) Same) old new
-      → Passes orders stocks accounts (Tells D o) (Both (Tells D o) Same) old new
-  passes_told D result o old new is = passes_map orders stocks accounts (D result) (Tells D o) (Both (D result) Same)
-      (Both (Tells D o) Same)
+      → Passes orders stocks accounts (TellsReading D o) (Both (TellsReading D o) Same) old new
+  passes_told D result o old new is = passes_map orders stocks accounts (D result) (TellsReading D o) (Both (D result) Same)
+      (Both (TellsReading D o) Same)
       old new (λ did. (result, did, is)) (λ a b h. ((result, h.0, is), h.1))
 
   -- a line is shown, and nothing changes

@@ -13,13 +13,13 @@ use Rattle.purchasing.specs.declared.orders.Orders.{Orders}
 use Rattle.warehouse.specs.declared.stocks.Stocks.{Stocks}
 use Rattle.keep.specs.Seen.{Seen, IsSound}
 use Rattle.endpoint.specs.Deeds.{kept, Nothing}
-use Rattle.schedule_mail.specs.Offices.{Office, new_office}
+use Rattle.schedule_mail.specs.Mails.{Mail, new_mail}
 use Rattle.schedule_text.specs.declared.outcome.Outcome.{Outcome}
 use Rattle.schedule_service.specs.declared.site.Site.{Site}
 use Rattle.schedule_service.specs.Deeds.{Matches, Goes, SiteMay, channels_of}
-use Rattle.schedule_service.specs.Happenings.{Happens}
+use Rattle.schedule_service.specs.SiteSteps.{SiteStep}
 use Rattle.schedule_service.specs.SiteEvents.{SiteEvent}
-use Rattle.laws_stores.specs.Deeds.{Turns, OfPurchasing, OfWarehouse, OfBilling, ComesOf}
+use Rattle.laws_stores.specs.Deeds.{DeedOfOne, OfPurchasing, OfWarehouse, OfBilling, ComesOf}
 use Rattle.laws_stores.specs.Good.{IsHeldIn, IsGenuine, IsGood}
 use Rattle.laws_stores.specs.Sight.{AllTables, Sight, OrderTables, StockTables, AccountTables, AreClean, AreMatching}
 use Rattle.laws_stores.specs.Sight.{MayLeave, all_empty}
@@ -38,7 +38,7 @@ use Rattle.schedule_runner.proofs.Founding.{site_founded}
 
 module _ {KO KS KA : Type 0} (orders : KO → Seen OrderTables) (stocks : KS → Seen StockTables)
     (accounts : KA → Seen AccountTables)
-    (w : World KO KS KA) (mail : Office) where
+    (w : World KO KS KA) (mail : Mail) where
   abbrev Old : Sight
   Old = sight orders stocks accounts w
 
@@ -48,15 +48,15 @@ module _ {KO KS KA : Type 0} (orders : KO → Seen OrderTables) (stocks : KS →
       (site : Site Orders KO (Option OrderState) OrderCommand)
       (matches : Matches orders w.purchasing site orders_service) (comes : Goes orders w.purchasing site orders_service
       (SiteMay orders_service (channels_of w.purchasing) e o))
-      (did : Happens orders orders_service e o w.purchasing w.mail site mail) where
+      (did : SiteStep orders orders_service e o w.purchasing w.mail site mail) where
     abbrev AfterPurchasing : World KO KS KA
     AfterPurchasing = record w { purchasing = site; mail = mail }
 
     -- what it takes in came, and is genuine, or was held
-    purchasing_turns : AreClean (sight orders stocks accounts AfterPurchasing) → AreMatching Old
+    purchasing_steps : AreClean (sight orders stocks accounts AfterPurchasing) → AreMatching Old
         → MailIs (IsGenuine Old) w
-        → ComesOf (Turns (IsGenuine Old)) Old (sight orders stocks accounts AfterPurchasing)
-    purchasing_turns now match good y may = ∥∥₁_map (comes now.0 match.0 y.purchasing may.purchasing) (λ came. (
+        → ComesOf (DeedOfOne (IsGenuine Old)) Old (sight orders stocks accounts AfterPurchasing)
+    purchasing_steps now match good y may = ∥∥₁_map (comes now.0 match.0 y.purchasing may.purchasing) (λ came. (
       record y { purchasing = came.before },
       record { purchasing = came.was; warehouse = may.warehouse; billing = may.billing },
       OfPurchasing (record {
@@ -72,13 +72,13 @@ module _ {KO KS KA : Type 0} (orders : KO → Seen OrderTables) (stocks : KS →
 
     pub purchasing_good : StaysGood orders stocks accounts w AfterPurchasing
     purchasing_good now match good =
-        let turns = purchasing_turns now match good.mail in
+        let steps = purchasing_steps now match good.mail in
         let new = sight orders stocks accounts AfterPurchasing in record {
-          services = good_later Old new good.services turns;
+          services = good_later Old new good.services steps;
           mail = first_keeps (IsGenuine new) w.purchasing site w.warehouse w.billing w.mail mail orders whole
               orders_service e o
               now.0 match.0 good.right.0 (λ x all. orders_genuine new x (matches now.0 match.0) all) did
-              (genuine_more (IsGenuine Old) (IsGenuine new) (genuine_later Old new good.services turns) w.purchasing
+              (genuine_more (IsGenuine Old) (IsGenuine new) (genuine_later Old new good.services steps) w.purchasing
               w.warehouse
               w.billing w.mail good.mail);
           right = (
@@ -94,15 +94,15 @@ module _ {KO KS KA : Type 0} (orders : KO → Seen OrderTables) (stocks : KS →
       (site : Site Stocks KS StockState StockCommand)
       (matches : Matches stocks w.warehouse site stocks_service) (comes : Goes stocks w.warehouse site stocks_service
       (SiteMay stocks_service (channels_of w.warehouse) e o))
-      (did : Happens stocks stocks_service e o w.warehouse w.mail site mail) where
+      (did : SiteStep stocks stocks_service e o w.warehouse w.mail site mail) where
     abbrev AfterWarehouse : World KO KS KA
     AfterWarehouse = record w { warehouse = site; mail = mail }
 
     -- what it takes in came, and is genuine, or was held
-    warehouse_turns : AreClean (sight orders stocks accounts AfterWarehouse) → AreMatching Old
+    warehouse_steps : AreClean (sight orders stocks accounts AfterWarehouse) → AreMatching Old
         → MailIs (IsGenuine Old) w
-        → ComesOf (Turns (IsGenuine Old)) Old (sight orders stocks accounts AfterWarehouse)
-    warehouse_turns now match good y may = ∥∥₁_map (comes now.1 match.1 y.warehouse may.warehouse) (λ came. (
+        → ComesOf (DeedOfOne (IsGenuine Old)) Old (sight orders stocks accounts AfterWarehouse)
+    warehouse_steps now match good y may = ∥∥₁_map (comes now.1 match.1 y.warehouse may.warehouse) (λ came. (
       record y { warehouse = came.before },
       record { purchasing = may.purchasing; warehouse = came.was; billing = may.billing },
       OfWarehouse (record {
@@ -118,13 +118,13 @@ module _ {KO KS KA : Type 0} (orders : KO → Seen OrderTables) (stocks : KS →
 
     pub warehouse_good : StaysGood orders stocks accounts w AfterWarehouse
     warehouse_good now match good =
-        let turns = warehouse_turns now match good.mail in
+        let steps = warehouse_steps now match good.mail in
         let new = sight orders stocks accounts AfterWarehouse in record {
-          services = good_later Old new good.services turns;
+          services = good_later Old new good.services steps;
           mail = second_keeps (IsGenuine new) w.purchasing w.warehouse w.billing site w.mail mail stocks whole
               stocks_service e o
               now.1 match.1 good.right.1 (λ x all. stocks_genuine new x (matches now.1 match.1) all) did
-              (genuine_more (IsGenuine Old) (IsGenuine new) (genuine_later Old new good.services turns) w.purchasing
+              (genuine_more (IsGenuine Old) (IsGenuine new) (genuine_later Old new good.services steps) w.purchasing
               w.warehouse
               w.billing w.mail good.mail);
           right = (
@@ -141,14 +141,14 @@ module _ {KO KS KA : Type 0} (orders : KO → Seen OrderTables) (stocks : KS →
       (matches : Matches accounts w.billing site accounts_service) (comes : Goes accounts w.billing site
       accounts_service
       (SiteMay accounts_service (channels_of w.billing) e o))
-      (did : Happens accounts accounts_service e o w.billing w.mail site mail) where
+      (did : SiteStep accounts accounts_service e o w.billing w.mail site mail) where
     abbrev AfterBilling : World KO KS KA
     AfterBilling = record w { billing = site; mail = mail }
 
     -- what it takes in came, and is genuine, or was held
-    billing_turns : AreClean (sight orders stocks accounts AfterBilling) → AreMatching Old → MailIs (IsGenuine Old) w
-        → ComesOf (Turns (IsGenuine Old)) Old (sight orders stocks accounts AfterBilling)
-    billing_turns now match good y may = ∥∥₁_map (comes now.2 match.2 y.billing may.billing) (λ came. (
+    billing_steps : AreClean (sight orders stocks accounts AfterBilling) → AreMatching Old → MailIs (IsGenuine Old) w
+        → ComesOf (DeedOfOne (IsGenuine Old)) Old (sight orders stocks accounts AfterBilling)
+    billing_steps now match good y may = ∥∥₁_map (comes now.2 match.2 y.billing may.billing) (λ came. (
       record y { billing = came.before },
       record { purchasing = may.purchasing; warehouse = may.warehouse; billing = came.was },
       OfBilling (record {
@@ -164,13 +164,13 @@ module _ {KO KS KA : Type 0} (orders : KO → Seen OrderTables) (stocks : KS →
 
     pub billing_good : StaysGood orders stocks accounts w AfterBilling
     billing_good now match good =
-        let turns = billing_turns now match good.mail in
+        let steps = billing_steps now match good.mail in
         let new = sight orders stocks accounts AfterBilling in record {
-          services = good_later Old new good.services turns;
+          services = good_later Old new good.services steps;
           mail = third_keeps (IsGenuine new) w.purchasing w.warehouse w.billing site w.mail mail accounts whole
               accounts_service e o
               now.2 match.2 good.right.2 (λ x all. accounts_genuine new x (matches now.2 match.2) all) did
-              (genuine_more (IsGenuine Old) (IsGenuine new) (genuine_later Old new good.services turns) w.purchasing
+              (genuine_more (IsGenuine Old) (IsGenuine new) (genuine_later Old new good.services steps) w.purchasing
               w.warehouse
               w.billing w.mail good.mail);
           right = (
@@ -186,11 +186,11 @@ module _ {KO KS KA : Type 0} (orders : KO → Seen OrderTables) (stocks : KS →
     (accounts : KA → Seen AccountTables)
     (old new : World KO KS KA) where
   -- what a stop may leave then it might leave before
-  stays_turn : ((t : AllTables) → MayLeave (sight orders stocks accounts new) t
+  stays_step : ((t : AllTables) → MayLeave (sight orders stocks accounts new) t
       → MayLeave (sight orders stocks accounts old) t)
-      → (known : Envelope → Type 0) → ComesOf (Turns known) (sight orders stocks accounts old)
+      → (known : Envelope → Type 0) → ComesOf (DeedOfOne known) (sight orders stocks accounts old)
       (sight orders stocks accounts new)
-  stays_turn stays known y may =
+  stays_step stays known y may =
       ∣ (y, stays y may, OfPurchasing (record { deed = Nothing; founded = tt; did = refl }) refl refl) ∣₁
 
   pub still_good : ((t : AllTables) → MayLeave (sight orders stocks accounts new) t
@@ -202,9 +202,9 @@ module _ {KO KS KA : Type 0} (orders : KO → Seen OrderTables) (stocks : KS →
   still_good stays mail right good =
       let was = sight orders stocks accounts old in
       let now = sight orders stocks accounts new in
-      let turns = stays_turn stays (IsGenuine was) in record {
-        services = good_later was now good.services turns;
-        mail = genuine_more (IsGenuine was) (IsGenuine now) (genuine_later was now good.services turns) new.purchasing
+      let steps = stays_step stays (IsGenuine was) in record {
+        services = good_later was now good.services steps;
+        mail = genuine_more (IsGenuine was) (IsGenuine now) (genuine_later was now good.services steps) new.purchasing
             new.warehouse
             new.billing new.mail (mail (IsGenuine was) good.mail);
         right = right good.right;
@@ -219,7 +219,7 @@ module _ {KO KS KA : Type 0} (orders : KO → Seen OrderTables) (stocks : KS →
 module _ {KO KS KA : Type 0} (orders : KO → Seen OrderTables) (stocks : KS → Seen StockTables)
     (accounts : KA → Seen AccountTables)
     (w : World KO KS KA) (a : w.purchasing.zero ≡ None) (b : w.purchasing.one ≡ None) (c : w.warehouse.zero ≡ None)
-    (d : w.warehouse.one ≡ None) (e : w.billing.zero ≡ None) (f : w.billing.one ≡ None) (mail : w.mail ≡ new_office)
+    (d : w.warehouse.one ≡ None) (e : w.billing.zero ≡ None) (f : w.billing.one ≡ None) (mail : w.mail ≡ new_mail)
   where
     -- with no connection and a broker that accepted nothing the mail is good
     pub opened_good : IsGood (sight orders stocks accounts w) → IsGoodWorld orders stocks accounts w

@@ -15,7 +15,7 @@ use Rattle.keep.specs.Failing.{through}
 use Rattle.keep.specs.Law.{Reads}
 use Rattle.keep.specs.Tables.{Tables, empty}
 use Rattle.laws_stores.specs.Sight.{OrderTables, StockTables, AccountTables}
-use Rattle.schedule_mail.specs.Offices.{Office, new_office}
+use Rattle.schedule_mail.specs.Mails.{Mail, new_mail}
 use Rattle.schedule_text.specs.declared.event.Event.TheVariants as event
 use Rattle.schedule_text.specs.declared.event.ServiceName.TheVariants.{Purchasing, Warehouse, Billing}
 use Rattle.schedule_text.specs.declared.outcome.Outcome.{Outcome}
@@ -27,9 +27,9 @@ use Rattle.schedule_service.specs.declared.site.Site.{Site}
 use Rattle.schedule_runner.specs.declared.looking.Listing.TheVariants.{Frames, Journal}
 use Rattle.schedule_runner.specs.declared.looking.Mark.TheVariants.{Sent, Settled, Handled}
 use Rattle.schedule_runner.specs.Looks.{mark_of, IsRow, AreListed, read_told, shown_told, ReadsSite}
-use Rattle.schedule_runner.specs.Shows.{Tells, Behind, ShowsLine, RowOf, ListOf, MarkOf, Marks, ShowsPair, ShowsSettled}
+use Rattle.schedule_runner.specs.Shows.{TellsReading, Behind, ShowsLine, RowOf, ListOf, MarkOf, Marks, ShowsPair, ShowsSettled}
 use Rattle.schedule_runner.specs.Shows.{ShowsHandled}
-use Rattle.schedule_runner.specs.Steps.{Happened}
+use Rattle.schedule_runner.specs.Steps.{WorldStep}
 use Rattle.schedule_runner.proofs.PathExamples.{seen, store, TheWorld, world}
 use Rattle.laws_stores.proofs.Placed.{before, after}
 
@@ -45,7 +45,7 @@ module _ {H S C : Type 0} where
 
   -- what the tables give is read, and nothing else
   reads : {R : Type 0} (gives : Tables S C → R → Type 0) (r : R) (t : Tables S C) → gives t r
-      → ReadsSite {H = H} seen gives (Ok r) (site t) new_office (site t) new_office
+      → ReadsSite {H = H} seen gives (Ok r) (site t) new_mail (site t) new_mail
   reads gives r t given = record {
     answer = Ok r;
     reads = record { call = (refl, refl, refl, refl); doubt = omega arith; clean = λ clean. (given, refl) };
@@ -54,7 +54,7 @@ module _ {H S C : Type 0} where
   }
 
   no_memory : {R : Type 0} (gives : Tables S C → R → Type 0) (t : Tables S C)
-      → ReadsSite {H = H} seen gives (Err (told.Refused 64)) (site t) new_office (site t) new_office
+      → ReadsSite {H = H} seen gives (Err (told.Refused 64)) (site t) new_mail (site t) new_mail
   no_memory gives t = record {
     answer = Err Memory;
     reads = record { call = (refl, refl, refl, refl); doubt = omega arith; clean = λ clean. refl };
@@ -63,7 +63,7 @@ module _ {H S C : Type 0} where
   }
 
   not_read : {R : Type 0} (gives : Tables S C → R → Type 0) (r : R) (t : Tables S C) → (gives t r → ⊥)
-      → ReadsSite {H = H} seen gives (Ok r) (site t) new_office (site t) new_office → ⊥
+      → ReadsSite {H = H} seen gives (Ok r) (site t) new_mail (site t) new_mail → ⊥
   not_read {R} gives r t other h = by_answer h.answer h.tells h.reads
     where
       by_answer : (a : Result R EndFault) → Ok r ≡ read_told a
@@ -73,8 +73,8 @@ module _ {H S C : Type 0} where
 
   -- what was read the tables give
   read_is : {R : Type 0} (gives : Tables S C → R → Type 0) (r : R) (t : Tables S C) (u : Site H (Tables S C) S C)
-      (to : Office)
-      → ReadsSite {H = H} seen gives (Ok r) (site t) new_office u to → gives t r
+      (to : Mail)
+      → ReadsSite {H = H} seen gives (Ok r) (site t) new_mail u to → gives t r
   read_is {R} gives r t u to h = by_answer h.answer h.tells h.reads
     where
       by_answer : (a : Result R EndFault) → Ok r ≡ read_told a
@@ -94,7 +94,7 @@ not_shown lines NumberLimit h = absurd (cc)
 not_shown lines NotSent h = absurd (cc)
 
 not_read_shows : {H R S C : Type 0} (gives : Tables S C → R → Type 0) (o : Outcome) (s t : Site H (Tables S C) S C)
-    (from to : Office)
+    (from to : Mail)
     (lines : Vec ℕ) → ReadsSite seen gives (Err o) s from t to → told.Shown lines ≡ o → ⊥
 not_read_shows {R} gives o s t from to lines h shown = by_answer h.answer h.tells
   where
@@ -169,12 +169,12 @@ module _ (any : TheWorld) where
       (is : line.items ≡ codes "order/o1 open stock/bolts 3 requested account/acme 500 requested\n")
       (isnt : none.items ≡ codes "order/o1 none\n") (nothing : unknown.items ≡ codes "stock/bolts none\n") where
     the_order_is_shown : RowOf seen seen seen Order o1 (Ok line) w w
-        × Tells (RowOf seen seen seen Order o1) (told.Shown line) w w
-        × Happened seen seen seen (event.Show o1) (told.Shown line) w w
+        × TellsReading (RowOf seen seen seen Order o1) (told.Shown line) w w
+        × WorldStep seen seen seen (event.Show o1) (told.Shown line) w w
         × RowOf seen seen seen Order o1 (Ok none) earlier earlier
         × RowOf seen seen seen Stock bolts (Ok unknown) w w
         × (RowOf seen seen seen Order o1 (Ok none) w w → ⊥)
-        × (Tells (RowOf seen seen seen Order o1) (told.Shown none) w w → ⊥)
+        × (TellsReading (RowOf seen seen seen Order o1) (told.Shown none) w w → ⊥)
     unfolding digits same_entity
     the_order_is_shown = (
       (reads _ line after is, refl, refl),
@@ -191,7 +191,7 @@ module _ (any : TheWorld) where
         differ h = let shorter : 14 ≡ 65 = ap length h in omega (arith, shorter)
 
         lost : (v : Vec ℕ) → v.items ≡ codes "order/o1 none\n"
-            → ReadsSite seen Gives (Ok v) w.purchasing new_office w.purchasing new_office → ⊥
+            → ReadsSite seen Gives (Ok v) w.purchasing new_mail w.purchasing new_mail → ⊥
         lost v says h = not_read Gives v after (λ given. differ (sym says ∙ given)) h
 
         not_told : (r : Result (Vec ℕ) Outcome) → RowOf seen seen seen Order o1 r w w → told.Shown none ≡ shown_told r
@@ -213,7 +213,7 @@ module _ (any : TheWorld) where
     the_journal_is_shown : ListOf seen seen seen Purchasing Journal (Ok row) w w
         × ListOf seen seen seen Warehouse Journal (Ok nothing) w w
         × ListOf seen seen seen Billing Frames (Ok nothing) w w
-        × Happened seen seen seen (event.Journal Purchasing) (told.Shown row) w w
+        × WorldStep seen seen seen (event.Journal Purchasing) (told.Shown row) w w
         × (ListOf seen seen seen Purchasing Journal (Ok nothing) w w → ⊥)
         × (ListOf seen seen seen Warehouse Journal (Ok row) w w → ⊥)
     unfolding digits same_entity

@@ -12,7 +12,7 @@ use Rattle.keep.specs.Seen.{Seen}
 use Rattle.keep.specs.Tables.{empty}
 use Rattle.laws_stores.specs.Sight.{OrderTables, StockTables, AccountTables, AllTables, all_empty, orders_service}
 use Rattle.schedule_audit.specs.declared.fault.AuditFault.TheVariants as at
-use Rattle.schedule_mail.specs.Offices.{Office, new_office}
+use Rattle.schedule_mail.specs.Mails.{Mail, new_mail}
 use Rattle.schedule_mail.specs.declared.repeat_fault.RepeatFault.TheVariants as repeat
 use Rattle.schedule_text.specs.declared.event.Event.TheVariants as event
 use Rattle.schedule_text.specs.declared.event.ConnectionNumber.TheVariants.{Zero}
@@ -24,9 +24,9 @@ use Rattle.schedule_runner.specs.declared.world.World.{World}
 use Rattle.schedule_runner.specs.Agreeing.{agreement_told, with_stores, fault_of, AfterFault, LooksAtAll, AsksAll}
 use Rattle.schedule_runner.specs.Agreeing.{FindsAgreement}
 use Rattle.schedule_runner.specs.Agreeing.{TellsAgreement}
-use Rattle.schedule_runner.specs.Deeds.{moment, Moves, InPurchasing, In, Same, Turn}
+use Rattle.schedule_runner.specs.Deeds.{moment, AllowedDeed, InPurchasing, In, Same, TablesStep}
 use Rattle.schedule_runner.specs.Sight.{StaysClean, StaysMatching}
-use Rattle.schedule_runner.specs.Steps.{again, SendsAgain, IsNewBroker, AtMail, BeginsAnew, AtPurchasing, At, Happened}
+use Rattle.schedule_runner.specs.Steps.{again, SendsAgain, IsNewBroker, AtMail, BeginsAnew, AtPurchasing, At, WorldStep}
 use Rattle.laws_stores.proofs.Placed.{placing}
 
 -- ---- what is told
@@ -50,28 +50,28 @@ repeats_are_told = (refl, refl, refl, λ h. absurd (cc), λ h. absurd (cc))
 -- ---- the mail
 
 -- a mail that accepted a SEND
-module _ (later : Office) (other : later.earlier ≡ [] → ⊥) where
-  more_mail : later ≡ new_office → ⊥
-  more_mail h = other (ap (λ (o : Office). o.earlier) h)
+module _ (later : Mail) (other : later.earlier ≡ [] → ⊥) where
+  more_mail : later ≡ new_mail → ⊥
+  more_mail h = other (ap (λ (o : Mail). o.earlier) h)
 
   -- where none was accepted none is sent again, and no number is told
-  none_is_sent_again : SendsAgain 1 told.Absent new_office new_office
-      × (SendsAgain 1 told.Pumped new_office new_office → ⊥)
+  none_is_sent_again : SendsAgain 1 told.Absent new_mail new_mail
+      × (SendsAgain 1 told.Pumped new_mail new_mail → ⊥)
   none_is_sent_again = ((Ok None, (refl, refl), refl), pumped)
     where
-      pumped : SendsAgain 1 told.Pumped new_office new_office → ⊥
+      pumped : SendsAgain 1 told.Pumped new_mail new_mail → ⊥
       pumped (Ok None, repeats, tells) = absurd (cc)
       pumped (Ok (Some n), repeats, tells) = absurd (cc)
       pumped (Err f, repeats, tells) = absurd (cc)
 
   -- a new broker begins; memory that was refused leaves the old one; no other outcome is one
-  brokers_begin : IsNewBroker told.Stopped new_office new_office × IsNewBroker (told.Refused 34) later later
-      × (IsNewBroker told.Stopped new_office later → ⊥) × (IsNewBroker (told.Refused 34) new_office later → ⊥)
+  brokers_begin : IsNewBroker told.Stopped new_mail new_mail × IsNewBroker (told.Refused 34) later later
+      × (IsNewBroker told.Stopped new_mail later → ⊥) × (IsNewBroker (told.Refused 34) new_mail later → ⊥)
       × (IsNewBroker (told.Refused 44) later later → ⊥) × (IsNewBroker told.Reopened later later → ⊥)
   brokers_begin = (
     refl,
     (refl, refl),
-    λ h. other (ap (λ (o : Office). o.earlier) h),
+    λ h. other (ap (λ (o : Mail). o.earlier) h),
     λ h. more_mail h.1,
     λ h. let number = h.0 in omega (arith, number),
     λ h. h,
@@ -93,7 +93,7 @@ module _ (later : Office) (other : later.earlier ≡ [] → ⊥) where
 
   module _ (any : TheWorld) where
     -- with no connection, these tables at purchasing, files of billing in doubt, and this mail
-    abbrev world : Bool → OrderTables → ℕ → Office → TheWorld
+    abbrev world : Bool → OrderTables → ℕ → Mail → TheWorld
     world usable tables doubt mail = record any {
       purchasing = record { endpoint = store (usable, 0, tables); zero = None; one = None };
       warehouse = record { endpoint = store (true, 0, empty); zero = None; one = None };
@@ -102,7 +102,7 @@ module _ (later : Office) (other : later.earlier ≡ [] → ⊥) where
     }
 
     abbrev w : TheWorld
-    w = world true empty 0 new_office
+    w = world true empty 0 new_mail
 
     abbrev placed : OrderTables
     placed = record empty { journal = placing ∷ [] }
@@ -111,7 +111,7 @@ module _ (later : Office) (other : later.earlier ≡ [] → ⊥) where
     rows v = length v.purchasing.endpoint.keep.2.journal
 
     -- the stores are put in, and the mail stays
-    stores_are_put_in : (with_stores w (world true placed 0 later) ≡ world true placed 0 new_office)
+    stores_are_put_in : (with_stores w (world true placed 0 later) ≡ world true placed 0 new_mail)
         × (with_stores w (world true placed 0 later) ≡ w → ⊥)
         × (with_stores w (world true placed 0 later) ≡ world true placed 0 later → ⊥)
     stores_are_put_in = (
@@ -123,10 +123,10 @@ module _ (later : Office) (other : later.earlier ≡ [] → ⊥) where
     -- behind a fault all services and the mail stay where no connection is open, also the two that aren't at fault
     faults_leave_the_others : AfterFault (at.Purchasing Memory) w w × AfterFault (at.Warehouse StoreFailed) w w
         × (AfterFault (at.Purchasing Memory) w (world true empty 0 later) → ⊥)
-        × (AfterFault (at.Warehouse StoreFailed) w (world true placed 0 new_office) → ⊥)
+        × (AfterFault (at.Warehouse StoreFailed) w (world true placed 0 new_mail) → ⊥)
     faults_leave_the_others = (
       ((refl, refl), refl, refl),
-      (record { between = new_office; zero = refl; one = refl; site = refl }, refl, refl),
+      (record { between = new_mail; zero = refl; one = refl; site = refl }, refl, refl),
       λ h. more_mail h.0.1,
       λ h. let more : 1 ≡ 0 = ap (λ (s : _). length s.endpoint.keep.2.journal) h.1 in omega (arith, more),
     )
@@ -166,7 +166,7 @@ module _ (later : Office) (other : later.earlier ≡ [] → ⊥) where
 
     -- no file is in doubt that was, and tables match that did
     worlds_stay_clean : StaysClean seen seen seen w w
-        × (StaysClean seen seen seen (world true empty 1 new_office) w → ⊥)
+        × (StaysClean seen seen seen (world true empty 1 new_mail) w → ⊥)
         × StaysMatching seen seen seen w w
     worlds_stay_clean =
         (λ clean. clean, λ h. let doubt = (h (refl, refl, refl)).2 in omega (arith, doubt), λ clean matching. matching)
@@ -175,10 +175,10 @@ module _ (later : Office) (other : later.earlier ≡ [] → ⊥) where
 
     mail_changes_alone : AtMail (IsNewBroker told.Stopped) w w
         × (AtMail (IsNewBroker told.Stopped) w (world true empty 0 later) → ⊥)
-        × (AtMail (IsNewBroker told.Stopped) w (world true placed 0 new_office) → ⊥)
+        × (AtMail (IsNewBroker told.Stopped) w (world true placed 0 new_mail) → ⊥)
     mail_changes_alone = (
       (refl, refl, refl, refl),
-      λ h. other (ap (λ (o : Office). o.earlier) h.0),
+      λ h. other (ap (λ (o : Mail). o.earlier) h.0),
       λ h. let more : 1 ≡ 0 = ap (λ (s : _). length s.endpoint.keep.2.journal) h.1 in omega (arith, more),
     )
 
@@ -187,12 +187,12 @@ module _ (later : Office) (other : later.earlier ≡ [] → ⊥) where
         × (BeginsAnew told.Reopened w w → ⊥)
     brokers_begin_anew = (
       (
-        new_office,
-        new_office,
-        new_office,
-        record { between = new_office; zero = refl; one = refl; site = refl },
-        record { between = new_office; zero = refl; one = refl; site = refl },
-        record { between = new_office; zero = refl; one = refl; site = refl },
+        new_mail,
+        new_mail,
+        new_mail,
+        record { between = new_mail; zero = refl; one = refl; site = refl },
+        record { between = new_mail; zero = refl; one = refl; site = refl },
+        record { between = new_mail; zero = refl; one = refl; site = refl },
         refl,
       ),
       λ h. h.6,
@@ -201,12 +201,12 @@ module _ (later : Office) (other : later.earlier ≡ [] → ⊥) where
     -- a connection that isn't open isn't cut, and the other services and the mail stay
     services_act_alone : AtPurchasing seen seen seen (Cuts Zero) told.Closed w w
         × At seen seen seen Warehouse (Cut Zero) told.Closed w w
-        × Happened seen seen seen (event.Cut (record { service = Billing; number = Zero })) told.Closed w w
+        × WorldStep seen seen seen (event.Cut (record { service = Billing; number = Zero })) told.Closed w w
         × (AtPurchasing seen seen seen (Cuts Zero) told.Cut w w → ⊥)
-        × (At seen seen seen Warehouse (Cut Zero) told.Closed w (world true placed 0 new_office) → ⊥)
-        × (Happened seen seen seen (event.Cut (record { service = Billing; number = Zero })) told.Closed
-        w (world true placed 0 new_office) → ⊥)
-        × (Happened seen seen seen (event.Pump 3) told.Pumped w w → ⊥)
+        × (At seen seen seen Warehouse (Cut Zero) told.Closed w (world true placed 0 new_mail) → ⊥)
+        × (WorldStep seen seen seen (event.Cut (record { service = Billing; number = Zero })) told.Closed
+        w (world true placed 0 new_mail) → ⊥)
+        × (WorldStep seen seen seen (event.Pump 3) told.Pumped w w → ⊥)
     services_act_alone = (
       ((refl, (refl, refl)), refl, refl),
       ((refl, (refl, refl)), refl, refl),
@@ -220,14 +220,14 @@ module _ (later : Office) (other : later.earlier ≡ [] → ⊥) where
     -- ---- tables
 
     -- an event that changes no tables moves nothing
-    tables_move : Moves orders_service (λ _. None) (Cuts Zero) told.Closed empty empty
-        × (Moves orders_service (λ _. None) (Cuts Zero) told.Closed empty placed → ⊥)
+    tables_change : AllowedDeed orders_service (λ _. None) (Cuts Zero) told.Closed empty empty
+        × (AllowedDeed orders_service (λ _. None) (Cuts Zero) told.Closed empty placed → ⊥)
         × InPurchasing (Cuts Zero) told.Closed (moment w all_empty) (moment w all_empty)
         × In Billing (Cut Zero) told.Closed (moment w all_empty) (moment w all_empty)
-        × Turn (event.Show placing.entity) told.Absent (moment w all_empty) (moment w all_empty)
+        × TablesStep (event.Show placing.entity) told.Absent (moment w all_empty) (moment w all_empty)
         × (Same (moment w all_empty) (moment w (record all_empty { purchasing = placed })) → ⊥)
-        × (Turn (event.Pump 3) told.Pumped (moment w all_empty) (moment w all_empty) → ⊥)
-    tables_move = (
+        × (TablesStep (event.Pump 3) told.Pumped (moment w all_empty) (moment w all_empty) → ⊥)
+    tables_change = (
       (Nothing, refl, refl),
       moved,
       ((Nothing, refl, refl), refl, refl),
@@ -237,7 +237,7 @@ module _ (later : Office) (other : later.earlier ≡ [] → ⊥) where
       λ h. h,
     )
       where
-        moved : Moves orders_service (λ _. None) (Cuts Zero) told.Closed empty placed → ⊥
+        moved : AllowedDeed orders_service (λ _. None) (Cuts Zero) told.Closed empty placed → ⊥
         moved (Nothing, may, did) = let more : 1 ≡ 0 = ap (λ (k : _). length k.journal) did in omega (arith, more)
         moved (TakesIn row, may, did) = absurd (cc)
         moved (_, may, did) = absurd (cc)

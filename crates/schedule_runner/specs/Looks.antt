@@ -2,7 +2,7 @@
 use Rattle.std.specs.Prelude.{◌≡◌, ℕ, ◌-◌, ◌^◌, List, take, Result, Ok, Err, None}
 use Rattle.std.specs.Global.{Vec}
 use Rattle.base.specs.declared.pair.Pair.{Pair}
-use Rattle.base.specs.Entity.{Name}
+use Rattle.base.specs.Entity.{Entity}
 use Rattle.envelope.specs.declared.message.Letter.{Letter}
 use Rattle.keep.specs.Failing.{through}
 use Rattle.keep.specs.Law.{Reads}
@@ -12,7 +12,7 @@ use Rattle.keep.specs.Tables.{Tables}
 use Rattle.endpoint.specs.Calls.{Stays}
 use Rattle.endpoint.specs.Faults.{end_of}
 use Rattle.endpoint.specs.declared.fault.EndFault.{EndFault}
-use Rattle.schedule_mail.specs.Offices.{Office}
+use Rattle.schedule_mail.specs.Mails.{Mail}
 use Rattle.schedule_text.specs.declared.outcome.Outcome.{Outcome}
 use Rattle.schedule_text.specs.declared.outcome.Outcome.TheVariants.{Shown}
 use Rattle.schedule_shows.specs.Printed.{show_line, frame_lines, journal_lines}
@@ -36,7 +36,7 @@ mark_of Settled t = t.settled
 mark_of Handled t = t.handled
 
 -- the line of an entity's row
-abbrev pub IsRow : {S C : Type 0} → (S → List ℕ) → Name → Tables S C → List ℕ → Type 0
+abbrev pub IsRow : {S C : Type 0} → (S → List ℕ) → Entity → Tables S C → List ℕ → Type 0
 IsRow shown e t lines = lines ≡ show_line shown e (t.entity e)
 
 -- the lines of the letters that aren't settled, or of the rows of the journal
@@ -59,8 +59,8 @@ module _ {H K S C : Type 0} (seen : K → Seen (Tables S C)) where
   -- One service reads its store, whose tables give this, and stay. Where the store failed both connections are cut, and
   -- else they and the mail stay as they are.
   pub record ReadsSite {R : Type 0} (gives : Tables S C → R → Type 0) (result : Result R Outcome) (s : Site H K S C)
-      (from : Office)
-      (t : Site H K S C) (to : Office) : Type 0 where
+      (from : Mail)
+      (t : Site H K S C) (to : Mail) : Type 0 where
     pub answer : Result R EndFault
     pub reads : Reads (through seen) s.endpoint t.endpoint gives (end_of answer)
     pub tells : result ≡ read_told answer

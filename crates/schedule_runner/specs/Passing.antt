@@ -9,7 +9,7 @@ use Rattle.schedule_runner.specs.Paths.{Leads}
 use Rattle.laws_stores.specs.Sight.{OrderTables, StockTables, AccountTables}
 use Rattle.schedule_runner.specs.Sight.{StaysClean, StaysMatching}
 use Rattle.schedule_runner.specs.Good.{StaysGood, Agrees}
-use Rattle.schedule_runner.specs.Steps.{Happened}
+use Rattle.schedule_runner.specs.Steps.{WorldStep}
 
 -- the world goes so, and the tables so
 abbrev pub Both : {KO KS KA : Type 0} → ((a b : World KO KS KA) → Type 0) → ((a b : Moment KO KS KA) → Type 0)
@@ -31,7 +31,7 @@ module _ {KO KS KA : Type 0} (orders : KO → Seen OrderTables) (stocks : KS →
   -- One event: what it does and tells; and where no file is in doubt behind it and the tables of all services matched,
   -- they match behind it, a world that was good is good, and its services agree.
   abbrev pub Passed : Event → Outcome → (old new : World KO KS KA) → Type 0
-  Passed e o old new = Passes (Happened orders stocks accounts e o) (Step orders stocks accounts e o) old new
+  Passed e o old new = Passes (WorldStep orders stocks accounts e o) (Step orders stocks accounts e o) old new
       × Agrees orders stocks accounts old new
 
   -- all these events, whatever their outcomes were

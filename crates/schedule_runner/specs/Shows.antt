@@ -1,7 +1,7 @@
 -- What is shown of the world.
 use Rattle.std.specs.Prelude.{◌≡◌, ℕ, List, Result, Ok, Err}
 use Rattle.std.specs.Global.{Vec}
-use Rattle.base.specs.Entity.{Name}
+use Rattle.base.specs.Entity.{Entity}
 use Rattle.base.specs.declared.entity.Kind.{Kind}
 use Rattle.base.specs.declared.entity.Kind.TheVariants.{Order, Stock, Account}
 use Rattle.base.specs.declared.pair.Pair.{Pair}
@@ -27,9 +27,9 @@ MayShow line _ = ⊥
 
 module _ {KO KS KA : Type 0} where
   -- what was read is shown, or the outcome of its fault told
-  abbrev pub Tells : (Result (Vec ℕ) Outcome → (a b : World KO KS KA) → Type 0) → Outcome → (a b : World KO KS KA)
+  abbrev pub TellsReading : (Result (Vec ℕ) Outcome → (a b : World KO KS KA) → Type 0) → Outcome → (a b : World KO KS KA)
       → Type 0
-  Tells Reads o a b = (result : Result (Vec ℕ) Outcome) × Reads result a b × (o ≡ shown_told result)
+  TellsReading Reads o a b = (result : Result (Vec ℕ) Outcome) × Reads result a b × (o ≡ shown_told result)
 
   -- behind a mark comes this; or the outcome of its fault is told
   abbrev pub Behind : Result ℕ Outcome → (ℕ → Outcome → (a b : World KO KS KA) → Type 0) → Outcome
@@ -59,7 +59,7 @@ module _ {KO KS KA : Type 0} (orders : KO → Seen OrderTables) (stocks : KS →
       × (b.purchasing ≡ a.purchasing) × (b.warehouse ≡ a.warehouse)
 
   -- the row of an entity, in the service of its kind
-  abbrev pub RowOf : Kind → Name → Result (Vec ℕ) Outcome → (a b : World KO KS KA) → Type 0
+  abbrev pub RowOf : Kind → Entity → Result (Vec ℕ) Outcome → (a b : World KO KS KA) → Type 0
   RowOf Order e = ReadsPurchasing (λ t lines. IsRow (shown_or_none shown_order) e t lines.items)
   RowOf Stock e = ReadsWarehouse (λ t lines. IsRow shown_stock e t lines.items)
   RowOf Account e = ReadsBilling (λ t lines. IsRow shown_account e t lines.items)

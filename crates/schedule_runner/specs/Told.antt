@@ -1,6 +1,6 @@
 -- What the outcomes of a schedule tell of the commands in the journals.
 use Rattle.std.specs.Prelude.{◌≡◌, ◌⊎◌, ℕ, suc, List, [], ◌∷◌, ◌++◌, length, Option, Some, None}
-use Rattle.base.specs.Entity.{Name}
+use Rattle.base.specs.Entity.{Entity}
 use Rattle.trade.specs.declared.commands.OrderCommand.{OrderCommand}
 use Rattle.trade.specs.declared.commands.StockCommand.{StockCommand}
 use Rattle.trade.specs.declared.commands.AccountCommand.{AccountCommand}
@@ -18,7 +18,7 @@ use Rattle.schedule_runner.specs.declared.world.World.{World}
 use Rattle.keep.specs.Seen.{Seen}
 
 -- a row's command with its position; none where a letter was taken in
-abbrev pub command_at : {C : Type 0} → ℕ → Name → Input C → List (ℕ × SeatCommand C)
+abbrev pub command_at : {C : Type 0} → ℕ → Entity → Input C → List (ℕ × SeatCommand C)
 command_at pos e (FromSeat seat command) = (pos, record { seat = seat; entity = e; command = command }) ∷ []
 command_at pos e (FromEntity sender number message) = []
 

@@ -1,9 +1,9 @@
 //! What one service is told to do, and which of its functions does it.
 
-ghost use Rattle.schedule_mail.specs.Offices.{Office};
+ghost use Rattle.schedule_mail.specs.Mails.{Mail};
 ghost use Rattle.schedule_runner.specs.Events.{asked_of};
 ghost use Rattle.schedule_service.specs.Deeds.{DoubtStays, Matches, Goes, SiteMay, channels_of};
-ghost use Rattle.schedule_service.specs.Happenings.{Happens};
+ghost use Rattle.schedule_service.specs.SiteSteps.{SiteStep};
 
 use activities::Handler;
 use keep::Keep;
@@ -48,7 +48,7 @@ pub(crate) fn act<H, K>(
 where
     H: Handler,
     K: Keep<State = H::State, Command = H::Command> + Drop,
-    ensures did { Happens K.seen H.service (asked_of event) result site.old mail.old site.new mail.new }
+    ensures did { SiteStep K.seen H.service (asked_of event) result site.old mail.old site.new mail.new }
     ensures doubt { DoubtStays K.seen site.old site.new }
     ensures matches { Matches K.seen site.old site.new H.service }
     ensures comes { Goes K.seen site.old site.new H.service (SiteMay H.service (channels_of site.old) (asked_of event)

@@ -4,7 +4,7 @@ ghost use Rattle.schedule_runner.specs.Agreeing.{AsksAll, FindsAgreement, TellsA
 ghost use Rattle.schedule_runner.specs.Agreeing.{agreement_told};
 ghost use Rattle.schedule_runner.specs.Deeds.{Same};
 ghost use Rattle.schedule_runner.specs.Passing.{Both, Passes};
-ghost use Rattle.schedule_runner.specs.Shows.{Tells, RowOf, ListOf, MarkOf, MayShow, ShowsHandled, ShowsSettled};
+ghost use Rattle.schedule_runner.specs.Shows.{TellsReading, RowOf, ListOf, MarkOf, MayShow, ShowsHandled, ShowsSettled};
 ghost use Rattle.schedule_runner.specs.Shows.{ShowsPair};
 ghost use Rattle.schedule_shows.specs.Printed.{pair_line};
 ghost use Rattle.std.specs.Prelude.{◌≡◌};
@@ -168,25 +168,25 @@ where
 
     /// The row of an entity.
     pub(crate) fn show(&mut self, entity: &Entity) -> Outcome
-        ensures { Passes KO.seen KS.seen KA.seen (Tells (RowOf KO.seen KS.seen KA.seen entity.now.kind entity.now)
+        ensures { Passes KO.seen KS.seen KA.seen (TellsReading (RowOf KO.seen KS.seen KA.seen entity.now.kind entity.now)
             result)
-            (Both (Tells (RowOf KO.seen KS.seen KA.seen entity.now.kind entity.now) result) Same) self.old self.new }
+            (Both (TellsReading (RowOf KO.seen KS.seen KA.seen entity.now.kind entity.now) result) Same) self.old self.new }
     {
         shown(self.row(entity))
     }
 
     /// The frames that a service is to send.
     pub(crate) fn frames(&mut self, service: ServiceName) -> Outcome
-        ensures { Passes KO.seen KS.seen KA.seen (Tells (ListOf KO.seen KS.seen KA.seen service Listing.Frames) result)
-            (Both (Tells (ListOf KO.seen KS.seen KA.seen service Listing.Frames) result) Same) self.old self.new }
+        ensures { Passes KO.seen KS.seen KA.seen (TellsReading (ListOf KO.seen KS.seen KA.seen service Listing.Frames) result)
+            (Both (TellsReading (ListOf KO.seen KS.seen KA.seen service Listing.Frames) result) Same) self.old self.new }
     {
         shown(self.list(service, Listing::Frames))
     }
 
     /// The journal of a service.
     pub(crate) fn journal(&mut self, service: ServiceName) -> Outcome
-        ensures { Passes KO.seen KS.seen KA.seen (Tells (ListOf KO.seen KS.seen KA.seen service Listing.Journal) result)
-            (Both (Tells (ListOf KO.seen KS.seen KA.seen service Listing.Journal) result) Same) self.old self.new }
+        ensures { Passes KO.seen KS.seen KA.seen (TellsReading (ListOf KO.seen KS.seen KA.seen service Listing.Journal) result)
+            (Both (TellsReading (ListOf KO.seen KS.seen KA.seen service Listing.Journal) result) Same) self.old self.new }
     {
         shown(self.list(service, Listing::Journal))
     }

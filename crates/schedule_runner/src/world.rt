@@ -2,7 +2,7 @@
 
 ghost use Rattle.laws_stores.specs.Good.{IsGood};
 ghost use Rattle.laws_stores.specs.Sight.{AllTables, MayLeave, all_empty};
-ghost use Rattle.schedule_mail.specs.Offices.{new_office};
+ghost use Rattle.schedule_mail.specs.Mails.{new_mail};
 ghost use Rattle.schedule_runner.specs.Deeds.{In, InPurchasing, InWarehouse, InBilling, Same, Step, Goes};
 ghost use Rattle.schedule_runner.specs.Good.{IsGoodWorld, StaysGood, Agrees};
 ghost use Rattle.schedule_runner.specs.Passing.{Both, Passes, Passed, PassesAll};
@@ -11,7 +11,7 @@ ghost use Rattle.schedule_runner.specs.Rounds.{connection_events, service_events
 ghost use Rattle.schedule_runner.specs.Runs.{Ran};
 ghost use Rattle.schedule_runner.specs.Sight.{sight, StaysClean, StaysMatching};
 ghost use Rattle.schedule_runner.specs.Steps.{At, AtPurchasing, AtWarehouse, AtBilling, AtMail, SendsAgain, BeginsAnew};
-ghost use Rattle.schedule_runner.specs.Steps.{Happened};
+ghost use Rattle.schedule_runner.specs.Steps.{WorldStep};
 ghost use Rattle.schedule_runner.specs.Told.{Told};
 ghost use Rattle.schedule_service.specs.SiteEvents.{Commits};
 ghost use Rattle.std.specs.Prelude.{◌≡◌, None, ◌∷◌, []};
@@ -83,7 +83,7 @@ where
         ensures purchasing { result.purchasing ≡ record { endpoint = purchasing; zero = None; one = None } }
         ensures warehouse { result.warehouse ≡ record { endpoint = warehouse; zero = None; one = None } }
         ensures billing { result.billing ≡ record { endpoint = billing; zero = None; one = None } }
-        ensures mail { result.mail ≡ new_office }
+        ensures mail { result.mail ≡ new_mail }
         ensures good { IsGood (sight KO.seen KS.seen KA.seen result) → IsGoodWorld KO.seen KS.seen KA.seen result }
         ensures unused { ((t : AllTables) → MayLeave (sight KO.seen KS.seen KA.seen result) t → t ≡ all_empty)
             → IsGoodWorld KO.seen KS.seen KA.seen result }
@@ -171,9 +171,9 @@ where
     }
 
     /// Makes an event.
-    pub(crate) fn happen(&mut self, event: &Event) -> Outcome
+    pub(crate) fn single_step(&mut self, event: &Event) -> Outcome
         ensures { Passes KO.seen KS.seen KA.seen
-            (MakesApart (Passed KO.seen KS.seen KA.seen) (Happened KO.seen KS.seen KA.seen) event.now result)
+            (MakesApart (Passed KO.seen KS.seen KA.seen) (WorldStep KO.seen KS.seen KA.seen) event.now result)
             (Makes (Step KO.seen KS.seen KA.seen) event.now result) self.old self.new }
     {
         match event {
@@ -271,7 +271,7 @@ where
         ensures did { Makes (Passed KO.seen KS.seen KA.seen) event.now result self.old self.new }
         ensures goes { Goes KO.seen KS.seen KA.seen (event.now ∷ []) (result ∷ []) self.old self.new }
     {
-        self.happen(event)
+        self.single_step(event)
     }
 
     /// Makes these events, one after another, and appends what became of each.
@@ -296,7 +296,7 @@ where
                 Ok(()) => {}
                 Err(_) => return Err(AllocError),
             }
-            let outcome = self.happen(event);
+            let outcome = self.single_step(event);
             outcomes.push_reserved(outcome);
         }
         Ok(())

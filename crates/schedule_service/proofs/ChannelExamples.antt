@@ -4,7 +4,7 @@ use Rattle.base.specs.declared.pair.Pair.{Pair}
 use Rattle.stomp_client.specs.Clients.{Client}
 use Rattle.endpoint.specs.declared.fault.EndFault.TheVariants.{StoreFailed, Memory}
 use Rattle.keep.specs.Failing.{Failing}
-use Rattle.schedule_mail.specs.Offices.{Office, new_office}
+use Rattle.schedule_mail.specs.Mails.{Mail, new_mail}
 use Rattle.relay.specs.Filling.{SendState, marks_of}
 use Rattle.relay.specs.declared.relay.Relay.{Relay}
 use Rattle.schedule_text.specs.declared.event.ConnectionNumber.TheVariants.{Zero, One}
@@ -30,7 +30,7 @@ numbers_are_told_apart =
 -- ---- channels
 
 -- a connection on which nothing was sent, and a mail that accepted a SEND
-module _ (l : SiteChannel) (nothing : (p : Pair) → marks_of l.relay p ≡ 0) (later : Office)
+module _ (l : SiteChannel) (nothing : (p : Pair) → marks_of l.relay p ≡ 0) (later : Mail)
     (more : later.earlier ≡ [] → ⊥) where
   -- its relay with a cursor of so many rows, and its client with octets to be sent
   abbrev with_rows : ℕ → SiteChannel
@@ -68,21 +68,21 @@ module _ (l : SiteChannel) (nothing : (p : Pair) → marks_of l.relay p ≡ 0) (
   )
 
   -- a relay that tells of so many rows; a connection that isn't open has whatever is asked
-  abbrev Tells : ℕ → Relay → Type 0
-  Tells rows r = r.rows ≡ rows
+  abbrev TellsRows : ℕ → Relay → Type 0
+  TellsRows rows r = r.rows ≡ rows
 
-  open_channels_have_it : ChannelHas (Tells 3) (Some (with_rows 3)) × ChannelHas (Tells 3) None
-      × (ChannelHas (Tells 3) (Some (with_rows 4)) → ⊥)
+  open_channels_have_it : ChannelHas (TellsRows 3) (Some (with_rows 3)) × ChannelHas (TellsRows 3) None
+      × (ChannelHas (TellsRows 3) (Some (with_rows 4)) → ⊥)
   open_channels_have_it = (refl, tt, λ h. omega (arith, h))
 
   -- the mail stays where there was no connection; where one was cut that had no session nothing is dealt, and what was
   -- accepted stays
-  cuts_leave_the_mail : MailAfterCut None new_office new_office × MailAfterCut (Some l) new_office new_office
-      × (MailAfterCut None new_office later → ⊥) × (MailAfterCut (Some l) new_office later → ⊥)
+  cuts_leave_the_mail : MailAfterCut None new_mail new_mail × MailAfterCut (Some l) new_mail new_mail
+      × (MailAfterCut None new_mail later → ⊥) × (MailAfterCut (Some l) new_mail later → ⊥)
   cuts_leave_the_mail = (
     refl,
     (Ok tt, record { deals = (record { handed = []; deals = refl; taken = refl }, refl); earlier = refl }),
-    λ h. more (ap (λ (o : Office). o.earlier) h),
+    λ h. more (ap (λ (o : Mail). o.earlier) h),
     λ h. more h.1.earlier,
   )
 
@@ -121,10 +121,10 @@ module _ (l : SiteChannel) (nothing : (p : Pair) → marks_of l.relay p ≡ 0) (
     )
 
     -- both relays have it, or not
-    both_channels_have_it : ChannelsHave (Tells 3) (site (Some (with_rows 3)) None)
-        × ChannelsHave (Tells 3) (site (Some (with_rows 3)) (Some (with_rows 3)))
-        × (ChannelsHave (Tells 3) (site (Some (with_rows 4)) None) → ⊥)
-        × (ChannelsHave (Tells 3) (site (Some (with_rows 3)) (Some (with_rows 4))) → ⊥)
+    both_channels_have_it : ChannelsHave (TellsRows 3) (site (Some (with_rows 3)) None)
+        × ChannelsHave (TellsRows 3) (site (Some (with_rows 3)) (Some (with_rows 3)))
+        × (ChannelsHave (TellsRows 3) (site (Some (with_rows 4)) None) → ⊥)
+        × (ChannelsHave (TellsRows 3) (site (Some (with_rows 3)) (Some (with_rows 4))) → ⊥)
     both_channels_have_it = (
       (refl, tt),
       (refl, refl),
@@ -152,28 +152,28 @@ module _ (l : SiteChannel) (nothing : (p : Pair) → marks_of l.relay p ≡ 0) (
     -- a service that is as it was, with the same mail
     same_is_same : Same (site (Some l) None) later (site (Some l) None) later
         × (Same (site (Some l) None) later (site None None) later → ⊥)
-        × (Same (site (Some l) None) later (site (Some l) None) new_office → ⊥)
+        × (Same (site (Some l) None) later (site (Some l) None) new_mail → ⊥)
     same_is_same = (
       (refl, refl),
       λ h. let gone : 0 ≡ 1 = ap opened h.0 in omega (arith, gone),
-      λ h. more (ap (λ (o : Office). o.earlier) (sym h.1)),
+      λ h. more (ap (λ (o : Mail). o.earlier) (sym h.1)),
     )
 
     -- where none is open no mail changes; one that stays open wasn't cut
     cuts_of_none : CutsBoth (site None None) later (site None None) later
     cuts_of_none = record { between = later; zero = refl; one = refl; site = refl }
 
-    cuts_of_one : CutsBoth (site (Some l) None) new_office (site None None) new_office
-    cuts_of_one = record { between = new_office; zero = cuts_leave_the_mail.1; one = refl; site = refl }
+    cuts_of_one : CutsBoth (site (Some l) None) new_mail (site None None) new_mail
+    cuts_of_one = record { between = new_mail; zero = cuts_leave_the_mail.1; one = refl; site = refl }
 
-    no_cut : CutsBoth (site None (Some l)) new_office (site None (Some l)) new_office → ⊥
+    no_cut : CutsBoth (site None (Some l)) new_mail (site None (Some l)) new_mail → ⊥
     no_cut h = let still : 1 ≡ 0 = ap opened_one h.site in omega (arith, still)
 
     -- only a store that failed cuts; behind an Ok and any other fault all stays
-    faults_cut_or_not : AfterFault StoreFailed (site (Some l) None) new_office (site None None) new_office
-        × AfterFault Memory (site (Some l) None) new_office (site (Some l) None) new_office
-        × (AfterFault Memory (site (Some l) None) new_office (site None None) new_office → ⊥)
-        × (AfterFault StoreFailed (site None (Some l)) new_office (site None (Some l)) new_office → ⊥)
+    faults_cut_or_not : AfterFault StoreFailed (site (Some l) None) new_mail (site None None) new_mail
+        × AfterFault Memory (site (Some l) None) new_mail (site (Some l) None) new_mail
+        × (AfterFault Memory (site (Some l) None) new_mail (site None None) new_mail → ⊥)
+        × (AfterFault StoreFailed (site None (Some l)) new_mail (site None (Some l)) new_mail → ⊥)
     faults_cut_or_not = (
       cuts_of_one,
       (refl, refl),
@@ -182,19 +182,19 @@ module _ (l : SiteChannel) (nothing : (p : Pair) → marks_of l.relay p ≡ 0) (
     )
 
     answers_cut_or_not : After {R = ℕ} (Ok 7) (site (Some l) None) later (site (Some l) None) later
-        × After {R = ℕ} (Err StoreFailed) (site (Some l) None) new_office (site None None) new_office
-        × (After {R = ℕ} (Ok 7) (site (Some l) None) new_office (site None None) new_office → ⊥)
-        × (After {R = ℕ} (Err StoreFailed) (site None (Some l)) new_office (site None (Some l)) new_office → ⊥)
+        × After {R = ℕ} (Err StoreFailed) (site (Some l) None) new_mail (site None None) new_mail
+        × (After {R = ℕ} (Ok 7) (site (Some l) None) new_mail (site None None) new_mail → ⊥)
+        × (After {R = ℕ} (Err StoreFailed) (site None (Some l)) new_mail (site None (Some l)) new_mail → ⊥)
     answers_cut_or_not =
         ((refl, refl), cuts_of_one, λ h. let gone : 0 ≡ 1 = ap opened h.0 in omega (arith, gone), no_cut)
 
     -- one that stays open is put in its place, one that is cut isn't there, and where both are cut neither is
     channels_meet_their_fate : Meets Stays Zero l (site None None) later (site (Some l) None) later
-        × Meets IsCut Zero l (site (Some l) (Some l)) new_office (site None (Some l)) new_office
-        × Meets BothAreCut Zero l (site None None) new_office (site None None) new_office
+        × Meets IsCut Zero l (site (Some l) (Some l)) new_mail (site None (Some l)) new_mail
+        × Meets BothAreCut Zero l (site None None) new_mail (site None None) new_mail
         × (Meets Stays Zero l (site None None) later (site None None) later → ⊥)
-        × (Meets IsCut Zero l (site (Some l) (Some l)) new_office (site None None) new_office → ⊥)
-        × (Meets BothAreCut One l (site None None) new_office (site None (Some l)) new_office → ⊥)
+        × (Meets IsCut Zero l (site (Some l) (Some l)) new_mail (site None None) new_mail → ⊥)
+        × (Meets BothAreCut One l (site None None) new_mail (site None (Some l)) new_mail → ⊥)
     channels_meet_their_fate = (
       (refl, refl),
       (cuts_leave_the_mail.1, refl),
@@ -207,10 +207,10 @@ module _ (l : SiteChannel) (nothing : (p : Pair) → marks_of l.relay p ≡ 0) (
     -- where the connection isn't open, only the fate of both changes the other one
     no_channel_meets_a_fate : MeetsAlone Stays (site None (Some l)) later (site None (Some l)) later
         × MeetsAlone IsCut (site None (Some l)) later (site None (Some l)) later
-        × MeetsAlone BothAreCut (site (Some l) None) new_office (site None None) new_office
-        × (MeetsAlone Stays (site None (Some l)) new_office (site None None) new_office → ⊥)
-        × (MeetsAlone IsCut (site None (Some l)) new_office (site None None) new_office → ⊥)
-        × (MeetsAlone BothAreCut (site None (Some l)) new_office (site None (Some l)) new_office → ⊥)
+        × MeetsAlone BothAreCut (site (Some l) None) new_mail (site None None) new_mail
+        × (MeetsAlone Stays (site None (Some l)) new_mail (site None None) new_mail → ⊥)
+        × (MeetsAlone IsCut (site None (Some l)) new_mail (site None None) new_mail → ⊥)
+        × (MeetsAlone BothAreCut (site None (Some l)) new_mail (site None (Some l)) new_mail → ⊥)
     no_channel_meets_a_fate = (
       (refl, refl),
       (refl, refl),

@@ -12,20 +12,20 @@ use Rattle.endpoint.proofs.CallExamples.{orders}
 use Rattle.relay.specs.Filling.{marks_of}
 use Rattle.relay.specs.declared.relay.Relay.{Relay}
 use Rattle.broker_core.specs.declared.fault.BrokerFault.TheVariants as broker
-use Rattle.schedule_mail.specs.Offices.{new_office}
+use Rattle.schedule_mail.specs.Mails.{new_mail}
 use Rattle.schedule_mail.specs.declared.connection.Connection.{Connection}
 use Rattle.schedule_mail.specs.declared.fault.OpenFault.TheVariants as open_fault
 use Rattle.reception.specs.declared.fault.ReceptionFault.TheVariants as fault
 use Rattle.schedule_text.specs.declared.event.ConnectionNumber.TheVariants.{Zero, One}
 use Rattle.schedule_text.specs.declared.outcome.Outcome.TheVariants as told
 use Rattle.schedule_service.specs.SiteEvents as event
-use Rattle.schedule_service.specs.Happenings.{over, IfOpen, Adds, OpensChannel, CutsChannel, Resends, Rises, Falls}
-use Rattle.schedule_service.specs.Happenings.{CarriesOn, SendsRows, TakesFrame}
-use Rattle.schedule_service.specs.Happenings.{TakesWhat, TakesOne, DrainsOver, DrainsOne, Happens}
+use Rattle.schedule_service.specs.SiteSteps.{over, IfOpen, Adds, OpensChannel, CutsChannel, Resends, Rises, Falls}
+use Rattle.schedule_service.specs.SiteSteps.{CarriesOn, SendsRows, TakesFrame}
+use Rattle.schedule_service.specs.SiteSteps.{TakesWhat, TakesOne, DrainsOver, DrainsOne, SiteStep}
 use Rattle.schedule_service.specs.Channels.{IsAllDue}
 use Rattle.schedule_service.specs.declared.site_channel.SiteChannel.{SiteChannel}
-use Rattle.schedule_service.proofs.HappeningExamples.{seen, site, opened, not_fall, not_filling, not_rise, not_drain}
-use Rattle.schedule_service.proofs.HappeningExamples.{not_taken}
+use Rattle.schedule_service.proofs.StepExamples.{seen, site, opened, not_fall, not_filling, not_rise, not_drain}
+use Rattle.schedule_service.proofs.StepExamples.{not_taken}
 
 -- a connection, on which nothing was sent, and a frame
 module _ (c : Connection) (relay : Relay) (nothing : (p : Pair) → marks_of relay p ≡ 0) (f : Content) where
@@ -64,10 +64,10 @@ module _ (c : Connection) (relay : Relay) (nothing : (p : Pair) → marks_of rel
   abbrev Never : SiteChannel → Type 0
   Never l = ⊥
 
-  events_ask_for_a_channel : IfOpen None told.Closed (site true None) new_office (site true None) new_office Never
-      × IfOpen (Some channel) told.Closed (site true None) new_office (site true None) new_office (λ l. l ≡ channel)
-      × (IfOpen None told.Cut (site true None) new_office (site true None) new_office (λ l. l ≡ channel) → ⊥)
-      × (IfOpen (Some channel) told.Closed (site true None) new_office (site true None) new_office Never → ⊥)
+  events_ask_for_a_channel : IfOpen None told.Closed (site true None) new_mail (site true None) new_mail Never
+      × IfOpen (Some channel) told.Closed (site true None) new_mail (site true None) new_mail (λ l. l ≡ channel)
+      × (IfOpen None told.Cut (site true None) new_mail (site true None) new_mail (λ l. l ≡ channel) → ⊥)
+      × (IfOpen (Some channel) told.Closed (site true None) new_mail (site true None) new_mail Never → ⊥)
   events_ask_for_a_channel = ((refl, (refl, refl)), refl, λ h. let told = h.0 in absurd (cc), λ h. h)
 
   -- a new connection is put in its place with a relay on which nothing counts as sent, and a fault puts none there
@@ -83,11 +83,11 @@ module _ (c : Connection) (relay : Relay) (nothing : (p : Pair) → marks_of rel
   )
 
   -- one that is open isn't opened anew; one that isn't may be refused for want of memory, and then nothing changes
-  channels_are_opened : OpensChannel Zero (Some channel) told.Already (site true (Some channel)) new_office (site true
-      (Some channel)) new_office
-      × OpensChannel Zero None (told.Refused 44) (site true None) new_office (site true None) new_office
-      × (OpensChannel Zero (Some channel) told.Opened (site true (Some channel)) new_office (site true (Some channel))
-      new_office → ⊥)
+  channels_are_opened : OpensChannel Zero (Some channel) told.Already (site true (Some channel)) new_mail (site true
+      (Some channel)) new_mail
+      × OpensChannel Zero None (told.Refused 44) (site true None) new_mail (site true None) new_mail
+      × (OpensChannel Zero (Some channel) told.Opened (site true (Some channel)) new_mail (site true (Some channel))
+      new_mail → ⊥)
   channels_are_opened = (
     (refl, (refl, refl)),
     (Err (open_fault.Client client.Memory), (refl, refl), refl, refl),
@@ -95,10 +95,10 @@ module _ (c : Connection) (relay : Relay) (nothing : (p : Pair) → marks_of rel
   )
 
   -- a connection that was cut isn't there any more
-  channels_are_cut : CutsChannel Zero channel told.Cut (site true (Some channel)) new_office (site true None) new_office
-      × (CutsChannel Zero channel told.Cut (site true (Some channel)) new_office (site true (Some channel)) new_office
+  channels_are_cut : CutsChannel Zero channel told.Cut (site true (Some channel)) new_mail (site true None) new_mail
+      × (CutsChannel Zero channel told.Cut (site true (Some channel)) new_mail (site true (Some channel)) new_mail
       → ⊥)
-      × (CutsChannel Zero channel told.Closed (site true (Some channel)) new_office (site true None) new_office → ⊥)
+      × (CutsChannel Zero channel told.Closed (site true (Some channel)) new_mail (site true None) new_mail → ⊥)
   channels_are_cut = (
     (
       refl,
@@ -110,10 +110,10 @@ module _ (c : Connection) (relay : Relay) (nothing : (p : Pair) → marks_of rel
   )
 
   -- all is due again on a connection, which stays
-  rows_are_due_again : Resends Zero channel told.Due (site true (Some channel)) new_office (site true (Some channel))
-      new_office
-      × (Resends Zero channel told.Due (site true (Some channel)) new_office (site true None) new_office → ⊥)
-      × (Resends Zero channel (told.Sent 0) (site true (Some channel)) new_office (site true (Some channel)) new_office
+  rows_are_due_again : Resends Zero channel told.Due (site true (Some channel)) new_mail (site true (Some channel))
+      new_mail
+      × (Resends Zero channel told.Due (site true (Some channel)) new_mail (site true None) new_mail → ⊥)
+      × (Resends Zero channel (told.Sent 0) (site true (Some channel)) new_mail (site true (Some channel)) new_mail
       → ⊥)
   rows_are_due_again = (
     (refl, (due, all_due, (refl, refl))),
@@ -122,18 +122,18 @@ module _ (c : Connection) (relay : Relay) (nothing : (p : Pair) → marks_of rel
   )
 
   -- where the broker has no session nothing goes up; no octets open a connection
-  octets_go_up : Rises Zero 5 channel (told.Refused 37) (site true (Some channel)) new_office (site true (Some channel))
-      new_office
-      × (Rises Zero 5 channel told.Opened (site true (Some channel)) new_office (site true (Some channel)) new_office
+  octets_go_up : Rises Zero 5 channel (told.Refused 37) (site true (Some channel)) new_mail (site true (Some channel))
+      new_mail
+      × (Rises Zero 5 channel told.Opened (site true (Some channel)) new_mail (site true (Some channel)) new_mail
       → ⊥)
-      × CarriesOn Up Zero 5 channel (told.Refused 37) (site true (Some channel)) new_office (site true (Some channel))
-      new_office
-      × (CarriesOn Up Zero 5 channel told.Opened (site true (Some channel)) new_office (site true (Some channel))
-      new_office → ⊥)
+      × CarriesOn Up Zero 5 channel (told.Refused 37) (site true (Some channel)) new_mail (site true (Some channel))
+      new_mail
+      × (CarriesOn Up Zero 5 channel told.Opened (site true (Some channel)) new_mail (site true (Some channel))
+      new_mail → ⊥)
   octets_go_up = (goes, λ h. not_rise h.result h.tells, goes, λ h. not_rise h.result h.tells)
     where
-      goes : Rises Zero 5 channel (told.Refused 37) (site true (Some channel)) new_office (site true (Some channel))
-          new_office
+      goes : Rises Zero 5 channel (told.Refused 37) (site true (Some channel)) new_mail (site true (Some channel))
+          new_mail
       goes = record {
         result = Err broker.NoSession;
         later = fresh;
@@ -143,30 +143,30 @@ module _ (c : Connection) (relay : Relay) (nothing : (p : Pair) → marks_of rel
       }
 
   -- where none wait none goes down, and the connection stays
-  octets_go_down : Falls Zero 5 channel (told.Carried 0) (site true (Some channel)) new_office
-      (site true (Some channel)) new_office
-      × (Falls Zero 5 channel told.Opened (site true (Some channel)) new_office (site true (Some channel)) new_office
+  octets_go_down : Falls Zero 5 channel (told.Carried 0) (site true (Some channel)) new_mail
+      (site true (Some channel)) new_mail
+      × (Falls Zero 5 channel told.Opened (site true (Some channel)) new_mail (site true (Some channel)) new_mail
       → ⊥)
-      × CarriesOn Down Zero 5 channel (told.Carried 0) (site true (Some channel)) new_office (site true (Some channel))
-      new_office
+      × CarriesOn Down Zero 5 channel (told.Carried 0) (site true (Some channel)) new_mail (site true (Some channel))
+      new_mail
   octets_go_down = (goes, λ h. not_fall h.result h.tells, goes)
     where
-      goes : Falls Zero 5 channel (told.Carried 0) (site true (Some channel)) new_office (site true (Some channel))
-          new_office
+      goes : Falls Zero 5 channel (told.Carried 0) (site true (Some channel)) new_mail (site true (Some channel))
+          new_mail
       goes = record {
         result = Ok 0;
         later = fresh;
-        between = new_office;
+        between = new_mail;
         carries = record { counted = refl; feeds = ((refl, refl, refl), refl); same = refl; left = refl };
         tells = refl;
         meets = (refl, refl);
       }
 
   -- before CONNECTED no row is sent; none opens a connection
-  no_row_is_sent : SendsRows seen orders Zero 64 channel (told.Sent 0) (site true (Some channel)) new_office (site true
-      (Some channel)) new_office
-      × (SendsRows seen orders Zero 64 channel told.Opened (site true (Some channel)) new_office
-      (site true (Some channel)) new_office → ⊥)
+  no_row_is_sent : SendsRows seen orders Zero 64 channel (told.Sent 0) (site true (Some channel)) new_mail (site true
+      (Some channel)) new_mail
+      × (SendsRows seen orders Zero 64 channel told.Opened (site true (Some channel)) new_mail
+      (site true (Some channel)) new_mail → ⊥)
   no_row_is_sent = (
     record {
       result = Ok 0;
@@ -185,10 +185,10 @@ module _ (c : Connection) (relay : Relay) (nothing : (p : Pair) → marks_of rel
   )
 
   -- for want of memory a frame isn't taken, and waits; no frame opens a connection
-  frames_are_taken : TakesFrame seen orders Zero channel f (told.Refused 44) (site true (Some channel)) new_office
-      (site true (Some waits)) new_office
-      × (TakesFrame seen orders Zero channel f told.Opened (site true (Some channel)) new_office
-      (site true (Some channel)) new_office → ⊥)
+  frames_are_taken : TakesFrame seen orders Zero channel f (told.Refused 44) (site true (Some channel)) new_mail
+      (site true (Some waits)) new_mail
+      × (TakesFrame seen orders Zero channel f told.Opened (site true (Some channel)) new_mail
+      (site true (Some channel)) new_mail → ⊥)
   frames_are_taken = (
     record {
       result = Err (fault.Client client.Memory);
@@ -204,16 +204,16 @@ module _ (c : Connection) (relay : Relay) (nothing : (p : Pair) → marks_of rel
 
   -- no whole frame is nothing to do, and a decoder without memory is told; the frame that waits is the one that is
   -- taken
-  frames_come : TakesWhat seen orders (Ok None) Zero channel told.Idle (site true (Some channel)) new_office (site true
-      (Some channel)) new_office
-      × TakesWhat seen orders (Err frame.Memory) Zero channel (told.Refused 44) (site true (Some channel)) new_office
-      (site true (Some channel)) new_office
-      × TakesOne seen orders Zero waits (told.Refused 44) (site true (Some waits)) new_office (site true (Some waits))
-      new_office
-      × (TakesWhat seen orders (Ok None) Zero channel told.Held (site true (Some channel)) new_office (site true
-      (Some channel)) new_office → ⊥)
-      × (TakesOne seen orders Zero waits told.Opened (site true (Some waits)) new_office (site true (Some waits))
-      new_office → ⊥)
+  frames_come : TakesWhat seen orders (Ok None) Zero channel told.Idle (site true (Some channel)) new_mail (site true
+      (Some channel)) new_mail
+      × TakesWhat seen orders (Err frame.Memory) Zero channel (told.Refused 44) (site true (Some channel)) new_mail
+      (site true (Some channel)) new_mail
+      × TakesOne seen orders Zero waits (told.Refused 44) (site true (Some waits)) new_mail (site true (Some waits))
+      new_mail
+      × (TakesWhat seen orders (Ok None) Zero channel told.Held (site true (Some channel)) new_mail (site true
+      (Some channel)) new_mail → ⊥)
+      × (TakesOne seen orders Zero waits told.Opened (site true (Some waits)) new_mail (site true (Some waits))
+      new_mail → ⊥)
   frames_come = (
     (refl, (refl, refl)),
     (refl, (refl, refl)),
@@ -222,8 +222,8 @@ module _ (c : Connection) (relay : Relay) (nothing : (p : Pair) → marks_of rel
     no_opened,
   )
     where
-      taken_again : TakesFrame seen orders Zero channel f (told.Refused 44) (site true (Some waits)) new_office
-          (site true (Some waits)) new_office
+      taken_again : TakesFrame seen orders Zero channel f (told.Refused 44) (site true (Some waits)) new_mail
+          (site true (Some waits)) new_mail
       taken_again = record {
         result = Err (fault.Client client.Memory);
         client = fresh.channel.client;
@@ -234,24 +234,24 @@ module _ (c : Connection) (relay : Relay) (nothing : (p : Pair) → marks_of rel
         meets = (refl, refl);
       }
 
-      no_opened : TakesOne seen orders Zero waits told.Opened (site true (Some waits)) new_office
-          (site true (Some waits)) new_office → ⊥
+      no_opened : TakesOne seen orders Zero waits told.Opened (site true (Some waits)) new_mail
+          (site true (Some waits)) new_mail → ⊥
       no_opened (Ok None, later, next, what) = let none = next.0.0 in absurd (cc)
       no_opened (Err cause, later, next, what) = let none = next.0.0 in absurd (cc)
       no_opened (Ok (Some g), later, next, what) = not_taken what.result what.tells
 
   -- a held letter isn't handled for want of memory; where the connection isn't open it is asked for alone
-  letters_are_drained_over : DrainsOver seen orders Zero channel (told.Refused 44) (site true (Some channel)) new_office
-      (site true (Some channel)) new_office
-      × (DrainsOver seen orders Zero channel told.Opened (site true (Some channel)) new_office
-      (site true (Some channel)) new_office → ⊥)
-      × DrainsOne seen orders Zero (Some channel) (told.Refused 44) (site true (Some channel)) new_office (site true
-      (Some channel)) new_office
-      × (DrainsOne seen orders Zero None told.Opened (site true None) new_office (site true None) new_office → ⊥)
+  letters_are_drained_over : DrainsOver seen orders Zero channel (told.Refused 44) (site true (Some channel)) new_mail
+      (site true (Some channel)) new_mail
+      × (DrainsOver seen orders Zero channel told.Opened (site true (Some channel)) new_mail
+      (site true (Some channel)) new_mail → ⊥)
+      × DrainsOne seen orders Zero (Some channel) (told.Refused 44) (site true (Some channel)) new_mail (site true
+      (Some channel)) new_mail
+      × (DrainsOne seen orders Zero None told.Opened (site true None) new_mail (site true None) new_mail → ⊥)
   letters_are_drained_over = (drained, λ h. not_drain h.result h.tells, drained, λ h. not_drain h.result h.tells)
     where
-      drained : DrainsOver seen orders Zero channel (told.Refused 44) (site true (Some channel)) new_office
-          (site true (Some channel)) new_office
+      drained : DrainsOver seen orders Zero channel (told.Refused 44) (site true (Some channel)) new_mail
+          (site true (Some channel)) new_mail
       drained = record {
         result = Err (fault.Client client.Memory);
         client = fresh.channel.client;
@@ -264,17 +264,17 @@ module _ (c : Connection) (relay : Relay) (nothing : (p : Pair) → marks_of rel
 
   -- each event is that of its name: one of a connection that isn't open tells `Closed`, and an open one isn't opened
   -- anew
-  events_happen : Happens seen orders (event.Fills One 64) told.Closed (site true (Some channel)) new_office
-      (site true (Some channel)) new_office
-      × Happens seen orders (event.Opens Zero) told.Already (site true (Some channel)) new_office
-      (site true (Some channel)) new_office
-      × Happens seen orders (event.Takes Zero) (told.Refused 44) (site true (Some waits)) new_office
-      (site true (Some waits)) new_office
-      × (Happens seen orders (event.Fills One 64) (told.Sent 0) (site true (Some channel)) new_office
-      (site true (Some channel)) new_office → ⊥)
-      × (Happens seen orders (event.Opens One) told.Already (site true (Some channel)) new_office
-      (site true (Some channel)) new_office → ⊥)
-  events_happen = (
+  events_are_steps : SiteStep seen orders (event.Fills One 64) told.Closed (site true (Some channel)) new_mail
+      (site true (Some channel)) new_mail
+      × SiteStep seen orders (event.Opens Zero) told.Already (site true (Some channel)) new_mail
+      (site true (Some channel)) new_mail
+      × SiteStep seen orders (event.Takes Zero) (told.Refused 44) (site true (Some waits)) new_mail
+      (site true (Some waits)) new_mail
+      × (SiteStep seen orders (event.Fills One 64) (told.Sent 0) (site true (Some channel)) new_mail
+      (site true (Some channel)) new_mail → ⊥)
+      × (SiteStep seen orders (event.Opens One) told.Already (site true (Some channel)) new_mail
+      (site true (Some channel)) new_mail → ⊥)
+  events_are_steps = (
     (refl, (refl, refl)),
     (refl, (refl, refl)),
     frames_come.2,
@@ -282,7 +282,7 @@ module _ (c : Connection) (relay : Relay) (nothing : (p : Pair) → marks_of rel
     no_opening,
   )
     where
-      no_opening : Happens seen orders (event.Opens One) told.Already (site true (Some channel)) new_office
-          (site true (Some channel)) new_office → ⊥
+      no_opening : SiteStep seen orders (event.Opens One) told.Already (site true (Some channel)) new_mail
+          (site true (Some channel)) new_mail → ⊥
       no_opening (Ok d, opens, tells, adds) = absurd (cc)
       no_opening (Err cause, opens, tells, adds) = absurd (cc)

@@ -15,7 +15,7 @@ use Rattle.endpoint.specs.declared.fault.EndFault.{EndFault}
 use Rattle.endpoint.specs.declared.fault.EndFault.TheVariants.{NotMine, Business, TooEarly, StoreFailed, Memory}
 use Rattle.endpoint.specs.declared.fault.EndFault.TheVariants.{Unusable, NumberLimit}
 use Rattle.endpoint.specs.declared.fault.EndFault.TheVariants.{NotSent}
-use Rattle.schedule_mail.specs.Offices.{Office}
+use Rattle.schedule_mail.specs.Mails.{Mail}
 use Rattle.schedule_mail.specs.declared.connection.Connection.{Connection}
 use Rattle.schedule_mail.specs.declared.fault.OpenFault.{OpenFault}
 use Rattle.outbox.specs.Rows.{unsettled_of}
@@ -26,8 +26,8 @@ use Rattle.schedule_text.specs.declared.event.ConnectionNumber.TheVariants.{Zero
 use Rattle.schedule_text.specs.declared.outcome.Outcome.{Outcome}
 use Rattle.schedule_service.specs.Cursors.{KnowsEach, AreRight, KeepsRight}
 use Rattle.schedule_service.specs.Deeds.{Goes, SiteMay, channels_of}
-use Rattle.schedule_service.specs.Happenings.{Adds, CarriesOn, DrainsOne, Happens, IfOpen, OpensChannel, SendsRows}
-use Rattle.schedule_service.specs.Happenings.{TakesWhat, over, with_store}
+use Rattle.schedule_service.specs.SiteSteps.{Adds, CarriesOn, DrainsOne, SiteStep, IfOpen, OpensChannel, SendsRows}
+use Rattle.schedule_service.specs.SiteSteps.{TakesWhat, over, with_store}
 use Rattle.schedule_service.specs.Channels.{channel_of, with_channel, Same, CutsBoth, After, AfterFault, Meets}
 use Rattle.schedule_service.specs.Channels.{MeetsAlone, IsAllDue}
 use Rattle.schedule_service.specs.Channels.{ChannelHas, ChannelsHave}
@@ -63,7 +63,7 @@ module _ {H K S C : Type 0} (Is : Relay → Type 0) where
   put_has Zero l s own h = (own, h.1)
   put_has One l s own h = (h.0, own)
 
-  module _ (s : Site H K S C) (from : Office) (t : Site H K S C) (to : Office) where
+  module _ (s : Site H K S C) (from : Mail) (t : Site H K S C) (to : Mail) where
     same_has : Same s from t to → ChannelsHave Is s → ChannelsHave Is t
     same_has same h = subst (ChannelsHave Is) (sym same.0) h
 
@@ -89,16 +89,16 @@ module _ {H K S C : Type 0} (Is : Relay → Type 0) where
     alone_has IsCut meets h = same_has meets h
     alone_has BothAreCut meets h = cut_has meets
 
-  meets_has : (fate : ChannelFate) (number : ConnectionNumber) (l : SiteChannel) (s : Site H K S C) (from : Office)
+  meets_has : (fate : ChannelFate) (number : ConnectionNumber) (l : SiteChannel) (s : Site H K S C) (from : Mail)
       (t : Site H K S C)
-      (to : Office) → Meets fate number l s from t to → Is l.relay → ChannelsHave Is s → ChannelsHave Is t
+      (to : Mail) → Meets fate number l s from t to → Is l.relay → ChannelsHave Is s → ChannelsHave Is t
   meets_has Stays number l s from t to meets own h =
       same_has (with_channel number (Some l) s) from t to meets (put_has number (Some l) s own h)
   meets_has IsCut number l s from t to meets own h = subst (ChannelsHave Is) (sym meets.1) (put_has number None s tt h)
   meets_has BothAreCut number l s from t to meets own h = cut_has (with_channel number (Some l) s) from t to meets
 
   -- an event of a connection that isn't open does nothing
-  if_open : (outcome : Outcome) (s : Site H K S C) (from : Office) (t : Site H K S C) (to : Office)
+  if_open : (outcome : Outcome) (s : Site H K S C) (from : Mail) (t : Site H K S C) (to : Mail)
       (number : ConnectionNumber)
       (Does : SiteChannel → Type 0) (o : Option SiteChannel) → channel_of number s ≡ o
       → IfOpen o outcome s from t to Does → ChannelsHave Is s
@@ -110,7 +110,7 @@ module _ {H K S C : Type 0} (Is : Relay → Type 0) where
 
 module _ {H K S C : Type 0} (Is : Relay → Type 0) (due : (r : Relay) → IsAllDue r → Is r) (outcome : Outcome)
     (s : Site H K S C)
-    (from : Office) (t : Site H K S C) (to : Office) (h : ChannelsHave Is s) where
+    (from : Mail) (t : Site H K S C) (to : Mail) (h : ChannelsHave Is s) where
   adds_has : (number : ConnectionNumber) (r : Result Connection OpenFault) → Adds number r s t → ChannelsHave Is t
   adds_has number (Ok c) adds = subst (ChannelsHave Is) (sym adds.2)
       (put_has Is number (Some (record { connection = c; relay = adds.0 })) s (due adds.0 adds.1) h)
@@ -150,8 +150,8 @@ module _ {H K S C : Type 0} (Is : Relay → Type 0) (due : (r : Relay) → IsAll
       meets_has Is (drain_fate r.result) number _ (with_store t.endpoint s) from t to r.meets (own number l is) h
 
 module _ {H K S C : Type 0} (seen : K → Seen (Tables S C)) (service : Service S C) (outcome : Outcome)
-    (s : Site H K S C) (from : Office)
-    (t : Site H K S C) (to : Office) (clean : (seen t.endpoint.keep).doubt ≡ 0)
+    (s : Site H K S C) (from : Mail)
+    (t : Site H K S C) (to : Mail) (clean : (seen t.endpoint.keep).doubt ≡ 0)
     (match : AllMatch service (seen s.endpoint.keep).may_leave)
     (right : AreRight seen service s) where
   abbrev Was : Relay → Type 0
@@ -171,26 +171,26 @@ module _ {H K S C : Type 0} (seen : K → Seen (Tables S C)) (service : Service 
       meets_has Is (fill_fate r.result) number r.later (with_store t.endpoint s) from t to r.meets
       (r.knows clean (match, channel_has Was number s l is right)).1 h
 
-  happens_has : ChannelsHave Is s → (e : SiteEvent C) → Happens seen service e outcome s from t to → ChannelsHave Is t
-  happens_has h (event.Commits asked) r = after_has Is (with_store t.endpoint s) from t to r.result r.after h
-  happens_has h (event.Opens number) r = opens_has Is due_known outcome s from t to h number (channel_of number s) r
-  happens_has h (event.Cuts number) r = if_open Is outcome s from t to number _ (channel_of number s) refl r h
+  step_has : ChannelsHave Is s → (e : SiteEvent C) → SiteStep seen service e outcome s from t to → ChannelsHave Is t
+  step_has h (event.Commits asked) r = after_has Is (with_store t.endpoint s) from t to r.result r.after h
+  step_has h (event.Opens number) r = opens_has Is due_known outcome s from t to h number (channel_of number s) r
+  step_has h (event.Cuts number) r = if_open Is outcome s from t to number _ (channel_of number s) refl r h
       (λ l is does. subst (ChannelsHave Is) (sym does.2) (put_has Is number None s tt h))
-  happens_has h (event.Fills number limit) r = if_open Is outcome s from t to number _ (channel_of number s) refl r h
+  step_has h (event.Fills number limit) r = if_open Is outcome s from t to number _ (channel_of number s) refl r h
       (λ l is does. fills_has number l is limit does h)
-  happens_has h (event.Resends number) r = if_open Is outcome s from t to number _ (channel_of number s) refl r h
+  step_has h (event.Resends number) r = if_open Is outcome s from t to number _ (channel_of number s) refl r h
       (λ l is does. same_has Is (with_channel number (Some (record l { relay = does.1.0 })) s) from t to does.1.2
       (put_has Is number (Some (record l { relay = does.1.0 })) s (due_known does.1.0 does.1.1) h))
-  happens_has h (event.Carries number way most) r =
+  step_has h (event.Carries number way most) r =
       if_open Is outcome s from t to number _ (channel_of number s) refl r h
       (λ l is does. carries_has Is due_known outcome s from t to h number l is way most does)
-  happens_has h (event.Takes number) r = if_open Is outcome s from t to number _ (channel_of number s) refl r h
+  step_has h (event.Takes number) r = if_open Is outcome s from t to number _ (channel_of number s) refl r h
       (λ l is does. what_has Is due_known outcome s from t to h number l is seen service does.1 does.0 does.3)
-  happens_has h (event.Drains number) r =
+  step_has h (event.Drains number) r =
       drains_has Is due_known outcome s from t to h seen service number (channel_of number s) refl r
-  happens_has h (event.Arms n leaves) r = subst (ChannelsHave Is) (sym r.1.0) h
-  happens_has h event.Reopens r = after_has Is (with_store t.endpoint s) from t to r.result r.after h
-  happens_has h event.Stops r = cut_has Is _ from t to r.cuts
+  step_has h (event.Arms n leaves) r = subst (ChannelsHave Is) (sym r.1.0) h
+  step_has h event.Reopens r = after_has Is (with_store t.endpoint s) from t to r.result r.after h
+  step_has h event.Stops r = cut_has Is _ from t to r.cuts
 
   -- what an event leaves of a store comes of what it might have left before
   grown : (allowed : Kept C → Deed C → Type 0) → Goes seen s t service allowed → (r : Relay) → Was r → Is r
@@ -199,13 +199,13 @@ module _ {H K S C : Type 0} (seen : K → Seen (Tables S C)) (service : Service 
 
 pub event_right : {H K S C : Type 0} (seen : K → Seen (Tables S C)) (service : Service S C) (e : SiteEvent C)
     (outcome : Outcome)
-    (s : Site H K S C) (from : Office) (t : Site H K S C) (to : Office) → KeepsRight seen service e outcome s from t to
-event_right seen service e outcome s from t to clean match happens goes right =
-    happens_has seen service outcome s from t to clean match right
+    (s : Site H K S C) (from : Mail) (t : Site H K S C) (to : Mail) → KeepsRight seen service e outcome s from t to
+event_right seen service e outcome s from t to clean match step goes right =
+    step_has seen service outcome s from t to clean match right
     (channels_more (KnowsEach service (seen t.endpoint.keep).may_leave) (KnowsEach service
     (seen s.endpoint.keep).may_leave)
     (grown seen service outcome s from t to clean match right (SiteMay service (channels_of s) e outcome) goes) s right)
-    e happens
+    e step
 
 -- ---- no event
 

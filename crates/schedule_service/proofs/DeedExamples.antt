@@ -21,7 +21,7 @@ use Rattle.endpoint.specs.Matches.{TablesMatchJournal}
 use Rattle.endpoint.specs.declared.fault.EndFault.TheVariants.{StoreFailed}
 use Rattle.endpoint.proofs.Examples.{o1, bolts, placing}
 use Rattle.endpoint.proofs.CallExamples.{orders, OrderTables, before, after, before_matches}
-use Rattle.schedule_mail.specs.Offices.{Office}
+use Rattle.schedule_mail.specs.Mails.{Mail}
 use Rattle.schedule_mail.specs.declared.connection.Connection.{Connection}
 use Rattle.relay.specs.declared.relay.Relay.{Relay}
 use Rattle.schedule_text.specs.declared.event.ConnectionNumber.TheVariants.{Zero, One}
@@ -34,7 +34,7 @@ use Rattle.schedule_service.specs.SiteEvents as event
 use Rattle.schedule_service.specs.SiteEvents.{SiteEvent}
 use Rattle.schedule_service.specs.declared.site_channel.SiteChannel.{SiteChannel}
 use Rattle.schedule_service.specs.declared.site.Site.{Site}
-use Rattle.schedule_service.proofs.HappeningExamples.{asked}
+use Rattle.schedule_service.proofs.StepExamples.{asked}
 
 -- ---- what may be done
 
@@ -216,6 +216,6 @@ module _ (c : Connection) (relay : Relay) (f : Content) where
   cursors_are_right = ((relays_know_each.0, tt), (tt, tt), λ h. relays_know_each.1 h.0)
 
   -- where no connection is open behind an event, all cursors stay right
-  cursors_stay : (e : SiteEvent Asked) (outcome : Outcome) (s : Service) (from to : Office)
+  cursors_stay : (e : SiteEvent Asked) (outcome : Outcome) (s : Service) (from to : Mail)
       → KeepsRight seen orders e outcome s from (site (store 0 before) None) to
-  cursors_stay e outcome s from to = λ clean matches happens goes right. (tt, tt)
+  cursors_stay e outcome s from to = λ clean matches step goes right. (tt, tt)

@@ -1,6 +1,6 @@
 -- What was done to a service that a connection was taken out of, was done to the service.
 use Rattle.std.proofs.Common.{◌≡◌, ℕ, Option, Some, None, ◌∙◌, sym, subst, Result, Ok, Err}
-use Rattle.schedule_mail.specs.Offices.{Office}
+use Rattle.schedule_mail.specs.Mails.{Mail}
 use Rattle.stomp_frame.specs.Frames.{Content}
 use Rattle.stomp_frame.specs.declared.fault.FrameFault.{FrameFault}
 use Rattle.activities.specs.Service.{Service}
@@ -8,8 +8,8 @@ use Rattle.keep.specs.Seen.{Seen}
 use Rattle.keep.specs.Tables.{Tables}
 use Rattle.schedule_text.specs.declared.event.ConnectionNumber.{ConnectionNumber}
 use Rattle.schedule_text.specs.declared.outcome.Outcome.{Outcome}
-use Rattle.schedule_service.specs.Happenings.{Falls, SendsRows, TakesFrame, TakesWhat, TakesOne, DrainsOver, DrainsOne}
-use Rattle.schedule_service.specs.Happenings.{over, with_store, waiting_of}
+use Rattle.schedule_service.specs.SiteSteps.{Falls, SendsRows, TakesFrame, TakesWhat, TakesOne, DrainsOver, DrainsOne}
+use Rattle.schedule_service.specs.SiteSteps.{over, with_store, waiting_of}
 use Rattle.schedule_service.specs.Channels.{channel_of, with_channel, TakesChannel}
 use Rattle.schedule_service.specs.Outcomes.{decoder_fate, fall_fate, fill_fate, taken_fate, drain_fate}
 use Rattle.schedule_service.specs.declared.site_channel.SiteChannel.{SiteChannel}
@@ -18,8 +18,8 @@ use Rattle.schedule_service.proofs.Fates.{with_again, meets_again, took_open}
 
 module _ {H K S C : Type 0} (number : ConnectionNumber) (k : Option SiteChannel) (l : SiteChannel) (outcome : Outcome)
     (s : Site H K S C)
-    (from : Office)
-    (t : Site H K S C) (to : Office) where
+    (from : Mail)
+    (t : Site H K S C) (to : Mail) where
   pub falls_again : (most : ℕ) → Falls number most l outcome (with_channel number k s) from t to
       → Falls number most l outcome s from t to
   falls_again most h = record {
@@ -90,14 +90,14 @@ module _ {H K S C : Type 0} (number : ConnectionNumber) (k : Option SiteChannel)
 module _ {H K S C : Type 0} (seen : K → Seen (Tables S C)) (service : Service S C) (number : ConnectionNumber)
     (k : Option SiteChannel)
     (l : SiteChannel)
-    (outcome : Outcome) (s : Site H K S C) (from : Office) (t : Site H K S C) (to : Office) where
+    (outcome : Outcome) (s : Site H K S C) (from : Mail) (t : Site H K S C) (to : Mail) where
   pub takes_again : TakesOne seen service number l outcome (with_channel number k s) from t to
       → TakesOne seen service number l outcome s from t to
   takes_again h = (h.0, h.1, h.2, what_again number k (over l h.1) outcome s from t to seen service h.0 h.3)
 
 module _ {H K S C : Type 0} (seen : K → Seen (Tables S C)) (service : Service S C) (number : ConnectionNumber)
     (l : SiteChannel)
-    (outcome : Outcome) (s : Site H K S C) (from : Office) (t : Site H K S C) (to : Office) where
+    (outcome : Outcome) (s : Site H K S C) (from : Mail) (t : Site H K S C) (to : Mail) where
   -- a held letter was handled over a connection that was open
   pub drains_open : (between : Site H K S C) (r : Option SiteChannel) → r ≡ Some l → TakesChannel number s between r
       → DrainsOver seen service number l outcome between from t to

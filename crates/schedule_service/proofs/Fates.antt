@@ -1,11 +1,11 @@
 -- A connection that was taken out and put in again.
 use Rattle.std.proofs.Common.{◌≡◌, Option, Some, None, refl, sym, subst}
-use Rattle.schedule_mail.specs.Offices.{Office}
+use Rattle.schedule_mail.specs.Mails.{Mail}
 use Rattle.schedule_text.specs.declared.event.ConnectionNumber.{ConnectionNumber}
 use Rattle.schedule_text.specs.declared.event.ConnectionNumber.TheVariants.{Zero, One}
 use Rattle.schedule_text.specs.declared.outcome.Outcome.{Outcome}
 use Rattle.schedule_text.specs.declared.outcome.Outcome.TheVariants.{Closed}
-use Rattle.schedule_service.specs.Happenings.{IfOpen}
+use Rattle.schedule_service.specs.SiteSteps.{IfOpen}
 use Rattle.schedule_service.specs.Channels.{channel_of, with_channel, Meets, TakesChannel}
 use Rattle.schedule_service.specs.declared.fate.ChannelFate.{ChannelFate}
 use Rattle.schedule_service.specs.declared.fate.ChannelFate.TheVariants.{Stays, IsCut, BothAreCut}
@@ -27,8 +27,8 @@ module _ {H K S C : Type 0} where
 
   -- its fate is that of one that was in its place
   pub meets_again : (fate : ChannelFate) (number : ConnectionNumber) (l : SiteChannel) (k : Option SiteChannel)
-      (s : Site H K S C) (from : Office)
-      (t : Site H K S C) (to : Office) → Meets fate number l (with_channel number k s) from t to
+      (s : Site H K S C) (from : Mail)
+      (t : Site H K S C) (to : Mail) → Meets fate number l (with_channel number k s) from t to
       → Meets fate number l s from t to
   meets_again Stays Zero l k s from t to h = h
   meets_again Stays One l k s from t to h = h
@@ -38,15 +38,15 @@ module _ {H K S C : Type 0} where
   meets_again BothAreCut One l k s from t to h = h
 
   -- an event of a connection that isn't open
-  pub if_closed : (o : Option SiteChannel) (s : Site H K S C) (from : Office) (t : Site H K S C) (to : Office)
+  pub if_closed : (o : Option SiteChannel) (s : Site H K S C) (from : Mail) (t : Site H K S C) (to : Mail)
       (Does : SiteChannel → Type 0)
       → o ≡ None → t ≡ s → to ≡ from → IfOpen o Closed s from t to Does
   if_closed None s from t to Does e same kept = (refl, (same, kept))
   if_closed (Some l) s from t to Does e same kept = let z : Some l ≡ None = e in cc
 
   -- and of one that is
-  pub if_open : (o : Option SiteChannel) (l : SiteChannel) (outcome : Outcome) (s : Site H K S C) (from : Office)
-      (t : Site H K S C) (to : Office)
+  pub if_open : (o : Option SiteChannel) (l : SiteChannel) (outcome : Outcome) (s : Site H K S C) (from : Mail)
+      (t : Site H K S C) (to : Mail)
       (Does : SiteChannel → Type 0) → o ≡ Some l → Does l → IfOpen o outcome s from t to Does
   if_open None l outcome s from t to Does e d = let z : None ≡ Some l = e in cc
   if_open (Some k) l outcome s from t to Does e d = let same : l ≡ k = cc in subst Does same d
@@ -64,9 +64,9 @@ module _ {H K S C : Type 0} where
   took_none number s t r e h = subst (TakesChannel number s t) e h
 
   -- what was done behind that was done by the event
-  pub does_open : (number : ConnectionNumber) (outcome : Outcome) (s between : Site H K S C) (from : Office)
+  pub does_open : (number : ConnectionNumber) (outcome : Outcome) (s between : Site H K S C) (from : Mail)
       (t : Site H K S C)
-      (to : Office) (r : Option SiteChannel) (l : SiteChannel) (Does : Site H K S C → SiteChannel → Type 0)
+      (to : Mail) (r : Option SiteChannel) (l : SiteChannel) (Does : Site H K S C → SiteChannel → Type 0)
       → (Does (with_channel number None s) l → Does s l) → r ≡ Some l → TakesChannel number s between r → Does between l
       → IfOpen (channel_of number s) outcome s from t to (Does s)
   does_open number outcome s between from t to r l Does again e takes d =

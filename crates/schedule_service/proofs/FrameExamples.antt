@@ -26,7 +26,7 @@ use Rattle.stomp_client.specs.declared.session.Stage.{Stage}
 use Rattle.stomp_client.specs.declared.session.Stage.TheVariants as stage
 use Rattle.endpoint.specs.Deeds.{Nothing}
 use Rattle.endpoint.proofs.CallExamples.{orders, before}
-use Rattle.schedule_mail.specs.Offices.{Office, new_office}
+use Rattle.schedule_mail.specs.Mails.{Mail, new_mail}
 use Rattle.schedule_mail.specs.declared.connection.Connection.{Connection}
 use Rattle.reception.specs.Answers.{Answers}
 use Rattle.reception.specs.declared.fault.ReceptionFault.{ReceptionFault}
@@ -37,7 +37,7 @@ use Rattle.relay.specs.declared.relay.Relay.{Relay}
 use Rattle.schedule_text.specs.declared.event.ConnectionNumber.TheVariants.{Zero}
 use Rattle.schedule_text.specs.declared.outcome.Outcome.TheVariants as told
 use Rattle.schedule_service.specs.Channels.{Meets}
-use Rattle.schedule_service.specs.Happenings.{over, waiting_of, with_store, TakesFrame, TakesOne, Happens}
+use Rattle.schedule_service.specs.SiteSteps.{over, waiting_of, with_store, TakesFrame, TakesOne, SiteStep}
 use Rattle.schedule_service.specs.Outcomes.{reception_told, taken_told, taken_fate, decoder_told}
 use Rattle.schedule_service.specs.SiteEvents as event
 use Rattle.schedule_service.specs.declared.site_channel.SiteChannel.{SiteChannel}
@@ -99,8 +99,8 @@ module _ (relay : Relay) where
   begun = site (store true before) (Some (channel (client stage.Connecting []) text))
 
   abbrev Begins : SiteChannel → Type 0
-  Begins l = TakesOne seen orders Zero (channel (client stage.Connecting []) text) told.Connected begun new_office
-      (site (store true before) (Some l)) new_office
+  Begins l = TakesOne seen orders Zero (channel (client stage.Connecting []) text) told.Connected begun new_mail
+      (site (store true before) (Some l)) new_mail
 
   it_is_taken : Begins (channel subscribed [])
   unfolding canonical line_of escape
@@ -127,7 +127,7 @@ module _ (relay : Relay) where
             record l.connection.channel { client = k; waiting = None };
       })))
 
-  it_stands : (l : SiteChannel) (f : Content) (s t : Service) (from to : Office)
+  it_stands : (l : SiteChannel) (f : Content) (s t : Service) (from to : Mail)
       → TakesFrame seen orders Zero l f told.Connected s from t to
       → Stands l t.zero
   it_stands l f s t from to h = by_result h.result h.tells h.answers h.meets
@@ -157,7 +157,7 @@ module _ (relay : Relay) where
     later,
     next.0.0,
     it_stands (over (channel (client stage.Connecting []) text) later) f begun (site (store true before) (Some l))
-        new_office new_office
+        new_mail new_mail
         what,
   )
 
@@ -183,8 +183,8 @@ module _ (relay : Relay) where
 
   -- the client is connected then and subscribes; it isn't connecting any more, and the frame doesn't stay to come again
   the_session_begins : Begins (channel subscribed [])
-      × Happens seen orders (event.Takes Zero) told.Connected begun new_office
-      (site (store true before) (Some (channel subscribed []))) new_office
+      × SiteStep seen orders (event.Takes Zero) told.Connected begun new_mail
+      (site (store true before) (Some (channel subscribed []))) new_mail
       × (Begins (channel (client stage.Connecting []) []) → ⊥) × (Begins (channel subscribed text) → ⊥)
   the_session_begins = (
     it_is_taken,

@@ -7,7 +7,7 @@ use Rattle.std.specs.Fmt.{digits}
 use Rattle.std.specs.Prelude.{codes}
 use Rattle.std.specs.Str.{is_utf8, chars}
 use Rattle.base.specs.Order.{same_entity, same_pair}
-use Rattle.base.specs.Entity.{Name}
+use Rattle.base.specs.Entity.{Entity}
 use Rattle.base.specs.declared.entity.Kind.{Kind}
 use Rattle.base.specs.declared.entity.Kind.TheVariants.{Order, Stock}
 use Rattle.base.specs.declared.limits.TheConstants.{MAX_BODY}
@@ -33,7 +33,7 @@ use Rattle.endpoint.specs.Arrivals.{row_of_letter}
 use Rattle.endpoint.specs.Deeds.{Kept, kept, Deed, Did, TakesIn, Settles}
 use Rattle.endpoint.proofs.Examples.{o1, bolts, from_order, placing}
 use Rattle.endpoint.proofs.CallExamples.{orders, OrderTables, after, taken_in}
-use Rattle.schedule_mail.specs.Offices.{new_office}
+use Rattle.schedule_mail.specs.Mails.{new_mail}
 use Rattle.outbox.specs.Numbering.{NumbersFit}
 use Rattle.reception.specs.Deeds.{TakeMay, IsOurs, IsAnothers, concerned}
 use Rattle.reception.specs.Replies.{answer, settling}
@@ -43,7 +43,7 @@ use Rattle.reception.specs.declared.taken.Taken.TheVariants as taken
 use Rattle.relay.specs.declared.relay.Relay.{Relay}
 use Rattle.schedule_text.specs.declared.event.ConnectionNumber.TheVariants.{Zero}
 use Rattle.schedule_text.specs.declared.outcome.Outcome.TheVariants as told
-use Rattle.schedule_service.specs.Happenings.{TakesFrame}
+use Rattle.schedule_service.specs.SiteSteps.{TakesFrame}
 use Rattle.schedule_service.specs.Outcomes.{reception_told, taken_told}
 use Rattle.schedule_service.specs.declared.site_channel.SiteChannel.{SiteChannel}
 use Rattle.schedule_service.proofs.FrameExamples.{reception_is_refusal, client, channel}
@@ -51,7 +51,7 @@ use Rattle.schedule_service.proofs.Framing.{framed}
 use Rattle.schedule_service.proofs.WorkExamples.{no_refusal, seen, store, site, only}
 
 -- the kind of an entity that is there
-abbrev kind_of : Option Name → Kind
+abbrev kind_of : Option Entity → Kind
 kind_of (Some e) = e.kind
 kind_of None = Order
 
@@ -85,8 +85,8 @@ module _ (relay : Relay) where
 
   abbrev Marks : OrderTables → Type 0
   Marks t = TakesFrame seen orders Zero connected settle (told.Settled 1) (site (store true after) (Some connected))
-      new_office
-      (site (store true t) (Some (channel relay (client stage.Connected (codes "ACK\nid:12\n\n\0")) []))) new_office
+      new_mail
+      (site (store true t) (Some (channel relay (client stage.Connected (codes "ACK\nid:12\n\n\0")) []))) new_mail
 
   -- the outbox has the mark that is told, and the frame is acknowledged; the mark doesn't stay as it was
   the_letter_is_settled : Marks settled × (Marks after → ⊥)
@@ -213,8 +213,8 @@ module _ (relay : Relay) where
 
   abbrev Handles : OrderTables → Type 0
   Handles t = TakesFrame seen orders Zero connected brings (told.Handled 2) (site (store true after) (Some connected))
-      new_office
-      (site (store true t) (Some (channel relay settling_client []))) new_office
+      new_mail
+      (site (store true t) (Some (channel relay settling_client []))) new_mail
 
   -- the letter is the journal's second row, and is settled; it isn't told as handled where it isn't there
   the_letter_is_handled : Handles answered × (Handles after → ⊥)

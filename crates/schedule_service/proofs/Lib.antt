@@ -6,7 +6,7 @@ mod Sending
 mod Telling
 mod OutcomeExamples
 mod ChannelExamples
-mod HappeningExamples
+mod StepExamples
 mod ConnectionExamples
 mod DeedExamples
 mod Framing

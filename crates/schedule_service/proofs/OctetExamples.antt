@@ -22,13 +22,13 @@ use Rattle.broker_core.specs.declared.fault.BrokerFault.{BrokerFault}
 use Rattle.broker_core.specs.declared.incoming.Incoming.{Incoming}
 use Rattle.endpoint.proofs.CallExamples.{before}
 use Rattle.schedule_mail.specs.Connecting.{CarriesDown, CarriesUp, falling}
-use Rattle.schedule_mail.specs.Offices.{Office, new_office}
+use Rattle.schedule_mail.specs.Mails.{Mail, new_mail}
 use Rattle.schedule_mail.specs.declared.connection.Connection.{Connection}
 use Rattle.relay.specs.declared.relay.Relay.{Relay}
 use Rattle.schedule_text.specs.declared.event.ConnectionNumber.TheVariants.{Zero}
 use Rattle.schedule_text.specs.declared.outcome.Outcome.TheVariants as told
 use Rattle.schedule_service.specs.Channels.{IsAllDue, Meets, with_channel}
-use Rattle.schedule_service.specs.Happenings.{over, Falls, Rises, OpensChannel}
+use Rattle.schedule_service.specs.SiteSteps.{over, Falls, Rises, OpensChannel}
 use Rattle.schedule_service.specs.Outcomes.{fall_told, fall_fate, rise_told}
 use Rattle.schedule_service.specs.declared.site_channel.SiteChannel.{SiteChannel}
 use Rattle.schedule_service.proofs.FrameExamples.{decoder_is_refusal, held, client, channel}
@@ -49,7 +49,7 @@ module _ (relay : Relay) where
   abbrev text : List ℕ
   text = codes "CONNECTED\nversion:1.2\n\n\0"
 
-  abbrev Goes : SiteChannel → Office → Type 0
+  abbrev Goes : SiteChannel → Mail → Type 0
   Goes l to = Falls Zero 5 empty (told.Carried 5) (serving empty) (served text) (serving l) to
 
   abbrev decoded : Option SiteChannel → List ℕ
@@ -76,7 +76,7 @@ module _ (relay : Relay) where
     λ h. still_there h.result h.later h.between h.tells h.carries h.meets,
   )
     where
-      not_fed : (l : SiteChannel) (to : Office) → l.connection.channel.decoder.octets ≡ [] → Goes l to → ⊥
+      not_fed : (l : SiteChannel) (to : Mail) → l.connection.channel.decoder.octets ≡ [] → Goes l to → ⊥
       not_fed l to none h = by_result h.result h.tells h.carries h.meets
         where
           by_result : (r : Result ℕ FrameFault) → told.Carried 5 ≡ fall_told r
@@ -90,13 +90,13 @@ module _ (relay : Relay) where
           by_result (Err f) tells carries meets =
               no_refusal (told.Carried 5) (fall_told (Err f)) refl (decoder_is_refusal f) tells
 
-      still_there : (r : Result ℕ FrameFault) (later : Connection) (between : Office) → told.Carried 5 ≡ fall_told r
+      still_there : (r : Result ℕ FrameFault) (later : Connection) (between : Mail) → told.Carried 5 ≡ fall_told r
           → CarriesDown 5 empty.connection (served text) later between r
           → Meets (fall_fate r) Zero (over empty later) (serving empty) between
           (serving (channel relay (client stage.Connecting []) (codes "CONNE"))) (served text) → ⊥
       still_there (Ok n) later between tells carries meets =
           let count : n ≡ 5 = carries.counted in
-          let same = ap (λ (o : Office). length (falling empty.connection o)) (meets.1 ∙ carries.left) in
+          let same = ap (λ (o : Mail). length (falling empty.connection o)) (meets.1 ∙ carries.left) in
           let fewer : 24 ≡ 19 = subst (λ k. 24 ≡ length (drop k text)) count same in omega (arith, fewer)
       still_there (Err f) later between tells carries meets =
           no_refusal (told.Carried 5) (fall_told (Err f)) refl (decoder_is_refusal f) tells
@@ -107,7 +107,7 @@ module _ (relay : Relay) where
   abbrev incoming : List ℕ → Incoming
   incoming octets = record { decoder = held octets; waiting = None }
 
-  abbrev fed : List ℕ → Office
+  abbrev fed : List ℕ → Mail
   fed octets = record {
     broker = record no_session { sessions = record (new_session 1) { incoming = incoming octets } ∷ []; opened = 1 };
     earlier = [];
@@ -131,7 +131,7 @@ module _ (relay : Relay) where
   abbrev connect : List ℕ
   connect = codes "CONNECT\naccept-version:1.2\nhost:outbox\n\n\0"
 
-  abbrev GoesUp : SiteChannel → Office → Type 0
+  abbrev GoesUp : SiteChannel → Mail → Type 0
   GoesUp l to = Rises Zero 7 (saying connect) (told.Carried 7) (serving (saying connect)) (fed []) (serving l) to
 
   abbrev waiting : Option SiteChannel → ℕ
@@ -185,7 +185,7 @@ module _ (relay : Relay) where
     λ h. stays (fed (codes "CONNECT")) h.result h.later h.tells h.carries h.site,
   )
     where
-      stays : (to : Office) (r : Result ℕ BrokerFault) (later : Connection) → told.Carried 7 ≡ rise_told r
+      stays : (to : Mail) (r : Result ℕ BrokerFault) (later : Connection) → told.Carried 7 ≡ rise_told r
           → CarriesUp 7 (saying connect).connection (fed []) later to r
           → serving (saying connect) ≡ with_channel Zero (Some (over (saying connect) later)) (serving (saying connect))
           → ⊥
@@ -206,12 +206,12 @@ module _ (relay : Relay) where
 
   -- a relay on which nothing counts as sent
   module _ (due : IsAllDue relay) where
-    abbrev Opened : SiteChannel → Office → Type 0
-    Opened l to = OpensChannel Zero None told.Opened (site (store true before) None) new_office (serving l) to
+    abbrev Opened : SiteChannel → Mail → Type 0
+    Opened l to = OpensChannel Zero None told.Opened (site (store true before) None) new_mail (serving l) to
 
     -- CONNECT waits to go up, and the broker has a session; it doesn't open without the one or the other
     one_is_opened : Opened (saying connect) (served []) × (Opened (saying []) (served []) → ⊥)
-        × (Opened (saying connect) new_office → ⊥)
+        × (Opened (saying connect) new_mail → ⊥)
     unfolding canonical line_of escape
     one_is_opened = (
       (
@@ -238,7 +238,7 @@ module _ (relay : Relay) where
             ap (λ (x : Service). waiting x.zero) adds.2 in omega (arith, waits, none)
         nothing_waits (Err f, opens, tells, adds) = absurd (cc)
 
-        no_session_there : Opened (saying connect) new_office → ⊥
+        no_session_there : Opened (saying connect) new_mail → ⊥
         no_session_there (Ok d, opens, tells, adds) =
             let one : 0 ≡ 1 = ap (λ (b : Server). b.opened) opens.session.changed in omega (arith, one)
         no_session_there (Err f, opens, tells, adds) = absurd (cc)

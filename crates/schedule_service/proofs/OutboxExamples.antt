@@ -26,7 +26,7 @@ use Rattle.keep.specs.declared.change.Place.{Place}
 use Rattle.keep.proofs.Places.{never_self, place_cmp-Equal}
 use Rattle.endpoint.proofs.Examples.{acme, bolts, from_order}
 use Rattle.endpoint.proofs.CallExamples.{orders, after, taken_in}
-use Rattle.schedule_mail.specs.Offices.{new_office}
+use Rattle.schedule_mail.specs.Mails.{new_mail}
 use Rattle.reception.proofs.Spelling.{text_behind}
 use Rattle.relay.specs.Calls.{Fills}
 use Rattle.relay.specs.Filling.{SendState, marks_of, unsent, SendsLetters}
@@ -37,7 +37,7 @@ use Rattle.relay.specs.declared.relay.Relay.{Relay}
 use Rattle.schedule_text.specs.declared.event.ConnectionNumber.TheVariants.{Zero}
 use Rattle.schedule_text.specs.declared.outcome.Outcome.TheVariants as told
 use Rattle.schedule_service.specs.Channels.{sending, Meets}
-use Rattle.schedule_service.specs.Happenings.{SendsRows}
+use Rattle.schedule_service.specs.SiteSteps.{SendsRows}
 use Rattle.schedule_service.specs.Outcomes.{fill_told, fill_fate}
 use Rattle.schedule_service.specs.declared.site_channel.SiteChannel.{SiteChannel}
 use Rattle.schedule_service.proofs.FrameExamples.{client, channel}
@@ -122,8 +122,8 @@ module _ (before sent : Relay) (nothing : (p : Pair) → marks_of before p ≡ 0
 
   abbrev Sends : ℕ → SiteChannel → Type 0
   Sends n l = SendsRows seen orders Zero 1 (on before idle) (told.Sent n)
-      (site (store true after) (Some (on before idle))) new_office
-      (site (store true after) (Some l)) new_office
+      (site (store true after) (Some (on before idle))) new_mail
+      (site (store true after) (Some l)) new_mail
 
   it_is_first : IsNext (unsent (marks_of before) after.unsettled) None letter
   unfolding same_entity same_pair
@@ -205,8 +205,8 @@ module _ (before sent : Relay) (nothing : (p : Pair) → marks_of before p ≡ 0
       one_receipt (x ∷ y ∷ ls) later one sends same = omega (arith, one)
 
       unwritten : (r : Result ℕ RelayFault) (later : SiteChannel) → told.Sent 1 ≡ fill_told r → Filled later r
-          → Meets (fill_fate r) Zero later (site (store true after) (Some (on before idle))) new_office
-          (site (store true after) (Some (on sent idle))) new_office → ⊥
+          → Meets (fill_fate r) Zero later (site (store true after) (Some (on before idle))) new_mail
+          (site (store true after) (Some (on sent idle))) new_mail → ⊥
       unwritten (Ok n) later tells fills meets = let one : 1 ≡ n = cc in
           one_receipt fills.letters later (one ∙ fills.gives.0) fills.sends
           (ap (λ (x : Service). receipts_of x.zero) meets.0)

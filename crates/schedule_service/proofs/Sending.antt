@@ -10,7 +10,7 @@ use Rattle.keep.specs.Law.{Reads}
 use Rattle.keep.specs.Seen.{Seen}
 use Rattle.keep.specs.Tables.{Tables}
 use Rattle.endpoint.specs.Calls.{Stays}
-use Rattle.schedule_mail.specs.Offices.{Office}
+use Rattle.schedule_mail.specs.Mails.{Mail}
 use Rattle.relay.specs.Calls.{Fills, idle_answer, store_end}
 use Rattle.relay.specs.Filling.{send_state}
 use Rattle.relay.specs.Knowing.{KnowsAll}
@@ -18,7 +18,7 @@ use Rattle.relay.specs.declared.fault.RelayFault.{RelayFault}
 use Rattle.relay.specs.declared.relay.Relay.{Relay}
 use Rattle.schedule_text.specs.declared.event.ConnectionNumber.{ConnectionNumber}
 use Rattle.schedule_text.specs.declared.outcome.Outcome.{Outcome}
-use Rattle.schedule_service.specs.Happenings.{SendsRows, with_store}
+use Rattle.schedule_service.specs.SiteSteps.{SendsRows, with_store}
 use Rattle.schedule_service.specs.Channels.{Meets, sending}
 use Rattle.schedule_service.specs.Outcomes.{fill_told, fill_fate}
 use Rattle.schedule_service.specs.declared.fate.ChannelFate.{ChannelFate}
@@ -27,7 +27,7 @@ use Rattle.schedule_service.specs.declared.site.Site.{Site}
 
 module _ {H K S C : Type 0} (seen : K → Seen (Tables S C)) (service : Service S C) (number : ConnectionNumber)
     (limit : ℕ) (l : SiteChannel)
-    (outcome : Outcome) (s : Site H K S C) (from : Office) (t : Site H K S C) (to : Office) where
+    (outcome : Outcome) (s : Site H K S C) (from : Mail) (t : Site H K S C) (to : Mail) where
   pub sends_on : (later : Relay) (client : ClientWithRoom ℕ) (store : Failing K) (r : Result ℕ RelayFault)
       (fate : ChannelFate)
       → IfSome (idle_answer l.connection.channel.client.client.stage)

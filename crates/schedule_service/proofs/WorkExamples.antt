@@ -19,18 +19,18 @@ use Rattle.keep.specs.Failing.{Failing, through}
 use Rattle.keep.specs.Law.{Reopens}
 use Rattle.keep.specs.Seen.{Seen}
 use Rattle.keep.specs.declared.faulty.Leaves.TheVariants.{New as NewTables}
-use Rattle.schedule_mail.specs.Offices.{Office, new_office}
+use Rattle.schedule_mail.specs.Mails.{Mail, new_mail}
 use Rattle.relay.specs.declared.relay.Relay.{Relay}
 use Rattle.schedule_mail.specs.declared.connection.Connection.{Connection}
 use Rattle.schedule_text.specs.declared.outcome.Outcome.{Outcome}
 use Rattle.schedule_text.specs.declared.outcome.Outcome.TheVariants as told
 use Rattle.schedule_service.specs.Channels.{MailAfterCut}
-use Rattle.schedule_service.specs.Happenings.{command_row, TakesCommand, ReopensStore, StopsSite, Happens}
+use Rattle.schedule_service.specs.SiteSteps.{command_row, TakesCommand, ReopensStore, StopsSite, SiteStep}
 use Rattle.schedule_service.specs.Outcomes.{fault_told, commit_told, end_told}
 use Rattle.schedule_service.specs.SiteEvents as event
 use Rattle.schedule_service.specs.declared.site_channel.SiteChannel.{SiteChannel}
 use Rattle.schedule_service.specs.declared.site.Site.{Site}
-use Rattle.schedule_service.proofs.HappeningExamples.{asked}
+use Rattle.schedule_service.proofs.StepExamples.{asked}
 
 -- ---- what is told of faults
 
@@ -94,13 +94,13 @@ rows t = length t.journal
 -- from these tables to those the command is given, and this is told
 abbrev Gives : Outcome → OrderTables → OrderTables → Type 0
 Gives o x y =
-    TakesCommand seen orders asked o (site (store true x) None) new_office (site (store true y) None) new_office
+    TakesCommand seen orders asked o (site (store true x) None) new_mail (site (store true y) None) new_mail
 
 -- the order is placed and stands in the journal at the position that is told; it isn't told where the tables stay, nor
 -- at another one
 a_command_is_taken_in : Gives (told.Committed 1) before after
-    × Happens seen orders (event.Commits asked) (told.Committed 1) (site (store true before) None) new_office
-    (site (store true after) None) new_office
+    × SiteStep seen orders (event.Commits asked) (told.Committed 1) (site (store true before) None) new_mail
+    (site (store true after) None) new_mail
     × (Gives (told.Committed 1) before before → ⊥) × (Gives (told.Committed 2) before after → ⊥)
 a_command_is_taken_in =
     (placed, placed, λ h. stays h.result h.tells h.commits, λ h. elsewhere h.result h.tells h.commits)
@@ -134,7 +134,7 @@ a_command_is_taken_in =
 -- ---- a store is opened anew
 
 abbrev Finds : Failing Store → Type 0
-Finds e = ReopensStore seen orders told.Reopened (site (store false before) None) new_office (site e None) new_office
+Finds e = ReopensStore seen orders told.Reopened (site (store false before) None) new_mail (site e None) new_mail
 
 -- tables of two rows
 abbrev others : OrderTables
@@ -178,7 +178,7 @@ a_store_is_opened_anew = (
 -- ---- a service is stopped
 
 -- a mail whose broker has one session, with these octets for it; and the mail behind its end
-abbrev pub served : List ℕ → Office
+abbrev pub served : List ℕ → Mail
 served octets = record {
   broker = record no_session {
     sessions = record (new_session 1) { out = octets } ∷ [];
@@ -187,7 +187,7 @@ served octets = record {
   earlier = [];
 }
 
-abbrev pub left : Office
+abbrev pub left : Mail
 left = record { broker = record no_session { opened = 1 }; earlier = [] }
 
 abbrev opened : Option SiteChannel → ℕ
@@ -211,7 +211,7 @@ module _ (c : Connection) (relay : Relay) (octets : List ℕ) where
   abbrev armed : Failing Store
   armed = record (store true after) { armed = Some (record { calls = 2; leaves = NewTables }) }
 
-  abbrev Ends : Service → Office → Type 0
+  abbrev Ends : Service → Mail → Type 0
   Ends t to = StopsSite seen orders told.Stopped (site armed (Some l)) (served octets) t to
 
   -- the connection is cut and its session ends, and the store isn't told to fail any more; neither the one nor the

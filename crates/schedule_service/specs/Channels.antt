@@ -6,7 +6,7 @@ use Rattle.endpoint.specs.declared.fault.EndFault.{EndFault}
 use Rattle.endpoint.specs.declared.fault.EndFault.TheVariants.{StoreFailed}
 use Rattle.keep.specs.Tables.{Messages}
 use Rattle.schedule_mail.specs.Connecting.{Cuts}
-use Rattle.schedule_mail.specs.Offices.{Office}
+use Rattle.schedule_mail.specs.Mails.{Mail}
 use Rattle.relay.specs.Filling.{SendState, send_state, marks_of}
 use Rattle.relay.specs.Knowing.{KnowsRows}
 use Rattle.relay.specs.declared.relay.Relay.{Relay}
@@ -46,7 +46,7 @@ ChannelHas Is None = ⊤
 ChannelHas Is (Some l) = Is l.relay
 
 -- the mail behind the cut of a connection, where it was open; that memory was refused to the deals isn't told
-abbrev pub MailAfterCut : Option SiteChannel → Office → Office → Type 0
+abbrev pub MailAfterCut : Option SiteChannel → Mail → Mail → Type 0
 MailAfterCut None from to = to ≡ from
 MailAfterCut (Some l) from to = (r : Result (Unit {0}) AllocError) × Cuts l.connection from to r
 
@@ -69,35 +69,35 @@ module _ {H K S C : Type 0} where
   TakesChannel number s t None = (channel_of number s ≡ None) × (t ≡ s)
 
   -- nothing has changed
-  abbrev pub Same : Site H K S C → Office → Site H K S C → Office → Type 0
+  abbrev pub Same : Site H K S C → Mail → Site H K S C → Mail → Type 0
   Same s from t to = (t ≡ s) × (to ≡ from)
 
   -- both connections are cut, that of number 0 first
-  pub record CutsBoth (s : Site H K S C) (from : Office) (t : Site H K S C) (to : Office) : Type 0 where
-    pub between : Office
+  pub record CutsBoth (s : Site H K S C) (from : Mail) (t : Site H K S C) (to : Mail) : Type 0 where
+    pub between : Mail
     pub zero : MailAfterCut s.zero from between
     pub one : MailAfterCut s.one between to
     pub site : t ≡ record s { zero = None; one = None }
 
   -- behind a fault of the endpoint both are cut where the store failed, and else nothing changes
-  abbrev pub AfterFault : EndFault → Site H K S C → Office → Site H K S C → Office → Type 0
+  abbrev pub AfterFault : EndFault → Site H K S C → Mail → Site H K S C → Mail → Type 0
   AfterFault StoreFailed s from t to = CutsBoth s from t to
   AfterFault _ s from t to = Same s from t to
 
   -- and behind an answer
-  abbrev pub After : {R : Type 0} → Result R EndFault → Site H K S C → Office → Site H K S C → Office → Type 0
+  abbrev pub After : {R : Type 0} → Result R EndFault → Site H K S C → Mail → Site H K S C → Mail → Type 0
   After (Ok _) s from t to = Same s from t to
   After (Err fault) s from t to = AfterFault fault s from t to
 
   -- an open connection, which is this now, has this fate
-  abbrev pub Meets : ChannelFate → ConnectionNumber → SiteChannel → Site H K S C → Office → Site H K S C → Office
+  abbrev pub Meets : ChannelFate → ConnectionNumber → SiteChannel → Site H K S C → Mail → Site H K S C → Mail
       → Type 0
   Meets Stays number l s from t to = Same (with_channel number (Some l) s) from t to
   Meets IsCut number l s from t to = MailAfterCut (Some l) from to × (t ≡ with_channel number None s)
   Meets BothAreCut number l s from t to = CutsBoth (with_channel number (Some l) s) from t to
 
   -- and where it isn't open
-  abbrev pub MeetsAlone : ChannelFate → Site H K S C → Office → Site H K S C → Office → Type 0
+  abbrev pub MeetsAlone : ChannelFate → Site H K S C → Mail → Site H K S C → Mail → Type 0
   MeetsAlone Stays s from t to = Same s from t to
   MeetsAlone IsCut s from t to = Same s from t to
   MeetsAlone BothAreCut s from t to = CutsBoth s from t to

@@ -8,9 +8,9 @@ use Rattle.endpoint.specs.Matches.{AllMatch}
 use Rattle.relay.specs.Knowing.{Knows}
 use Rattle.relay.specs.declared.relay.Relay.{Relay}
 use Rattle.schedule_service.specs.Deeds.{Goes, SiteMay, channels_of}
-use Rattle.schedule_mail.specs.Offices.{Office}
+use Rattle.schedule_mail.specs.Mails.{Mail}
 use Rattle.schedule_text.specs.declared.outcome.Outcome.{Outcome}
-use Rattle.schedule_service.specs.Happenings.{Happens}
+use Rattle.schedule_service.specs.SiteSteps.{SiteStep}
 use Rattle.schedule_service.specs.Channels.{ChannelsHave}
 use Rattle.schedule_service.specs.SiteEvents.{SiteEvent}
 use Rattle.schedule_service.specs.declared.site.Site.{Site}
@@ -25,9 +25,9 @@ AreRight seen service s = ChannelsHave (KnowsEach service (seen s.endpoint.keep)
 
 -- where they were right they are so behind an event, if no file is in doubt
 abbrev pub KeepsRight : {H K S C : Type 0} → (K → Seen (Tables S C)) → Service S C → SiteEvent C → Outcome
-    → Site H K S C → Office
-    → Site H K S C → Office → Type 0
+    → Site H K S C → Mail
+    → Site H K S C → Mail → Type 0
 KeepsRight seen service e outcome s from t to =
     (seen t.endpoint.keep).doubt ≡ 0 → AllMatch service (seen s.endpoint.keep).may_leave
-    → Happens seen service e outcome s from t to → Goes seen s t service (SiteMay service (channels_of s) e outcome)
+    → SiteStep seen service e outcome s from t to → Goes seen s t service (SiteMay service (channels_of s) e outcome)
     → AreRight seen service s → AreRight seen service t

@@ -23,7 +23,7 @@ use Rattle.schedule_text.specs.declared.outcome.Outcome.{Outcome}
 use Rattle.schedule_text.specs.declared.outcome.Outcome.TheVariants.{Committed, Handled, Repeated, Held, Settled, Idle}
 use Rattle.schedule_text.specs.declared.outcome.Outcome.TheVariants.{Drained, Refused}
 use Rattle.schedule_text.specs.declared.outcome.Outcome.TheVariants.{NotDone}
-use Rattle.schedule_service.specs.Happenings.{command_row}
+use Rattle.schedule_service.specs.SiteSteps.{command_row}
 use Rattle.schedule_service.specs.Channels.{channel_of}
 use Rattle.schedule_service.specs.SiteEvents.{SiteEvent, Commits, Takes, Drains}
 use Rattle.schedule_service.specs.declared.site_channel.SiteChannel.{SiteChannel}

@@ -1,6 +1,6 @@
 pub mod SiteEvents
 pub mod Channels
 pub mod Outcomes
-pub mod Happenings
+pub mod SiteSteps
 pub mod Deeds
 pub mod Cursors

@@ -3,14 +3,14 @@
 ghost use Rattle.endpoint.specs.Calls.{Commits, ComesBy, StillMatches, Stays};
 ghost use Rattle.endpoint.specs.Deeds.{CommitMay};
 ghost use Rattle.keep.specs.Failing.{through};
-ghost use Rattle.schedule_mail.specs.Offices.{Office};
+ghost use Rattle.schedule_mail.specs.Mails.{Mail};
 ghost use Rattle.reception.specs.Answers.{Answers};
 ghost use Rattle.reception.specs.Deeds.{TakeMay, TellsOfUse};
 ghost use Rattle.schedule_service.specs.Channels.{AfterFault, CutsBoth, Meets, MeetsAlone, TakesChannel, with_channel};
 ghost use Rattle.schedule_service.specs.Deeds.{DoubtStays, Matches, Goes, SiteMay, channels_of, FrameMay, HeldMay};
 ghost use Rattle.schedule_service.specs.Deeds.{CameOn};
-ghost use Rattle.schedule_service.specs.Happenings.{Happens, leaves_of, command_row, SendsRows, Falls, DrainsAlone};
-ghost use Rattle.schedule_service.specs.Happenings.{DrainsOver, TakesFrame, TakesOne, waiting_of};
+ghost use Rattle.schedule_service.specs.SiteSteps.{SiteStep, leaves_of, command_row, SendsRows, Falls, DrainsAlone};
+ghost use Rattle.schedule_service.specs.SiteSteps.{DrainsOver, TakesFrame, TakesOne, waiting_of};
 ghost use Rattle.schedule_service.specs.Outcomes.{fault_told};
 ghost use Rattle.schedule_service.specs.SiteEvents.{Opens, Cuts, Resends, Commits as CommitsCommand, Arms, Reopens};
 ghost use Rattle.schedule_service.specs.SiteEvents.{Stops, Fills, Carries, Takes, Drains};
@@ -225,7 +225,7 @@ where
     /// Outcomes: `Opened`; `Already` where it is open; `Refused` with 44, 34 or 36, as [`Connection::open`] tells it.
     /// Nothing has changed then.
     pub fn open(&mut self, alloc: Global, mail: &mut Mail, number: ConnectionNumber) -> Outcome
-        ensures did { Happens K.seen H.service (Opens number) result self.old mail.old self.new mail.new }
+        ensures did { SiteStep K.seen H.service (Opens number) result self.old mail.old self.new mail.new }
         ensures doubt { DoubtStays K.seen self.old self.new }
         ensures matches { Matches K.seen self.old self.new H.service }
         ensures comes { Goes K.seen self.old self.new H.service (SiteMay H.service (channels_of self.old) (Opens number)
@@ -250,7 +250,7 @@ where
     ///
     /// Outcomes: `Cut`; `Closed` where it isn't open, and nothing has changed.
     pub fn cut(&mut self, mail: &mut Mail, number: ConnectionNumber) -> Outcome
-        ensures did { Happens K.seen H.service (Cuts number) result self.old mail.old self.new mail.new }
+        ensures did { SiteStep K.seen H.service (Cuts number) result self.old mail.old self.new mail.new }
         ensures doubt { DoubtStays K.seen self.old self.new }
         ensures matches { Matches K.seen self.old self.new H.service }
         ensures comes { Goes K.seen self.old self.new H.service (SiteMay H.service (channels_of self.old) (Cuts number)
@@ -273,7 +273,7 @@ where
         mail: &mut Mail,
         asked: &SeatCommand<H::Command>,
     ) -> Outcome
-        ensures did { Happens K.seen H.service (CommitsCommand asked.now) result self.old mail.old self.new mail.new }
+        ensures did { SiteStep K.seen H.service (CommitsCommand asked.now) result self.old mail.old self.new mail.new }
         ensures doubt { DoubtStays K.seen self.old self.new }
         ensures matches { Matches K.seen self.old self.new H.service }
         ensures comes { Goes K.seen self.old self.new H.service (SiteMay H.service (channels_of self.old)
@@ -289,7 +289,7 @@ where
     ///
     /// The outcome is `Armed`.
     pub fn fail(&mut self, n: Ordinal, leaves: FailureLeaves) -> Outcome
-        ensures did { (mail : Office) → Happens K.seen H.service (Arms n leaves) result self.old mail self.new mail }
+        ensures did { (mail : Mail) → SiteStep K.seen H.service (Arms n leaves) result self.old mail self.new mail }
         ensures doubt { DoubtStays K.seen self.old self.new }
         ensures matches { Matches K.seen self.old self.new H.service }
         ensures comes { Goes K.seen self.old self.new H.service (SiteMay H.service (channels_of self.old)
@@ -304,7 +304,7 @@ where
     /// Outcomes: `Reopened`; `Refused` with 63 or 64, and a stop leaves nothing that it couldn't leave before. After 63
     /// both connections are cut.
     pub fn reopen(&mut self, alloc: Global, mail: &mut Mail) -> Outcome
-        ensures did { Happens K.seen H.service Reopens result self.old mail.old self.new mail.new }
+        ensures did { SiteStep K.seen H.service Reopens result self.old mail.old self.new mail.new }
         ensures doubt { DoubtStays K.seen self.old self.new }
         ensures matches { Matches K.seen self.old self.new H.service }
         ensures comes { Goes K.seen self.old self.new H.service (SiteMay H.service (channels_of self.old) Reopens
@@ -321,7 +321,7 @@ where
     ///
     /// Outcomes: `Stopped`; `Refused` with 63 or 64, where the store couldn't be opened.
     pub fn stop(&mut self, alloc: Global, mail: &mut Mail) -> Outcome
-        ensures did { Happens K.seen H.service Stops result self.old mail.old self.new mail.new }
+        ensures did { SiteStep K.seen H.service Stops result self.old mail.old self.new mail.new }
         ensures doubt { DoubtStays K.seen self.old self.new }
         ensures matches { Matches K.seen self.old self.new H.service }
         ensures comes { Goes K.seen self.old self.new H.service (SiteMay H.service (channels_of self.old) Stops
@@ -342,7 +342,7 @@ where
     /// Outcomes: `Sent`, with how many; `Closed` where the connection isn't open; `Refused` as
     /// [`Relay::fill`](relay::Relay::fill) tells it: the rows before stay sent. After 63 both connections are cut.
     pub fn fill(&mut self, mail: &mut Mail, number: ConnectionNumber, limit: u64) -> Outcome
-        ensures did { Happens K.seen H.service (Fills number limit) result self.old mail.old self.new mail.new }
+        ensures did { SiteStep K.seen H.service (Fills number limit) result self.old mail.old self.new mail.new }
         ensures doubt { DoubtStays K.seen self.old self.new }
         ensures matches { Matches K.seen self.old self.new H.service }
         ensures comes { Goes K.seen self.old self.new H.service (SiteMay H.service (channels_of self.old)
@@ -381,7 +381,7 @@ where
     ///
     /// Outcomes: `Due`; `Closed` where it isn't open.
     pub fn resend(&mut self, number: ConnectionNumber) -> Outcome
-        ensures did { (mail : Office) → Happens K.seen H.service (Resends number) result self.old mail self.new mail }
+        ensures did { (mail : Mail) → SiteStep K.seen H.service (Resends number) result self.old mail self.new mail }
         ensures doubt { DoubtStays K.seen self.old self.new }
         ensures matches { Matches K.seen self.old self.new H.service }
         ensures comes { Goes K.seen self.old self.new H.service (SiteMay H.service (channels_of self.old)
@@ -409,7 +409,7 @@ where
         way: Way,
         most: u64,
     ) -> Outcome
-        ensures did { Happens K.seen H.service (Carries number way most) result self.old mail.old self.new mail.new }
+        ensures did { SiteStep K.seen H.service (Carries number way most) result self.old mail.old self.new mail.new }
         ensures doubt { DoubtStays K.seen self.old self.new }
         ensures matches { Matches K.seen self.old self.new H.service }
         ensures comes { Goes K.seen self.old self.new H.service (SiteMay H.service (channels_of self.old)
@@ -423,7 +423,7 @@ where
 
     /// Carries octets up.
     fn carry_up(&mut self, mail: &mut Mail, number: ConnectionNumber, most: u64) -> Outcome
-        ensures did { Happens K.seen H.service (Carries number Up most) result self.old mail.old self.new mail.new }
+        ensures did { SiteStep K.seen H.service (Carries number Up most) result self.old mail.old self.new mail.new }
         ensures store { self.new.endpoint ≡ self.old.endpoint }
     {
         let Some(mut channel) = self.take_channel(number) else {
@@ -436,7 +436,7 @@ where
 
     /// Carries octets down.
     fn carry_down(&mut self, mail: &mut Mail, number: ConnectionNumber, most: u64) -> Outcome
-        ensures did { Happens K.seen H.service (Carries number Down most) result self.old mail.old self.new mail.new }
+        ensures did { SiteStep K.seen H.service (Carries number Down most) result self.old mail.old self.new mail.new }
         ensures store { self.new.endpoint ≡ self.old.endpoint }
     {
         match self.take_channel(number) {
@@ -470,7 +470,7 @@ where
     /// - with 2 to 12 where octets are at fault, and with 42 where no server may send the frame: the connection is cut;
     /// - with 63: both connections are cut.
     pub fn take(&mut self, alloc: Global, mail: &mut Mail, number: ConnectionNumber) -> Outcome
-        ensures did { Happens K.seen H.service (Takes number) result self.old mail.old self.new mail.new }
+        ensures did { SiteStep K.seen H.service (Takes number) result self.old mail.old self.new mail.new }
         ensures doubt { DoubtStays K.seen self.old self.new }
         ensures matches { Matches K.seen self.old self.new H.service }
         ensures comes { Goes K.seen self.old self.new H.service (SiteMay H.service (channels_of self.old) (Takes number)
@@ -540,7 +540,7 @@ where
     /// Outcomes: `Drained`; `Idle` where no pair's next letter is held; `Refused` as [`drain`](reception::drain) tells
     /// it. After 63 both connections are cut.
     pub fn drain(&mut self, alloc: Global, mail: &mut Mail, number: ConnectionNumber) -> Outcome
-        ensures did { Happens K.seen H.service (Drains number) result self.old mail.old self.new mail.new }
+        ensures did { SiteStep K.seen H.service (Drains number) result self.old mail.old self.new mail.new }
         ensures doubt { DoubtStays K.seen self.old self.new }
         ensures matches { Matches K.seen self.old self.new H.service }
         ensures comes { Goes K.seen self.old self.new H.service (SiteMay H.service (channels_of self.old)

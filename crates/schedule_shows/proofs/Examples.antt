@@ -2,7 +2,7 @@
 use Rattle.std.proofs.Common.{◌≡◌, [], ◌∷◌, ◌++◌, refl}
 use Rattle.std.specs.Prelude.{codes, Some, None}
 use Rattle.std.specs.Fmt.{digits}
-use Rattle.base.specs.Entity.{Name, order_of, stock_of, account_of}
+use Rattle.base.specs.Entity.{Entity, order_of, stock_of, account_of}
 use Rattle.base.specs.declared.pair.Pair.{Pair}
 use Rattle.stomp_frame.specs.Frames.{canonical, line_of, escape}
 use Rattle.envelope.specs.declared.message.Message.TheVariants as message
@@ -25,13 +25,13 @@ use Rattle.schedule_shows.specs.Printed.{shown_stock_command, shown_account_comm
 use Rattle.schedule_shows.specs.Printed.{journal_lines}
 use Rattle.schedule_shows.specs.Printed.{frame_line, frame_lines}
 
-abbrev o1 : Name
+abbrev o1 : Entity
 o1 = order_of (codes "o1")
 
-abbrev bolts : Name
+abbrev bolts : Entity
 bolts = stock_of (codes "bolts")
 
-abbrev acme : Name
+abbrev acme : Entity
 acme = account_of (codes "acme")
 
 -- ---- rows

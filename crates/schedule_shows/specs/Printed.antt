@@ -2,7 +2,7 @@
 use Rattle.std.specs.Prelude.{ℕ, List, [], ◌∷◌, ◌++◌, codes, decimal, Option, Some, None}
 use Rattle.std.specs.List.{flat_map, enumerate_from}
 use Rattle.text.specs.Escapes.{spelled}
-use Rattle.base.specs.Entity.{Name}
+use Rattle.base.specs.Entity.{Entity}
 use Rattle.base.specs.declared.pair.Pair.{Pair}
 use Rattle.envelope.specs.declared.message.Message.{Message}
 use Rattle.envelope.specs.declared.message.Message.TheVariants.{Request, Tentative, Refused, Confirm, Cancel}
@@ -52,7 +52,7 @@ shown_or_none shown None = codes " none"
 shown_or_none shown (Some state) = shown state
 
 -- the line of `show`: an entity, and its row where there is one
-abbrev pub show_line : {S : Type 0} → (S → List ℕ) → Name → Option S → List ℕ
+abbrev pub show_line : {S : Type 0} → (S → List ℕ) → Entity → Option S → List ℕ
 show_line shown e row = shown_entity e ++ shown_or_none shown row ++ 10 ∷ []
 
 -- the line of `pair`: how many letters were sent, how many of them are settled, and how many were handled

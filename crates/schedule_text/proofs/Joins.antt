@@ -4,7 +4,7 @@ use Rattle.std.proofs.Common.{append_assoc, length}
 use Rattle.std.specs.Option.{option_map}
 use Rattle.schedule_text.specs.declared.fault.LineFault.{LineFault}
 use Rattle.schedule_text.specs.declared.fault.LineFault.TheVariants.{Bad, Memory}
-use Rattle.schedule_text.specs.Reading.{Fails}
+use Rattle.schedule_text.specs.Reading.{MayFail}
 use Rattle.schedule_text.specs.Cuts.{Lacks}
 use Rattle.schedule_text.specs.Words.{◌>>=◌, meant_by, unescaped, word_of, words_in, words_of}
 use Rattle.schedule_text.proofs.Cuts.{split_at, split_none, unescaped_front, unescaped_plain, unescaped_escape}
@@ -99,8 +99,8 @@ words_end_badly done rest whole lacks bad told =
     ∙ ap (λ found. found >>= λ word. Some (word ∷ [])) bad)
 
 -- what is bad of a part is bad of the whole
-pub bad_passes : {Y W : Type 0} (fault : LineFault) (part : Option Y) (whole : Option W) → Fails fault part
+pub bad_passes : {Y W : Type 0} (fault : LineFault) (part : Option Y) (whole : Option W) → MayFail fault part
     → (part ≡ None → whole ≡ None)
-    → Fails fault whole
+    → MayFail fault whole
 bad_passes Bad part whole read passes = passes read
 bad_passes Memory part whole read passes = tt

@@ -8,7 +8,7 @@ use Rattle.std.proofs.lemmas.List.{take-append-drop}
 use Rattle.std.specs.Cmp.Lexicographic.{same_text}
 use Rattle.base.specs.declared.entity.Kind.{Kind}
 use Rattle.base.specs.declared.entity.Kind.TheVariants.{Order, Stock, Account}
-use Rattle.base.specs.Entity.{Name, prefix_of, text_of, is_key, order_of, stock_of, account_of}
+use Rattle.base.specs.Entity.{Entity, prefix_of, text_of, is_key, order_of, stock_of, account_of}
 use Rattle.schedule_text.specs.Arguments.{entity_of, named}
 
 entity_at : (kind : Kind) (key : List ℕ)
@@ -18,22 +18,22 @@ entity_at Order key = refl
 entity_at Stock key = refl
 entity_at Account key = refl
 
-pub entity_named : (e : Name) (word : List ℕ) → text_of e ≡ word → is_key e.key ≡ true → entity_of word ≡ Some e
+pub entity_named : (e : Entity) (word : List ℕ) → text_of e ≡ word → is_key e.key ≡ true → entity_of word ≡ Some e
 entity_named e word text key = ap entity_of (sym text) ∙ entity_at e.kind e.key
     ∙ ap (λ b. option_map (λ k. record { kind = e.kind; key = k }) (cond b (Some e.key) None)) key
 
-pub entity_without_key : (e : Name) (word : List ℕ) → text_of e ≡ word → is_key e.key ≡ false → entity_of word ≡ None
+pub entity_without_key : (e : Entity) (word : List ℕ) → text_of e ≡ word → is_key e.key ≡ false → entity_of word ≡ None
 entity_without_key e word text key = ap entity_of (sym text) ∙ entity_at e.kind e.key
     ∙ ap (λ b. option_map (λ k. record { kind = e.kind; key = k }) (cond b (Some e.key) None)) key
 
-begins_not : (kind : Kind) (word : List ℕ) → ((e : Name) → text_of e ≢ word)
+begins_not : (kind : Kind) (word : List ℕ) → ((e : Entity) → text_of e ≢ word)
     → starts_with nat_eq word (prefix_of kind) ≡ false
 begins_not kind word none = false_from_ne_true _ (λ yes.
     let front : prefix_of kind ≡ take (length (prefix_of kind)) word = same_text _ _ (sym yes) in
     none (record { kind = kind; key = drop (length (prefix_of kind)) word })
     (ap (λ p. p ++ drop (length (prefix_of kind)) word) front ∙ take-append-drop (length (prefix_of kind)) word))
 
-pub entity_unnamed : (word : List ℕ) → ((e : Name) → text_of e ≢ word) → entity_of word ≡ None
+pub entity_unnamed : (word : List ℕ) → ((e : Entity) → text_of e ≢ word) → entity_of word ≡ None
 entity_unnamed word none =
     let order : starts_with nat_eq word (prefix_of Order) ≡ false = begins_not Order word none in
     let stock : starts_with nat_eq word (prefix_of Stock) ≡ false = begins_not Stock word none in

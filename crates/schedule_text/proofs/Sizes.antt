@@ -16,7 +16,7 @@ use Rattle.std.proofs.lemmas.List.{length-drop}
 use Rattle.std.proofs.lemmas.List.Splits.{length-slice_split}
 use Rattle.text.specs.Numerals.{number_of}
 use Rattle.text.proofs.Digits.{both_true, number_only, number_small}
-use Rattle.base.specs.Entity.{Name, is_key, prefix_of, order_of, stock_of, account_of}
+use Rattle.base.specs.Entity.{Entity, is_key, prefix_of, order_of, stock_of, account_of}
 use Rattle.base.specs.declared.entity.Kind.TheVariants.{Order, Stock, Account}
 use Rattle.base.specs.declared.pair.Pair.{Pair}
 use Rattle.trade.specs.declared.commands.OrderCommand.{OrderCommand}
@@ -161,7 +161,7 @@ is_key_size key e = grind (arith, e)
 key_size : (word key : List ℕ) → key_of word ≡ Some key → length word ≤ 64
 key_size word key e = is_key_size word (cond_some _ _ _ e).0
 
-named_size : (entity : List ℕ → Name) (prefix word : List ℕ) (e : Name) → length prefix ≤ 8
+named_size : (entity : List ℕ → Entity) (prefix word : List ℕ) (e : Entity) → length prefix ≤ 8
     → named entity prefix word ≡ Some e
     → length word ≤ 72
 named_size entity prefix word e short is =
@@ -178,7 +178,7 @@ of_three false true c x y z v e = inr (inl e)
 of_three false false true x y z v e = inr (inr e)
 of_three false false false x y z v e = absurd cc
 
-entity_size : (word : List ℕ) (e : Name) → entity_of word ≡ Some e → length word ≤ 72
+entity_size : (word : List ℕ) (e : Entity) → entity_of word ≡ Some e → length word ≤ 72
 entity_size word e is =
     elim (of_three (starts_with nat_eq word (prefix_of Order)) (starts_with nat_eq word (prefix_of Stock))
     (starts_with nat_eq word (prefix_of Account))

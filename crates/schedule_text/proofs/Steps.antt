@@ -3,7 +3,7 @@ use Rattle.std.proofs.Common.{◌≡◌, ◌<◌, ◌≤◌, List, [], ◌∷◌
 use Rattle.std.specs.Result.{IsErrAnd}
 use Rattle.schedule_text.specs.declared.fault.LineFault.{LineFault}
 use Rattle.schedule_text.specs.declared.fault.LineFault.TheVariants.{Bad, Memory}
-use Rattle.schedule_text.specs.Reading.{Fails, Reads}
+use Rattle.schedule_text.specs.Reading.{MayFail, Reads}
 use Rattle.schedule_text.specs.Words.{◌>>=◌}
 
 -- two items alone
@@ -31,15 +31,15 @@ four (w ∷ l) a b c d least below first second third fourth =
     rw first (rw (three l b c d (omega (arith, least)) (omega (arith, below)) second third fourth) refl)
 
 -- what isn't read first isn't read at all
-pub fails_first : {A B : Type 0} (fault : LineFault) (o : Option A) (f : A → Option B) → Fails fault o
-    → Fails fault (o >>= f)
+pub fails_first : {A B : Type 0} (fault : LineFault) (o : Option A) (f : A → Option B) → MayFail fault o
+    → MayFail fault (o >>= f)
 fails_first Bad o f none = rw none refl
 fails_first Memory o f none = tt
 
 -- what is read first is what the others are read with
 pub then_fails : {A B : Type 0} (fault : LineFault) (o : Option A) (a : A) (f : A → Option B) → o ≡ Some a
-    → Fails fault (f a)
-    → Fails fault (o >>= f)
+    → MayFail fault (f a)
+    → MayFail fault (o >>= f)
 then_fails fault o a f known fails = rw known fails
 
 -- what is read first is what the others are read with
@@ -50,6 +50,6 @@ then_reads o a f expected known same = rw known same
 
 -- a fault is answered as it is
 pub answers_fault : {X Y : Type 0} (view : X → Y) (r : Result X LineFault) (fault : LineFault) (expected : Option Y)
-    → IsErrAnd r (λ y. y ≡ fault) → Fails fault expected → Reads view r expected
+    → IsErrAnd r (λ y. y ≡ fault) → MayFail fault expected → Reads view r expected
 answers_fault view (Ok x) fault expected said fails = absurd said
 answers_fault view (Err y) fault expected said fails = rw said fails

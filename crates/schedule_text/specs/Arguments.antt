@@ -4,7 +4,7 @@ use Rattle.std.specs.List.{starts_with}
 use Rattle.std.specs.Option.{option_map}
 use Rattle.std.specs.Str.{bytes_eq}
 use Rattle.text.specs.Numerals.{number_of}
-use Rattle.base.specs.Entity.{Name, order_of, stock_of, account_of, is_key, prefix_of}
+use Rattle.base.specs.Entity.{Entity, order_of, stock_of, account_of, is_key, prefix_of}
 use Rattle.base.specs.declared.entity.Kind.TheVariants.{Order, Stock, Account}
 use Rattle.schedule_text.specs.declared.event.ServiceName.{ServiceName}
 use Rattle.schedule_text.specs.declared.event.ServiceName.TheVariants.{Purchasing, Warehouse, Billing}
@@ -34,11 +34,11 @@ abbrev pub key_of : List ℕ → Option (List ℕ)
 key_of word = if is_key word then Some word else None
 
 -- the entity whose kind's prefix begins the word
-abbrev pub named : (List ℕ → Name) → List ℕ → List ℕ → Option Name
+abbrev pub named : (List ℕ → Entity) → List ℕ → List ℕ → Option Entity
 named entity prefix word = option_map entity (key_of (drop (length prefix) word))
 
 -- the entity that a word is
-abbrev pub entity_of : List ℕ → Option Name
+abbrev pub entity_of : List ℕ → Option Entity
 entity_of word =
     if starts_with nat_eq word (prefix_of Order) then named order_of (prefix_of Order) word else
     if starts_with nat_eq word (prefix_of Stock) then named stock_of (prefix_of Stock) word else

@@ -1,7 +1,7 @@
 -- The lines that tell what became of events.
 use Rattle.std.specs.Prelude.{ℕ, true, false, List, [], ◌∷◌, ◌++◌, codes, decimal}
 use Rattle.std.specs.String.{string_bytes}
-use Rattle.base.specs.Entity.{Name, text_of}
+use Rattle.base.specs.Entity.{Entity, text_of}
 use Rattle.base.specs.declared.pair.Pair.{Pair}
 use Rattle.activities.specs.Faults.{refusal_number}
 use Rattle.schedule_text.specs.Words.{escaped}
@@ -21,7 +21,7 @@ abbrev pub told_number : List ℕ → ℕ → List ℕ
 told_number text number = text ++ decimal number
 
 -- an entity's text, escaped as a word
-abbrev pub shown_entity : Name → List ℕ
+abbrev pub shown_entity : Entity → List ℕ
 shown_entity e = escaped (text_of e)
 
 -- a pair: its sender and its receiver

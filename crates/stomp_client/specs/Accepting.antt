@@ -61,18 +61,18 @@ module _ {T : Type 0} where
       if is_closed c.stage then Some fault.Closed else if is_expected c f f.command then None else Some fault.Unexpected
 
   -- what an accepted frame tells, and the client after it
-  abbrev pub Tells : Content → Client T → Client T → ClientEvent T → Type 0
-  Tells f old new event.Connected = (f.command ≡ command.Connected) × (new ≡ connected old)
-  Tells f old new (event.Message message) = (message ≡ f) × IsDelivered message × (new ≡ old)
-  Tells f old new (event.Receipt number tag) = (f.command ≡ command.Receipt) × (receipt_number f ≡ Some number)
+  abbrev pub TellsFrame : Content → Client T → Client T → ClientEvent T → Type 0
+  TellsFrame f old new event.Connected = (f.command ≡ command.Connected) × (new ≡ connected old)
+  TellsFrame f old new (event.Message message) = (message ≡ f) × IsDelivered message × (new ≡ old)
+  TellsFrame f old new (event.Receipt number tag) = (f.command ≡ command.Receipt) × (receipt_number f ≡ Some number)
       × (open_under number old.receipts ≡ Some tag) × (new ≡ receipt_closed number old)
-  Tells f old new (event.Error text) = (f.command ≡ command.Error)
+  TellsFrame f old new (event.Error text) = (f.command ≡ command.Error)
       × (string_bytes text ≡ text_or_empty (value_of (codes "message") f.headers)) × (new ≡ closing old)
 
   -- What accepting a frame does and answers: an event, or why it isn't accepted. One that is unexpected closes the
   -- session.
   abbrev pub Accepts : Content → Client T → Client T → Result (ClientEvent T) ClientFault → Type 0
-  Accepts f old new (Ok event) = (unaccepted old f ≡ None) × Tells f old new event
+  Accepts f old new (Ok event) = (unaccepted old f ≡ None) × TellsFrame f old new event
   Accepts f old new (Err fault.Closed) = (unaccepted old f ≡ Some fault.Closed) × (new ≡ old)
   Accepts f old new (Err fault.Unexpected) = (unaccepted old f ≡ Some fault.Unexpected) × (new ≡ closing old)
   Accepts f old new (Err _) = ⊥

@@ -35,34 +35,34 @@ Refuses refusal old new fault.Memory = (refusal ≡ None) × (new ≡ old)
 Refuses refusal old new fault = (refusal ≡ Some fault) × (new ≡ old)
 
 -- A call that is done, with no refusal: what it writes is a frame, and this is done. Or one that isn't done.
-abbrev pub Does : {C R : Type 0} → (refusal : Option ClientFault) → (f : Content) → (done : R → C → Type 0)
+abbrev pub WritesOrRefuses : {C R : Type 0} → (refusal : Option ClientFault) → (f : Content) → (done : R → C → Type 0)
     → (old new : C)
     → Result R ClientFault → Type 0
-Does refusal f done old new (Ok x) = (refusal ≡ None) × IsFrame MAX_BODY f × done x new
-Does refusal f done old new (Err fault) = Refuses refusal old new fault
+WritesOrRefuses refusal f done old new (Ok x) = (refusal ≡ None) × IsFrame MAX_BODY f × done x new
+WritesOrRefuses refusal f done old new (Err fault) = Refuses refusal old new fault
 
 module _ {T : Type 0} where
   -- a frame is written, once the session is connected
   abbrev pub WritesFrame : Content → Client T → Client T → Result (Unit {0}) ClientFault → Type 0
-  WritesFrame f old new r = Does (unready old.stage) f (λ _ c. c ≡ written f old) old new r
+  WritesFrame f old new r = WritesOrRefuses (unready old.stage) f (λ _ c. c ≡ written f old) old new r
 
   -- CONNECT
   abbrev pub Connects : Client T → Client T → Result (Unit {0}) ClientFault → Type 0
-  Connects old new r = Does (unconnectable old.stage) connect_frame (λ _ c. c ≡ connecting old) old new r
+  Connects old new r = WritesOrRefuses (unconnectable old.stage) connect_frame (λ _ c. c ≡ connecting old) old new r
 
   -- a SEND with the next receipt number, which is answered, opened for a tag
   abbrev pub SendsWithReceipt : Content → T → Client T → Client T → Result ℕ ClientFault → Type 0
   SendsWithReceipt f tag old new r =
-      Does (or_used old.receipts.last (unready old.stage)) (with_receipt (old.receipts.last + 1) f)
+      WritesOrRefuses (or_used old.receipts.last (unready old.stage)) (with_receipt (old.receipts.last + 1) f)
       (λ n c. (n ≡ old.receipts.last + 1) × (c ≡ receipted f tag old)) old new r
 
   -- BEGIN of the next transaction, whose number is answered
   abbrev pub Begins : Client T → Client T → Result ℕ ClientFault → Type 0
   Begins old new r =
-      Does (or_used old.transactions (unready old.stage)) (transaction_frame Begin (old.transactions + 1))
+      WritesOrRefuses (or_used old.transactions (unready old.stage)) (transaction_frame Begin (old.transactions + 1))
       (λ n c. (n ≡ old.transactions + 1) × (c ≡ begun old)) old new r
 
   -- DISCONNECT, and the session is closed
   abbrev pub Disconnects : Client T → Client T → Result (Unit {0}) ClientFault → Type 0
   Disconnects old new r =
-      Does (unready old.stage) disconnect_frame (λ _ c. c ≡ closing (written disconnect_frame old)) old new r
+      WritesOrRefuses (unready old.stage) disconnect_frame (λ _ c. c ≡ closing (written disconnect_frame old)) old new r

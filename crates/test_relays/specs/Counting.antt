@@ -1,13 +1,13 @@
 -- What orders do that count messages.
 use Rattle.std.specs.Prelude.{◌≡◌, ℕ, zero, suc, ◌+◌, ◌-◌, ◌^◌, min, true, false, List, [], ◌++◌, Ok}
-use Rattle.base.specs.Entity.{Name}
+use Rattle.base.specs.Entity.{Entity}
 use Rattle.envelope.specs.declared.message.Message.TheVariants.{Confirm}
 use Rattle.activities.specs.Reaction.{Reactions, reply}
 use Rattle.activities.specs.declared.outs.Out.{Out}
 use Rattle.test_relays.specs.declared.counting.Sending.{Sending}
 
 -- so many messages to a receiver
-abbrev pub confirms : Name → ℕ → List Out
+abbrev pub confirms : Entity → ℕ → List Out
 confirms receiver zero = []
 confirms receiver (suc count) = confirms receiver count ++ reply receiver Confirm
 

@@ -1,7 +1,7 @@
 -- Examples: an order's life, and a journal of purchasing.
 use Rattle.std.proofs.Common.{◌≡◌, ◌<◌, ℕ, suc, List, [], ◌∷◌, ◌++◌, refl, arith}
 use Rattle.std.specs.Prelude.{codes, Option, Some, None, Ok, Err, IsOk, is_none}
-use Rattle.base.specs.Entity.{Name, order_of, stock_of, account_of}
+use Rattle.base.specs.Entity.{Entity, order_of, stock_of, account_of}
 use Rattle.base.specs.Order.{same_entity}
 use Rattle.envelope.specs.declared.message.Message.{Message}
 use Rattle.envelope.specs.declared.message.Message.TheVariants.{Request, Tentative, Refused, Confirm, Cancel}
@@ -26,19 +26,19 @@ use Rattle.activities.specs.Service.{Service}
 use Rattle.base.specs.declared.entity.Kind.TheVariants.{Order}
 use Rattle.activities.proofs.Legal.{legal-more, legal-last, legal-none}
 
-abbrev o1 : Name
+abbrev o1 : Entity
 o1 = order_of (codes "o1")
 
-abbrev o2 : Name
+abbrev o2 : Entity
 o2 = order_of (codes "o2")
 
-abbrev bolts : Name
+abbrev bolts : Entity
 bolts = stock_of (codes "bolts")
 
-abbrev nuts : Name
+abbrev nuts : Entity
 nuts = stock_of (codes "nuts")
 
-abbrev acme : Name
+abbrev acme : Entity
 acme = account_of (codes "acme")
 
 -- one of each stock whose key is such an octet
@@ -59,7 +59,7 @@ order status stock account = Some (record {
   partners = record { entity = bolts; n = 3; phase = stock } ∷ record { entity = acme; n = 500; phase = account } ∷ [];
 })
 
-abbrev to : Name → Message → Out
+abbrev to : Entity → Message → Out
 to receiver message = record { receiver = receiver; message = message }
 
 -- a placed order is open, and asks both partners

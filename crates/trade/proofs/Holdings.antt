@@ -2,7 +2,7 @@
 -- of lines.
 use Rattle.std.proofs.Common.{◌≡◌, ℕ, ◌+◌, List, Bool, true, false, refl, arith, Option, Some, None}
 use Rattle.std.specs.Prelude.{if◌then◌else◌, ◌&&◌, is_none}
-use Rattle.base.specs.Entity.{Name}
+use Rattle.base.specs.Entity.{Entity}
 use Rattle.base.specs.declared.entity.Kind.{Kind}
 use Rattle.base.specs.declared.entity.Kind.TheVariants.{Order, Stock, Account}
 use Rattle.envelope.specs.declared.message.Message.{Message}
@@ -16,12 +16,12 @@ use Rattle.trade.proofs.LineLists.{sum_by-with_phase}
 
 -- holding, refusing, finishing and freeing keep what holds of a state
 pub record KeepsHolding {S : Type 0} (h : Holding S) (P : S → Type 0) : Type 0 where
-  pub holds : (x : S) (s : Name) (n : ℕ) → s.kind ≡ Order → line_of s (h.lines x) ≡ None → h.fits x n ≡ true → P x
+  pub holds : (x : S) (s : Entity) (n : ℕ) → s.kind ≡ Order → line_of s (h.lines x) ≡ None → h.fits x n ≡ true → P x
       → P (held_for h x s n)
-  pub refuses : (x : S) (s : Name) (n : ℕ) → s.kind ≡ Order → line_of s (h.lines x) ≡ None → P x
+  pub refuses : (x : S) (s : Entity) (n : ℕ) → s.kind ≡ Order → line_of s (h.lines x) ≡ None → P x
       → P (refused_to h x s n)
-  pub finishes : (x : S) (s : Name) (n : ℕ) → held_by (line_of s (h.lines x)) ≡ Some n → P x → P (finished_for h x s n)
-  pub frees : (x : S) (s : Name) (n : ℕ) → held_by (line_of s (h.lines x)) ≡ Some n → P x → P (freed_for h x s n)
+  pub finishes : (x : S) (s : Entity) (n : ℕ) → held_by (line_of s (h.lines x)) ≡ Some n → P x → P (finished_for h x s n)
+  pub frees : (x : S) (s : Entity) (n : ℕ) → held_by (line_of s (h.lines x)) ≡ Some n → P x → P (freed_for h x s n)
 
 pub order_is : (k : Kind) → is_order k ≡ true → k ≡ Order
 order_is Order h = refl
@@ -32,7 +32,7 @@ pub none_is : {A : Type 0} (l : Option A) → is_none l ≡ true → l ≡ None
 none_is None h = refl
 none_is (Some l) h = absurd (cc)
 
-request_kept : {S : Type 0} (h : Holding S) (P : S → Type 0) → KeepsHolding h P → (x : S) (s : Name) (n : ℕ)
+request_kept : {S : Type 0} (h : Holding S) (P : S → Type 0) → KeepsHolding h P → (x : S) (s : Entity) (n : ℕ)
     → s.kind ≡ Order
     → line_of s (h.lines x) ≡ None → P x → P (on_request h x s n).0
 request_kept h P keeps x s n kind none was = by_case (h.fits x n) refl
@@ -47,7 +47,7 @@ held_kept : {S : Type 0} (P : S → Type 0) (held : Option ℕ) (becomes : ℕ �
 held_kept P None becomes x keeps was = was
 held_kept P (Some n) becomes x keeps was = keeps n refl
 
-pub message_kept : {S : Type 0} (h : Holding S) (P : S → Type 0) → KeepsHolding h P → (x : S) (s : Name) (m : Message)
+pub message_kept : {S : Type 0} (h : Holding S) (P : S → Type 0) → KeepsHolding h P → (x : S) (s : Entity) (m : Message)
     → P x
     → P (on_line_message h x s m).0
 message_kept h P keeps x s (Request n) was = by_case (is_order s.kind && is_none (line_of s (h.lines x))) refl
@@ -69,7 +69,7 @@ message_kept h P keeps x s Refused was = was
 -- ---- the totals
 
 -- how the totals change with a line that held so much, and no longer does
-pub record Left (p : LinePhase) (o : Name) (n : ℕ) (ls : List Line) : Type 0 where
+pub record Left (p : LinePhase) (o : Entity) (n : ℕ) (ls : List Line) : Type 0 where
   pub held : total Held (with_line_phase o p ls) + n ≡ total Held ls
   pub done : total Done (with_line_phase o p ls) ≡ total Done ls + (if same_phase Done p then n else 0)
 
@@ -79,7 +79,7 @@ is_held LinePhase.Refused h = absurd (cc)
 is_held Done h = absurd (cc)
 is_held Released h = absurd (cc)
 
-left_from : (p : LinePhase) (o : Name) (l : Line) (ls : List Line) → line_of o ls ≡ Some l
+left_from : (p : LinePhase) (o : Entity) (l : Line) (ls : List Line) → line_of o ls ≡ Some l
     → same_phase Held l.phase ≡ true
     → same_phase Held p ≡ false → Left p o l.n ls
 left_from p o l ls at held none =
@@ -91,7 +91,7 @@ left_from p o l ls at held none =
     let no_more : share_of Held (record l { phase = p }) ≡ 0 = rw none in
     record { held = omega arith; done = omega arith }
 
-pub left : (p : LinePhase) (o : Name) (n : ℕ) (ls : List Line) → held_by (line_of o ls) ≡ Some n
+pub left : (p : LinePhase) (o : Entity) (n : ℕ) (ls : List Line) → held_by (line_of o ls) ≡ Some n
     → same_phase Held p ≡ false → Left p o n ls
 left p o n ls held none = by_line (line_of o ls) refl held
   where

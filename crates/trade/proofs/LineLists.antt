@@ -14,30 +14,30 @@ use Rattle.std.proofs.lemmas.Cmp.{nat_list_cmp_total}
 use Rattle.std.proofs.lemmas.List.Sums.{sum_by-cons}
 use Rattle.base.specs.declared.entity.Kind.TheVariants.{Order}
 use Rattle.trade.specs.declared.line_phase.LinePhase.{LinePhase}
-use Rattle.base.specs.Entity.{Name}
+use Rattle.base.specs.Entity.{Entity}
 use Rattle.base.specs.Order.{same_entity}
 use Rattle.trade.specs.Lines.{Line, line_of, is_before, with_line, with_line_phase}
 use Rattle.trade.specs.Sound.{HasOneLineEach, AreLinesSound}
-use Rattle.activities.proofs.Sameness.{Tells, same_entity-same, same_entity-tells, same_entity-comm}
+use Rattle.activities.proofs.Sameness.{TellsSame, same_entity-same, same_entity-tells, same_entity-comm}
 
 pub line_of-with_same : (l : Line) (ls : List Line) → line_of l.order ls ≡ None
     → line_of l.order (with_line l ls) ≡ Some l
 line_of-with_same l [] h = grind (arith, same_entity-same)
 line_of-with_same l (k ∷ ks) h = grind (arith, same_entity-same, line_of-with_same l ks)
 
-pub line_of-with_other : (o : Name) (l : Line) (ls : List Line) → same_entity o l.order ≡ false
+pub line_of-with_other : (o : Entity) (l : Line) (ls : List Line) → same_entity o l.order ≡ false
     → line_of o (with_line l ls) ≡ line_of o ls
 line_of-with_other o l [] h = grind arith
 line_of-with_other o l (k ∷ ks) h = grind (arith, line_of-with_other o l ks h)
 
-pub line_of-with_phase_same : (o : Name) (phase : LinePhase) (l : Line) (ls : List Line) → line_of o ls ≡ Some l
+pub line_of-with_phase_same : (o : Entity) (phase : LinePhase) (l : Line) (ls : List Line) → line_of o ls ≡ Some l
     → line_of o (with_line_phase o phase ls) ≡ Some (record l { phase = phase })
 line_of-with_phase_same o phase l [] h = grind arith
 line_of-with_phase_same o phase l (k ∷ ks) h = grind (arith, line_of-with_phase_same o phase l ks)
 
-with_phase_other_more : (o s : Name) (phase : LinePhase) (k : Line) (ks : List Line) → o ≢ s
-    → Tells s k.order (same_entity s k.order)
-    → Tells o k.order (same_entity o k.order)
+with_phase_other_more : (o s : Entity) (phase : LinePhase) (k : Line) (ks : List Line) → o ≢ s
+    → TellsSame s k.order (same_entity s k.order)
+    → TellsSame o k.order (same_entity o k.order)
     → line_of o (with_line_phase s phase ks) ≡ line_of o ks
     → line_of o (with_line_phase s phase (k ∷ ks)) ≡ line_of o (k ∷ ks)
 with_phase_other_more o s phase k ks h (inl a) (inl b) ih = absurd (h (b.1 ∙ sym a.1))
@@ -45,7 +45,7 @@ with_phase_other_more o s phase k ks h (inl a) (inr b) ih = simp (a.0, b.0)
 with_phase_other_more o s phase k ks h (inr a) (inl b) ih = simp (a.0, b.0)
 with_phase_other_more o s phase k ks h (inr a) (inr b) ih = simp (a.0, b.0, ih)
 
-pub line_of-with_phase_other : (o s : Name) (phase : LinePhase) (ls : List Line) → o ≢ s
+pub line_of-with_phase_other : (o s : Entity) (phase : LinePhase) (ls : List Line) → o ≢ s
     → line_of o (with_line_phase s phase ls) ≡ line_of o ls
 line_of-with_phase_other o s phase [] h = refl
 line_of-with_phase_other o s phase (k ∷ ks) h =
@@ -64,7 +64,7 @@ pub sum_by-with : (f : Line → ℕ) (l : Line) (ls : List Line) → sum_by f (w
 sum_by-with f l [] = sum_by-cons f l []
 sum_by-with f l (k ∷ ks) = with_more f l k ks (is_before l.order k.order) (sum_by-with f l ks)
 
-with_phase_more : (f : Line → ℕ) (phase : LinePhase) (o : Name) (l k : Line) (ks : List Line) (t : Bool)
+with_phase_more : (f : Line → ℕ) (phase : LinePhase) (o : Entity) (l k : Line) (ks : List Line) (t : Bool)
     → (if t then Some k else line_of o ks) ≡ Some l
     → (line_of o ks ≡ Some l → sum_by f (with_line_phase o phase ks) + f l ≡ sum_by f ks
     + f (record l { phase = phase }))
@@ -82,7 +82,7 @@ with_phase_more f phase o l k ks false h ih =
     omega arith
 
 -- the sums after a line's phase has changed
-pub sum_by-with_phase : (f : Line → ℕ) (phase : LinePhase) (o : Name) (l : Line) (ls : List Line)
+pub sum_by-with_phase : (f : Line → ℕ) (phase : LinePhase) (o : Entity) (l : Line) (ls : List Line)
     → line_of o ls ≡ Some l
     → sum_by f (with_line_phase o phase ls) + f l ≡ sum_by f ls + f (record l { phase = phase })
 sum_by-with_phase f phase o l [] h = absurd (cc)
@@ -114,7 +114,7 @@ one_each-with l (k ∷ ks) none h = by_case (same_entity l.order k.order) refl (
         let rest : line_of l.order ks ≡ None = rw e at none in
         one_each-before l k ks (is_before l.order k.order) e rest h.0 h.1 (more rest)
 
-line_of-phase_none : (o s : Name) (phase : LinePhase) (ls : List Line) → line_of o ls ≡ None
+line_of-phase_none : (o s : Entity) (phase : LinePhase) (ls : List Line) → line_of o ls ≡ None
     → line_of o (with_line_phase s phase ls) ≡ None
 line_of-phase_none o s phase [] h = refl
 line_of-phase_none o s phase (k ∷ ks) h =
@@ -128,7 +128,7 @@ line_of-phase_none o s phase (k ∷ ks) h =
     by_case false false e f more = rw (e, f) (more (rw f at h))
 
 -- a line's phase anew
-pub one_each-phase : (s : Name) (phase : LinePhase) (ls : List Line) → HasOneLineEach ls
+pub one_each-phase : (s : Entity) (phase : LinePhase) (ls : List Line) → HasOneLineEach ls
     → HasOneLineEach (with_line_phase s phase ls)
 one_each-phase s phase [] h = tt
 one_each-phase s phase (k ∷ ks) h = by_case (same_entity s k.order) refl (one_each-phase s phase ks h.1)
@@ -205,7 +205,7 @@ in_order-with l (k ∷ ks) a all none h =
     not_same : same_entity l.order k.order ≡ false
     not_same = by_test (same_entity-tells l.order k.order)
       where
-        by_test : Tells l.order k.order (same_entity l.order k.order) → same_entity l.order k.order ≡ false
+        by_test : TellsSame l.order k.order (same_entity l.order k.order) → same_entity l.order k.order ≡ false
         by_test (inl e) = absurd (apart (ap (λ o. o.key) e.1))
         by_test (inr e) = e.0
 
@@ -245,7 +245,7 @@ lines_sound-with l ls a none h = record {
   in_order = in_order-with l ls a h.of_orders none h.in_order;
 }
 
-keys-with_phase : (s : Name) (phase : LinePhase) (ls : List Line) → map key (with_line_phase s phase ls) ≡ map key ls
+keys-with_phase : (s : Entity) (phase : LinePhase) (ls : List Line) → map key (with_line_phase s phase ls) ≡ map key ls
 keys-with_phase s phase [] = refl
 keys-with_phase s phase (k ∷ ks) = by_case (same_entity s k.order) (keys-with_phase s phase ks)
   where
@@ -254,7 +254,7 @@ keys-with_phase s phase (k ∷ ks) = by_case (same_entity s k.order) (keys-with_
     by_case true rest = refl
     by_case false rest = ap (λ keys. key k ∷ keys) rest
 
-of_orders-with_phase : (s : Name) (phase : LinePhase) (ls : List Line) → AllByRecursion (λ k. k.order.kind ≡ Order) ls
+of_orders-with_phase : (s : Entity) (phase : LinePhase) (ls : List Line) → AllByRecursion (λ k. k.order.kind ≡ Order) ls
     → AllByRecursion (λ k. k.order.kind ≡ Order) (with_line_phase s phase ls)
 of_orders-with_phase s phase [] all = tt
 of_orders-with_phase s phase (k ∷ ks) all = by_case (same_entity s k.order) (of_orders-with_phase s phase ks all.1)
@@ -266,7 +266,7 @@ of_orders-with_phase s phase (k ∷ ks) all = by_case (same_entity s k.order) (o
     by_case false rest = (all.0, rest)
 
 -- a line's phase anew
-pub lines_sound-with_phase : (s : Name) (phase : LinePhase) (ls : List Line) → AreLinesSound ls
+pub lines_sound-with_phase : (s : Entity) (phase : LinePhase) (ls : List Line) → AreLinesSound ls
     → AreLinesSound (with_line_phase s phase ls)
 lines_sound-with_phase s phase ls h = record {
   of_orders = of_orders-with_phase s phase ls h.of_orders;

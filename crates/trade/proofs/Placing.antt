@@ -11,7 +11,7 @@ use Rattle.std.specs.declared.cmp.Ordering.{Ordering}
 use Rattle.std.specs.declared.cmp.Ordering.TheVariants.{Less, Equal, Greater}
 use Rattle.std.proofs.lemmas.List.Sorted.{searchable_from_sorted}
 use Rattle.base.specs.declared.entity.Kind.TheVariants.{Order}
-use Rattle.base.specs.Entity.{Name}
+use Rattle.base.specs.Entity.{Entity}
 use Rattle.base.specs.Order.{same_entity, same_entity-ties, entity_cmp, entity_cmp-total}
 use Rattle.trade.specs.declared.line_phase.LinePhase.{LinePhase}
 use Rattle.trade.specs.Lines.{Line, line_of, is_before, with_line, with_line_phase}
@@ -32,7 +32,7 @@ orders_by_keys : (x y : List ℕ) → entity_cmp (record { kind = Order; key = x
     ≡ slice_cmp nat_cmp x y
 orders_by_keys x y = refl
 
-pub by_keys : (a b : Name) → a.kind ≡ Order → b.kind ≡ Order → entity_cmp a b ≡ slice_cmp nat_cmp a.key b.key
+pub by_keys : (a b : Entity) → a.kind ≡ Order → b.kind ≡ Order → entity_cmp a b ≡ slice_cmp nat_cmp a.key b.key
 by_keys a b p q =
     let first = ap (λ k. entity_cmp (record { kind = k; key = a.key }) b) p in
     let second = ap (λ k. entity_cmp (record { kind = Order; key = a.key }) (record { kind = k; key = b.key })) q in
@@ -41,7 +41,7 @@ by_keys a b p q =
 -- ---- the search
 
 -- where the first doesn't come after the second, the second isn't before it
-not_before : (a b : Name) → entity_cmp a b ≡ Less → is_lt (entity_cmp b a) ≡ false
+not_before : (a b : Entity) → entity_cmp a b ≡ Less → is_lt (entity_cmp b a) ≡ false
 not_before a b e = let back : entity_cmp b a ≡ Greater = entity_cmp-total.antisymm b a ∙ rw e refl in rw back refl
 
 adjacent : (ls : List Line) → AreOrders ls → IsStrictlySortedBy (slice_cmp nat_cmp) (map key ls) → (k : ℕ) (d : Line)
@@ -53,21 +53,21 @@ adjacent (l ∷ []) all up k d within = absurd (omega arith)
 adjacent (l ∷ m ∷ ls) all up zero d within = not_before l.order m.order (by_keys l.order m.order all.0 all.1.0 ∙ up.0.0)
 adjacent (l ∷ m ∷ ls) all up (suc k) d within = adjacent (m ∷ ls) all.1 up.1 k d (omega arith)
 
-rising : (o : Name) (ls : List Line) → AreLinesSound ls
+rising : (o : Entity) (ls : List Line) → AreLinesSound ls
     → IsNonDecreasingBy (λ y. ordering_index (entity_cmp y.order o)) ls
 rising o ls sound = searchable_from_sorted entity_cmp-total (λ (l : Line). l.order) ls o
     (λ k d from within. rw add-one (adjacent ls sound.of_orders sound.in_order k d (omega arith)))
 
 -- what the search answers
-pub record IsPlace (o : Name) (ls : List Line) (r : Result ℕ ℕ) : Type 0 where
+pub record IsPlace (o : Entity) (ls : List Line) (r : Result ℕ ℕ) : Type 0 where
   pub found : IfOk r (IsPlaceOf o ls)
   pub absent : IfErr r (IsPlaceFor o ls)
 
-tied : (a b : Name) → entity_cmp a b ≡ Equal → a ≡ b
+tied : (a b : Entity) → entity_cmp a b ≡ Equal → a ≡ b
 tied a b e = either (same_entity-tells a b) (λ h. h.1) (λ h. let t : same_entity a b ≡ true = same_entity-ties a b
     ∙ rw e refl in cc)
 
-pub searched : (o : Name) (ls : List Line) → AreLinesSound ls → (r : Result ℕ ℕ) → IsSearchInRange r (length ls)
+pub searched : (o : Entity) (ls : List Line) → AreLinesSound ls → (r : Result ℕ ℕ) → IsSearchInRange r (length ls)
     → IsBinarySearchResult (λ (l : Line). entity_cmp l.order o) ls r → IsPlace o ls r
 searched o ls sound (Ok at) within equal = record {
   found = record { in_range = within; of_order = λ d. tied (get_or ls at d).order o (equal d) };
@@ -85,10 +85,10 @@ searched o ls sound (Err at) within parted = record {
 -- ---- at the order's line
 
 -- in the tail, its line is one place lower
-place_in_tail : (o : Name) (l : Line) (ls : List Line) (at : ℕ) → IsPlaceOf o (l ∷ ls) (suc at) → IsPlaceOf o ls at
+place_in_tail : (o : Entity) (l : Line) (ls : List Line) (at : ℕ) → IsPlaceOf o (l ∷ ls) (suc at) → IsPlaceOf o ls at
 place_in_tail o l ls at h = record { in_range = omega (arith, h.in_range); of_order = h.of_order }
 
-pub line_of-at : (o : Name) (ls : List Line) (at : ℕ) (d : Line) → HasOneLineEach ls → IsPlaceOf o ls at
+pub line_of-at : (o : Entity) (ls : List Line) (at : ℕ) (d : Line) → HasOneLineEach ls → IsPlaceOf o ls at
     → line_of o ls ≡ Some (get_or ls at d)
 line_of-at o [] at d one h = absurd (omega (arith, h.in_range))
 line_of-at o (l ∷ ls) zero d one h =
@@ -99,7 +99,7 @@ line_of-at o (l ∷ ls) (suc at) d one h =
     (λ e. let none : line_of o ls ≡ None = subst (λ x. line_of x ls ≡ None) (sym e.1) one.0 in cc)
     (λ e. rw e.0 there)
 
-pub with_line_phase-at : (o : Name) (phase : LinePhase) (ls : List Line) (at : ℕ) (d : Line) → HasOneLineEach ls
+pub with_line_phase-at : (o : Entity) (phase : LinePhase) (ls : List Line) (at : ℕ) (d : Line) → HasOneLineEach ls
     → IsPlaceOf o ls at
     → with_line_phase o phase ls ≡ set ls at (record (get_or ls at d) { phase = phase })
 with_line_phase-at o phase [] at d one h = absurd (omega (arith, h.in_range))
@@ -115,25 +115,25 @@ with_line_phase-at o phase (l ∷ ls) (suc at) d one h =
 
 -- ---- where the order has no line
 
-differs : (o : Name) (l : Line) (c : Ordering) → entity_cmp l.order o ≡ c → is_eq c ≡ false
+differs : (o : Entity) (l : Line) (c : Ordering) → entity_cmp l.order o ≡ c → is_eq c ≡ false
     → same_entity o l.order ≡ false
 differs o l c e apart = same_entity-comm o l.order ∙ same_entity-ties l.order o ∙ rw e apart
 
-no_place_in_tail : (o : Name) (l : Line) (ls : List Line) (at : ℕ) → IsPlaceFor o (l ∷ ls) (suc at) → IsPlaceFor o ls at
+no_place_in_tail : (o : Entity) (l : Line) (ls : List Line) (at : ℕ) → IsPlaceFor o (l ∷ ls) (suc at) → IsPlaceFor o ls at
 no_place_in_tail o l ls at h = record {
   in_range = omega (arith, h.in_range);
   before = λ i d lt. h.before (suc i) d (omega arith);
   after = λ i d le lt. h.after (suc i) d (omega arith) (omega arith);
 }
 
-behind_place_in_tail : (o : Name) (l : Line) (ls : List Line) → IsPlaceFor o (l ∷ ls) 0 → IsPlaceFor o ls 0
+behind_place_in_tail : (o : Entity) (l : Line) (ls : List Line) → IsPlaceFor o (l ∷ ls) 0 → IsPlaceFor o ls 0
 behind_place_in_tail o l ls h = record {
   in_range = omega arith;
   before = λ i d lt. absurd (omega arith);
   after = λ i d le lt. h.after (suc i) d (omega arith) (omega arith);
 }
 
-pub line_of-absent : (o : Name) (ls : List Line) (at : ℕ) → IsPlaceFor o ls at → line_of o ls ≡ None
+pub line_of-absent : (o : Entity) (ls : List Line) (at : ℕ) → IsPlaceFor o ls at → line_of o ls ≡ None
 line_of-absent o [] at h = refl
 line_of-absent o (l ∷ ls) zero h =
     rw (differs o l Greater (h.after 0 l (omega arith) (omega arith)) refl)
@@ -141,7 +141,7 @@ line_of-absent o (l ∷ ls) zero h =
 line_of-absent o (l ∷ ls) (suc at) h =
     rw (differs o l Less (h.before 0 l (omega arith)) refl) (line_of-absent o ls at (no_place_in_tail o l ls at h))
 
-pub with_line_phase-absent : (o : Name) (phase : LinePhase) (ls : List Line) → line_of o ls ≡ None
+pub with_line_phase-absent : (o : Entity) (phase : LinePhase) (ls : List Line) → line_of o ls ≡ None
     → with_line_phase o phase ls ≡ ls
 with_line_phase-absent o phase [] h = refl
 with_line_phase-absent o phase (l ∷ ls) h = by_case (same_entity o l.order) refl (with_line_phase-absent o phase ls)
@@ -151,16 +151,16 @@ with_line_phase-absent o phase (l ∷ ls) h = by_case (same_entity o l.order) re
     by_case true e rest = let some : line_of o (l ∷ ls) ≡ Some l = rw e refl in absurd (cc)
     by_case false e rest = rw e (ap (λ ks. l ∷ ks) (rest (rw e at h)))
 
-before_by_keys : (a b : Name) (c : Ordering) → a.kind ≡ Order → b.kind ≡ Order → entity_cmp b a ≡ c
+before_by_keys : (a b : Entity) (c : Ordering) → a.kind ≡ Order → b.kind ≡ Order → entity_cmp b a ≡ c
     → is_before a b ≡ is_lt (entity_cmp a b)
 unfolding is_before
 before_by_keys a b c p q e = rw (by_keys a b p q) refl
 
-is_before-greater : (a b : Name) → a.kind ≡ Order → b.kind ≡ Order → entity_cmp b a ≡ Greater → is_before a b ≡ true
+is_before-greater : (a b : Entity) → a.kind ≡ Order → b.kind ≡ Order → entity_cmp b a ≡ Greater → is_before a b ≡ true
 is_before-greater a b p q e = let back : entity_cmp a b ≡ Less = entity_cmp-total.antisymm a b ∙ rw e refl in
     before_by_keys a b Greater p q e ∙ rw back refl
 
-is_before-less : (a b : Name) → a.kind ≡ Order → b.kind ≡ Order → entity_cmp b a ≡ Less → is_before a b ≡ false
+is_before-less : (a b : Entity) → a.kind ≡ Order → b.kind ≡ Order → entity_cmp b a ≡ Less → is_before a b ≡ false
 is_before-less a b p q e = let back : entity_cmp a b ≡ Greater = entity_cmp-total.antisymm a b ∙ rw e refl in
     before_by_keys a b Less p q e ∙ rw back refl
 

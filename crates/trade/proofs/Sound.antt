@@ -7,7 +7,7 @@ use Rattle.std.proofs.lemmas.Bool.Decides.{nat_tests}
 use Rattle.std.proofs.lemmas.Slice.Eq.{bytes_eq-Decides}
 use Rattle.std.specs.List.{AllByRecursion}
 use Rattle.std.specs.Str.{bytes_eq}
-use Rattle.base.specs.Entity.{Name, stock_of}
+use Rattle.base.specs.Entity.{Entity, stock_of}
 use Rattle.base.specs.Order.{same_entity}
 use Rattle.base.specs.declared.entity.Kind.TheVariants.{Order, Stock, Account}
 use Rattle.base.specs.Number.{is_number}
@@ -41,10 +41,10 @@ use Rattle.trade.proofs.LineLists.{sum_by-with, lines_sound-none, lines_sound-wi
 
 -- ---- orders
 
-abbrev pub entities : List Partner → List Name
+abbrev pub entities : List Partner → List Entity
 entities ps = map (λ (p : Partner). p.entity) ps
 
-pub entities-with_phase : (e : Name) (phase : Phase) (ps : List Partner)
+pub entities-with_phase : (e : Entity) (phase : Phase) (ps : List Partner)
     → entities (with_phase e phase ps) ≡ entities ps
 entities-with_phase e phase [] = refl
 entities-with_phase e phase (p ∷ ps) = by_case (same_entity e p.entity) (entities-with_phase e phase ps)
@@ -101,7 +101,7 @@ pub all_sound : (phase : Phase) (ps : List Partner) → ArePartners (entities ps
     → ArePartners (entities (all_in phase ps))
 all_sound phase ps h = as_before ps (all_in phase ps) (entities-all_in phase ps) h
 
-pub phase_sound : (e : Name) (phase : Phase) (ps : List Partner) → ArePartners (entities ps)
+pub phase_sound : (e : Entity) (phase : Phase) (ps : List Partner) → ArePartners (entities ps)
     → ArePartners (entities (with_phase e phase ps))
 phase_sound e phase ps h = as_before ps (with_phase e phase ps) (entities-with_phase e phase ps) h
 
@@ -124,7 +124,7 @@ order_command (Some o) seat CancelOrder h = by_case (is_open o.status) refl
     by_case true e = rw e (all_sound Phase.Cancelled o.partners h)
     by_case false e = rw e tt
 
-order_tentative : (o : OrderState) (s : Name) → IsOrderSound (Some o) → IsOrderSound (tentative_from o s).0
+order_tentative : (o : OrderState) (s : Entity) → IsOrderSound (Some o) → IsOrderSound (tentative_from o s).0
 order_tentative o s h = by_case (all_tentative (with_phase s Phase.Tentative o.partners)) refl
   where
     by_case : (t : Bool) → all_tentative (with_phase s Phase.Tentative o.partners) ≡ t
@@ -132,7 +132,7 @@ order_tentative o s h = by_case (all_tentative (with_phase s Phase.Tentative o.p
     by_case true e = rw e (all_sound Phase.Confirmed o.partners h)
     by_case false e = rw e (phase_sound s Phase.Tentative o.partners h)
 
-order_message : (x : Option OrderState) (s : Name) (m : Message) → IsOrderSound x
+order_message : (x : Option OrderState) (s : Entity) (m : Message) → IsOrderSound x
     → IsOrderSound (on_order_message x s m).0
 order_message None s m h = tt
 order_message (Some o) s Tentative h = by_case (is_open o.status && awaits s o.partners)
@@ -160,7 +160,7 @@ orders-invariant = record { opening = tt; kept = order_kept }
 
 -- ---- stocks
 
-stock_holds : (x : StockState) (s : Name) (n : ℕ) → s.kind ≡ Order → line_of s x.lines ≡ None
+stock_holds : (x : StockState) (s : Entity) (n : ℕ) → s.kind ≡ Order → line_of s x.lines ≡ None
     → nat_le (x.held + n) x.on_hand ≡ true → IsStockSound x → IsStockSound (held_for stock_holding x s n)
 stock_holds x s n kind none e h =
     let fits : x.held + n ≤ x.on_hand = grind (arith, nat_tests) in
@@ -175,7 +175,7 @@ stock_holds x s n kind none e h =
       lines = lines_sound-with (record { order = s; n = n; phase = Held }) x.lines kind none h.lines;
     }
 
-stock_refuses : (x : StockState) (s : Name) (n : ℕ) → s.kind ≡ Order → line_of s x.lines ≡ None → IsStockSound x
+stock_refuses : (x : StockState) (s : Entity) (n : ℕ) → s.kind ≡ Order → line_of s x.lines ≡ None → IsStockSound x
     → IsStockSound (refused_to stock_holding x s n)
 stock_refuses x s n kind none h =
     let a = sum_by-with (share_of Held) (record { order = s; n = n; phase = LinePhase.Refused }) x.lines in
@@ -189,7 +189,7 @@ stock_refuses x s n kind none h =
       lines = lines_sound-with (record { order = s; n = n; phase = LinePhase.Refused }) x.lines kind none h.lines;
     }
 
-stock_finishes : (x : StockState) (s : Name) (n : ℕ) → held_by (line_of s x.lines) ≡ Some n → IsStockSound x
+stock_finishes : (x : StockState) (s : Entity) (n : ℕ) → held_by (line_of s x.lines) ≡ Some n → IsStockSound x
     → IsStockSound (finished_for stock_holding x s n)
 stock_finishes x s n at h =
     let m = left Done s n x.lines at refl in
@@ -202,7 +202,7 @@ stock_finishes x s n at h =
       lines = lines_sound-with_phase s Done x.lines h.lines;
     }
 
-stock_frees : (x : StockState) (s : Name) (n : ℕ) → held_by (line_of s x.lines) ≡ Some n → IsStockSound x
+stock_frees : (x : StockState) (s : Entity) (n : ℕ) → held_by (line_of s x.lines) ≡ Some n → IsStockSound x
     → IsStockSound (freed_for stock_holding x s n)
 stock_frees x s n at h =
     let m = left Released s n x.lines at refl in
@@ -254,7 +254,7 @@ stocks-invariant = record {
 
 -- ---- accounts
 
-account_holds : (x : AccountState) (s : Name) (n : ℕ) → s.kind ≡ Order → line_of s x.lines ≡ None
+account_holds : (x : AccountState) (s : Entity) (n : ℕ) → s.kind ≡ Order → line_of s x.lines ≡ None
     → nat_le (x.billed + x.held + n) x.limit ≡ true → IsAccountSound x → IsAccountSound (held_for account_holding x s n)
 account_holds x s n kind none e h =
     let fits : x.billed + x.held + n ≤ x.limit = grind (arith, nat_tests) in
@@ -268,7 +268,7 @@ account_holds x s n kind none e h =
       lines = lines_sound-with (record { order = s; n = n; phase = Held }) x.lines kind none h.lines;
     }
 
-account_refuses : (x : AccountState) (s : Name) (n : ℕ) → s.kind ≡ Order → line_of s x.lines ≡ None → IsAccountSound x
+account_refuses : (x : AccountState) (s : Entity) (n : ℕ) → s.kind ≡ Order → line_of s x.lines ≡ None → IsAccountSound x
     → IsAccountSound (refused_to account_holding x s n)
 account_refuses x s n kind none h =
     let a = sum_by-with (share_of Held) (record { order = s; n = n; phase = LinePhase.Refused }) x.lines in
@@ -281,7 +281,7 @@ account_refuses x s n kind none h =
       lines = lines_sound-with (record { order = s; n = n; phase = LinePhase.Refused }) x.lines kind none h.lines;
     }
 
-account_finishes : (x : AccountState) (s : Name) (n : ℕ) → held_by (line_of s x.lines) ≡ Some n → IsAccountSound x
+account_finishes : (x : AccountState) (s : Entity) (n : ℕ) → held_by (line_of s x.lines) ≡ Some n → IsAccountSound x
     → IsAccountSound (finished_for account_holding x s n)
 account_finishes x s n at h =
     let m = left Done s n x.lines at refl in
@@ -293,7 +293,7 @@ account_finishes x s n at h =
       lines = lines_sound-with_phase s Done x.lines h.lines;
     }
 
-account_frees : (x : AccountState) (s : Name) (n : ℕ) → held_by (line_of s x.lines) ≡ Some n → IsAccountSound x
+account_frees : (x : AccountState) (s : Entity) (n : ℕ) → held_by (line_of s x.lines) ≡ Some n → IsAccountSound x
     → IsAccountSound (freed_for account_holding x s n)
 account_frees x s n at h =
     let m = left Released s n x.lines at refl in

@@ -2,7 +2,7 @@
 use Rattle.std.proofs.Common.{◌≡◌, ◌<◌, ℕ, List, [], ◌∷◌, refl, ap, arith, get_or}
 use Rattle.std.specs.List.Sorted.{IsStrictlySortedBy}
 use Rattle.std.specs.Prelude.{codes, Some}
-use Rattle.base.specs.Entity.{Name, order_of, stock_of, account_of}
+use Rattle.base.specs.Entity.{Entity, order_of, stock_of, account_of}
 use Rattle.base.specs.Order.{same_entity}
 use Rattle.trade.specs.declared.commands.StockCommand.TheVariants.{Receive}
 use Rattle.activities.specs.declared.input.Input.TheVariants.{FromSeat}
@@ -17,22 +17,22 @@ use Rattle.trade.specs.Sound.{IsAccountSound}
 use Rattle.trade.specs.Stocks.{StockState, stock_reactions}
 use Rattle.trade.proofs.LineLists.{lines_sound-none}
 
-abbrev o1 : Name
+abbrev o1 : Entity
 o1 = order_of (codes "o1")
 
-abbrev o2 : Name
+abbrev o2 : Entity
 o2 = order_of (codes "o2")
 
-abbrev bolts : Name
+abbrev bolts : Entity
 bolts = stock_of (codes "bolts")
 
-abbrev nuts : Name
+abbrev nuts : Entity
 nuts = stock_of (codes "nuts")
 
-abbrev acme : Name
+abbrev acme : Entity
 acme = account_of (codes "acme")
 
-abbrev line : Name → ℕ → LinePhase → Line
+abbrev line : Entity → ℕ → LinePhase → Line
 line order n phase = record { order = order; n = n; phase = phase }
 
 -- ---- orders
@@ -51,7 +51,7 @@ stocks_and_then_an_account = (
   record { in_order = (refl, (λ e. apart e, tt), refl); some = omega arith; few = omega arith },
 )
   where
-    first : Name → ℕ
+    first : Entity → ℕ
     first e = get_or e.key 0 0
 
     apart : bolts ≡ acme → ⊥

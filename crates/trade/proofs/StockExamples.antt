@@ -1,7 +1,7 @@
 -- Examples: a stock and an account, which hold, ship and bill.
 use Rattle.std.proofs.Common.{◌≡◌, ℕ, List, [], ◌∷◌, refl}
 use Rattle.std.specs.Prelude.{codes, Ok, Err}
-use Rattle.base.specs.Entity.{Name, order_of, stock_of, account_of}
+use Rattle.base.specs.Entity.{Entity, order_of, stock_of, account_of}
 use Rattle.base.specs.Order.{same_entity}
 use Rattle.envelope.specs.declared.message.Message.{Message}
 use Rattle.envelope.specs.declared.message.Message.TheVariants.{Request, Tentative, Refused, Confirm, Cancel}
@@ -16,13 +16,13 @@ use Rattle.trade.specs.Lines.{Line, is_before, total}
 use Rattle.activities.specs.Reaction.{react}
 use Rattle.trade.specs.Stocks.{StockState, stock_reactions}
 
-abbrev o1 : Name
+abbrev o1 : Entity
 o1 = order_of (codes "o1")
 
-abbrev o2 : Name
+abbrev o2 : Entity
 o2 = order_of (codes "o2")
 
-abbrev to : Name → Message → Out
+abbrev to : Entity → Message → Out
 to receiver message = record { receiver = receiver; message = message }
 
 -- lines of `o1` for 3 and of `o2` for 6

@@ -1,7 +1,7 @@
 -- What stocks and accounts do alike: they hold what orders ask for, with a line for each order that asked, until it is
 -- finished or freed.
 use Rattle.std.specs.Prelude.{ℕ, Bool, ◌&&◌, is_none, List, [], Option, Some, None, if◌then◌else◌}
-use Rattle.base.specs.Entity.{Name}
+use Rattle.base.specs.Entity.{Entity}
 use Rattle.envelope.specs.declared.message.Message.{Message}
 use Rattle.envelope.specs.declared.message.Message.TheVariants.{Request, Tentative, Refused, Confirm, Cancel}
 use Rattle.activities.specs.declared.outs.Out.{Out}
@@ -21,20 +21,20 @@ pub record Holding (S : Type 0) : Type 0 where
   pub free : S → ℕ → S
 
 -- so much is held for an order
-abbrev pub held_for : {S : Type 0} → Holding S → S → Name → ℕ → S
+abbrev pub held_for : {S : Type 0} → Holding S → S → Entity → ℕ → S
 held_for h x order n = h.with_lines (h.hold x n) (with_line (record { order = order; n = n; phase = Held }) (h.lines x))
 
 -- so much is refused to an order
-abbrev pub refused_to : {S : Type 0} → Holding S → S → Name → ℕ → S
+abbrev pub refused_to : {S : Type 0} → Holding S → S → Entity → ℕ → S
 refused_to h x order n =
     h.with_lines x (with_line (record { order = order; n = n; phase = LinePhase.Refused }) (h.lines x))
 
 -- so much that is held for an order is finished
-abbrev pub finished_for : {S : Type 0} → Holding S → S → Name → ℕ → S
+abbrev pub finished_for : {S : Type 0} → Holding S → S → Entity → ℕ → S
 finished_for h x order n = h.with_lines (h.finish x n) (with_line_phase order Done (h.lines x))
 
 -- so much that is held for an order is free again
-abbrev pub freed_for : {S : Type 0} → Holding S → S → Name → ℕ → S
+abbrev pub freed_for : {S : Type 0} → Holding S → S → Entity → ℕ → S
 freed_for h x order n = h.with_lines (h.free x n) (with_line_phase order Released (h.lines x))
 
 -- how much a line holds, where it holds something
@@ -43,7 +43,7 @@ held_by None = None
 held_by (Some l) = if same_phase Held l.phase then Some l.n else None
 
 -- an order without a line asks: so much is held, or refused where it doesn't fit
-abbrev pub on_request : {S : Type 0} → Holding S → S → Name → ℕ → S × List Out
+abbrev pub on_request : {S : Type 0} → Holding S → S → Entity → ℕ → S × List Out
 on_request h x s n = if h.fits x n then (held_for h x s n, reply s Tentative) else (refused_to h x s n, reply s Refused)
 
 -- what is held goes one way; where nothing is held, nothing changes
@@ -53,7 +53,7 @@ on_held (Some n) becomes x = (becomes n, [])
 
 -- a request counts from an order without a line, a confirm and a cancel go to the sender's line; anything else changes
 -- nothing
-abbrev pub on_line_message : {S : Type 0} → Holding S → S → Name → Message → S × List Out
+abbrev pub on_line_message : {S : Type 0} → Holding S → S → Entity → Message → S × List Out
 on_line_message h x s (Request n) =
     if is_order s.kind && is_none (line_of s (h.lines x)) then on_request h x s n else (x, [])
 on_line_message h x s Confirm = on_held (held_by (line_of s (h.lines x))) (finished_for h x s) x

@@ -8,7 +8,7 @@ use Rattle.base.specs.Number.{is_number}
 use Rattle.activities.specs.declared.phase.Phase.{Phase}
 use Rattle.trade.specs.declared.status.Status.{Status}
 use Rattle.trade.specs.declared.status.Status.TheVariants.{Open, Confirmed, Cancelled}
-use Rattle.base.specs.Entity.{Name, stock_of, account_of}
+use Rattle.base.specs.Entity.{Entity, stock_of, account_of}
 use Rattle.base.specs.Order.{same_entity}
 use Rattle.trade.specs.declared.commands.OrderCommand.{OrderCommand}
 use Rattle.trade.specs.declared.commands.OrderCommand.TheVariants.{Place, CancelOrder}
@@ -21,7 +21,7 @@ use Rattle.activities.specs.Reaction.{Reactions}
 
 -- a partner of an order: whom it asked, for how much, and how far they are
 pub record Partner : Type 0 where
-  pub entity : Name
+  pub entity : Entity
   pub n : ℕ
   pub phase : Phase
 
@@ -46,12 +46,12 @@ is_tentative Phase.Tentative = true
 is_tentative _ = false
 
 -- whether it is a partner whose phase is requested
-abbrev pub awaits : Name → List Partner → Bool
+abbrev pub awaits : Entity → List Partner → Bool
 awaits e [] = false
 awaits e (p ∷ ps) = if same_entity e p.entity then is_requested p.phase else awaits e ps
 
 -- the partners, with this phase for one of them
-abbrev pub with_phase : Name → Phase → List Partner → List Partner
+abbrev pub with_phase : Entity → Phase → List Partner → List Partner
 with_phase e phase [] = []
 with_phase e phase (p ∷ ps) =
     if same_entity e p.entity then record p { phase = phase } ∷ ps else p ∷ with_phase e phase ps
@@ -70,7 +70,7 @@ abbrev pub to_all : Message → List Partner → List Out
 to_all m ps = map (λ (p : Partner). record { receiver = p.entity; message = m }) ps
 
 -- a message to each partner but one
-abbrev pub to_others : Name → Message → List Partner → List Out
+abbrev pub to_others : Entity → Message → List Partner → List Out
 to_others e m ps = to_all m (filter (λ (p : Partner). not (same_entity e p.entity)) ps)
 
 -- to each partner a request for its number
@@ -78,7 +78,7 @@ abbrev pub requests : List Partner → List Out
 requests ps = map (λ (p : Partner). record { receiver = p.entity; message = Request p.n }) ps
 
 -- a partner that is asked
-abbrev pub asked : Name → ℕ → Partner
+abbrev pub asked : Entity → ℕ → Partner
 asked e n = record { entity = e; n = n; phase = Phase.Requested }
 
 -- the partners of a new order: its stocks, and its account
@@ -109,14 +109,14 @@ on_order_command (Some o) CancelOrder =
     else Err NotOpen
 
 -- a partner's phase is tentative: the order is confirmed if that was the last
-abbrev pub tentative_from : OrderState → Name → Option OrderState × List Out
+abbrev pub tentative_from : OrderState → Entity → Option OrderState × List Out
 tentative_from o s =
     if all_tentative (with_phase s Phase.Tentative o.partners)
     then (Some (record { status = Confirmed; partners = all_in Phase.Confirmed o.partners }), to_all Confirm o.partners)
     else (Some (record { status = o.status; partners = with_phase s Phase.Tentative o.partners }), [])
 
 -- a partner refused: the order is cancelled, and so are the others
-abbrev pub refused_by : OrderState → Name → Option OrderState × List Out
+abbrev pub refused_by : OrderState → Entity → Option OrderState × List Out
 refused_by o s = (
   Some (record { status = Cancelled; partners = with_phase s Phase.Refused (all_in Phase.Cancelled o.partners) }),
   to_others s Cancel o.partners,
@@ -124,7 +124,7 @@ refused_by o s = (
 
 -- tentative and refused count at an open order, from a partner that was asked and hasn't answered; anything else
 -- changes nothing
-abbrev pub on_order_message : Option OrderState → Name → Message → Option OrderState × List Out
+abbrev pub on_order_message : Option OrderState → Entity → Message → Option OrderState × List Out
 on_order_message (Some o) s Tentative =
     if is_open o.status && awaits s o.partners then tentative_from o s else (Some o, [])
 on_order_message (Some o) s Refused = if is_open o.status && awaits s o.partners then refused_by o s else (Some o, [])

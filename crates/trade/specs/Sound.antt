@@ -4,7 +4,7 @@ use Rattle.std.specs.Cmp.Lexicographic.{slice_cmp}
 use Rattle.std.specs.List.{AllByRecursion}
 use Rattle.std.specs.List.Sorted.{IsStrictlySortedBy}
 use Rattle.std.specs.Ordering.{nat_cmp}
-use Rattle.base.specs.Entity.{Name}
+use Rattle.base.specs.Entity.{Entity}
 use Rattle.base.specs.declared.entity.Kind.TheVariants.{Order, Stock, Account}
 use Rattle.base.specs.declared.limits.TheConstants.{MAX_LINES, MAX_NUMBER}
 use Rattle.trade.specs.declared.line_phase.LinePhase.TheVariants.{Held, Done}
@@ -14,13 +14,13 @@ use Rattle.trade.specs.Orders.{Partner, OrderState}
 use Rattle.trade.specs.Stocks.{StockState}
 
 -- stocks, each once, and then one account
-abbrev pub AreStocksThenAccount : List Name → Type 0
+abbrev pub AreStocksThenAccount : List Entity → Type 0
 AreStocksThenAccount [] = ⊥
 AreStocksThenAccount (e ∷ []) = e.kind ≡ Account
 AreStocksThenAccount (e ∷ es) = (e.kind ≡ Stock) × AllByRecursion (λ other. e ≢ other) es × AreStocksThenAccount es
 
 -- the partners of an order: one to eight stocks, each once, and then one account
-pub record ArePartners (es : List Name) : Type 0 where
+pub record ArePartners (es : List Entity) : Type 0 where
   pub in_order : AreStocksThenAccount es
   pub some : 1 < length es
   pub few : length es ≤ suc MAX_LINES

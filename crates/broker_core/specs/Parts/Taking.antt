@@ -5,7 +5,7 @@ use Rattle.stomp_frame.specs.declared.fault.FrameFault.{FrameFault}
 use Rattle.stomp_frame.specs.declared.fault.FrameFault.TheVariants.{Memory}
 use Rattle.broker_tx.specs.First.{IsFirstAt, PassesNone}
 use Rattle.broker_core.specs.Feeding.{Dealing, DecidesNext, Ends, FeedsNone, Handles, HandlesAll, HasNone, MeetsFault}
-use Rattle.broker_core.specs.Feeding.{Settles, Stops}
+use Rattle.broker_core.specs.Feeding.{DealsAll, Stops}
 use Rattle.broker_core.specs.Feeding.{TakesDecided, fed, taking, with_incoming, with_waiting}
 use Rattle.broker_core.specs.Performing.{Reach, queue_refusal, transaction_refusal}
 use Rattle.broker_core.specs.Serving.{Decided, Part, Server, changing, is_session, part, refused, served, session_of}
@@ -179,6 +179,6 @@ pub record Handled (full n : ℕ) (old : Server) (count : ℕ) (new : Server) : 
 
 -- the deals at the end
 abbrev pub EndAnswer : Server → Server → ℕ → Result ℕ BrokerFault → Type 0
-EndAnswer old new count (Ok c) = Settles old new × (c ≡ count)
+EndAnswer old new count (Ok c) = DealsAll old new × (c ≡ count)
 EndAnswer old new count (Err (OutOfMemory true)) = Dealing old new
 EndAnswer old new count (Err _) = ⊥

@@ -58,13 +58,13 @@ is_held kept number s =
     (fate_of_kept (kept_at e.number kept))) s.entries
 
 -- the same of the subscriber at a place, where there is one
-abbrev pub held_by : List Kept → ℕ → Option Subscriber → Bool
-held_by kept number None = false
-held_by kept number (Some s) = is_held kept number s
+abbrev pub is_held_of : List Kept → ℕ → Option Subscriber → Bool
+is_held_of kept number None = false
+is_held_of kept number (Some s) = is_held kept number s
 
 -- whether it is out to the subscriber at a place
 abbrev pub is_held_at : List Kept → List Subscriber → ℕ → Place → Bool
-is_held_at kept subscribers number p = held_by kept number (subscriber_at p.number subscribers)
+is_held_at kept subscribers number p = is_held_of kept number (subscriber_at p.number subscribers)
 
 -- the fate of a message that goes out to a subscription, as a delivery of this number unless that is `auto`
 abbrev pub dealt_fate : Subscription → Option ℕ → Option Fate

@@ -16,7 +16,7 @@ use Rattle.broker_index.specs.declared.places.Place.{Place}
 use Rattle.broker_queues.specs.Parts.Fates.{fate_of_kept, passes}
 use Rattle.broker_queues.specs.Parts.Queues.{Frees}
 use Rattle.broker_queues.specs.Parts.Facts.{kept_at, subscriber_at, living_of, subscriptions_of, lists, notes, queue_of}
-use Rattle.broker_queues.specs.Parts.Whole.{Holding, IsSound, Leaves, Moves, Puts, book_of}
+use Rattle.broker_queues.specs.Parts.Whole.{Holding, IsSound, Leaves, LooksElsewhere, Puts, book_of}
 
 -- ---- the queue of one destination
 
@@ -44,7 +44,7 @@ ListsOnly old sent new = (d : List ℕ) (m : ℕ) → lists m (queue_of new.queu
 -- a message is put in, ready; where memory is refused, idle queues go at most
 abbrev pub Stores : {A E : Type 0} → Holding → Sent → Holding → Result A E → Type 0
 Stores old sent new (Ok _) = Puts old sent new × ListsOnly old sent new
-Stores old sent new (Err _) = Moves old new
+Stores old sent new (Err _) = LooksElsewhere old new
 
 -- A SEND is accepted.
 pub record PutsOne (full : ℕ) (old : Holding) (sent : Sent) (new : Holding) : Type 0 where
@@ -57,7 +57,7 @@ pub record PutsOne (full : ℕ) (old : Holding) (sent : Sent) (new : Holding) : 
 -- A SEND is refused.
 pub record PutsNone (full : ℕ) (old : Holding) (sent : Sent) (fault : QueueFault) (new : Holding) : Type 0 where
   pub sound : IsSound new
-  pub moves : Moves old new
+  pub moves : LooksElsewhere old new
   pub refused : (fault ≡ Memory) ⊎ ((accepted : List Accepted) → put_of full (book_of old accepted) sent ≡ Err fault)
 
 -- one or the other
@@ -177,7 +177,7 @@ SubscribesTo old s new (Err _) = Tidies old new
 pub record Detached (old : Holding) (age : ℕ) (s : Subscriber) (new : Holding) : Type 0 where
   pub between : Holding
   pub leaves : Leaves old age s between
-  pub moves : Moves between new
+  pub moves : LooksElsewhere between new
   pub session : new.sessions s.subscription.session ≡ without age (old.sessions s.subscription.session)
 
 -- so it is for the subscriber of an age, if there is one

@@ -147,7 +147,7 @@ pub record Renotes (old : Holding) (change : Subscriber → Subscriber) (new : H
       → holds_number x i n (change s) ≡ true
 
 -- Where queues look for ready messages and for takers changes, and which are awake.
-pub record Moves (old new : Holding) : Type 0 where
+pub record LooksElsewhere (old new : Holding) : Type 0 where
   pub kept : new.kept ≡ old.kept
   pub subscribers : new.subscribers ≡ old.subscribers
   pub sessions : new.sessions ≡ old.sessions

@@ -1,7 +1,7 @@
 -- What a filling passes over where the journal has new rows.
 use Rattle.std.specs.Prelude.{◌≡◌, ◌≢◌, ℕ, ◌≤◌, List, [], Option, Some, None, IsSome, ⊤}
 use Rattle.std.specs.declared.cmp.Ordering.TheVariants.{Less, Greater}
-use Rattle.base.specs.Entity.{Name}
+use Rattle.base.specs.Entity.{Entity}
 use Rattle.base.specs.Order.{entity_cmp}
 use Rattle.base.specs.declared.pair.Pair.{Pair}
 use Rattle.activities.specs.declared.input.JournalRow.{JournalRow}
@@ -18,18 +18,18 @@ SentBut news marks messages reach =
     → x.number ≤ marks x.pair
 
 -- an entity doesn't come before the sender of a place
-abbrev pub IsFrom : Option Place → Name → Type 0
+abbrev pub IsFrom : Option Place → Entity → Type 0
 IsFrom None e = ⊤
 IsFrom (Some a) e = entity_cmp e a.pair.from ≢ Less
 
 -- the first entity of these rows that doesn't come before the sender of a place, or there is none
-abbrev pub IsFirstFrom : {C : Type 0} → List (JournalRow C) → Option Place → Option Name → Type 0
-IsFirstFrom news behind None = (f : Name) → IsFrom behind f → part f news ≡ []
-IsFirstFrom news behind (Some e) = (f : Name) → IsFrom behind f → entity_cmp f e ≡ Less → part f news ≡ []
+abbrev pub IsFirstFrom : {C : Type 0} → List (JournalRow C) → Option Place → Option Entity → Type 0
+IsFirstFrom news behind None = (f : Entity) → IsFrom behind f → part f news ≡ []
+IsFirstFrom news behind (Some e) = (f : Entity) → IsFrom behind f → entity_cmp f e ≡ Less → part f news ≡ []
 
 -- from the one place up to the other no sender has one of these rows
 abbrev pub IsClear : {C : Type 0} → List (JournalRow C) → Option Place → Place → Type 0
-IsClear news behind place = (f : Name) → IsFrom behind f → entity_cmp f place.pair.from ≢ Greater → part f news ≡ []
+IsClear news behind place = (f : Entity) → IsFrom behind f → entity_cmp f place.pair.from ≢ Greater → part f news ≡ []
 
 -- the one place isn't behind the other, and what stands between them was sent
 abbrev pub Skips : (Pair → ℕ) → Messages → (here next : Option Place) → Type 0

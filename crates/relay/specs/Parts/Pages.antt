@@ -60,8 +60,8 @@ Jumps marks (Some here) None = ⊥
 Jumps marks None next = ⊥
 
 -- and they are the pages behind the place itself, where there is no such place
-abbrev pub Moves : (Pair → ℕ) → Option Place → Option Place → Type 0
-Moves marks here next = (next ≡ here) ⊎ Jumps marks here next
+abbrev pub StaysOrJumps : (Pair → ℕ) → Option Place → Option Place → Type 0
+StaysOrJumps marks here next = (next ≡ here) ⊎ Jumps marks here next
 
 -- none of these letters is above what was sent of its pair
 abbrev pub AreSent : (Pair → ℕ) → List Letter → Type 0

@@ -6,7 +6,7 @@ pub returns-clause-acts : goal.returns-clause-acts
 returns-clause-acts g c test s t b d from to leads genuine =
     first_keeps (passing test) s t b d from to g.K.Keep.seen g.met.K.Keep.sound g.H.Handler.service leads.event
     leads.outcome leads.clean
-    leads.matched leads.right leads.true_passes leads.happens genuine
+    leads.matched leads.right leads.true_passes leads.step genuine
 
 pub returns-clause-turned : goal.returns-clause-turned
 returns-clause-turned g c test a b d o genuine = rotated (passing test) a b d o genuine

@@ -1,7 +1,7 @@
 use Rattle.laws_mail.specs.Passing.{passing}
-use Rattle.laws_mail.proofs.Offices.{opened_connection, opened_good, carried_up_good, carried_down_good, next_good}
-use Rattle.laws_mail.proofs.Offices.{cut_good, dispatched_good}
-use Rattle.laws_mail.proofs.Offices.{restarted_good}
+use Rattle.laws_mail.proofs.Mails.{opened_connection, opened_good, carried_up_good, carried_down_good, next_good}
+use Rattle.laws_mail.proofs.Mails.{cut_good, dispatched_good}
+use Rattle.laws_mail.proofs.Mails.{restarted_good}
 use Rattle.laws_mail.proofs.Repeating.{repeated_good}
 use Rattle.laws_mail.proofs.Writing.{written_good}
 use Rattle.laws_mail.proofs.laws.each_call_makes_nothing_up.Goals as goal

@@ -8,7 +8,7 @@ pub returns-in-Left-clause-runs : goal.returns-in-Left-clause-runs
 returns-in-Left-clause-runs g c =
     rw c.in-Left.is (left_runs g.K.Keep.seen g.L.Keep.seen g.H.Handler.service g.G.Handler.service
     c.act.result c.args.network.now c.args.left.now c.act.new.own c.args.right.now c.in-Left.event c.act.new.post
-    (rw c.as_slice.ensures at c.act.ensures.turns))
+    (rw c.as_slice.ensures at c.act.ensures.steps))
 
 pub returns-in-Left-clause-fair : goal.returns-in-Left-clause-fair
 returns-in-Left-clause-fair g c =
@@ -22,7 +22,7 @@ pub returns-in-Right-clause-runs : goal.returns-in-Right-clause-runs
 returns-in-Right-clause-runs g c =
     rw c.in-Right.is (right_runs g.K.Keep.seen g.L.Keep.seen g.H.Handler.service g.G.Handler.service
     c.act-in-Right.result c.args.network.now c.args.left.now c.args.right.now c.act-in-Right.new.own c.in-Right.event
-    c.act-in-Right.new.post (rw c.as_slice-in-Right.ensures at c.act-in-Right.ensures.turns))
+    c.act-in-Right.new.post (rw c.as_slice-in-Right.ensures at c.act-in-Right.ensures.steps))
 
 pub returns-in-Right-clause-fair : goal.returns-in-Right-clause-fair
 returns-in-Right-clause-fair g c =

@@ -1,6 +1,6 @@
 use Rattle.std.proofs.Common.{subst, rules}
 use Rattle.endpoint.specs.Arrivals.{DrainMay}
-use Rattle.endpoint.specs.Calls.{Does, OfHeldLetter}
+use Rattle.endpoint.specs.Calls.{DoesDeed, OfHeldLetter}
 use Rattle.endpoint.proofs.Finishing.{works_does}
 use Rattle.endpoint.proofs.endpoint.WindowedEndpoint.drain_held.Goals as goal
 
@@ -9,6 +9,6 @@ returns-clause-drain g c =
     let seen = g.K.Keep.seen in let ahead =
     g.W.Window.ahead in let service = g.H.Handler.service in let p = c.args.pair.now in let new =
     c.take_held.new.keep in
-    subst (λ k. Does seen k new ahead service OfHeldLetter p.to (DrainMay service p) c.take_held.result) c.self.view_is
+    subst (λ k. DoesDeed seen k new ahead service OfHeldLetter p.to (DrainMay service p) c.take_held.result) c.self.view_is
     (works_does seen ahead service c.self.inside.keep new p.to (search rules) OfHeldLetter (λ h. h) (DrainMay service p)
     c.take_held.result c.take_held.ensures)

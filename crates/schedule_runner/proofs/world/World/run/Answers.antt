@@ -15,15 +15,15 @@ loop-event-preserved g c =
     let e = c.event-item.result in
     let more : take (i + 1) events ≡ take i events ++ e ∷ [] =
     take_more events i e c.loop-event-test.true ∙ ap (λ v. take i events ++ v ∷ []) (sym c.event-item.is) in
-    far_more g.KO.Keep.seen g.KS.Keep.seen g.KA.Keep.seen events e c.happen-outcome.result i (i + 1)
+    far_more g.KO.Keep.seen g.KS.Keep.seen g.KA.Keep.seen events e c.single_step-outcome.result i (i + 1)
     c.args.outcomes.now.items
     c.loop-event.outcomes.items c.push_reserved.new.self.items c.args.self.now c.loop-event.self
-    c.happen-outcome.new.self refl more
-    (c.push_reserved.ensures.items ∙ ap (λ l. l ++ c.happen-outcome.result ∷ []) c.reserve.ensures.items)
+    c.single_step-outcome.new.self refl more
+    (c.push_reserved.ensures.items ∙ ap (λ l. l ++ c.single_step-outcome.result ∷ []) c.reserve.ensures.items)
     c.loop-event.invariant
-    (passes_made g.KO.Keep.seen g.KS.Keep.seen g.KA.Keep.seen e c.happen-outcome.result c.loop-event.self
-    c.happen-outcome.new.self
-    c.happen-outcome.ensures)
+    (passes_made g.KO.Keep.seen g.KS.Keep.seen g.KA.Keep.seen e c.single_step-outcome.result c.loop-event.self
+    c.single_step-outcome.new.self
+    c.single_step-outcome.ensures)
 
 pub returns-in-Err-clause-did : goal.returns-in-Err-clause-did
 returns-in-Err-clause-did g c =

@@ -7,13 +7,13 @@ use Rattle.schedule_runner.proofs.world.World.step.Goals as goal
 
 pub returns-clause-did : goal.returns-clause-did
 returns-clause-did g c =
-    makes_passed g.KO.Keep.seen g.KS.Keep.seen g.KA.Keep.seen c.args.event.now c.happen.result c.args.self.now
-    c.happen.new.self c.happen.ensures
+    makes_passed g.KO.Keep.seen g.KS.Keep.seen g.KA.Keep.seen c.args.event.now c.single_step.result c.args.self.now
+    c.single_step.new.self c.single_step.ensures
 
 pub returns-clause-goes : goal.returns-clause-goes
 returns-clause-goes g c =
     let e = c.args.event.now in
-    let o = c.happen.result in
+    let o = c.single_step.result in
     let step = Step g.KO.Keep.seen g.KS.Keep.seen g.KA.Keep.seen in
     goes_map g.KO.Keep.seen g.KS.Keep.seen g.KA.Keep.seen (Makes step e o) (IsPath (Makes step) (e ∷ []) (o ∷ []))
-    (path_one (Makes step) e o) c.args.self.now c.happen.new.self c.happen.ensures.goes
+    (path_one (Makes step) e o) c.args.self.now c.single_step.new.self c.single_step.ensures.goes

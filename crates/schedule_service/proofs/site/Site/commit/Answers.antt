@@ -1,5 +1,5 @@
 use Rattle.schedule_service.proofs.Going.{refused_goes}
-use Rattle.schedule_service.specs.Happenings.{command_row}
+use Rattle.schedule_service.specs.SiteSteps.{command_row}
 use Rattle.schedule_service.proofs.site.Site.commit.Goals as goal
 
 pub returns-in-Err-clause-comes : goal.returns-in-Err-clause-comes

@@ -1,5 +1,5 @@
 use Rattle.std.proofs.Common.{None}
-use Rattle.schedule_service.specs.Happenings.{SendsRows}
+use Rattle.schedule_service.specs.SiteSteps.{SendsRows}
 use Rattle.schedule_service.proofs.Doing.{sends_again}
 use Rattle.schedule_service.proofs.Fates.{does_open}
 use Rattle.schedule_service.proofs.site.Site.fill.Goals as goal

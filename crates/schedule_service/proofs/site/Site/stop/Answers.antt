@@ -3,7 +3,7 @@ use Rattle.keep.specs.Failing.{through}
 use Rattle.endpoint.specs.Calls.{Finds}
 use Rattle.endpoint.specs.Deeds.{Nothing}
 use Rattle.schedule_text.specs.declared.outcome.Outcome.TheVariants.{Stopped}
-use Rattle.schedule_service.specs.Happenings.{with_store}
+use Rattle.schedule_service.specs.SiteSteps.{with_store}
 use Rattle.schedule_service.specs.Channels.{CutsBoth}
 use Rattle.schedule_service.proofs.Going.{finds_goes, told_refused}
 use Rattle.schedule_service.proofs.site.Site.stop.Goals as goal

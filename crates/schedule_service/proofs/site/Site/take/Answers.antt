@@ -1,5 +1,5 @@
 use Rattle.std.proofs.Common.{None}
-use Rattle.schedule_service.specs.Happenings.{TakesOne}
+use Rattle.schedule_service.specs.SiteSteps.{TakesOne}
 use Rattle.schedule_service.proofs.Doing.{takes_again}
 use Rattle.schedule_service.proofs.Fates.{does_open}
 use Rattle.schedule_service.proofs.site.Site.take.Goals as goal

@@ -22,7 +22,7 @@ use Rattle.endpoint.proofs.CallExamples.{orders, OrderTables}
 use Rattle.relay.specs.declared.fault.RelayFault.{RelayFault}
 use Rattle.relay.specs.declared.fault.RelayFault.TheVariants as relay_fault
 use Rattle.broker_core.specs.declared.fault.BrokerFault.{BrokerFault}
-use Rattle.schedule_mail.specs.Offices.{new_office}
+use Rattle.schedule_mail.specs.Mails.{new_mail}
 use Rattle.reception.specs.declared.fault.ReceptionFault.{ReceptionFault}
 use Rattle.reception.specs.declared.fault.ReceptionFault.TheVariants as fault
 use Rattle.reception.specs.declared.taken.Drained.{Drained}
@@ -31,9 +31,9 @@ use Rattle.reception.specs.declared.taken.Taken.TheVariants as taken
 use Rattle.schedule_text.specs.declared.event.FailureLeaves.TheVariants as failure
 use Rattle.schedule_text.specs.declared.event.SeatCommand.{SeatCommand}
 use Rattle.schedule_text.specs.declared.outcome.Outcome.TheVariants as told
-use Rattle.schedule_service.specs.Happenings.{command_row, leaves_of, waiting_of, with_store}
-use Rattle.schedule_service.specs.Happenings.{ArmsStore, TakesCommand, DrainsAlone}
-use Rattle.schedule_service.specs.Happenings.{ReopensStore, StopsSite}
+use Rattle.schedule_service.specs.SiteSteps.{command_row, leaves_of, waiting_of, with_store}
+use Rattle.schedule_service.specs.SiteSteps.{ArmsStore, TakesCommand, DrainsAlone}
+use Rattle.schedule_service.specs.SiteSteps.{ReopensStore, StopsSite}
 use Rattle.schedule_service.specs.Outcomes.{fault_told, commit_told, end_told, fill_told, rise_told, fall_told}
 use Rattle.schedule_service.specs.Outcomes.{reception_told, taken_told, drain_told}
 use Rattle.schedule_service.specs.declared.site_channel.SiteChannel.{SiteChannel}
@@ -153,9 +153,9 @@ abbrev pub opened : Service → ℕ
 opened s = is_open s.zero
 
 -- a store that isn't usable refuses a command, and nothing changes; a command opens no connection
-commands_are_given : TakesCommand seen orders asked (told.Refused 65) (site false None) new_office (site false None)
-    new_office
-    × (TakesCommand seen orders asked told.Opened (site true None) new_office (site true None) new_office → ⊥)
+commands_are_given : TakesCommand seen orders asked (told.Refused 65) (site false None) new_mail (site false None)
+    new_mail
+    × (TakesCommand seen orders asked told.Opened (site true None) new_mail (site true None) new_mail → ⊥)
 commands_are_given = (
   record {
     result = Err Unusable;
@@ -167,10 +167,10 @@ commands_are_given = (
 )
 
 -- the tables that a stop may leave are found; no opening of a store opens a connection
-stores_are_reopened : ReopensStore seen orders told.Reopened (site true None) new_office (site true None) new_office
-    × (ReopensStore seen orders told.Opened (site true None) new_office (site true None) new_office → ⊥)
-    × StopsSite seen orders told.Stopped (site true None) new_office (site true None) new_office
-    × (StopsSite seen orders told.Opened (site true None) new_office (site true None) new_office → ⊥)
+stores_are_reopened : ReopensStore seen orders told.Reopened (site true None) new_mail (site true None) new_mail
+    × (ReopensStore seen orders told.Opened (site true None) new_mail (site true None) new_mail → ⊥)
+    × StopsSite seen orders told.Stopped (site true None) new_mail (site true None) new_mail
+    × (StopsSite seen orders told.Opened (site true None) new_mail (site true None) new_mail → ⊥)
 stores_are_reopened = (
   record {
     result = Ok tt;
@@ -186,17 +186,17 @@ stores_are_reopened = (
     reopens = record { call = (refl, refl, refl); doubt = omega arith; clean = λ clean. ∣ refl ∣₁ };
     finds = λ clean t left. ∣ left ∣₁;
     tells = refl;
-    cuts = record { between = new_office; zero = refl; one = refl; site = refl };
+    cuts = record { between = new_mail; zero = refl; one = refl; site = refl };
   },
   λ h. not_stop h.result h.tells,
 )
 
 -- the store is armed, and not told to leave the other tables
-stores_are_armed : ArmsStore 2 failure.New told.Armed (site true None) new_office
+stores_are_armed : ArmsStore 2 failure.New told.Armed (site true None) new_mail
     (with_store (record (store true) { armed = Some (record { calls = 2; leaves = NewTables }) }) (site true None))
-    new_office
-    × (ArmsStore 2 failure.New told.Armed (site true None) new_office (site true None) new_office → ⊥)
-    × (ArmsStore 2 failure.New told.Reopened (site true None) new_office (site true None) new_office → ⊥)
+    new_mail
+    × (ArmsStore 2 failure.New told.Armed (site true None) new_mail (site true None) new_mail → ⊥)
+    × (ArmsStore 2 failure.New told.Reopened (site true None) new_mail (site true None) new_mail → ⊥)
 stores_are_armed = (
   (refl, (refl, refl)),
   λ h. let armed = ap (λ (s : Service). s.endpoint.armed) h.1.0 in absurd (cc),
@@ -204,8 +204,8 @@ stores_are_armed = (
 )
 
 -- no held letter is handled for want of memory; and none opens a connection
-letters_are_drained : DrainsAlone seen orders (told.Refused 44) (site true None) new_office (site true None) new_office
-    × (DrainsAlone seen orders told.Opened (site true None) new_office (site true None) new_office → ⊥)
+letters_are_drained : DrainsAlone seen orders (told.Refused 44) (site true None) new_mail (site true None) new_mail
+    × (DrainsAlone seen orders told.Opened (site true None) new_mail (site true None) new_mail → ⊥)
 letters_are_drained = (
   record {
     result = Err (fault.Client client.Memory);

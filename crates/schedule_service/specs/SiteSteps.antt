@@ -26,7 +26,7 @@ use Rattle.relay.specs.declared.fault.RelayFault.{RelayFault}
 use Rattle.relay.specs.declared.relay.Relay.{Relay}
 use Rattle.broker_core.specs.declared.fault.BrokerFault.{BrokerFault}
 use Rattle.schedule_mail.specs.Connecting.{Opens, CarriesUp, CarriesDown, TakesNext}
-use Rattle.schedule_mail.specs.Offices.{Office}
+use Rattle.schedule_mail.specs.Mails.{Mail}
 use Rattle.schedule_mail.specs.declared.connection.Connection.{Connection}
 use Rattle.schedule_mail.specs.declared.fault.OpenFault.{OpenFault}
 use Rattle.reception.specs.Answers.{Answers}
@@ -72,7 +72,7 @@ waiting_of (Err fault) f = waiting_after fault f
 
 module _ {H K S C : Type 0} where
   -- an event of a connection that isn't open does nothing; of one that is, this
-  abbrev pub IfOpen : Option SiteChannel → Outcome → (s : Site H K S C) (from : Office) (t : Site H K S C) (to : Office)
+  abbrev pub IfOpen : Option SiteChannel → Outcome → (s : Site H K S C) (from : Mail) (t : Site H K S C) (to : Mail)
       → (SiteChannel
       → Type 0) → Type 0
   IfOpen None outcome s from t to Does = (outcome ≡ told.Closed) × Same s from t to
@@ -90,19 +90,19 @@ module _ {H K S C : Type 0} where
       × (t ≡ with_channel number (Some (record { connection = c; relay = relay })) s)
   Adds number (Err fault) s t = t ≡ s
 
-  abbrev pub OpensChannel : ConnectionNumber → Option SiteChannel → Outcome → Site H K S C → Office → Site H K S C
-      → Office → Type 0
+  abbrev pub OpensChannel : ConnectionNumber → Option SiteChannel → Outcome → Site H K S C → Mail → Site H K S C
+      → Mail → Type 0
   OpensChannel number (Some l) outcome s from t to = (outcome ≡ told.Already) × Same s from t to
   OpensChannel number None outcome s from t to =
       (r : Result Connection OpenFault) × Opens from to r × (outcome ≡ open_told r) × Adds number r s t
 
-  abbrev pub CutsChannel : ConnectionNumber → SiteChannel → Outcome → Site H K S C → Office → Site H K S C → Office
+  abbrev pub CutsChannel : ConnectionNumber → SiteChannel → Outcome → Site H K S C → Mail → Site H K S C → Mail
       → Type 0
   CutsChannel number l outcome s from t to =
       (outcome ≡ told.Cut) × MailAfterCut (Some l) from to × (t ≡ with_channel number None s)
 
   -- all rows are due again
-  abbrev pub Resends : ConnectionNumber → SiteChannel → Outcome → Site H K S C → Office → Site H K S C → Office → Type 0
+  abbrev pub Resends : ConnectionNumber → SiteChannel → Outcome → Site H K S C → Mail → Site H K S C → Mail → Type 0
   Resends number l outcome s from t to = (outcome ≡ told.Due)
       × ((relay : Relay) × IsAllDue relay × Same (with_channel number (Some (record l { relay = relay })) s) from t to)
 
@@ -110,8 +110,8 @@ module _ {H K S C : Type 0} where
 
   -- the first octets that wait went over
   pub record Rises (number : ConnectionNumber) (most : ℕ) (l : SiteChannel) (outcome : Outcome) (s : Site H K S C)
-      (from : Office)
-      (t : Site H K S C) (to : Office) : Type 0 where
+      (from : Mail)
+      (t : Site H K S C) (to : Mail) : Type 0 where
     pub result : Result ℕ BrokerFault
     pub later : Connection
     pub carries : CarriesUp most l.connection from later to result
@@ -119,23 +119,23 @@ module _ {H K S C : Type 0} where
     pub site : t ≡ with_channel number (Some (over l later)) s
 
   pub record Falls (number : ConnectionNumber) (most : ℕ) (l : SiteChannel) (outcome : Outcome) (s : Site H K S C)
-      (from : Office)
-      (t : Site H K S C) (to : Office) : Type 0 where
+      (from : Mail)
+      (t : Site H K S C) (to : Mail) : Type 0 where
     pub result : Result ℕ FrameFault
     pub later : Connection
-    pub between : Office
+    pub between : Mail
     pub carries : CarriesDown most l.connection from later between result
     pub tells : outcome ≡ fall_told result
     pub meets : Meets (fall_fate result) number (over l later) s between t to
 
-  abbrev pub CarriesOn : Way → ConnectionNumber → ℕ → SiteChannel → Outcome → Site H K S C → Office → Site H K S C
-      → Office → Type 0
+  abbrev pub CarriesOn : Way → ConnectionNumber → ℕ → SiteChannel → Outcome → Site H K S C → Mail → Site H K S C
+      → Mail → Type 0
   CarriesOn Up number most l outcome s from t to = Rises number most l outcome s from t to
   CarriesOn Down number most l outcome s from t to = Falls number most l outcome s from t to
 
   -- ---- the store is told to fail
 
-  abbrev pub ArmsStore : ℕ → FailureLeaves → Outcome → Site H K S C → Office → Site H K S C → Office → Type 0
+  abbrev pub ArmsStore : ℕ → FailureLeaves → Outcome → Site H K S C → Mail → Site H K S C → Mail → Type 0
   ArmsStore n leaves outcome s from t to = (outcome ≡ told.Armed)
       × Same (with_store (record s.endpoint { armed = Some (record { calls = n; leaves = leaves_of leaves }) }) s) from
       t to
@@ -144,8 +144,8 @@ module _ {H K S C : Type 0} (seen : K → Seen (Tables S C)) (service : Service 
   -- ---- commands
 
   -- a command is given to the endpoint
-  pub record TakesCommand (asked : SeatCommand C) (outcome : Outcome) (s : Site H K S C) (from : Office)
-      (t : Site H K S C) (to : Office)
+  pub record TakesCommand (asked : SeatCommand C) (outcome : Outcome) (s : Site H K S C) (from : Mail)
+      (t : Site H K S C) (to : Mail)
       : Type 0 where
     pub result : Result Committed EndFault
     pub commits : Commits (through seen) s.endpoint t.endpoint service (command_row asked) result
@@ -157,8 +157,8 @@ module _ {H K S C : Type 0} (seen : K → Seen (Tables S C)) (service : Service 
   -- The rows that are due are sent, up to the limit; before CONNECTED none, and the store isn't called. Where the
   -- tables match their journal and the relay's cursor was right, none is left out, and it is right afterwards.
   pub record SendsRows (number : ConnectionNumber) (limit : ℕ) (l : SiteChannel) (outcome : Outcome) (s : Site H K S C)
-      (from : Office)
-      (t : Site H K S C) (to : Office) : Type 0 where
+      (from : Mail)
+      (t : Site H K S C) (to : Mail) : Type 0 where
     pub result : Result ℕ RelayFault
     pub later : SiteChannel
     pub idle : IfSome (idle_answer l.connection.channel.client.client.stage)
@@ -183,8 +183,8 @@ module _ {H K S C : Type 0} (seen : K → Seen (Tables S C)) (service : Service 
 
   -- a frame is taken, from a connection that is this behind it
   pub record TakesFrame (number : ConnectionNumber) (l : SiteChannel) (f : Content) (outcome : Outcome)
-      (s : Site H K S C) (from : Office)
-      (t : Site H K S C) (to : Office) : Type 0 where
+      (s : Site H K S C) (from : Mail)
+      (t : Site H K S C) (to : Mail) : Type 0 where
     pub result : Result Taken ReceptionFault
     pub client : ClientWithRoom ℕ
     pub answers : Answers service.kind f l.connection.channel.client.client client.client result
@@ -200,15 +200,15 @@ module _ {H K S C : Type 0} (seen : K → Seen (Tables S C)) (service : Service 
 
   -- what came: no whole frame, and nothing is done; a frame; or a fault of the octets
   abbrev pub TakesWhat : Result (Option Content) FrameFault → ConnectionNumber → SiteChannel → Outcome → Site H K S C
-      → Office → Site H K S C
-      → Office → Type 0
+      → Mail → Site H K S C
+      → Mail → Type 0
   TakesWhat (Ok None) number l outcome s from t to =
       (outcome ≡ told.Idle) × Same (with_channel number (Some l) s) from t to
   TakesWhat (Ok (Some f)) number l outcome s from t to = TakesFrame number l f outcome s from t to
   TakesWhat (Err fault) number l outcome s from t to =
       (outcome ≡ decoder_told fault) × Meets (decoder_fate fault) number l s from t to
 
-  abbrev pub TakesOne : ConnectionNumber → SiteChannel → Outcome → Site H K S C → Office → Site H K S C → Office
+  abbrev pub TakesOne : ConnectionNumber → SiteChannel → Outcome → Site H K S C → Mail → Site H K S C → Mail
       → Type 0
   TakesOne number l outcome s from t to = (came : Result (Option Content) FrameFault) × (later : Connection)
       × TakesNext l.connection later came × TakesWhat came number (over l later) outcome s from t to
@@ -217,8 +217,8 @@ module _ {H K S C : Type 0} (seen : K → Seen (Tables S C)) (service : Service 
 
   -- the first held letter that is next is handled; a connected client settles it
   pub record DrainsOver (number : ConnectionNumber) (l : SiteChannel) (outcome : Outcome) (s : Site H K S C)
-      (from : Office) (t : Site H K S C)
-      (to : Office) : Type 0 where
+      (from : Mail) (t : Site H K S C)
+      (to : Mail) : Type 0 where
     pub result : Result (Option Drained) ReceptionFault
     pub client : ClientWithRoom ℕ
     pub wrote : DrainWrites l.connection.channel.client.client client.client result
@@ -229,7 +229,7 @@ module _ {H K S C : Type 0} (seen : K → Seen (Tables S C)) (service : Service 
         { channel = record l.connection.channel { client = client } })) (with_store t.endpoint s) from t to
 
   -- where the connection isn't open, nobody settles it
-  pub record DrainsAlone (outcome : Outcome) (s : Site H K S C) (from : Office) (t : Site H K S C) (to : Office) : Type
+  pub record DrainsAlone (outcome : Outcome) (s : Site H K S C) (from : Mail) (t : Site H K S C) (to : Mail) : Type
       0 where
     pub result : Result (Option Drained) ReceptionFault
     pub comes : ComesBy (through seen) s.endpoint t.endpoint service (DrainsMay service result)
@@ -237,7 +237,7 @@ module _ {H K S C : Type 0} (seen : K → Seen (Tables S C)) (service : Service 
     pub tells : outcome ≡ drain_told result
     pub meets : MeetsAlone (drain_fate result) (with_store t.endpoint s) from t to
 
-  abbrev pub DrainsOne : ConnectionNumber → Option SiteChannel → Outcome → Site H K S C → Office → Site H K S C → Office
+  abbrev pub DrainsOne : ConnectionNumber → Option SiteChannel → Outcome → Site H K S C → Mail → Site H K S C → Mail
       → Type 0
   DrainsOne number None outcome s from t to = DrainsAlone outcome s from t to
   DrainsOne number (Some l) outcome s from t to = DrainsOver number l outcome s from t to
@@ -245,7 +245,7 @@ module _ {H K S C : Type 0} (seen : K → Seen (Tables S C)) (service : Service 
   -- ---- the store is opened anew
 
   -- its tables are some that a stop may leave
-  pub record ReopensStore (outcome : Outcome) (s : Site H K S C) (from : Office) (t : Site H K S C) (to : Office) : Type
+  pub record ReopensStore (outcome : Outcome) (s : Site H K S C) (from : Mail) (t : Site H K S C) (to : Mail) : Type
       0 where
     pub result : Result (Unit {0}) EndFault
     pub reopens : Reopens (through seen) s.endpoint t.endpoint (end_of result)
@@ -255,7 +255,7 @@ module _ {H K S C : Type 0} (seen : K → Seen (Tables S C)) (service : Service 
 
   -- a service is stopped and started again: both connections are cut, the store is opened anew, and no call of it is to
   -- fail
-  pub record StopsSite (outcome : Outcome) (s : Site H K S C) (from : Office) (t : Site H K S C) (to : Office) : Type 0
+  pub record StopsSite (outcome : Outcome) (s : Site H K S C) (from : Mail) (t : Site H K S C) (to : Mail) : Type 0
     where
       pub result : Result (Unit {0}) EndFault
       pub opened : Failing K
@@ -266,20 +266,20 @@ module _ {H K S C : Type 0} (seen : K → Seen (Tables S C)) (service : Service 
 
   -- ---- each event
 
-  abbrev pub Happens : SiteEvent C → Outcome → Site H K S C → Office → Site H K S C → Office → Type 0
-  Happens (event.Commits asked) outcome s from t to = TakesCommand asked outcome s from t to
-  Happens (event.Opens number) outcome s from t to = OpensChannel number (channel_of number s) outcome s from t to
-  Happens (event.Cuts number) outcome s from t to =
+  abbrev pub SiteStep : SiteEvent C → Outcome → Site H K S C → Mail → Site H K S C → Mail → Type 0
+  SiteStep (event.Commits asked) outcome s from t to = TakesCommand asked outcome s from t to
+  SiteStep (event.Opens number) outcome s from t to = OpensChannel number (channel_of number s) outcome s from t to
+  SiteStep (event.Cuts number) outcome s from t to =
       IfOpen (channel_of number s) outcome s from t to (λ l. CutsChannel number l outcome s from t to)
-  Happens (event.Fills number limit) outcome s from t to =
+  SiteStep (event.Fills number limit) outcome s from t to =
       IfOpen (channel_of number s) outcome s from t to (λ l. SendsRows number limit l outcome s from t to)
-  Happens (event.Resends number) outcome s from t to =
+  SiteStep (event.Resends number) outcome s from t to =
       IfOpen (channel_of number s) outcome s from t to (λ l. Resends number l outcome s from t to)
-  Happens (event.Carries number way most) outcome s from t to =
+  SiteStep (event.Carries number way most) outcome s from t to =
       IfOpen (channel_of number s) outcome s from t to (λ l. CarriesOn way number most l outcome s from t to)
-  Happens (event.Takes number) outcome s from t to =
+  SiteStep (event.Takes number) outcome s from t to =
       IfOpen (channel_of number s) outcome s from t to (λ l. TakesOne number l outcome s from t to)
-  Happens (event.Drains number) outcome s from t to = DrainsOne number (channel_of number s) outcome s from t to
-  Happens (event.Arms n leaves) outcome s from t to = ArmsStore n leaves outcome s from t to
-  Happens event.Reopens outcome s from t to = ReopensStore outcome s from t to
-  Happens event.Stops outcome s from t to = StopsSite outcome s from t to
+  SiteStep (event.Drains number) outcome s from t to = DrainsOne number (channel_of number s) outcome s from t to
+  SiteStep (event.Arms n leaves) outcome s from t to = ArmsStore n leaves outcome s from t to
+  SiteStep event.Reopens outcome s from t to = ReopensStore outcome s from t to
+  SiteStep event.Stops outcome s from t to = StopsSite outcome s from t to

@@ -21,20 +21,20 @@ use Rattle.schedule_mail.specs.Connecting.{without_session}
 use Rattle.channel.specs.Calls.{GivesNextOf}
 use Rattle.channel.specs.declared.channel.Channel.{Channel}
 use Rattle.schedule_mail.specs.Connecting.{SendsOctets}
-use Rattle.schedule_mail.specs.Offices.{Office, new_office, restarted}
+use Rattle.schedule_mail.specs.Mails.{Mail, new_mail, restarted}
 use Rattle.schedule_mail.specs.declared.connection.Connection.{Connection}
 use Rattle.schedule_mail.specs.declared.fault.OpenFault.{OpenFault}
 use Rattle.schedule_mail.specs.declared.fault.OpenFault.TheVariants.{Client as OfClient, Broker as OfBroker}
 use Rattle.laws_broker.specs.Fitting.{AcceptedFits}
 use Rattle.laws_mail.specs.Laws.{TakenGood}
-use Rattle.laws_mail.specs.Passing.{AreOf, Brought, GoodConnection, GoodFrame, GoodNext, GoodOffice, GoodServer}
+use Rattle.laws_mail.specs.Passing.{AreOf, Brought, GoodConnection, GoodFrame, GoodNext, GoodMail, GoodServer}
 use Rattle.laws_mail.specs.Passing.{GoodWith, HasWritten}
 use Rattle.laws_mail.specs.Passing.{Spelled, at, coming, going}
 use Rattle.laws_mail.proofs.Dealing.{dispatch_good}
 use Rattle.laws_mail.proofs.Feeding.{feed_good}
 use Rattle.laws_mail.proofs.Frames.{connect_good}
 use Rattle.laws_mail.proofs.Moving.{awaited_good, dropped_good, empty_good, given_good, new_session_good, taken_good}
-use Rattle.laws_mail.proofs.Placing.{AreEmpty, above_at, office_with, unchanged}
+use Rattle.laws_mail.proofs.Placing.{AreEmpty, above_at, mail_with, unchanged}
 use Rattle.laws_mail.proofs.Rising.{carried_up_opened, cut_opened, dispatched_opened, opened_number}
 use Rattle.laws_mail.proofs.Spelling.{spelled_more}
 use Rattle.laws_mail.proofs.Texts.{at_each, retold, retold_at, same_down, same_up}
@@ -53,7 +53,7 @@ awaited_empty : (old new : Held) → Nexts MAX_BODY old new (Ok None) → old.oc
 awaited_empty old new (was, sound, unseen, fine, few, gap, is, e) none = rest_empty gap new.octets (sym e ∙ none)
 
 -- octets that came down changed the decoder alone
-fed_same : (most : ℕ) (old : Connection) (from : Office) (new : Connection) (to : Office) (count : ℕ)
+fed_same : (most : ℕ) (old : Connection) (from : Mail) (new : Connection) (to : Mail) (count : ℕ)
     → CarriesDown most old from new to (Ok count)
     → new ≡ record old { channel = record old.channel { decoder = new.channel.decoder } }
 fed_same most old from new to count h = h.same ∙ ap (λ (k : Channel). record old { channel = k }) h.feeds.1
@@ -61,17 +61,17 @@ fed_same most old from new to count h = h.same ∙ ap (λ (k : Channel). record 
 module _ (ok : Envelope → Type 0) where
   -- ---- the first one, and one that is started again
 
-  pub new_office_good : GoodOffice ok (λ _. []) (λ _. []) new_office
-  new_office_good = record { server = empty_good ok; earlier = tt; above = λ n lt. (refl, refl) }
+  pub new_mail_good : GoodMail ok (λ _. []) (λ _. []) new_mail
+  new_mail_good = record { server = empty_good ok; earlier = tt; above = λ n lt. (refl, refl) }
 
   -- all that was accepted
-  pub all_accepted_good : (up down : ℕ → List ℕ) (o : Office) → GoodOffice ok up down o
+  pub all_accepted_good : (up down : ℕ → List ℕ) (o : Mail) → GoodMail ok up down o
       → AllByRecursion (AcceptedFits (Brought ok)) (o.earlier ++ o.broker.book.accepted)
   all_accepted_good up down o h =
       all_append (AcceptedFits (Brought ok)) o.earlier o.broker.book.accepted h.earlier h.server.book.accepted
 
-  pub restarted_good : (up down : ℕ → List ℕ) (o : Office) → GoodOffice ok up down o
-      → GoodOffice ok (λ _. []) (λ _. []) (restarted o)
+  pub restarted_good : (up down : ℕ → List ℕ) (o : Mail) → GoodMail ok up down o
+      → GoodMail ok (λ _. []) (λ _. []) (restarted o)
   restarted_good up down o h = record {
     server = empty_good ok;
     earlier = all_accepted_good up down o h;
@@ -94,7 +94,7 @@ module _ (ok : Envelope → Type 0) (up down : ℕ → List ℕ) where
       (connect_good ok)))
       (same_down ok (down n) fall (f ∙ sym d)) h
 
-  pub opened_good : (from : Office) (c : Connection) (to : Office) → Opens from to (Ok c) → GoodOffice ok up down from
+  pub opened_good : (from : Mail) (c : Connection) (to : Mail) → Opens from to (Ok c) → GoodMail ok up down from
       → GoodWith ok c up down to
   opened_good from c to h g =
       let n = from.broker.opened + 1 in
@@ -105,7 +105,7 @@ module _ (ok : Envelope → Type 0) (up down : ℕ → List ℕ) where
       let octets : coming c ≡ [] = ap (λ (k : Held). k.octets) h.decoder in
       let server = first_text n (going c) (coming c) to.broker none.0 none.1 out octets
       (subst (GoodServer ok up down) (sym h.session.changed) started) in
-      office_with ok up down n (going c) (coming c) c to number.0 refl refl (record {
+      mail_with ok up down n (going c) (coming c) c to number.0 refl refl (record {
         server = server;
         earlier = subst (λ l. AllByRecursion (AcceptedFits (Brought ok)) l) (sym h.earlier) g.earlier;
         above = above_at up down n (going c) (coming c) to.broker.opened (λ m lt. g.above m
@@ -115,18 +115,18 @@ module _ (ok : Envelope → Type 0) (up down : ℕ → List ℕ) where
 
   -- ---- the mail
 
-  pub dispatched_good : {E : Type 0} (from to : Office) (r : Result (Unit {0}) E)
+  pub dispatched_good : {E : Type 0} (from to : Mail) (r : Result (Unit {0}) E)
       → DispatchAnswer from.broker to.broker r
-      → to.earlier ≡ from.earlier → GoodOffice ok up down from → GoodOffice ok up down to
+      → to.earlier ≡ from.earlier → GoodMail ok up down from → GoodMail ok up down to
   dispatched_good from to r h e g = record {
     server = dispatch_good ok up down from.broker to.broker r h g.server;
     earlier = subst (λ l. AllByRecursion (AcceptedFits (Brought ok)) l) (sym e) g.earlier;
     above = empty_above from.broker.opened to.broker.opened (dispatched_opened from to r h) g.above;
   }
 
-  pub cut_good : {E : Type 0} (c : Connection) (from to : Office) (r : Result (Unit {0}) E) → Cuts c from to r
-      → GoodOffice ok up down from
-      → GoodOffice ok (at c.session [] up) (at c.session [] down) to
+  pub cut_good : {E : Type 0} (c : Connection) (from to : Mail) (r : Result (Unit {0}) E) → Cuts c from to r
+      → GoodMail ok up down from
+      → GoodMail ok (at c.session [] up) (at c.session [] down) to
   cut_good c from to r h g = record {
     server = dispatch_good ok (at c.session [] up) (at c.session [] down) (without_session c.session from).broker
         to.broker r h.deals
@@ -138,9 +138,9 @@ module _ (ok : Envelope → Type 0) (up down : ℕ → List ℕ) where
   }
 
   -- nothing has changed
-  stays_good : (old : Connection) (from : Office) (new : Connection) (to : Office) → to ≡ from → new ≡ old
+  stays_good : (old : Connection) (from : Mail) (new : Connection) (to : Mail) → to ≡ from → new ≡ old
       → AreOf old up down
-      → GoodOffice ok up down from → GoodWith ok new up down to
+      → GoodMail ok up down from → GoodWith ok new up down to
   stays_good old from new to e k are g =
       rw (e, k) (unchanged ok up down old.session (going old) (coming old) from are.0 are.1 g)
 
@@ -149,15 +149,15 @@ module _ (ok : Envelope → Type 0) (up down : ℕ → List ℕ) where
   split_text : (most : ℕ) (text : List ℕ) → text ≡ piece_of most text ++ drop (carried most text) text
   split_text most text = sym (take-append-drop (carried most text) text)
 
-  sent_good : (old : Connection) (from : Office) (new : Connection) (to : Office) (count : ℕ) (piece : List ℕ)
+  sent_good : (old : Connection) (from : Mail) (new : Connection) (to : Mail) (count : ℕ) (piece : List ℕ)
       → going old ≡ piece ++ drop count (going old) → SendsOctets count old new → AreOf old up down
       → to.broker.opened ≡ from.broker.opened
-      → GoodOffice ok up down from
+      → GoodMail ok up down from
       → AllByRecursion (AcceptedFits (Brought ok)) to.earlier
       → GoodServer ok (at old.session (drop count (going old)) up) down to.broker → GoodWith ok new up down to
   sent_good old from new to count piece split sends are last g earlier server =
       let rest = drop count (going old) in
-      office_with ok up down old.session rest (coming old) new to sends.session
+      mail_with ok up down old.session rest (coming old) new to sends.session
       (ap (λ (k : Client ℕ). k.out) sends.channel.client) (ap (λ (k : Held). k.octets) sends.channel.decoder) (record {
         server = retold ok (at old.session rest up) (at old.session rest up) down (at old.session (coming old) down)
             to.broker
@@ -172,9 +172,9 @@ module _ (ok : Envelope → Type 0) (up down : ℕ → List ℕ) where
             (λ lt. sym are.1 ∙ (g.above old.session (omega (arith, last, lt))).1);
       })
 
-  pub carried_up_good : (most : ℕ) (old : Connection) (from : Office) (new : Connection) (to : Office)
+  pub carried_up_good : (most : ℕ) (old : Connection) (from : Mail) (new : Connection) (to : Mail)
       (r : Result ℕ BrokerFault)
-      → CarriesUp most old from new to r → AreOf old up down → GoodOffice ok up down from → GoodWith ok new up down to
+      → CarriesUp most old from new to r → AreOf old up down → GoodMail ok up down from → GoodWith ok new up down to
   carried_up_good most old from new to (Ok count) h are g =
       let rest = drop (carried most (going old)) (going old) in
       sent_good old from new to (carried most (going old)) (piece_of most (going old)) (split_text most (going old))
@@ -196,10 +196,10 @@ module _ (ok : Envelope → Type 0) (up down : ℕ → List ℕ) where
 
   -- ---- carry_down
 
-  falls_good : (most : ℕ) (old : Connection) (from : Office) (new : Connection) (to : Office) (count : ℕ)
+  falls_good : (most : ℕ) (old : Connection) (from : Mail) (new : Connection) (to : Mail) (count : ℕ)
       → old.session ≤ from.broker.opened
-      → CarriesDown most old from new to (Ok count) → AreOf old up down → GoodOffice ok up down from
-      → GoodOffice ok (at old.session (going old) up) (at old.session (down old.session
+      → CarriesDown most old from new to (Ok count) → AreOf old up down → GoodMail ok up down from
+      → GoodMail ok (at old.session (going old) up) (at old.session (down old.session
       ++ take count (falling old from)) down) to
   falls_good most old from new to count there h are g =
       let n = old.session in
@@ -208,31 +208,31 @@ module _ (ok : Envelope → Type 0) (up down : ℕ → List ℕ) where
       let raised = retold ok up (at n (going old) up) (at n low down) (at n low down) _
       (at_each (λ m text. (held : List ℕ) → Spelled ok (held ++ up m) → Spelled ok (held ++ text)) n (going old) up
       (same_up ok (up n) (going old) (sym are.0)) (λ m e held k. k)) (λ m out k. k) server in
-      subst (GoodOffice ok (at n (going old) up) (at n low down)) (sym h.left) (record {
+      subst (GoodMail ok (at n (going old) up) (at n low down)) (sym h.left) (record {
         server = raised;
         earlier = g.earlier;
         above = above_at up down n (going old) low from.broker.opened g.above (λ lt. absurd (omega (arith, there, lt)))
             (λ lt. absurd (omega (arith, there, lt)));
       })
 
-  pub carried_down_good : (most : ℕ) (old : Connection) (from : Office) (new : Connection) (to : Office)
+  pub carried_down_good : (most : ℕ) (old : Connection) (from : Mail) (new : Connection) (to : Mail)
       (r : Result ℕ FrameFault)
       → CarriesDown most old from new to r → old.session ≤ from.broker.opened → AreOf old up down
-      → GoodOffice ok up down from
+      → GoodMail ok up down from
       → GoodWith ok new up down to
   carried_down_good most old from new to (Ok count) h there are g =
       let low = down old.session ++ take count (falling old from) in
       let octets : coming new ≡ low = h.feeds.0.2 ∙ ap (λ k. coming old ++ take k (falling old from)) (sym h.counted)
       ∙ ap (λ l. l ++ take count (falling old from)) (sym are.1) in
-      office_with ok up down old.session (going old) low new to (ap (λ (c : Connection). c.session) h.same)
+      mail_with ok up down old.session (going old) low new to (ap (λ (c : Connection). c.session) h.same)
       (ap (λ (c : Connection). going c) (fed_same most old from new to count h)) octets
       (falls_good most old from new to count there h are g)
   carried_down_good most old from new to (Err fault) h there are g = stays_good old from new to h.1 h.2 are g
 
   -- ---- next
 
-  module _ (old new : Connection) (o : Office) (are : AreOf old up down) (c : GoodConnection ok old)
-      (g : GoodOffice ok up down o) where
+  module _ (old new : Connection) (o : Mail) (are : AreOf old up down) (c : GoodConnection ok old)
+      (g : GoodMail ok up down o) where
     -- the frame that waited is given
     waited_good : (f : Content) → old.channel.waiting ≡ Some f
         → new ≡ record old { channel = record old.channel { waiting = None } }
@@ -251,13 +251,13 @@ module _ (ok : Envelope → Type 0) (up down : ℕ → List ℕ) where
         → new ≡ record old { channel = record old.channel { decoder = new.channel.decoder } } → GoodConnection ok new
     decoded e k = subst (GoodConnection ok) (sym k) (record { waits = c.waits; wrote = c.wrote })
 
-    rest_office : (r : Result (Option Content) FrameFault)
+    rest_mail : (r : Result (Option Content) FrameFault)
         → new ≡ record old { channel = record old.channel { decoder = new.channel.decoder } }
         → (down old.session ≡ [] → coming new ≡ [])
         → GoodServer ok (at old.session (up old.session) up) (at old.session (coming new) down) o.broker
         → GoodWith ok new up down o
-    rest_office r k none server =
-        office_with ok up down old.session (up old.session) (coming new) new o (ap (λ (x : Connection). x.session) k)
+    rest_mail r k none server =
+        mail_with ok up down old.session (up old.session) (coming new) new o (ap (λ (x : Connection). x.session) k)
         (ap (λ (x : Connection). going x) k ∙ sym are.0) refl (record {
           server = server;
           earlier = g.earlier;
@@ -275,7 +275,7 @@ module _ (ok : Envelope → Type 0) (up down : ℕ → List ℕ) where
           x.0,
           (
             decoded e k,
-            rest_office (Ok (Some f)) k
+            rest_mail (Ok (Some f)) k
                 (λ none. given_empty f old.channel.decoder new.channel.decoder h (sym are.1 ∙ none)) x.1,
           ),
         )
@@ -283,7 +283,7 @@ module _ (ok : Envelope → Type 0) (up down : ℕ → List ℕ) where
         let x = awaited_good ok up down old.session old.channel.decoder new.channel.decoder o.broker are.1 h g.server
         in (
           decoded e k,
-          rest_office (Ok None) k
+          rest_mail (Ok None) k
               (λ none. awaited_empty old.channel.decoder new.channel.decoder h (sym are.1 ∙ none)) x,
         )
     decoder_good (Err NoMemory) e h k =
@@ -298,18 +298,18 @@ module _ (ok : Envelope → Type 0) (up down : ℕ → List ℕ) where
         (k ∙ ap (λ (x : Channel). record old { channel = x }) h.1))
     next_by None r e h k = decoder_good r e h.0 (k ∙ ap (λ (x : Channel). record old { channel = x }) h.1)
 
-  pub next_good : (old new : Connection) (o : Office) (r : Result (Option Content) FrameFault) → TakesNext old new r
+  pub next_good : (old new : Connection) (o : Mail) (r : Result (Option Content) FrameFault) → TakesNext old new r
       → AreOf old up down
-      → GoodConnection ok old → GoodOffice ok up down o → TakenGood ok up down old new o r
+      → GoodConnection ok old → GoodMail ok up down o → TakenGood ok up down old new o r
   next_good old new o r h are c g = next_by old new o are c g old.channel.waiting r refl h.0 h.1
 
 -- ---- what else holds of a connection
 
-pub unopened_same : (from to : Office) (fault : OpenFault) → Opens from to (Err fault) → to ≡ from
+pub unopened_same : (from to : Mail) (fault : OpenFault) → Opens from to (Err fault) → to ≡ from
 unopened_same from to (OfClient fault) h = h.1
 unopened_same from to (OfBroker fault) h = h.1
 
-pub carried_up_session : (most : ℕ) (old : Connection) (from : Office) (new : Connection) (to : Office)
+pub carried_up_session : (most : ℕ) (old : Connection) (from : Mail) (new : Connection) (to : Mail)
     (r : Result ℕ BrokerFault)
     → CarriesUp most old from new to r → new.session ≡ old.session
 carried_up_session most old from new to (Ok count) h = h.sends.session
@@ -318,7 +318,7 @@ carried_up_session most old from new to (Err (Memory false)) h = ap (λ (c : Con
 carried_up_session most old from new to (Err NoSession) h = ap (λ (c : Connection). c.session) h.2
 carried_up_session most old from new to (Err TooMany) h = ap (λ (c : Connection). c.session) h.2
 
-pub carried_down_session : (most : ℕ) (old : Connection) (from : Office) (new : Connection) (to : Office)
+pub carried_down_session : (most : ℕ) (old : Connection) (from : Mail) (new : Connection) (to : Mail)
     (r : Result ℕ FrameFault)
     → CarriesDown most old from new to r → new.session ≡ old.session
 carried_down_session most old from new to (Ok count) h = ap (λ (c : Connection). c.session) h.same
@@ -329,7 +329,7 @@ pub next_session : (old new : Connection) (r : Result (Option Content) FrameFaul
 next_session old new r h = ap (λ (c : Connection). c.session) h.1
 
 module _ (ok : Envelope → Type 0) where
-  pub opened_connection : (from : Office) (c : Connection) (to : Office) → Opens from to (Ok c) → GoodConnection ok c
+  pub opened_connection : (from : Mail) (c : Connection) (to : Mail) → Opens from to (Ok c) → GoodConnection ok c
   opened_connection from c to h = record {
     waits = subst (GoodNext ok) (sym h.waiting) tt;
     wrote = record {
@@ -350,7 +350,7 @@ module _ (ok : Envelope → Type 0) where
         (less_written (going old) count c.wrote);
   }
 
-  pub carried_up_connection : (most : ℕ) (old : Connection) (from : Office) (new : Connection) (to : Office)
+  pub carried_up_connection : (most : ℕ) (old : Connection) (from : Mail) (new : Connection) (to : Mail)
       (r : Result ℕ BrokerFault)
       → CarriesUp most old from new to r → GoodConnection ok old → GoodConnection ok new
   carried_up_connection most old from new to (Ok count) h c = sent_connection count old new h.sends c
@@ -360,7 +360,7 @@ module _ (ok : Envelope → Type 0) where
   carried_up_connection most old from new to (Err NoSession) h c = subst (GoodConnection ok) (sym h.2) c
   carried_up_connection most old from new to (Err TooMany) h c = subst (GoodConnection ok) (sym h.2) c
 
-  pub carried_down_connection : (most : ℕ) (old : Connection) (from : Office) (new : Connection) (to : Office)
+  pub carried_down_connection : (most : ℕ) (old : Connection) (from : Mail) (new : Connection) (to : Mail)
       (r : Result ℕ FrameFault)
       → CarriesDown most old from new to r → GoodConnection ok old → GoodConnection ok new
   carried_down_connection most old from new to (Ok count) h c =

@@ -5,7 +5,7 @@ ghost use Rattle.envelope.specs.declared.message.Envelope.{Envelope};
 ghost use Rattle.activities.specs.declared.input.Input.TheVariants.{FromSeat};
 ghost use Rattle.endpoint.specs.Calls.{ComesBy, StillMatches};
 ghost use Rattle.endpoint.specs.Deeds.{CommitMay};
-ghost use Rattle.laws_network.specs.Turns.{Turns, IsUse, TellsOfUse};
+ghost use Rattle.laws_network.specs.SideSteps.{SideSteps, IsUse, TellsOfUse};
 ghost use Rattle.laws_network.specs.declared.event.Event.TheVariants.{Commit, Send, Tell, Take};
 ghost use Rattle.laws_network.specs.declared.event.Outcome.TheVariants.{Sent, Told};
 
@@ -19,7 +19,7 @@ use keep::Keep;
 use std::alloc::Global;
 
 /// An equal command is taken in.
-#[tactic(auto, using(crate::proofs::Turning::any_reason))]
+#[tactic(auto, using(crate::proofs::SideStepping::any_reason))]
 fn commit_copy<H, K>(
     alloc: Global,
     own: &mut Endpoint<H, K>,
@@ -57,8 +57,8 @@ where
     K: Keep<State = H::State, Command = H::Command> + Drop,
     ensures doubt { (K.seen own.old).doubt ≤ (K.seen own.new).doubt }
     ensures matches { StillMatches K.seen own.old own.new H.service }
-    ensures turns { (arriving sent : List Envelope) →
-        Turns K.seen own.old own.new H.service (Commit seat entity.now command.now) result arriving sent sent }
+    ensures steps { (arriving sent : List Envelope) →
+        SideSteps K.seen own.old own.new H.service (Commit seat entity.now command.now) result arriving sent sent }
     ensures used { TellsOfUse K.seen own.old own.new result }
 {
     if seat >= SEATS {
@@ -68,7 +68,7 @@ where
 }
 
 /// The first so many letters that aren't settled are sent: how many they are.
-#[tactic(auto, using(crate::proofs::Turning::any_reason))]
+#[tactic(auto, using(crate::proofs::SideStepping::any_reason))]
 fn send<H, K>(
     alloc: Global,
     own: &mut Endpoint<H, K>,
@@ -80,8 +80,8 @@ where
     K: Keep<State = H::State, Command = H::Command> + Drop,
     ensures doubt { (K.seen own.old).doubt ≤ (K.seen own.new).doubt }
     ensures matches { StillMatches K.seen own.old own.new H.service }
-    ensures turns { (arriving : List Envelope) →
-        Turns K.seen own.old own.new H.service (Send limit) (Sent result) arriving post.old post.new }
+    ensures steps { (arriving : List Envelope) →
+        SideSteps K.seen own.old own.new H.service (Send limit) (Sent result) arriving post.old post.new }
     ensures used { IsUse K.seen own.old own.new result }
 {
     let letters = own.unsettled(alloc, &None, limit)?;
@@ -89,7 +89,7 @@ where
 }
 
 /// The other side is told how many letters of a pair were handled.
-#[tactic(auto, using(crate::proofs::Turning::any_reason))]
+#[tactic(auto, using(crate::proofs::SideStepping::any_reason))]
 fn tell<H, K>(
     alloc: Global,
     own: &mut Endpoint<H, K>,
@@ -101,8 +101,8 @@ where
     K: Keep<State = H::State, Command = H::Command> + Drop,
     ensures doubt { (K.seen own.old).doubt ≤ (K.seen own.new).doubt }
     ensures matches { StillMatches K.seen own.old own.new H.service }
-    ensures turns { (arriving : List Envelope) →
-        Turns K.seen own.old own.new H.service (Tell pair.now) (Told result) arriving post.old post.new }
+    ensures steps { (arriving : List Envelope) →
+        SideSteps K.seen own.old own.new H.service (Tell pair.now) (Told result) arriving post.old post.new }
     ensures used { IsUse K.seen own.old own.new result }
 {
     let handled = own.handled(alloc, pair)?;
@@ -111,7 +111,7 @@ where
 }
 
 /// An envelope of the other side arrives, where there is one at this index.
-#[tactic(auto, using(crate::proofs::Turning::any_reason))]
+#[tactic(auto, using(crate::proofs::SideStepping::any_reason))]
 fn take<H, K>(
     alloc: Global,
     own: &mut Endpoint<H, K>,
@@ -123,8 +123,8 @@ where
     K: Keep<State = H::State, Command = H::Command> + Drop,
     ensures doubt { (K.seen own.old).doubt ≤ (K.seen own.new).doubt }
     ensures matches { StillMatches K.seen own.old own.new H.service }
-    ensures turns { (sent : List Envelope) →
-        Turns K.seen own.old own.new H.service (Take index) result arriving.now sent sent }
+    ensures steps { (sent : List Envelope) →
+        SideSteps K.seen own.old own.new H.service (Take index) result arriving.now sent sent }
     ensures used { TellsOfUse K.seen own.old own.new result }
 {
     match arriving.get(index) {
@@ -135,7 +135,7 @@ where
 }
 
 /// One side does what the event says, over all that the other side ever sent. What it sends itself goes behind `post`.
-#[tactic(auto, using(crate::proofs::Turning::any_reason))]
+#[tactic(auto, using(crate::proofs::SideStepping::any_reason))]
 pub fn act<H, K>(
     alloc: Global,
     own: &mut Endpoint<H, K>,
@@ -148,7 +148,7 @@ where
     K: Keep<State = H::State, Command = H::Command> + Drop,
     ensures doubt { (K.seen own.old).doubt ≤ (K.seen own.new).doubt }
     ensures matches { StillMatches K.seen own.old own.new H.service }
-    ensures turns { Turns K.seen own.old own.new H.service event.now result arriving.now post.old post.new }
+    ensures steps { SideSteps K.seen own.old own.new H.service event.now result arriving.now post.old post.new }
     ensures used { TellsOfUse K.seen own.old own.new result }
 {
     match event {

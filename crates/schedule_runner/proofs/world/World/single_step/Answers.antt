@@ -1,5 +1,5 @@
 use Rattle.schedule_runner.proofs.Composing.{passes_pump}
-use Rattle.schedule_runner.proofs.world.World.happen.Goals as goal
+use Rattle.schedule_runner.proofs.world.World.single_step.Goals as goal
 
 pub returns-in-Order : goal.returns-in-Order
 returns-in-Order g c = rw c.in-Order.is c.order.ensures

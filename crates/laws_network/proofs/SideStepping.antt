@@ -1,4 +1,4 @@
--- From what an endpoint's call tells to the turn of its side.
+-- From what an endpoint's call tells to the step of its side.
 use Rattle.std.proofs.Common.{◌≡◌, List, refl}
 use Rattle.std.proofs.Math.Logic.{∥∥₁_map}
 use Rattle.envelope.specs.declared.message.Envelope.{Envelope}
@@ -13,43 +13,43 @@ use Rattle.endpoint.specs.Deeds.{Kept, kept, Deed, Nothing}
 use Rattle.endpoint.specs.Matches.{AllMatch}
 use Rattle.laws_network.specs.declared.event.Event.{Event}
 use Rattle.laws_network.specs.declared.event.Outcome.{Outcome}
-use Rattle.laws_network.specs.Turns.{MayDo, MaySend, Turns}
+use Rattle.laws_network.specs.SideSteps.{MayDo, MaySend, SideSteps}
 
 module _ {E S C : Type 0} (seen : E → Seen (Tables S C)) (old new : E) (service : Service S C) (event : Event C)
     (outcome : Outcome)
     (arriving sent later : List Envelope) where
   -- a deed was done
-  pub comes_turns : (allowed : Kept C → Deed C → Type 0)
+  pub comes_steps : (allowed : Kept C → Deed C → Type 0)
       → ((x : Kept C) (d : Deed C) → allowed x d → MayDo service arriving event outcome x d)
       → ((x : Kept C) → MaySend service event outcome x sent later) → ComesBy seen old new service allowed
-      → Turns seen old new service event outcome arriving sent later
-  comes_turns allowed may sends comes clean good t b =
+      → SideSteps seen old new service event outcome arriving sent later
+  comes_steps allowed may sends comes clean good t b =
       let c = comes clean good t b in
       ∣ record {
         before = c.before;
         was = c.was;
-        turn = record { deed = c.deed; may = may (kept c.before) c.deed c.may; did = c.did; sends = sends (kept t) };
+        side = record { deed = c.deed; may = may (kept c.before) c.deed c.may; did = c.did; sends = sends (kept t) };
       } ∣₁
 
   -- nothing was done, and this is sent
-  pub stays_turns : ((x : Kept C) → MayDo service arriving event outcome x Nothing)
+  pub stays_steps : ((x : Kept C) → MayDo service arriving event outcome x Nothing)
       → ((seen new).doubt ≡ 0 → AllMatch service (seen old).may_leave → (t : Tables S C) → (seen new).may_leave t
       → MaySend service event outcome (kept t) sent later) → Stays seen old new
-      → Turns seen old new service event outcome arriving sent later
-  stays_turns may sends stays clean good t b = ∣ record {
+      → SideSteps seen old new service event outcome arriving sent later
+  stays_steps may sends stays clean good t b = ∣ record {
     before = t;
     was = stays clean t b;
-    turn = record { deed = Nothing; may = may (kept t); did = refl; sends = sends clean good t b };
+    side = record { deed = Nothing; may = may (kept t); did = refl; sends = sends clean good t b };
   } ∣₁
 
   -- the store was opened again
-  pub finds_turns : ((x : Kept C) → MayDo service arriving event outcome x Nothing)
+  pub finds_steps : ((x : Kept C) → MayDo service arriving event outcome x Nothing)
       → ((x : Kept C) → MaySend service event outcome x sent later) → Finds seen old new
-      → Turns seen old new service event outcome arriving sent later
-  finds_turns may sends finds clean good t b = ∥∥₁_map (finds clean t b) (λ was. record {
+      → SideSteps seen old new service event outcome arriving sent later
+  finds_steps may sends finds clean good t b = ∥∥₁_map (finds clean t b) (λ was. record {
     before = t;
     was = was;
-    turn = record { deed = Nothing; may = may (kept t); did = refl; sends = sends (kept t) };
+    side = record { deed = Nothing; may = may (kept t); did = refl; sends = sends (kept t) };
   })
 
   -- what stays all match, matches still

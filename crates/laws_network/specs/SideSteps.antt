@@ -54,7 +54,7 @@ module _ {S C : Type 0} (service : Service S C) where
   MaySend _ _ x sent later = later ≡ sent
 
   -- one side does what the event says, and answers this
-  pub record Turn (event : Event C) (outcome : Outcome) (arriving sent later : List Envelope) (x y : Kept C) : Type 0
+  pub record SideStep (event : Event C) (outcome : Outcome) (arriving sent later : List Envelope) (x y : Kept C) : Type 0
     where
       pub deed : Deed C
       pub may : MayDo arriving event outcome x deed
@@ -62,19 +62,19 @@ module _ {S C : Type 0} (service : Service S C) where
       pub sends : MaySend event outcome y sent later
 
   -- a content then comes so of one before
-  pub record Turned (event : Event C) (outcome : Outcome) (arriving sent later : List Envelope)
+  pub record CameBySideStep (event : Event C) (outcome : Outcome) (arriving sent later : List Envelope)
       (old : Tables S C → Type 0)
       (now : Tables S C) : Type 0 where
     pub before : Tables S C
     pub was : old before
-    pub turn : Turn event outcome arriving sent later (kept before) (kept now)
+    pub side : SideStep event outcome arriving sent later (kept before) (kept now)
 
 -- where no file is in doubt, each content that a stop may leave then comes so of one that it might leave before
-abbrev pub Turns : {E S C : Type 0} → (E → Seen (Tables S C)) → (old new : E) → Service S C → Event C → Outcome
+abbrev pub SideSteps : {E S C : Type 0} → (E → Seen (Tables S C)) → (old new : E) → Service S C → Event C → Outcome
     → (arriving sent later : List Envelope) → Type 0
-Turns {E} {S} {C} seen old new service event outcome arriving sent later = (seen new).doubt ≡ 0
+SideSteps {E} {S} {C} seen old new service event outcome arriving sent later = (seen new).doubt ≡ 0
     → AllMatch service (seen old).may_leave → (t : Tables S C) → (seen new).may_leave t
-    → ∥ Turned service event outcome arriving sent later (seen old).may_leave t ∥₁
+    → ∥ CameBySideStep service event outcome arriving sent later (seen old).may_leave t ∥₁
 
 -- what an answer tells of the store's use, whatever the disk did: it failed where a failure was counted, and wasn't
 -- usable where that is told; else it was served

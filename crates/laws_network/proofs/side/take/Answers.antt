@@ -5,8 +5,8 @@ use Rattle.envelope.specs.declared.message.Envelope.TheVariants.{Letter, Settle}
 use Rattle.endpoint.specs.Arrivals.{IngestMay, SettleMay}
 use Rattle.laws_network.specs.declared.event.Event.TheVariants.{Take}
 use Rattle.laws_network.specs.declared.event.Outcome.TheVariants.{Taken, Settled, Missing}
-use Rattle.laws_network.proofs.Turning.{comes_turns, stays_turns}
-use Rattle.laws_network.proofs.turn.take.Goals as goal
+use Rattle.laws_network.proofs.SideStepping.{comes_steps, stays_steps}
+use Rattle.laws_network.proofs.side.take.Goals as goal
 
 pub returns-in-Some-Letter-clause-turns : goal.returns-in-Some-Letter-clause-turns
 returns-in-Some-Letter-clause-turns g c = λ sent.
@@ -16,7 +16,7 @@ returns-in-Some-Letter-clause-turns g c = λ sent.
     slice_get_read arriving (length arriving) c.args.index c.in-Some-Letter.field-0.now refl found.3.0 found.1 in
     let at : slice_get arriving c.args.index ≡ Some (Letter c.in-Some-Letter.letter) =
     cc (read, c.in-Some-Letter.field-0-is) in
-    comes_turns g.K.Keep.seen c.args.own.now c.ingest.new.self g.H.Handler.service (Take c.args.index)
+    comes_steps g.K.Keep.seen c.args.own.now c.ingest.new.self g.H.Handler.service (Take c.args.index)
     (Taken c.ingest.result) arriving
     sent sent (IngestMay g.H.Handler.service c.in-Some-Letter.letter c.ingest.result)
     (λ x d may. (c.in-Some-Letter.letter, at, may))
@@ -30,7 +30,7 @@ returns-in-Some-Settle-clause-turns g c = λ sent.
     slice_get_read arriving (length arriving) c.args.index c.in-Some-Settle.field-0.now refl found.3.0 found.1 in
     let at : slice_get arriving c.args.index ≡ Some (Settle c.in-Some-Settle.pair c.in-Some-Settle.number) =
     cc (read, c.in-Some-Settle.field-0-is) in
-    comes_turns g.K.Keep.seen c.args.own.now c.settle.new.self g.H.Handler.service (Take c.args.index)
+    comes_steps g.K.Keep.seen c.args.own.now c.settle.new.self g.H.Handler.service (Take c.args.index)
     (Settled c.settle.result) arriving
     sent sent (SettleMay g.H.Handler.service c.in-Some-Settle.pair c.in-Some-Settle.number c.settle.result)
     (λ x d may. (c.in-Some-Settle.pair, c.in-Some-Settle.number, at, may)) (λ x. refl) c.settle.ensures.comes
@@ -39,6 +39,6 @@ pub returns-in-None-clause-turns : goal.returns-in-None-clause-turns
 returns-in-None-clause-turns g c = λ sent.
     let arriving = c.args.arriving.now in
     let at : slice_get arriving c.args.index ≡ None = slice_get_past arriving c.args.index c.in-None.ensures.lookup.3 in
-    stays_turns g.K.Keep.seen c.args.own.now c.args.own.now g.H.Handler.service (Take c.args.index) Missing arriving
+    stays_steps g.K.Keep.seen c.args.own.now c.args.own.now g.H.Handler.service (Take c.args.index) Missing arriving
     sent sent
     (λ x. (at, refl)) (λ clean good t b. refl) (λ clean t b. b)
