@@ -3,8 +3,9 @@ use Rattle.std.proofs.Common.{◌≡◌, [], ◌∷◌, refl}
 use Rattle.std.specs.Prelude.{Some, None}
 use Rattle.envelope.specs.declared.message.Message.TheVariants.{Request, Confirm}
 use Rattle.activities.specs.declared.handler.Refusal.TheVariants.{AlreadyPlaced, NotOpen, OutOfRange, BelowUse}
-use Rattle.activities.specs.declared.handler.Refusal.TheVariants.{BadLines}
+use Rattle.activities.specs.declared.handler.Refusal.TheVariants.{BadLines, Own}
 use Rattle.activities.specs.Faults.{refusal_number}
+use Rattle.activities.specs.OwnRefusals.{own}
 use Rattle.activities.specs.Numbered.{numbered, nth}
 
 -- letters are numbered from 1, and none has the number 0
@@ -16,5 +17,5 @@ letters_are_numbered = (refl, refl, refl, refl)
 -- refusals are numbered
 refusals_are_numbered : (refusal_number AlreadyPlaced ≡ 70) × (refusal_number NotOpen ≡ 71)
     × (refusal_number OutOfRange ≡ 72)
-    × (refusal_number BelowUse ≡ 73) × (refusal_number BadLines ≡ 74)
-refusals_are_numbered = (refl, refl, refl, refl, refl)
+    × (refusal_number BelowUse ≡ 73) × (refusal_number BadLines ≡ 74) × (refusal_number (Own (own 75)) ≡ 75)
+refusals_are_numbered = (refl, refl, refl, refl, refl, refl)

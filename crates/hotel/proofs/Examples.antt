@@ -4,8 +4,9 @@ use Rattle.std.specs.Prelude.{codes, Ok, Err}
 use Rattle.base.specs.Entity.{Entity, order_of}
 use Rattle.base.specs.Order.{same_entity}
 use Rattle.envelope.specs.declared.message.Message.TheVariants.{Request, Tentative, Refused, Confirm, Cancel}
-use Rattle.activities.specs.declared.handler.Refusal.TheVariants.{NotOpen}
+use Rattle.activities.specs.declared.handler.Refusal.TheVariants.{Own}
 use Rattle.activities.specs.declared.input.Input.TheVariants.{FromSeat, FromEntity}
+use Rattle.activities.specs.OwnRefusals.{own}
 use Rattle.activities.specs.Reaction.{react, state, sent}
 use Rattle.hotel.specs.declared.room.Room.TheVariants.{Free, Taken, Promised}
 use Rattle.hotel.specs.declared.room.RoomCommand.TheVariants.{Reserve, Release}
@@ -26,8 +27,8 @@ rooms_are_told_apart = (refl, refl, refl, refl, refl, refl, refl)
 
 -- a guest takes a free room and leaves it; the desk doesn't give away a promised room, nor end a promise
 the_desk_asks : (on_room_command Free Reserve ≡ Ok (Taken, [])) × (on_room_command Taken Release ≡ Ok (Free, []))
-    × (on_room_command Taken Reserve ≡ Err NotOpen) × (on_room_command Free Release ≡ Err NotOpen)
-    × (on_room_command (Promised o1) Reserve ≡ Err NotOpen) × (on_room_command (Promised o1) Release ≡ Err NotOpen)
+    × (on_room_command Taken Reserve ≡ Err (Own (own 75))) × (on_room_command Free Release ≡ Err (Own (own 76)))
+    × (on_room_command (Promised o1) Reserve ≡ Err (Own (own 75))) × (on_room_command (Promised o1) Release ≡ Err (Own (own 76)))
 the_desk_asks = (refl, refl, refl, refl, refl, refl)
 
 -- two guests find beds and three don't; a promised room is refused, also to the order that has it
@@ -56,6 +57,6 @@ promises_are_kept = (refl, refl, refl, refl, refl, refl, refl)
 a_room_is_taken : (state room_reactions (FromEntity o1 1 (Request 2) ∷ FromEntity o1 2 Confirm ∷ []) ≡ Taken)
     × (sent room_reactions (FromEntity o1 1 (Request 2) ∷ FromEntity o1 2 Confirm ∷ []) o1 ≡ Tentative ∷ [])
     × (react room_reactions (state room_reactions (FromEntity o1 1 (Request 2) ∷ [])) (FromSeat 0 Reserve)
-    ≡ Err NotOpen)
+    ≡ Err (Own (own 75)))
 unfolding same_entity
 a_room_is_taken = (refl, refl, refl)

@@ -6,10 +6,11 @@ use Rattle.base.specs.Order.{same_entity}
 use Rattle.envelope.specs.declared.message.Message.{Message}
 use Rattle.envelope.specs.declared.message.Message.TheVariants.{Request, Tentative, Refused, Confirm, Cancel}
 use Rattle.activities.specs.declared.handler.Refusal.{Refusal}
-use Rattle.activities.specs.declared.handler.Refusal.TheVariants.{NotOpen}
+use Rattle.activities.specs.declared.handler.Refusal.TheVariants.{Own}
 use Rattle.activities.specs.declared.outs.Out.{Out}
+use Rattle.activities.specs.OwnRefusals.{own}
 use Rattle.activities.specs.Reaction.{Reactions, reply}
-use Rattle.hotel.specs.declared.room.TheConstants.{BEDS}
+use Rattle.hotel.specs.declared.room.TheConstants.{BEDS, NOT_FREE, NOT_TAKEN}
 use Rattle.hotel.specs.declared.room.Room.{Room}
 use Rattle.hotel.specs.declared.room.Room.TheVariants.{Free, Taken, Promised}
 use Rattle.hotel.specs.declared.room.RoomCommand.{RoomCommand}
@@ -25,11 +26,12 @@ abbrev pub is_promised : Room → Entity → Bool
 is_promised (Promised to) order = same_entity to order
 is_promised _ order = false
 
--- a guest takes a free room, and leaves it; anything else is refused
+-- a guest takes a free room, and leaves it; else the room isn't free, or no guest has it
 abbrev pub on_room_command : Room → RoomCommand → Result (Room × List Out) Refusal
 on_room_command Free Reserve = Ok (Taken, [])
 on_room_command Taken Release = Ok (Free, [])
-on_room_command room command = Err NotOpen
+on_room_command room Reserve = Err (Own (own NOT_FREE))
+on_room_command room Release = Err (Own (own NOT_TAKEN))
 
 -- a free room is promised to an order that asks for no more guests than it has beds for, and else the request is
 -- refused; the order that it is promised to takes it or gives it back; anything else changes nothing

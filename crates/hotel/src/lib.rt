@@ -19,5 +19,5 @@
 mod room;
 mod rooms;
 
-pub use room::{BEDS, Room, RoomCommand};
+pub use room::{BEDS, NOT_FREE, NOT_TAKEN, Room, RoomCommand};
 pub use rooms::Rooms;

@@ -5,6 +5,12 @@ use base::Entity;
 /// How many guests a room has beds for.
 pub const BEDS: u64 = 2;
 
+/// The desk's refusal to give away a room that isn't free.
+pub const NOT_FREE: u8 = 75;
+
+/// The desk's refusal to take back a room that no guest has.
+pub const NOT_TAKEN: u8 = 76;
+
 /// Who has a room.
 #[derive(Debug, Drop)]
 pub enum Room {

@@ -1,10 +1,13 @@
 //! The handler of rooms.
 
 ghost use Rattle.std.specs.Prelude.{◌≡◌};
+ghost use Rattle.activities.specs.declared.handler.HandlerFault.TheVariants.{Business};
+ghost use Rattle.activities.specs.declared.handler.Refusal.TheVariants.{Own};
+ghost use Rattle.activities.specs.OwnRefusals.{IsOwnNumber, own};
 ghost use Rattle.hotel.specs.Rooms.{is_promised};
 
-use crate::{BEDS, Room, RoomCommand};
-use activities::{Handler, HandlerFault, Input, Outs, Refusal};
+use crate::{BEDS, NOT_FREE, NOT_TAKEN, Room, RoomCommand};
+use activities::{Handler, HandlerFault, Input, Outs, OwnRefusal, Refusal};
 use base::{Entity, Kind};
 use envelope::Message;
 use std::alloc::{AllocError, Global};
@@ -65,7 +68,8 @@ impl Handler for Rooms {
             Input::FromSeat(_, RoomCommand::Release) if matches!(state, Room::Taken) => {
                 *state = Room::Free;
             }
-            Input::FromSeat(_, _) => return Err(HandlerFault::Business(Refusal::NotOpen)),
+            Input::FromSeat(_, RoomCommand::Reserve) => return Err(refused(NOT_FREE)),
+            Input::FromSeat(_, RoomCommand::Release) => return Err(refused(NOT_TAKEN)),
             Input::FromEntity(sender, _, Message::Request(guests))
                 if matches!(state, Room::Free) && guests.get() <= BEDS => {
                 let order = sender.copy(alloc)?;
@@ -86,7 +90,22 @@ impl Handler for Rooms {
         Ok(())
     }
 
+    fn refusal_word(refusal: OwnRefusal) -> &'static str {
+        match refusal.number() {
+            NOT_FREE => "NotFree",
+            _ => "NotTaken",
+        }
+    }
+
     ghost none_is_opening = { free_is_opening };
+}
+
+/// A refusal of the hotel's own.
+fn refused(number: u8) -> HandlerFault
+    requires { IsOwnNumber number }
+    ensures { result ≡ Business (Own (own number)) }
+{
+    HandlerFault::Business(Refusal::Own(OwnRefusal::new(number)))
 }
 
 /// Whether the room is promised to this order.
