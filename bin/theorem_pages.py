@@ -7,7 +7,7 @@ PROMISE = [
     ("no schedule", "`World::run` asks nothing of `events`: each list of them is one. `Event` says what they are, and `did` what each"
      " does, by its outcome."),
     ("cut connections", "`Cut`, at each octet, since `Carry` says how many go over. What was on its way is lost, and no more"
-     " (`Happened`)."),
+     " (`WorldStep`)."),
     ("lost, reordered", "What is on its way is lost where the connection is cut, and all that a broker has where it stops (`StopBroker`)."
      " What one connection has stays in its order, and so letters come out of theirs where an earlier one was lost, comes again, or waits"
      " on the other of a service's two connections; `Carry` and `Take` come in any order on both."),
@@ -214,10 +214,10 @@ EXAMPLES = [
 
 # ---- the pages
 
-SHOWS = ("Tells", "RowOf", "ListOf", "ShowsPair")
+SHOWS = ("TellsReading", "RowOf", "ListOf", "ShowsPair")
 # what pages leave to those behind them
-OF_EVENTS = [("schedule_runner", "specs/Steps", "Happened"), ("schedule_runner", "specs/Deeds", "Step"), ("schedule_service", "site", "Site"),
-             ("schedule_mail", "mail", "Mail"), ("schedule_mail", "specs/Offices", "new_office"), ("schedule_mail", "specs/Offices", "Office"),
+OF_EVENTS = [("schedule_runner", "specs/Steps", "WorldStep"), ("schedule_runner", "specs/Deeds", "Step"), ("schedule_service", "site", "Site"),
+             ("schedule_mail", "mail", "Mail"), ("schedule_mail", "specs/Mails", "new_mail"), ("schedule_mail", "specs/Mails", "Mail"),
              ("schedule_mail", "connection", "Connection"), ("schedule_mail", "specs/Connecting", "TakesNext"),
              ("schedule_service", "specs/Cursors", "AreRight")]
 OF_MAIL = [("laws_events", "specs/Three", "Genuine")]
@@ -275,7 +275,7 @@ CORE = {
           " what its sender's journal sends, and no settle is ahead of the handling (`IsGenuine`);",
           "- `agree`, `Agrees`: so the partners of each order agree (`PartnersAgree`), and of each stock and each account's limit nothing"
           " is lost or used twice (`AreSound`);",
-          "- `did`, `Passed` for each event: each outcome did what it says, and nothing else, to the world (`Happened`); and behind each"
+          "- `did`, `Passed` for each event: each outcome did what it says, and nothing else, to the world (`WorldStep`); and behind each"
           " event, those of a pump among them, and not only behind the last, `clean`, `matching`, `good` and `agree` hold again; `goes`,"
           " `Goes`: the same of the tables (`Step`);",
           "- `clean`, `StaysClean`: where no file is in doubt afterwards, none was before.",
@@ -416,9 +416,9 @@ EVENTS = {
         ("One event alone", ["The same promises of one event."], [("schedule_runner", "world", "World::step")], True),
         ("What a world is made of", ["Of each service its endpoint and two channels, and the mail, which is the broker with what it ever"
                                      " accepted."],
-         [("schedule_service", "site", "Site"), ("schedule_mail", "mail", "Mail"), ("schedule_mail", "specs/Offices", "new_office")]),
+         [("schedule_service", "site", "Site"), ("schedule_mail", "mail", "Mail"), ("schedule_mail", "specs/Mails", "new_mail")]),
         ("What each event does to the world", ["By an event and its outcome, of two worlds, before it and after it."],
-         [("schedule_runner", "specs/Steps", "Happened")]),
+         [("schedule_runner", "specs/Steps", "WorldStep")]),
         ("What each event does to the tables", ["The same, with tables of each service that a stop may leave."],
          [("schedule_runner", "specs/Deeds", "Step")]),
         ("What relays know of an outbox",

@@ -218,7 +218,8 @@ module _ {S C : Type 0} (ahead : ℕ) (service : Service S C) where
 
 -- ---- the call that a caller sees
 
-module _ {E S C R : Type 0} (seen : E → Seen (Tables S C)) (ahead : ℕ) (service : Service S C) (old new : E) (e : Entity)
+module _ {E S C R : Type 0} (seen : E
+    → Seen (Tables S C)) (ahead : ℕ) (service : Service S C) (old new : E) (e : Entity)
     (mine : e.kind ≡ service.kind) (Reason : EndFault → Type 0) (never : Reason NotMine → ⊥) where
   seen_call : (result : Result R EndFault) → IsCall seen old new Reason (end_of result)
       → IsCall seen old new (MayTurnAway Reason old new service.kind e) (end_of result)

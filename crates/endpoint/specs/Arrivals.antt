@@ -39,7 +39,8 @@ module _ {S C : Type 0} (ahead : ℕ) (service : Service S C) where
   -- taking in a letter
   abbrev pub IngestMayWithin : Letter → Result Ingested EndFault → Kept C → Deed C → Type 0
   IngestMayWithin l (Ok (ingested.Handled pos)) x d = (d ≡ TakesIn (row_of_letter l)) × (pos ≡ suc (length x.journal))
-  IngestMayWithin l (Ok ingested.Repeated) x d = (d ≡ Nothing) × (l.number ≤ handled_of x.journal l.pair)
+  IngestMayWithin l (Ok (ingested.Repeated handled)) x d =
+      (d ≡ Nothing) × (l.number ≤ handled_of x.journal l.pair) × (handled ≡ handled_of x.journal l.pair)
   IngestMayWithin l (Ok ingested.Held) x d = d ≡ Holds l
   IngestMayWithin l (Err TooEarly) x d = (d ≡ Nothing) × (handled_of x.journal l.pair + ahead < l.number)
   IngestMayWithin l (Err NumberLimit) x d =

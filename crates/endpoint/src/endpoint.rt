@@ -347,7 +347,7 @@ where
     }
 }
 
-/// Over a keep that fails where it is told to.
+/// Over a store that fails where it is told to.
 impl<H, K, W> WindowedEndpoint<H, Faulty<K>, W>
 where
     H: Handler,

@@ -13,7 +13,7 @@ use crate::{EndFault, Ingested};
 use activities::{Handler, Input};
 use base::{Number, Pair};
 use envelope::{Letter, Message};
-use inbox::{Class, Window};
+use inbox::{Rank, Window};
 use keep::Keep;
 use std::alloc::Global;
 
@@ -152,12 +152,11 @@ where
         (IngestMayWithin W.ahead H.service letter.now) result }
 {
     let handled = read_handled(alloc, keep, &letter.pair)?;
-    match W::classify(H::kind(), handled, letter) {
-        Class::NotMine => Err(EndFault::NotMine),
-        Class::Repeated => Ok(Ingested::Repeated),
-        Class::Next => handle_letter::<H, K, W>(alloc, keep, letter),
-        Class::Early => hold_letter::<H, K, W>(alloc, keep, letter),
-        Class::TooEarly => Err(EndFault::TooEarly),
+    match W::rank_of(handled, letter) {
+        Rank::Repeated => Ok(Ingested::Repeated(handled)),
+        Rank::Next => handle_letter::<H, K, W>(alloc, keep, letter),
+        Rank::Early => hold_letter::<H, K, W>(alloc, keep, letter),
+        Rank::TooEarly => Err(EndFault::TooEarly),
     }
 }
 

@@ -7,7 +7,7 @@
 //! ```rust
 //! pub fn a_letter_comes_again(letter: &Letter) -> bool {
 //!     let handled = letter.number.get();
-//!     classify::<64>(letter.pair.to.kind(), handled, letter) == Class::Repeated
+//!     classify::<64>(letter.pair.to.kind(), handled, letter) == Class::Mine(Rank::Repeated)
 //! }
 //! ```
 #![tactic(auto)]
@@ -15,5 +15,5 @@
 mod class;
 mod window;
 
-pub use class::{Class, classify};
+pub use class::{Class, Rank, classify, rank_of};
 pub use window::{Ahead, Window};

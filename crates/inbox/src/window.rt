@@ -1,9 +1,8 @@
 //! How far ahead letters are held, as a type.
 
-ghost use Rattle.inbox.specs.Classes.{IsOfClass};
+ghost use Rattle.inbox.specs.Classes.{IsOfRank};
 
-use crate::{Class, classify};
-use base::Kind;
+use crate::{Rank, rank_of};
 use envelope::Letter;
 
 /// A type that stands for a number: how far above the last handled letter of a pair others are held.
@@ -13,9 +12,9 @@ pub trait Window {
     /// The number.
     ghost ahead: { ℕ };
 
-    /// The class of a letter, as [`classify`] tells it for this number.
-    fn classify(kind: Kind, handled: u64, letter: &Letter) -> Class
-        ensures { IsOfClass kind ahead handled letter.now result };
+    /// Where a letter stands, as [`rank_of`] tells it for this number.
+    fn rank_of(handled: u64, letter: &Letter) -> Rank
+        ensures { IsOfRank ahead handled letter.now result };
 }
 
 /// The number `AHEAD`.
@@ -25,7 +24,7 @@ pub struct Ahead<const AHEAD: u64> {}
 impl<const AHEAD: u64> Window for Ahead<AHEAD> {
     ghost ahead = { AHEAD };
 
-    fn classify(kind: Kind, handled: u64, letter: &Letter) -> Class {
-        classify::<AHEAD>(kind, handled, letter)
+    fn rank_of(handled: u64, letter: &Letter) -> Rank {
+        rank_of::<AHEAD>(handled, letter)
     }
 }

@@ -19,7 +19,7 @@
 //! where
 //!     H: Handler,
 //!     K: Keep<State = H::State, Command = H::Command> + Drop,
-//!     ensures { (test : Envelope → Bool) (s t : Site H K H.State H.Command) (from to : Office)
+//!     ensures { (test : Envelope → Bool) (s t : Site H K H.State H.Command) (from to : Mail)
 //!         → EventPasses K.seen H.service test s t from to }
 //! {
 //!     each_event_makes_nothing_up::<H, K>();

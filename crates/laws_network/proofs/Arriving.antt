@@ -98,7 +98,7 @@ ingest_arrived s l (Handled pos) x y d may did = λ lt.
     let now = handled-now x.journal l.pair.from l.pair.to l.number l.message h.0.follows.next in
     let here = subst (λ rows. handled_of rows l.pair < l.number) h.0.appended lt in
     absurd (omega (arith, now, here))
-ingest_arrived s l Repeated x y d may did = λ lt.
+ingest_arrived s l (Repeated handled) x y d may did = λ lt.
     let h = subst (λ e. Did s x e y) may.0 did in
     let old = may.1 in
     let here = subst (λ (k : Kept _). handled_of k.journal l.pair < l.number) h lt in

@@ -23,7 +23,8 @@ module _ {S C T D : Type 0} (one : Service S C) (other : Service T D) where
   -- one side makes a step, and the other stays as it is
   abbrev pub Step : Delivery C D → Outcome → Sides S C T D → Sides S C T D → Type 0
   Step (Left event) outcome a b =
-      SideStep one event outcome a.network.from_right a.network.from_left b.network.from_left (kept a.left) (kept b.left)
+      SideStep one event outcome a.network.from_right a.network.from_left b.network.from_left (kept a.left)
+      (kept b.left)
       × (b.right ≡ a.right) × (b.network.from_right ≡ a.network.from_right)
   Step (Right event) outcome a b =
       SideStep other event outcome a.network.from_left a.network.from_right b.network.from_right (kept a.right)

@@ -54,7 +54,8 @@ module _ {S C : Type 0} (service : Service S C) where
   MaySend _ _ x sent later = later ≡ sent
 
   -- one side does what the event says, and answers this
-  pub record SideStep (event : Event C) (outcome : Outcome) (arriving sent later : List Envelope) (x y : Kept C) : Type 0
+  pub record SideStep (event : Event C) (outcome : Outcome) (arriving sent later : List Envelope) (x y : Kept C) :
+      Type 0
     where
       pub deed : Deed C
       pub may : MayDo arriving event outcome x deed

@@ -47,7 +47,7 @@ module _ {S C : Type 0} (s : Service S C) (P : Envelope → Type 0) where
       → IngestMay s l r x d
       → DeedIs P d
   ingest_is l here (Ok (ingested.Handled pos)) x d may = taken_is l here d may.0
-  ingest_is l here (Ok ingested.Repeated) x d may = nothing_is d may.0
+  ingest_is l here (Ok (ingested.Repeated handled)) x d may = nothing_is d may.0
   ingest_is l here (Ok ingested.Held) x d may = subst (DeedIs P) (sym may) here
   ingest_is l here (Err StoreFailed) x d may =
       either may (nothing_is d) (λ more. either more (taken_is l here d) (λ is. subst (DeedIs P) (sym is) here))

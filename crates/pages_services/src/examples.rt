@@ -15,7 +15,7 @@ use billing::Accounts;
 use endpoint::{EndFault, Endpoint};
 use envelope::{Envelope, EnvelopeFault, Letter, Message, to_send};
 use hotel::{Room, Rooms};
-use inbox::{Class, classify};
+use inbox::{Class, Rank, classify};
 use keep::{Change, Keep, KeepFault};
 use keep_plain::PlainKeep;
 use laws_journals::stays_authentic;
@@ -126,7 +126,7 @@ pub fn a_mark_is_one_change(alloc: Global, pair: &Pair) -> Result<usize, AllocEr
 
 pub fn a_letter_comes_again(letter: &Letter) -> bool {
     let handled = letter.number.get();
-    classify::<64>(letter.pair.to.kind(), handled, letter) == Class::Repeated
+    classify::<64>(letter.pair.to.kind(), handled, letter) == Class::Mine(Rank::Repeated)
 }
 
 pub fn nothing_is_held_at_first(alloc: Global, pair: &Pair) -> Result<bool, KeepFault> {

@@ -1,8 +1,9 @@
 //! A day at the hotel: what `docs/HANDLER.md` shows of a service of one's own, as it runs.
 
+use activities::{Handler, OwnRefusal, Refusal};
 use anyhow::Context;
 use base::{Entity, Number, Pair};
-use endpoint::Endpoint;
+use endpoint::{EndFault, Endpoint};
 use envelope::{Letter, Message};
 use hotel::{RoomCommand, Rooms};
 use keep_plain::PlainKeep;
@@ -18,6 +19,13 @@ fn tell<T: Debug>(rt: &impl Print, what: &str, answer: &T) -> anyhow::Result<()>
     Ok(())
 }
 
+/// Prints what the hotel refuses as its own business.
+fn tell_refusal(rt: &impl Print, refusal: OwnRefusal) -> anyhow::Result<()> {
+    let word = Rooms::refusal_word(refusal);
+    println!(rt; "hotel: command: refused, {} {word}", refusal.number())?;
+    Ok(())
+}
+
 /// A guest at the desk.
 fn take_command(
     rt: &impl Print,
@@ -26,7 +34,10 @@ fn take_command(
     room: &Entity,
     command: RoomCommand,
 ) -> anyhow::Result<()> {
-    tell(rt, "command", &hotel.commit(alloc, 0, room, command)) // from seat 0
+    match hotel.commit(alloc, 0, room, command) { // from seat 0
+        Err(EndFault::Business(Refusal::Own(refusal))) => tell_refusal(rt, refusal),
+        answer => tell(rt, "command", &answer),
+    }
 }
 
 /// A guest takes the room, another one finds it taken, and the first one leaves.

@@ -16,7 +16,7 @@ use Rattle.keep.specs.Law.{IsCall, IsCallCause, Reads}
 use Rattle.keep.specs.Listing.{IsDrainable, next_held}
 use Rattle.keep.specs.Seen.{Seen, IsSound}
 use Rattle.keep.specs.Tables.{Tables}
-use Rattle.endpoint.specs.Arrivals.{DrainMay, SettleMay}
+use Rattle.endpoint.specs.Arrivals.{IngestMay, DrainMay, SettleMay}
 use Rattle.endpoint.specs.Deeds.{Kept, kept, Deed}
 use Rattle.endpoint.specs.Matches.{TablesMatchJournal}
 use Rattle.endpoint.specs.Calls.{ComesBy, Stays, StillMatches, MayTurnAway, IsMine, OfLetter, OfSettle}
@@ -27,11 +27,11 @@ use Rattle.endpoint.specs.declared.fault.EndFault.TheVariants.{Unusable, NumberL
 use Rattle.endpoint.specs.declared.fault.EndFault.TheVariants.{NotSent}
 use Rattle.reception.specs.Deeds.{concerned, MayTurnBack, TakeMay, TellsOfUse}
 use Rattle.reception.specs.Draining.{IsFirstHeld, DrainsMay}
-use Rattle.reception.specs.Parts.Letters.{AnswerUse, ArrivalMay, PairMay}
+use Rattle.reception.specs.Parts.Letters.{AnswerUse, PairMay}
 use Rattle.reception.specs.Prepared.{ToldOfLetter, ToldOfSettle}
 use Rattle.reception.specs.Replies.{settled_again}
-use Rattle.reception.specs.declared.prepared.Arrival.{Arrival}
-use Rattle.reception.specs.declared.prepared.Arrival.TheVariants as arrival
+use Rattle.endpoint.specs.declared.answer.Ingested.{Ingested}
+use Rattle.endpoint.specs.declared.answer.Ingested.TheVariants as ingested
 use Rattle.reception.specs.declared.taken.Drained.{Drained}
 use Rattle.reception.specs.declared.fault.ReceptionFault.{ReceptionFault}
 use Rattle.reception.specs.declared.fault.ReceptionFault.TheVariants.{Frame, Client, Envelope, End}
@@ -53,7 +53,7 @@ module _ {E S C : Type 0} (seen : E → Seen (Tables S C)) (service : Service S 
 
 module _ {E T : Type 0} (seen : E → Seen T) (kind : Kind) (f : Content) (old new : E) where
   -- an endpoint's fault at a letter, as it is told of the frame that carries it
-  pub letter_turned : (l : Letter) → read_frame f ≡ Some (envelope.Letter l) → (fault : EndFault)
+  letter_turned : (l : Letter) → read_frame f ≡ Some (envelope.Letter l) → (fault : EndFault)
       → IsCallCause seen old new (MayTurnAway OfLetter old new kind l.pair.to) (end_cause fault)
       → IsCallCause seen old new (MayTurnBack kind f) (end_cause fault)
   letter_turned l carries Memory h = h
@@ -66,7 +66,7 @@ module _ {E T : Type 0} (seen : E → Seen T) (kind : Kind) (f : Content) (old n
   letter_turned l carries NotSent h = absurd h.1.1
 
   -- and at a settle
-  pub settle_turned : (pair : Pair) (number : ℕ) → read_frame f ≡ Some (envelope.Settle pair number)
+  settle_turned : (pair : Pair) (number : ℕ) → read_frame f ≡ Some (envelope.Settle pair number)
       → (fault : EndFault)
       → IsCallCause seen old new (MayTurnAway OfSettle old new kind pair.from) (end_cause fault)
       → IsCallCause seen old new (MayTurnBack kind f) (end_cause fault)
@@ -78,6 +78,13 @@ module _ {E T : Type 0} (seen : E → Seen T) (kind : Kind) (f : Content) (old n
   settle_turned pair number carries TooEarly h = absurd h.1.1
   settle_turned pair number carries NumberLimit h = absurd h.1.1
   settle_turned pair number carries (Business refusal) h = absurd h.1.1
+
+  -- an answer to a letter, whichever it is
+  pub letter_answered : (l : Letter) → read_frame f ≡ Some (envelope.Letter l) → (r : Result Ingested EndFault)
+      → IsCall seen old new (MayTurnAway OfLetter old new kind l.pair.to) (end_of r) → IsMine kind l.pair.to (end_of r)
+      → AnswerUse seen kind f old new r
+  letter_answered l carries (Ok ingested) call mine = (call, (l.pair.to, ap concerned carries, mine))
+  letter_answered l carries (Err fault) call mine = letter_turned l carries fault call
 
   -- an answer to a settle, whichever it is
   pub settle_answered : (pair : Pair) (number : ℕ) → read_frame f ≡ Some (envelope.Settle pair number)
@@ -93,18 +100,18 @@ module _ {S C : Type 0} (service : Service S C) (f : Content) (l : Letter)
     (carries : read_frame f ≡ Some (envelope.Letter l))
     (x : Kept C) (d : Deed C) where
   -- what is done with it is what its frame allows, as it is told
-  letter_may : (answer : Result Arrival EndFault) (r : Result Taken ReceptionFault) → ToldOfLetter l answer r
-      → ArrivalMay service l answer x d → TakeMay service f r x d
-  letter_may (Ok (arrival.Handled position)) r told h = subst (λ r. TakeMay service f r x d) (sym told) (l, carries, h)
-  letter_may (Ok (arrival.Repeated handled)) (Ok taken) told h =
+  letter_may : (answer : Result Ingested EndFault) (r : Result Taken ReceptionFault) → ToldOfLetter l answer r
+      → IngestMay service l answer x d → TakeMay service f r x d
+  letter_may (Ok (ingested.Handled position)) r told h = subst (λ r. TakeMay service f r x d) (sym told) (l, carries, h)
+  letter_may (Ok (ingested.Repeated handled)) (Ok taken) told h =
       let may : TakeMay service f (Ok (Repeated (settled_again l.number handled))) x d =
-      (l, carries, h.0, ap (settled_again l.number) h.1) in
+      (l, carries, (h.0, h.1, λ i. handled_of x.journal l.pair), ap (settled_again l.number) h.2) in
       subst (λ t. TakeMay service f (Ok t) x d) (sym told) may
-  letter_may (Ok (arrival.Repeated handled)) (Err (Client fault)) told h = h.0.0
-  letter_may (Ok (arrival.Repeated handled)) (Err (Envelope fault)) told h = h.0.0
-  letter_may (Ok (arrival.Repeated handled)) (Err (Frame fault)) told h = absurd told
-  letter_may (Ok (arrival.Repeated handled)) (Err (End fault)) told h = absurd told
-  letter_may (Ok arrival.Held) r told h = subst (λ r. TakeMay service f r x d) (sym told) (l, carries, h)
+  letter_may (Ok (ingested.Repeated handled)) (Err (Client fault)) told h = h.0
+  letter_may (Ok (ingested.Repeated handled)) (Err (Envelope fault)) told h = h.0
+  letter_may (Ok (ingested.Repeated handled)) (Err (Frame fault)) told h = absurd told
+  letter_may (Ok (ingested.Repeated handled)) (Err (End fault)) told h = absurd told
+  letter_may (Ok ingested.Held) r told h = subst (λ r. TakeMay service f r x d) (sym told) (l, carries, h)
   letter_may (Err fault) r told h = subst (λ r. TakeMay service f r x d) (sym told) (inl (l, carries, h))
 
 -- and so it is of a settle
@@ -125,11 +132,11 @@ module _ {E S C : Type 0} (seen : E → Seen (Tables S C)) (old new : E) (servic
       record { before = c.before; deed = c.deed; was = c.was; may = more (kept c.before) c.deed c.may; did = c.did }
 
   pub letter_comes : (f : Content) (l : Letter) → read_frame f ≡ Some (envelope.Letter l)
-      → (answer : Result Arrival EndFault)
+      → (answer : Result Ingested EndFault)
       (r : Result Taken ReceptionFault) → ToldOfLetter l answer r
-      → ComesBy seen old new service (ArrivalMay service l answer)
+      → ComesBy seen old new service (IngestMay service l answer)
       → ComesBy seen old new service (TakeMay service f r)
-  letter_comes f l carries answer r told = comes_more (ArrivalMay service l answer) (TakeMay service f r)
+  letter_comes f l carries answer r told = comes_more (IngestMay service l answer) (TakeMay service f r)
       (λ x d. letter_may service f l carries x d answer r told)
 
   pub settle_comes : (f : Content) (pair : Pair) (number : ℕ) → read_frame f ≡ Some (envelope.Settle pair number)
@@ -142,17 +149,17 @@ module _ {E S C : Type 0} (seen : E → Seen (Tables S C)) (old new : E) (servic
 
 module _ {E T : Type 0} (seen : E → Seen T) (kind : Kind) (f : Content) (old new : E) where
   -- what is told of the store's use
-  pub letter_use : (l : Letter) (answer : Result Arrival EndFault) (r : Result Taken ReceptionFault)
+  pub letter_use : (l : Letter) (answer : Result Ingested EndFault) (r : Result Taken ReceptionFault)
       → ToldOfLetter l answer r
       → AnswerUse seen kind f old new answer → TellsOfUse seen kind f old new r
-  letter_use l (Ok (arrival.Handled position)) r told h = subst (TellsOfUse seen kind f old new) (sym told) h
-  letter_use l (Ok (arrival.Repeated handled)) (Ok taken) told h =
+  letter_use l (Ok (ingested.Handled position)) r told h = subst (TellsOfUse seen kind f old new) (sym told) h
+  letter_use l (Ok (ingested.Repeated handled)) (Ok taken) told h =
       subst (λ t. TellsOfUse seen kind f old new (Ok t)) (sym told) h
-  letter_use l (Ok (arrival.Repeated handled)) (Err (Client fault)) told h = inr h.0
-  letter_use l (Ok (arrival.Repeated handled)) (Err (Envelope fault)) told h = inr h.0
-  letter_use l (Ok (arrival.Repeated handled)) (Err (Frame fault)) told h = inr h.0
-  letter_use l (Ok (arrival.Repeated handled)) (Err (End fault)) told h = absurd told
-  letter_use l (Ok arrival.Held) r told h = subst (TellsOfUse seen kind f old new) (sym told) h
+  letter_use l (Ok (ingested.Repeated handled)) (Err (Client fault)) told h = inr h.0
+  letter_use l (Ok (ingested.Repeated handled)) (Err (Envelope fault)) told h = inr h.0
+  letter_use l (Ok (ingested.Repeated handled)) (Err (Frame fault)) told h = inr h.0
+  letter_use l (Ok (ingested.Repeated handled)) (Err (End fault)) told h = absurd told
+  letter_use l (Ok ingested.Held) r told h = subst (TellsOfUse seen kind f old new) (sym told) h
   letter_use l (Err fault) r told h = subst (TellsOfUse seen kind f old new) (sym told) h
 
   pub settle_use : (answer : Result ℕ EndFault) (r : Result Taken ReceptionFault) → ToldOfSettle answer r

@@ -40,7 +40,8 @@ module _ {S C : Type 0} (service : Service S C) (f : Content) where
   abbrev pub TakeMay : Result Taken ReceptionFault → Kept C → Deed C → Type 0
   TakeMay (Ok (Handled position)) x d = LetterMay (Ok (ingested.Handled position)) x d
   TakeMay (Ok (Repeated number)) x d = (l : Letter) × (read_frame f ≡ Some (envelope.Letter l))
-      × IngestMay service l (Ok ingested.Repeated) x d × (number ≡ settled_again l.number (handled_of x.journal l.pair))
+      × IngestMay service l (Ok (ingested.Repeated (handled_of x.journal l.pair))) x d
+      × (number ≡ settled_again l.number (handled_of x.journal l.pair))
   TakeMay (Ok Held) x d = LetterMay (Ok ingested.Held) x d
   TakeMay (Ok (Settled mark)) x d = MarkMay (Ok mark) x d
   TakeMay (Err (End fault)) x d = LetterMay (Err fault) x d ⊎ MarkMay (Err fault) x d

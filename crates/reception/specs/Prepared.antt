@@ -12,8 +12,8 @@ use Rattle.reception.specs.Replies.{answer, settling, settled_again, IsTextOf}
 use Rattle.reception.specs.declared.fault.ReceptionFault.{ReceptionFault}
 use Rattle.reception.specs.declared.fault.ReceptionFault.TheVariants.{End}
 use Rattle.reception.specs.declared.fault.Untaken.{Untaken}
-use Rattle.reception.specs.declared.prepared.Arrival.{Arrival}
-use Rattle.reception.specs.declared.prepared.Arrival.TheVariants as arrival
+use Rattle.endpoint.specs.declared.answer.Ingested.{Ingested}
+use Rattle.endpoint.specs.declared.answer.Ingested.TheVariants as ingested
 use Rattle.reception.specs.declared.prepared.Prepared.{Prepared}
 use Rattle.reception.specs.declared.prepared.Prepared.TheVariants.{Done, Letter, Settle}
 use Rattle.reception.specs.declared.prepared.PreparedLetter.{PreparedLetter}
@@ -84,11 +84,11 @@ PreparesFrame kind f old new (Err untaken) =
 -- ---- the second half
 
 -- What is told of a letter by the endpoint's answer. One that came again may want memory.
-abbrev pub ToldOfLetter : TheLetter → Result Arrival EndFault → Result Taken ReceptionFault → Type 0
-ToldOfLetter l (Ok (arrival.Handled position)) r = r ≡ Ok (Handled position)
-ToldOfLetter l (Ok (arrival.Repeated handled)) (Ok taken) = taken ≡ Repeated (settled_again l.number handled)
-ToldOfLetter l (Ok (arrival.Repeated handled)) (Err fault) = IsWant fault
-ToldOfLetter l (Ok arrival.Held) r = r ≡ Ok Held
+abbrev pub ToldOfLetter : TheLetter → Result Ingested EndFault → Result Taken ReceptionFault → Type 0
+ToldOfLetter l (Ok (ingested.Handled position)) r = r ≡ Ok (Handled position)
+ToldOfLetter l (Ok (ingested.Repeated handled)) (Ok taken) = taken ≡ Repeated (settled_again l.number handled)
+ToldOfLetter l (Ok (ingested.Repeated handled)) (Err fault) = IsWant fault
+ToldOfLetter l (Ok ingested.Held) r = r ≡ Ok Held
 ToldOfLetter l (Err fault) r = r ≡ Err (End fault)
 
 -- and of a settle

@@ -9,12 +9,12 @@ ghost use Rattle.reception.specs.Answers.{Answers};
 ghost use Rattle.reception.specs.Faults.{taken_or, waiting_after};
 ghost use Rattle.reception.specs.Prepared.{IsReadyLetter, IsReadySettle, ToldOfLetter, ToldOfSettle};
 ghost use Rattle.reception.specs.Replies.{settled_again, IsTextOf, Writes};
-ghost use Rattle.reception.specs.declared.prepared.Arrival.TheVariants as arrival;
+ghost use Rattle.endpoint.specs.declared.answer.Ingested.TheVariants as ingested;
 
 use crate::texts::{settling_text, write};
-use crate::{Arrival, PreparedLetter, PreparedSettle, ReceptionFault, Taken, Untaken};
+use crate::{PreparedLetter, PreparedSettle, ReceptionFault, Taken, Untaken};
 use base::Number;
-use endpoint::EndFault;
+use endpoint::{EndFault, Ingested};
 use std::alloc::Global;
 use stomp_client::ClientSession;
 
@@ -49,7 +49,7 @@ impl PreparedLetter {
         handled: u64,
     ) -> Result<Taken, ReceptionFault>
         requires { IsReadyLetter client.old self.now }
-        ensures told { ToldOfLetter self.now.letter (Ok (arrival.Repeated handled)) result }
+        ensures told { ToldOfLetter self.now.letter (Ok (ingested.Repeated handled)) result }
         ensures answers { (kind : Kind) → Answers kind self.now.message client.old.client client.new.client result }
     {
         let transaction = client.transactions() + 1;
@@ -65,19 +65,19 @@ impl PreparedLetter {
         &self,
         alloc: Global,
         client: &mut ClientSession<u64>,
-        answer: Result<Arrival, EndFault>,
+        answer: Result<Ingested, EndFault>,
     ) -> Result<Taken, ReceptionFault>
         requires { IsReadyLetter client.old self.now }
         ensures told { ToldOfLetter self.now.letter answer result }
         ensures answers { (kind : Kind) → Answers kind self.now.message client.old.client client.new.client result }
     {
         match answer {
-            Ok(Arrival::Handled(position)) => {
+            Ok(Ingested::Handled(position)) => {
                 write_transaction(client, &self.replies.settling);
                 Ok(Taken::Handled(position))
             }
-            Ok(Arrival::Repeated(handled)) => self.settle_again(alloc, client, handled),
-            Ok(Arrival::Held) => {
+            Ok(Ingested::Repeated(handled)) => self.settle_again(alloc, client, handled),
+            Ok(Ingested::Held) => {
                 write(client, &self.replies.answers.ack);
                 Ok(Taken::Held)
             }
@@ -100,7 +100,7 @@ impl PreparedLetter {
         self,
         alloc: Global,
         client: &mut ClientSession<u64>,
-        answer: Result<Arrival, EndFault>,
+        answer: Result<Ingested, EndFault>,
     ) -> Result<Taken, Untaken>
         requires { IsReadyLetter client.old self }
         ensures told { ToldOfLetter self.letter answer (taken_or result) }

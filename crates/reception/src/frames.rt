@@ -3,14 +3,14 @@
 ghost use Rattle.std.specs.Prelude.{◌≡◌, ◌≤◌, Some, IfErr};
 ghost use Rattle.envelope.specs.Reading.{read_frame};
 ghost use Rattle.envelope.specs.declared.message.Envelope.TheVariants as envelope;
-ghost use Rattle.endpoint.specs.Arrivals.{SettleMay};
+ghost use Rattle.endpoint.specs.Arrivals.{IngestMay, SettleMay};
 ghost use Rattle.endpoint.specs.Calls.{ComesBy, StillMatches};
 ghost use Rattle.reception.specs.Answers.{Answers};
 ghost use Rattle.reception.specs.Deeds.{TakeMay, TellsOfUse};
 ghost use Rattle.reception.specs.Faults.{taken_or, waiting_after};
-ghost use Rattle.reception.specs.Parts.Letters.{ArrivalMay, AnswerUse};
+ghost use Rattle.reception.specs.Parts.Letters.{AnswerUse};
 
-use crate::{Arrival, Prepared, PreparedLetter, PreparedSettle, Taken, Untaken, prepare};
+use crate::{Prepared, PreparedLetter, PreparedSettle, Taken, Untaken, prepare};
 use activities::Handler;
 use base::limits::MAX_BODY;
 use endpoint::{EndFault, Endpoint, Ingested};
@@ -19,33 +19,23 @@ use std::alloc::Global;
 use stomp_client::ClientSession;
 use stomp_frame::Frame;
 
-/// Gives a letter to the endpoint. How far its pair was handled is read only where it came again: no other reply tells
-/// it.
+/// Gives a letter to the endpoint.
 fn ingest<H, K>(
     alloc: Global,
     endpoint: &mut Endpoint<H, K>,
     prepared: &PreparedLetter,
-) -> Result<Arrival, EndFault>
+) -> Result<Ingested, EndFault>
 where
     H: Handler,
     K: Keep<State = H::State, Command = H::Command> + Drop,
     requires { read_frame prepared.now.message ≡ Some (envelope.Letter prepared.now.letter) }
     ensures doubt { (K.seen endpoint.old).doubt ≤ (K.seen endpoint.new).doubt }
     ensures matches { StillMatches K.seen endpoint.old endpoint.new H.service }
-    ensures comes { ComesBy K.seen endpoint.old endpoint.new H.service (ArrivalMay H.service prepared.now.letter
+    ensures comes { ComesBy K.seen endpoint.old endpoint.new H.service (IngestMay H.service prepared.now.letter
         result) }
     ensures used { AnswerUse K.seen H.service.kind prepared.now.message endpoint.old endpoint.new result }
 {
-    let letter = &prepared.letter;
-    match endpoint.ingest(alloc, letter) {
-        Ok(Ingested::Handled(position)) => Ok(Arrival::Handled(position)),
-        Ok(Ingested::Repeated) => match endpoint.handled(alloc, &letter.pair) {
-            Ok(handled) => Ok(Arrival::Repeated(handled)),
-            Err(fault) => Err(fault),
-        },
-        Ok(Ingested::Held) => Ok(Arrival::Held),
-        Err(fault) => Err(fault),
-    }
+    endpoint.ingest(alloc, &prepared.letter)
 }
 
 /// Gives a settle to the endpoint.
@@ -76,8 +66,7 @@ where
 ///   written: BEGIN, ACK, the SEND of a settle up to what was handled, COMMIT. Where it is held: ACK.
 /// - MESSAGE with a settle: it is given to `Endpoint::settle`, and then ACK is written.
 ///
-/// Calls of the store: for a letter those of `ingest`, and one `handled` more where it came again; for a settle those
-/// of `settle`; else none.
+/// Calls of the store: for a letter those of `ingest`, for a settle those of `settle`, else none.
 ///
 /// # Errors
 /// - `Client(Memory)`, `Envelope(Memory)`, and for a letter `Client(NumbersUsed)` where the last number of a

@@ -41,6 +41,6 @@ mod texts;
 pub use draining::{drain, drain_unconnected};
 pub use fault::{ReceptionFault, Untaken};
 pub use frames::take_frame;
-pub use prepared::{Arrival, Prepared, PreparedLetter, PreparedSettle};
+pub use prepared::{Prepared, PreparedLetter, PreparedSettle};
 pub use preparing::prepare;
 pub use taken::{Drained, Taken};

@@ -39,14 +39,3 @@ pub struct PreparedSettle {
     pub number: u64,
     pub(crate) answers: Acknowledgements,
 }
-
-/// What an endpoint answered to a letter.
-#[derive(Clone, Copy, Debug, PartialEq, Eq)]
-pub enum Arrival {
-    /// It was the next of its pair and was taken in: the position of its row in the journal, from 1.
-    Handled(u64),
-    /// A letter of its number was handled before: how many of its pair were.
-    Repeated(u64),
-    /// It came too early; a letter of its number is held.
-    Held,
-}

@@ -47,7 +47,7 @@ module _ {S C : Type 0} (s : Service S C) (P : Envelope → Type 0) where
   take_founded f all (Ok (taken.Handled pos)) x d may =
       ingest_is s P may.0 (all (envelope.Letter may.0) may.1) (Ok (ingested.Handled pos)) x d may.2
   take_founded f all (Ok (taken.Repeated n)) x d may =
-      ingest_is s P may.0 (all (envelope.Letter may.0) may.1) (Ok ingested.Repeated) x d may.2
+      ingest_is s P may.0 (all (envelope.Letter may.0) may.1) (Ok (ingested.Repeated _)) x d may.2
   take_founded f all (Ok taken.Held) x d may =
       ingest_is s P may.0 (all (envelope.Letter may.0) may.1) (Ok ingested.Held) x d may.2
   take_founded f all (Ok (taken.Settled mark)) x d may =

@@ -21,7 +21,7 @@ module _ {S C : Type 0} (s : Service S C) where
   reception_rests : (f : Content) (r : Result Taken ReceptionFault) (x : Kept C) (d : Deed C) → TakeMay s f r x d
       → IsNoCommand d
   reception_rests f (Ok (taken.Handled pos)) x d may = ingest_rests s may.0 (Ok (ingested.Handled pos)) x d may.2
-  reception_rests f (Ok (taken.Repeated n)) x d may = ingest_rests s may.0 (Ok ingested.Repeated) x d may.2
+  reception_rests f (Ok (taken.Repeated n)) x d may = ingest_rests s may.0 (Ok (ingested.Repeated _)) x d may.2
   reception_rests f (Ok taken.Held) x d may = ingest_rests s may.0 (Ok ingested.Held) x d may.2
   reception_rests f (Ok (taken.Settled mark)) x d may = settle_rests s may.0 may.1 (Ok mark) x d may.3
   reception_rests f (Ok taken.Connected) x d may = nothing_is d may

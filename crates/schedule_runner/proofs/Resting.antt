@@ -32,7 +32,7 @@ pub ingest_rests : {S C : Type 0} (s : Service S C) (l : Letter) (r : Result Ing
     (d : Deed C)
     → IngestMay s l r x d → IsNoCommand d
 ingest_rests s l (Ok (ingested.Handled pos)) x d may = letter_is l d may.0
-ingest_rests s l (Ok ingested.Repeated) x d may = nothing_is d may.0
+ingest_rests s l (Ok (ingested.Repeated handled)) x d may = nothing_is d may.0
 ingest_rests s l (Ok ingested.Held) x d may = subst IsNoCommand (sym may) tt
 ingest_rests s l (Err fault.TooEarly) x d may = nothing_is d may.0
 ingest_rests s l (Err fault.NumberLimit) x d may = nothing_is d may.0

@@ -45,7 +45,7 @@ fn ingest<const AHEAD: u64>(
 ) -> Result<String, CallFault> {
     match warehouse.ingest(alloc, letter)? {
         Ingested::Handled(pos) => Ok(format!(in alloc; "handled {pos}")?),
-        Ingested::Repeated => Ok(String::from_str(alloc, "repeated")?),
+        Ingested::Repeated(_) => Ok(String::from_str(alloc, "repeated")?),
         Ingested::Held => Ok(String::from_str(alloc, "held")?),
     }
 }

@@ -65,7 +65,7 @@ fn letter(alloc: Global, text: &str) -> Result<Letter, CallFault> {
 fn push_ingested(out: &mut String, ingested: Result<Ingested, EndFault>) -> Result<(), CallFault> {
     match ingested? {
         Ingested::Handled(pos) => write!(out, "handled {pos}").map_err(CallFault::from),
-        Ingested::Repeated => out.push_str("repeated").map_err(CallFault::from),
+        Ingested::Repeated(_) => out.push_str("repeated").map_err(CallFault::from),
         Ingested::Held => out.push_str("held").map_err(CallFault::from),
     }
 }

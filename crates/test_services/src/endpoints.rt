@@ -54,7 +54,7 @@ fn ingest<S: Shown>(
     let letter = letter(alloc, said)?;
     match service.ingest(alloc, &letter)? {
         Ingested::Handled(pos) => write!(out, "handled {pos}")?,
-        Ingested::Repeated => write!(out, "repeated")?,
+        Ingested::Repeated(_) => write!(out, "repeated")?,
         Ingested::Held => write!(out, "held")?,
     }
     Ok(())

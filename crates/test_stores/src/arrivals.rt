@@ -24,7 +24,7 @@ where
     let ingested = endpoint.ingest(alloc, &letter)?;
     match ingested {
         Ingested::Handled(pos) => write!(out, "handled {pos}").map_err(CallFault::from),
-        Ingested::Repeated => write!(out, "repeated").map_err(CallFault::from),
+        Ingested::Repeated(_) => write!(out, "repeated").map_err(CallFault::from),
         Ingested::Held => write!(out, "held").map_err(CallFault::from),
     }
 }

@@ -8,22 +8,18 @@ use Rattle.stomp_client.specs.declared.fault.ClientFault.TheVariants as client
 use Rattle.envelope.specs.Reading.{read_frame}
 use Rattle.envelope.specs.declared.fault.EnvelopeFault.{EnvelopeFault}
 use Rattle.envelope.specs.declared.fault.EnvelopeFault.TheVariants.{BadEnvelope, Memory}
-use Rattle.envelope.specs.declared.message.Letter.{Letter}
 use Rattle.activities.specs.Journal.{handled_of}
 use Rattle.activities.specs.Service.{Service}
 use Rattle.keep.specs.Law.{IsServed, IsCallCause}
 use Rattle.keep.specs.Seen.{Seen}
-use Rattle.endpoint.specs.Arrivals.{IngestMay, DrainMay}
+use Rattle.endpoint.specs.Arrivals.{DrainMay}
 use Rattle.endpoint.specs.Deeds.{Kept, Deed, Nothing}
 use Rattle.endpoint.specs.Faults.{end_cause}
-use Rattle.endpoint.specs.declared.answer.Ingested.TheVariants as ingested
 use Rattle.endpoint.specs.declared.fault.EndFault.{EndFault}
 use Rattle.reception.specs.Deeds.{IsOurs, MayTurnBack}
 use Rattle.reception.specs.Faults.{IsWant}
 use Rattle.reception.specs.declared.fault.ReceptionFault.{ReceptionFault}
 use Rattle.reception.specs.declared.fault.ReceptionFault.TheVariants.{Client, End}
-use Rattle.reception.specs.declared.prepared.Arrival.{Arrival}
-use Rattle.reception.specs.declared.prepared.Arrival.TheVariants.{Handled, Repeated, Held}
 use Rattle.reception.specs.declared.taken.Drained.{Drained}
 
 -- why the replies to a letter aren't made, by the last number of a transaction
@@ -35,15 +31,6 @@ IsLetterWant transactions fault = IsWant fault
 abbrev pub IsUnread : Content → EnvelopeFault → Type 0
 IsUnread message BadEnvelope = read_frame message ≡ None
 IsUnread message Memory = ⊤
-
-module _ {S C : Type 0} (service : Service S C) (l : Letter) where
-  -- what is done with a letter that is given to the endpoint
-  abbrev pub ArrivalMay : Result Arrival EndFault → Kept C → Deed C → Type 0
-  ArrivalMay (Ok (Handled position)) x d = IngestMay service l (Ok (ingested.Handled position)) x d
-  ArrivalMay (Ok (Repeated handled)) x d =
-      IngestMay service l (Ok ingested.Repeated) x d × (handled ≡ handled_of x.journal l.pair)
-  ArrivalMay (Ok Held) x d = IngestMay service l (Ok ingested.Held) x d
-  ArrivalMay (Err fault) x d = IngestMay service l (Err fault) x d
 
 -- what is told of the store's use by an endpoint's answer to what a MESSAGE carries
 abbrev pub AnswerUse : {E T R : Type 0} → (E → Seen T) → Kind → Content → (old new : E) → Result R EndFault → Type 0

@@ -10,7 +10,7 @@ use Rattle.endpoint.proofs.receiving.take_letter.Goals as goal
 pub returns-in-Next : goal.returns-in-Next
 returns-in-Next g c =
     let ahead = g.W.Window.ahead in let service =
-    g.H.Handler.service in let l = c.args.letter.now in let of = c.in-Next.ensures.1 in
+    g.H.Handler.service in let l = c.args.letter.now in let of = c.in-Next.ensures in
     read_then g.K.Keep.seen g.met.K.Keep.sound ahead service c.args.keep.now c.read_handled.new.keep
     c.handle_letter.new.keep OfHeldLetter
     OfLetter
@@ -22,7 +22,7 @@ returns-in-Next g c =
 pub returns-in-Early : goal.returns-in-Early
 returns-in-Early g c =
     let ahead = g.W.Window.ahead in let service = g.H.Handler.service in let l = c.args.letter.now in
-    let far = c.in-Early.ensures.1 in let near = c.in-Early.ensures.2 in
+    let far = c.in-Early.ensures.0 in let near = c.in-Early.ensures.1 in
     read_then g.K.Keep.seen g.met.K.Keep.sound ahead service c.args.keep.now c.read_handled.new.keep
     c.hold_letter.new.keep OfLetter
     OfLetter

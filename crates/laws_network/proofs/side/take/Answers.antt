@@ -8,8 +8,8 @@ use Rattle.laws_network.specs.declared.event.Outcome.TheVariants.{Taken, Settled
 use Rattle.laws_network.proofs.SideStepping.{comes_steps, stays_steps}
 use Rattle.laws_network.proofs.side.take.Goals as goal
 
-pub returns-in-Some-Letter-clause-turns : goal.returns-in-Some-Letter-clause-turns
-returns-in-Some-Letter-clause-turns g c = λ sent.
+pub returns-in-Some-Letter-clause-steps : goal.returns-in-Some-Letter-clause-steps
+returns-in-Some-Letter-clause-steps g c = λ sent.
     let arriving = c.args.arriving.now in
     let found = c.in-Some-Letter.ensures.lookup in
     let read : slice_get arriving c.args.index ≡ Some c.in-Some-Letter.field-0.now =
@@ -22,8 +22,8 @@ returns-in-Some-Letter-clause-turns g c = λ sent.
     (λ x d may. (c.in-Some-Letter.letter, at, may))
     (λ x. refl) c.ingest.ensures.comes
 
-pub returns-in-Some-Settle-clause-turns : goal.returns-in-Some-Settle-clause-turns
-returns-in-Some-Settle-clause-turns g c = λ sent.
+pub returns-in-Some-Settle-clause-steps : goal.returns-in-Some-Settle-clause-steps
+returns-in-Some-Settle-clause-steps g c = λ sent.
     let arriving = c.args.arriving.now in
     let found = c.in-Some-Settle.ensures.lookup in
     let read : slice_get arriving c.args.index ≡ Some c.in-Some-Settle.field-0.now =
@@ -35,8 +35,8 @@ returns-in-Some-Settle-clause-turns g c = λ sent.
     sent sent (SettleMay g.H.Handler.service c.in-Some-Settle.pair c.in-Some-Settle.number c.settle.result)
     (λ x d may. (c.in-Some-Settle.pair, c.in-Some-Settle.number, at, may)) (λ x. refl) c.settle.ensures.comes
 
-pub returns-in-None-clause-turns : goal.returns-in-None-clause-turns
-returns-in-None-clause-turns g c = λ sent.
+pub returns-in-None-clause-steps : goal.returns-in-None-clause-steps
+returns-in-None-clause-steps g c = λ sent.
     let arriving = c.args.arriving.now in
     let at : slice_get arriving c.args.index ≡ None = slice_get_past arriving c.args.index c.in-None.ensures.lookup.3 in
     stays_steps g.K.Keep.seen c.args.own.now c.args.own.now g.H.Handler.service (Take c.args.index) Missing arriving

@@ -9,6 +9,7 @@ returns-clause-drain g c =
     let seen = g.K.Keep.seen in let ahead =
     g.W.Window.ahead in let service = g.H.Handler.service in let p = c.args.pair.now in let new =
     c.take_held.new.keep in
-    subst (λ k. DoesDeed seen k new ahead service OfHeldLetter p.to (DrainMay service p) c.take_held.result) c.self.view_is
+    subst (λ k. DoesDeed seen k new ahead service OfHeldLetter p.to (DrainMay service p) c.take_held.result)
+    c.self.view_is
     (works_does seen ahead service c.self.inside.keep new p.to (search rules) OfHeldLetter (λ h. h) (DrainMay service p)
     c.take_held.result c.take_held.ensures)
