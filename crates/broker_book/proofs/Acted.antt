@@ -5,7 +5,7 @@ use Rattle.broker_book.specs.declared.parts.Action.{Action}
 use Rattle.broker_book.specs.declared.parts.Action.TheVariants.{Put, Ack, Nack}
 use Rattle.broker_book.specs.Books.{Book}
 use Rattle.broker_book.specs.Steps.{Handed, Deals, act_of, then_all, holder, apply_of}
-use Rattle.broker_book.specs.Runs.{BookEvent, Puts, Hands, Acks, Nacks, Happens, Run, ShowsAs, ShowAs, numbers_covered}
+use Rattle.broker_book.specs.Runs.{BookEvent, Puts, Hands, Acks, Nacks, BookStep, Run, ShowsAs, ShowAs, numbers_covered}
 
 pub deals_run : (old new : Book) (handed : List Handed) → Deals old handed new → Run old (map Hands handed) new
 deals_run old new [] h = h
@@ -13,7 +13,7 @@ deals_run old new (d ∷ ds) h = (h.0, h.1, deals_run h.0 new ds h.2)
 
 -- an action shows as an event
 act_happens : (full session : ℕ) (old new : Book) (a : Action) → act_of full session old a ≡ Ok new
-    → (e : BookEvent) × ShowsAs full session a e × Happens old e new
+    → (e : BookEvent) × ShowsAs full session a e × BookStep old e new
 act_happens full session old new (Put sent) h = (Puts full sent, refl, h)
 act_happens full session old new (Ack number) h =
     let numbers = numbers_covered old number (holder old session number) in

@@ -7,7 +7,7 @@ use Rattle.broker_book.specs.declared.parts.Accepted.{Accepted}
 use Rattle.broker_book.specs.declared.parts.Subscription.{Subscription}
 use Rattle.broker_book.specs.Books.{Book, QueuedMessage, Fate, Ready, empty_book, out_to, out_of}
 use Rattle.broker_book.specs.Steps.{Handed, Deal, left_of, acked, nacked, holder, covered, ready_if}
-use Rattle.broker_book.specs.Runs.{BookEvent, Puts, Hands, Acks, Nacks, Subscribes, Releases, Ends, Takes, Happens, Run}
+use Rattle.broker_book.specs.Runs.{BookEvent, Puts, Hands, Acks, Nacks, Subscribes, Releases, Ends, Takes, BookStep, Run}
 use Rattle.broker_book.specs.Runs.{put_by, put_in}
 use Rattle.broker_book.specs.Runs.{handed_by, handed_in}
 use Rattle.broker_book.specs.Laws.{numbered, AllPass, as_accepted}
@@ -83,7 +83,7 @@ module _ (P : Accepted → Type 0) where
       = sym (λ i. record { number = h.number i; sent = h.sent i }) in
       (rw h.changed dealt.1, (subst (λ a. P a) same dealt.0, tt))
 
-  event_passes : (old new : Book) (e : BookEvent) → Happens old e new → Pass old.living
+  event_passes : (old new : Book) (e : BookEvent) → BookStep old e new → Pass old.living
       → Each (numbered old.last (put_by e))
       → Pass new.living × Each (handed_by e)
   event_passes old new (Puts full sent) h k now = rw (put_is full old sent new h) (living-append old.living _ k now, tt)

@@ -10,7 +10,7 @@ use Rattle.broker_book.specs.declared.parts.Subscription.{Subscription}
 use Rattle.broker_book.specs.Books.{Book, QueuedMessage, Fate, Ready, Out, empty_book, out_to, out_of, is_auto}
 use Rattle.broker_book.specs.Steps.{Handed, Deal, left_of, acked, nacked, holder, covered, ready_if, subscribed}
 use Rattle.broker_book.specs.Steps.{released, ended}
-use Rattle.broker_book.specs.Runs.{BookEvent, Puts, Hands, Acks, Nacks, Subscribes, Releases, Ends, Takes, Happens, Run}
+use Rattle.broker_book.specs.Runs.{BookEvent, Puts, Hands, Acks, Nacks, Subscribes, Releases, Ends, Takes, BookStep, Run}
 use Rattle.broker_book.specs.Runs.{ended_by, ended_in}
 use Rattle.broker_book.specs.Runs.{numbers_covered}
 use Rattle.broker_book.specs.Laws.{is_numbered, IsKept}
@@ -107,7 +107,7 @@ nack_balances old new number (Some s) h n =
     rw (← e) (same_living old (record old { living = map (ready_if (covered s number)) old.living })
     (λ k. ready_here (covered s number) k old.living) refl n)
 
-event_balances : (old new : Book) (e : BookEvent) → Happens old e new → Balances old new (ended_by e)
+event_balances : (old new : Book) (e : BookEvent) → BookStep old e new → Balances old new (ended_by e)
 event_balances old new (Puts full sent) h = rw (put_is full old sent new h)
     (λ n. put_balances old (record { number = old.last + 1; sent = sent; fate = Ready }) n refl)
 event_balances old new (Hands d) h = deal_balances old new d h

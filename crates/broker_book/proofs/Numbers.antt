@@ -11,7 +11,7 @@ use Rattle.broker_book.specs.declared.parts.Subscription.{Subscription}
 use Rattle.broker_book.specs.declared.parts.Accepted.{Accepted}
 use Rattle.broker_book.specs.Books.{Book, QueuedMessage, empty_book}
 use Rattle.broker_book.specs.Steps.{put_of, with_message, acked, nacked, holder, covered, ready_if}
-use Rattle.broker_book.specs.Runs.{BookEvent, Puts, Hands, Acks, Nacks, Subscribes, Releases, Ends, Takes, Happens, Run}
+use Rattle.broker_book.specs.Runs.{BookEvent, Puts, Hands, Acks, Nacks, Subscribes, Releases, Ends, Takes, BookStep, Run}
 use Rattle.broker_book.specs.Runs.{put_by, put_in}
 use Rattle.broker_book.specs.Runs.{taken_by, taken_in}
 use Rattle.broker_book.specs.Laws.{numbered}
@@ -65,7 +65,7 @@ unchanged : (old new : Book) → new.accepted ≡ old.accepted → new.last ≡ 
     → (new.accepted ≡ old.accepted ++ []) × (new.last ≡ old.last + 0)
 unchanged old new a l = (a ∙ sym (append-nil old.accepted), omega arith)
 
-pub event_counts : (old new : Book) (e : BookEvent) → Happens old e new → Counts old e new
+pub event_counts : (old new : Book) (e : BookEvent) → BookStep old e new → Counts old e new
 event_counts old new (Puts full sent) h = rw (put_is full old sent new h) (refl, refl)
 event_counts old new (Hands d) h =
     unchanged old new (ap (λ (b : Book). b.accepted) h.changed) (ap (λ (b : Book). b.last) h.changed)

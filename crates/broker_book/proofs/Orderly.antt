@@ -14,7 +14,7 @@ use Rattle.broker_book.specs.Books.{Book, QueuedMessage, Fate, Ready, Out, empty
 use Rattle.broker_book.specs.Books.{out_of, may_take}
 use Rattle.broker_book.specs.Steps.{Handed, Deal, left_of, last_given, acked, nacked, holder, covered, ready_if}
 use Rattle.broker_book.specs.Steps.{subscribed}
-use Rattle.broker_book.specs.Runs.{BookEvent, Puts, Hands, Acks, Nacks, Subscribes, Releases, Ends, Takes, Happens, Run}
+use Rattle.broker_book.specs.Runs.{BookEvent, Puts, Hands, Acks, Nacks, Subscribes, Releases, Ends, Takes, BookStep, Run}
 use Rattle.broker_book.specs.Laws.{RiseTo, is_delivery, deliveries, is_at, IsOrderly}
 use Rattle.broker_book.proofs.Counts.{count-cons, count-append, count-filter, count-map, count-less, no-count}
 use Rattle.broker_book.proofs.Numbers.{put_is}
@@ -377,7 +377,7 @@ fewer_named : (q : Subscription → Bool) (old : Book) → IsOrderly old → (se
 fewer_named q old o session id =
     let a = count-filter (is_named session id) q old.subscriptions in let b = o.named session id in omega arith
 
-event_orderly : (old new : Book) (e : BookEvent) → Happens old e new → IsOrderly old → IsOrderly new
+event_orderly : (old new : Book) (e : BookEvent) → BookStep old e new → IsOrderly old → IsOrderly new
 event_orderly old new (Puts full sent) h o = rw (put_is full old sent new h)
     (put_orderly old (record { number = old.last + 1; sent = sent; fate = Ready }) _ refl refl o)
 event_orderly old new (Hands d) h o = deal_orderly old new d h o

@@ -7,7 +7,7 @@ use Rattle.broker_book.specs.declared.parts.Sent.{Sent}
 use Rattle.broker_book.specs.declared.parts.Subscription.{Subscription}
 use Rattle.broker_book.specs.Books.{Book, QueuedMessage, Fate, Ready, Out, empty_book}
 use Rattle.broker_book.specs.Steps.{Handed, Deal, holder, released, subscribed, with_message}
-use Rattle.broker_book.specs.Runs.{BookEvent, Puts, Hands, Acks, Subscribes, Releases, Takes, Happens, Run, ended_by}
+use Rattle.broker_book.specs.Runs.{BookEvent, Puts, Hands, Acks, Subscribes, Releases, Takes, BookStep, Run, ended_by}
 use Rattle.broker_book.specs.Runs.{ended_in, put_in, taken_in, handed_in, numbers_covered}
 use Rattle.broker_book.specs.Laws.{IsKept, IsOrderly, numbered}
 
@@ -118,7 +118,7 @@ it_tells : (ended_in events ≡ 1 ∷ []) × (put_in events ≡ letter (codes "a
 it_tells = (refl, refl, refl, refl)
 
 -- a subscription of the same name can't begin
-twice_subscribed : Happens (subscribed empty_book listener) (Subscribes listener) waiting → ⊥
+twice_subscribed : BookStep (subscribed empty_book listener) (Subscribes listener) waiting → ⊥
 twice_subscribed h = let e = h.0 in absurd cc
 
 -- ---- what ends

@@ -30,22 +30,22 @@ numbers_covered b number (Some s) =
     map (λ (m : QueuedMessage). m.number) (filter (λ m. covered s number m.fate) b.living)
 
 -- an event leads from one book to another; a subscription begins only where the session has none of its name
-abbrev pub Happens : Book → BookEvent → Book → Type 0
-Happens old (Puts full sent) new = put_of full old sent ≡ Ok new
-Happens old (Hands d) new = Deal old d new
-Happens old (Acks session number numbers) new =
+abbrev pub BookStep : Book → BookEvent → Book → Type 0
+BookStep old (Puts full sent) new = put_of full old sent ≡ Ok new
+BookStep old (Hands d) new = Deal old d new
+BookStep old (Acks session number numbers) new =
     (ack_of old session number ≡ Ok new) × (numbers ≡ numbers_covered old number (holder old session number))
-Happens old (Nacks session number) new = nack_of old session number ≡ Ok new
-Happens old (Subscribes s) new =
+BookStep old (Nacks session number) new = nack_of old session number ≡ Ok new
+BookStep old (Subscribes s) new =
     (list_any (is_named s.session s.id) old.subscriptions ≡ false) × (new ≡ subscribed old s)
-Happens old (Releases session id) new = new ≡ released old session id
-Happens old (Ends session) new = new ≡ ended old session
-Happens old (Takes accepted) new = (accepted ≡ old.accepted) × (new ≡ record old { accepted = [] })
+BookStep old (Releases session id) new = new ≡ released old session id
+BookStep old (Ends session) new = new ≡ ended old session
+BookStep old (Takes accepted) new = (accepted ≡ old.accepted) × (new ≡ record old { accepted = [] })
 
 -- one event after another leads there
 abbrev pub Run : Book → List BookEvent → Book → Type 0
 Run old [] new = new ≡ old
-Run old (e ∷ events) new = (mid : Book) × Happens old e mid × Run mid events new
+Run old (e ∷ events) new = (mid : Book) × BookStep old e mid × Run mid events new
 
 -- ---- what a run brought about
 

@@ -21,7 +21,7 @@ the_second_call_fails : (due (in_calls 2 New) ≡ None) × (counted_down (in_cal
     × (due None ≡ None) × (counted_down None ≡ None)
 the_second_call_fails = (refl, refl, refl, refl, refl, refl, refl)
 
--- a keep that failed three times by itself, over a store that is usable and failed four times
+-- a store that failed three times by itself, over one that is usable and failed four times
 abbrev over : Store → Option Arming → Failing Store
 over store armed = record { keep = store; armed = armed; is_down = false; failures = 3 }
 

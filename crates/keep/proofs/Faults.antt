@@ -1,4 +1,4 @@
--- What a keep says of a call, from what the keep inside says of it.
+-- What a store says of a call, from what the store inside says of it.
 use Rattle.std.proofs.Common.{ℕ, ◌+◌, ◌-◌, ◌^◌, ◌≤◌, ◌≡◌, inl, inr, min, Bool, true, false, not, ◌&&◌, Some, None}
 use Rattle.std.proofs.Common.{Result, Ok, Err, refl}
 use Rattle.std.proofs.Common.{sym, ap, subst, ◌∙◌, arith}
@@ -78,7 +78,7 @@ module _ {K T : Type 0} (seen : K → Seen T) (old new : Failing K) where
   still : new.armed ≡ counted_down old.armed → due old.armed ≡ None → StaysArmed old.armed new.armed
   still armed unarmed = subst (StaysArmed old.armed) (sym armed) (unmet old.armed unarmed)
 
-  -- a call that the keep inside answers
+  -- a call that the store inside answers
   pub read_inside : {R : Type 0} (gives : T → R → Type 0) (r : Result R KeepFault) → old.is_down ≡ false
       → new.is_down ≡ false
       → new.failures ≡ old.failures
@@ -125,7 +125,7 @@ module _ {K T : Type 0} (seen : K → Seen T) (old new : Failing K) where
     passes = (own, h.call);
   }
 
-  -- a call that fails because it was armed; `mid` is the keep once it was counted
+  -- a call that fails because it was armed; `mid` is the store once it was counted
   module _ (mid : Failing K) (sound : IsSound (seen old.keep)) (usable : (through seen old).usable ≡ true)
       (armed : mid ≡ record old { armed = counted_down old.armed })
       (counted : new ≡ record mid { is_down = true; failures = min (mid.failures + 1) (2 ^ 64 - 1) })
@@ -184,7 +184,7 @@ module _ {K T : Type 0} (seen : K → Seen T) (old new : Failing K) where
       left = rw due_is (λ clean _. failed_clean clean);
     })
 
-  -- a transaction that the keep inside was asked for, and that fails: `asked` is the keep then, and `answer` its answer
+  -- a transaction that the store inside was asked for, and that fails: `asked` is the store then, and `answer` its answer
   module _ (mid asked : Failing K) (sound : IsSound (seen asked.keep)) (usable : (through seen old).usable ≡ true)
       (armed : mid ≡ record old { armed = counted_down old.armed })
       (counted : new ≡ record asked { is_down = true; failures = min (asked.failures + 1) (2 ^ 64 - 1) })
@@ -199,7 +199,7 @@ module _ {K T : Type 0} (seen : K → Seen T) (old new : Failing K) where
     hidden_armed : new.armed ≡ counted_down old.armed
     hidden_armed = ap (λ (f : Failing K). f.armed) counted ∙ same_armed ∙ ap (λ (f : Failing K). f.armed) armed
 
-    -- the keep inside counted as many or more
+    -- the store inside counted as many or more
     rises : (answer : Result Unit KeepFault) → IsCall seen old.keep asked.keep Never (keep_end answer)
         → (seen old.keep).failures ≤ (seen asked.keep).failures
     rises (Ok _) h = let e = h.2 in omega (arith, e)

@@ -9,9 +9,9 @@ use Rattle.keep.specs.declared.faulty.Leaves.TheVariants.{Old, New}
 use Rattle.keep.specs.Law.{LeavesEither, Never, IsCall, IsReopenCall, Reads, Writes, Reopens}
 use Rattle.keep.specs.Seen.{Seen, keep_end}
 
--- a keep, and how it is to fail
+-- a store, and how it is to fail
 pub record Failing (K : Type 0) : Type 0 where
-  -- the keep inside
+  -- the store inside
   pub keep : K
   -- which call from now on fails, if one does
   pub armed : Option Arming
@@ -30,7 +30,7 @@ abbrev pub counted_down : Option Arming → Option Arming
 counted_down None = None
 counted_down (Some a) = if nat_le a.calls 1 then None else Some (record a { calls = a.calls - 1 })
 
--- what callers see of it, from what they see of the keep inside
+-- what callers see of it, from what they see of the store inside
 abbrev pub through : {K T : Type 0} → (K → Seen T) → Failing K → Seen T
 through seen f = record (seen f.keep) {
   failures = f.failures + (seen f.keep).failures;
@@ -42,14 +42,14 @@ through seen f = record (seen f.keep) {
 abbrev pub LeavesOnly : {T : Type 0} → T → (T → Type 0) → Type 0
 LeavesOnly {T} only may_leave = (t : T) → may_leave t → t ≡ only
 
--- what a stop may leave after a transaction that was to leave the new tables, by the answer of the keep inside
+-- what a stop may leave after a transaction that was to leave the new tables, by the answer of the store inside
 abbrev pub LeavesNew : {T : Type 0} → T → T → (T → Type 0) → Result Unit KeepFault → Type 0
 LeavesNew old new may_leave (Ok _) = LeavesOnly new may_leave
 LeavesNew old new may_leave (Err Memory) = LeavesOnly old may_leave
 LeavesNew old new may_leave (Err Failed) = LeavesEither old new may_leave
 LeavesNew old new may_leave (Err WrongFile) = ⊥
 
--- what a stop may leave after a transaction that was due to fail: `IsAnswer` holds of the answer of the keep inside,
+-- what a stop may leave after a transaction that was due to fail: `IsAnswer` holds of the answer of the store inside,
 -- where it was asked
 abbrev pub IsLeft : {T : Type 0} → Option Leaves → T → T → (T → Type 0) → (Result Unit KeepFault → Type 0) → Type 0
 IsLeft None old new may_leave IsAnswer = ⊤
@@ -63,11 +63,11 @@ module _ {K T : Type 0} (seen : K → Seen T) (old new : Failing K) where
   abbrev pub FailsArmed : {R : Type 0} → Result R KeepFault → Type 0
   FailsArmed result = (result ≡ Err Failed) × (new.failures ≡ min (old.failures + 1) (2 ^ 64 - 1))
 
-  -- and the keep inside wasn't asked
+  -- and the store inside wasn't asked
   abbrev pub FailsUnasked : {R : Type 0} → Result R KeepFault → Type 0
   FailsUnasked result = FailsArmed result × (new.keep ≡ old.keep)
 
-  -- it failed only if the keep inside did
+  -- it failed only if the store inside did
   abbrev pub FailsAsInside : {R : Type 0} → Result R KeepFault → Type 0
   FailsAsInside result = (new.failures ≡ old.failures) × IsCall seen old.keep new.keep Never (keep_end result)
 
@@ -76,19 +76,19 @@ module _ {K T : Type 0} (seen : K → Seen T) (old new : Failing K) where
   IsReadDue (Some _) result = FailsUnasked result
   IsReadDue None result = FailsAsInside result
 
-  -- what a transaction does: it asks the keep inside where it is to leave the new tables
+  -- what a transaction does: it asks the store inside where it is to leave the new tables
   abbrev pub IsTransactionDue : Option Leaves → Result Unit KeepFault → Type 0
   IsTransactionDue (Some Old) result = FailsUnasked result
   IsTransactionDue (Some New) result = FailsArmed result
   IsTransactionDue None result = FailsAsInside result
 
-  -- a read, of a keep and as it was armed
+  -- a read, of a store and as it was armed
   pub record ReadsDue {R : Type 0} (gives : T → R → Type 0) (result : Result R KeepFault) : Type 0 where
     pub reads : Reads (through seen) old new gives (keep_end result)
     pub armed : new.armed ≡ counted_down old.armed
     pub fails : IsReadDue (due old.armed) result
 
-  -- a transaction, of a keep and as it was armed
+  -- a transaction, of a store and as it was armed
   pub record WritesDue (Fit : T → Type 0) (to : T → T) (result : Result Unit KeepFault) : Type 0 where
     pub writes : Writes (through seen) old new Fit to (keep_end result)
     pub armed : new.armed ≡ counted_down old.armed
@@ -97,7 +97,7 @@ module _ {K T : Type 0} (seen : K → Seen T) (old new : Failing K) where
         → IsLeft (due old.armed) (seen old.keep).tables (to (seen old.keep).tables) (seen new.keep).may_leave
         (λ answer. IsCall seen old.keep new.keep Never (keep_end answer))
 
-  -- a reopening is the keep's inside
+  -- a reopening is that of the store inside
   pub record ReopensThrough (result : Result Unit KeepFault) : Type 0 where
     pub reopens : Reopens (through seen) old new (keep_end result)
     pub armed : new.armed ≡ old.armed

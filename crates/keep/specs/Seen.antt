@@ -1,10 +1,10 @@
--- What callers see of a keep, and how its calls end.
+-- What callers see of a store, and how its calls end.
 use Rattle.std.specs.Prelude.{◌≡◌, ℕ, Bool, true, Option, Result, Ok, Err}
 use Rattle.keep.specs.declared.fault.KeepFault.{KeepFault}
 use Rattle.keep.specs.declared.fault.KeepFault.TheVariants.{Failed, Memory, WrongFile}
 use Rattle.keep.specs.declared.faulty.Arming.{Arming}
 
--- what callers see of a keep with tables `T`
+-- what callers see of a store with tables `T`
 pub record Seen (T : Type 0) : Type 1 where
   -- the tables now
   pub tables : T
@@ -16,7 +16,7 @@ pub record Seen (T : Type 0) : Type 1 where
   pub usable : Bool
   -- 0 while the files below gave back what was written to them; in memory it is always 0
   pub doubt : ℕ
-  -- the failure that it was told to have, and that hasn't come yet; a keep that isn't told to fail has none
+  -- the failure that it was told to have, and that hasn't come yet; a store that isn't told to fail has none
   pub armed : Option Arming
 
 -- while no file is in doubt a stop leaves some tables, and of a usable keep the tables now and no others
@@ -37,13 +37,13 @@ pub data Cause (F : Type 0) : Type 0 where
 abbrev pub End : Type 0 → Type 0 → Type 0
 End R F = Result R (Cause F)
 
--- the cause that a keep's fault tells
+-- the cause that a store's fault tells
 abbrev pub keep_cause : KeepFault → Cause KeepFault
 keep_cause Memory = no_memory
 keep_cause Failed = failed
 keep_cause WrongFile = refused WrongFile
 
--- the end of a keep's call
+-- the end of a store's call
 abbrev pub keep_end : {R : Type 0} → Result R KeepFault → End R KeepFault
 keep_end (Ok r) = Ok r
 keep_end (Err fault) = Err (keep_cause fault)

@@ -14,7 +14,7 @@ use std::marker::Model;
 pub enum Leaves {
     /// Those before it.
     Old,
-    /// Those with its changes; where the keep inside couldn't make them, what that left.
+    /// Those with its changes; where the store inside couldn't make them, what that left.
     New,
 }
 

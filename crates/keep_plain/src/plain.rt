@@ -1,4 +1,4 @@
-//! A keep in memory.
+//! A store in memory.
 
 ghost use Rattle.std.specs.Prelude.{◌≡◌, true};
 

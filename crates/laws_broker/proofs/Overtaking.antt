@@ -13,7 +13,7 @@ use Rattle.broker_book.specs.Books.{has_credit}
 use Rattle.broker_book.specs.Books.{may_take}
 use Rattle.broker_book.specs.Books.{out_to, out_of}
 use Rattle.broker_book.specs.Laws.{RiseTo, IsOrderly, as_accepted, numbered}
-use Rattle.broker_book.specs.Runs.{BookEvent, Puts, Hands, Acks, Nacks, Subscribes, Releases, Ends, Takes, Happens, Run}
+use Rattle.broker_book.specs.Runs.{BookEvent, Puts, Hands, Acks, Nacks, Subscribes, Releases, Ends, Takes, BookStep, Run}
 use Rattle.broker_book.specs.Runs.{put_by, put_in}
 use Rattle.broker_book.specs.Steps.{Handed, Deal, left_of, acked, nacked, holder, covered, ready_if}
 use Rattle.broker_book.specs.declared.parts.Accepted.{Accepted}
@@ -176,7 +176,7 @@ nack_waits handed old new number (Some s) h k =
 none_more : (handed : List Handed) (b : Book) → AllWait handed b → AllWait (handed ++ []) b
 none_more handed b h = subst (λ l. AllWait l b) (sym (append-nil handed)) h
 
-event_waits : (handed : List Handed) (old new : Book) (e : BookEvent) → Happens old e new → AllWait handed old
+event_waits : (handed : List Handed) (old new : Book) (e : BookEvent) → BookStep old e new → AllWait handed old
     → AllWait (handed ++ hands_by e) new
 event_waits handed old new (Puts full sent) h k =
     none_more handed new (rw (put_is full old sent new h)
@@ -221,7 +221,7 @@ pub record Parted (old : Book) (events : List BookEvent) (before : List Handed) 
 
 -- an event that hands nothing out
 further : (old mid : Book) (e : BookEvent) (events : List BookEvent) (before : List Handed) (d : Handed)
-    → Happens old e mid
+    → BookStep old e mid
     → hands_by e ≡ []
     → Parted mid events before d → Parted old (e ∷ events) before d
 further old mid e events before d h n p = record {

@@ -12,7 +12,7 @@ use Rattle.stomp_session.specs.declared.request.Request.TheVariants.{Abort, Disc
 use Rattle.stomp_session.specs.declared.request.Subscribe.{Subscribe as SubscribeParts}
 use Rattle.std.specs.List.{list_any}
 use Rattle.broker_book.specs.Books.{Book, is_named}
-use Rattle.broker_book.specs.Runs.{BookEvent, Puts, Acks, Nacks, Subscribes, Releases, Ends, Happens, taken_by}
+use Rattle.broker_book.specs.Runs.{BookEvent, Puts, Acks, Nacks, Subscribes, Releases, Ends, BookStep, taken_by}
 use Rattle.broker_book.specs.Runs.{taken_in, numbers_covered, ShowAs}
 use Rattle.broker_book.specs.Steps.{Handed, apply_of, ended, holder, put_of, ack_of, nack_of, subscribed}
 use Rattle.broker_book.specs.declared.fault.QueueFault.{QueueFault}
@@ -50,7 +50,7 @@ abbrev pub stays : (old new : Book) → new ≡ old → Runs old [] [] new
 stays old new e = record { events = []; run = e; told = refl; handed = refl }
 
 -- one event, which takes nothing and hands nothing out
-abbrev pub one : (old new : Book) (e : BookEvent) → Happens old e new → taken_by e ≡ [] → hands_by e ≡ []
+abbrev pub one : (old new : Book) (e : BookEvent) → BookStep old e new → taken_by e ≡ [] → hands_by e ≡ []
     → Runs old [] [] new
 one old new e h t k = record { events = e ∷ []; run = (new, h, refl); told = rw t refl; handed = rw k refl }
 
@@ -93,7 +93,7 @@ pays_none session b ts asked = record { runs = stays b b refl; owed = λ p. omeg
 
 -- one event that does no more than is asked for
 pays_one : (session : ℕ) (old new : Book) (ts : List Transaction) (asked : List BrokerDeed) (e : BookEvent)
-    → Happens old e new
+    → BookStep old e new
     → taken_by e ≡ []
     → hands_by e ≡ [] → ((p : BrokerDeed → Bool) → count_by p (done_in (e ∷ [])) ≤ count_by p asked)
     → Pays session old ts asked new ts

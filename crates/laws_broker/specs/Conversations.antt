@@ -4,7 +4,7 @@ use Rattle.std.specs.List.{AllByRecursion, Contains}
 use Rattle.base.specs.declared.limits.TheConstants.{MAX_BODY}
 use Rattle.stomp_frame.specs.declared.command.Command.TheVariants.{Receipt}
 use Rattle.stomp_frame.specs.Awaiting.{Awaits}
-use Rattle.stomp_frame.specs.Calls.{DecoderCall as Reading, Happened, fed, given}
+use Rattle.stomp_frame.specs.Calls.{DecoderCall as Reading, LeadsFromNew, fed, given}
 use Rattle.stomp_frame.specs.Decoding.{Held}
 use Rattle.stomp_frame.specs.Frames.{Content}
 use Rattle.stomp_wire.specs.Travel.{Travels}
@@ -30,7 +30,7 @@ pub record Comes (a : Account) (waiting carried : List ℕ) (frames : List Conte
   pub received : List ℕ
   pub reading : List Reading
   pub travels : Travels a.taken received (Some waiting) (Some carried)
-  pub happened : Happened MAX_BODY reading held
+  pub happened : LeadsFromNew MAX_BODY reading held
   pub fed : fed reading ≡ received
   pub given : frames ≡ given reading
 

@@ -10,7 +10,7 @@ use Rattle.std.proofs.lemmas.List.{append-nil}
 use Rattle.std.proofs.lemmas.List.Elements.{filter-append}
 use Rattle.base.specs.declared.limits.TheConstants.{MAX_BODY}
 use Rattle.stomp_frame.specs.declared.command.Command.TheVariants.{Ack, Nack}
-use Rattle.stomp_frame.specs.Calls.{DecoderCall, Happened, fed, given}
+use Rattle.stomp_frame.specs.Calls.{DecoderCall, LeadsFromNew, fed, given}
 use Rattle.stomp_frame.specs.Decoding.{Held}
 use Rattle.stomp_frame.specs.Frames.{Header, Content, header, value_of, with_header}
 use Rattle.stomp_session.specs.declared.fault.SessionFault.{SessionFault}
@@ -167,7 +167,7 @@ pub given_are_taken : (fs : List Content) (gone out received waiting carried : L
     (held : Held)
     → AllByRecursion IsClients fs
     → Wrote (connect_frame ∷ fs) gone out → Travels gone received (Some waiting) (Some carried)
-    → Happened MAX_BODY calls held
+    → LeadsFromNew MAX_BODY calls held
     → fed calls ≡ received
     → AllByRecursion (λ r. IsOk r) (answers_of false (given calls))
 given_are_taken fs gone out received waiting carried calls held all wrote travels happened e =

@@ -7,7 +7,7 @@ use Rattle.stomp_frame.specs.Spelling.{NoFrame}
 use Rattle.stomp_frame.specs.Decoding.{Held}
 use Rattle.stomp_frame.specs.Streams.{canonical_texts, SpellsAll}
 use Rattle.stomp_frame.specs.Awaiting.{Awaits}
-use Rattle.stomp_frame.specs.Calls.{DecoderCall, Happened, fed, given}
+use Rattle.stomp_frame.specs.Calls.{DecoderCall, LeadsFromNew, fed, given}
 use Rattle.stomp_frame.proofs.Streaming.{canonical_texts_are_spelled, none_is_left}
 use Rattle.stomp_frame.proofs.Cutting.{sent_is_given}
 use Rattle.stomp_wire.specs.Travel.{Travels}
@@ -27,7 +27,7 @@ whole_text frames gone out received waiting carried calls wrote travels e =
 pub awaited : (frames : List Content) (gone out received waiting carried : List ℕ) (calls : List DecoderCall)
     (held : Held)
     → Wrote frames gone out
-    → Travels gone received (Some waiting) (Some carried) → Happened MAX_BODY calls held → fed calls ≡ received
+    → Travels gone received (Some waiting) (Some carried) → LeadsFromNew MAX_BODY calls held → fed calls ≡ received
     → (others : List Content) × (frames ≡ given calls ++ others)
     × Awaits MAX_BODY others held (carried ++ waiting ++ out)
 awaited frames gone out received waiting carried calls held wrote travels happened e =
@@ -39,7 +39,7 @@ awaited frames gone out received waiting carried calls held wrote travels happen
 pub all_given : (frames : List Content) (gone received : List ℕ) (calls : List DecoderCall) (held : Held)
     → Wrote frames gone []
     → Travels gone received (Some []) (Some [])
-    → Happened MAX_BODY calls held → fed calls ≡ received → NoFrame MAX_BODY held.octets → given calls ≡ frames
+    → LeadsFromNew MAX_BODY calls held → fed calls ≡ received → NoFrame MAX_BODY held.octets → given calls ≡ frames
 all_given frames gone received calls held wrote travels happened e none =
     let found = awaited frames gone [] received [] [] calls held wrote travels happened e in
     let no_other : found.0 ≡ [] = none_is_left MAX_BODY found.0 held found.2 none in

@@ -7,7 +7,7 @@ ghost use Rattle.stomp_frame.specs.Frames.{Content};
 ghost use Rattle.stomp_frame.specs.Spelling.{NoFrame};
 ghost use Rattle.stomp_frame.specs.Decoding.{Held};
 ghost use Rattle.stomp_frame.specs.Awaiting.{Awaits};
-ghost use Rattle.stomp_frame.specs.Calls.{DecoderCall, Happened, fed, given};
+ghost use Rattle.stomp_frame.specs.Calls.{DecoderCall, LeadsFromNew, fed, given};
 ghost use Rattle.stomp_wire.specs.Travel.{Travels};
 ghost use Rattle.stomp_session.specs.Requests.{request_of, asked};
 ghost use Rattle.stomp_client.specs.Frames.{connect_frame};
@@ -28,12 +28,12 @@ pub fn a_new_session_wrote_nothing()
 pub fn what_a_client_wrote_is_read()
     ensures awaits { (frames : List Content) (gone out received waiting carried : List ℕ) (calls : List DecoderCall)
         (held : Held)
-        → Wrote frames gone out → Travels gone received (Some waiting) (Some carried) → Happened MAX_BODY calls held
+        → Wrote frames gone out → Travels gone received (Some waiting) (Some carried) → LeadsFromNew MAX_BODY calls held
         → fed calls ≡ received
         → (others : List Content) × (frames ≡ given calls ++ others)
         × Awaits MAX_BODY others held (carried ++ waiting ++ out) }
     ensures all { (frames : List Content) (gone received : List ℕ) (calls : List DecoderCall) (held : Held)
-        → Wrote frames gone [] → Travels gone received (Some []) (Some []) → Happened MAX_BODY calls held
+        → Wrote frames gone [] → Travels gone received (Some []) (Some []) → LeadsFromNew MAX_BODY calls held
         → fed calls ≡ received
         → NoFrame MAX_BODY held.octets → given calls ≡ frames }
 {}
@@ -50,6 +50,6 @@ pub fn what_a_client_wrote_is_taken()
         (held : Held)
         → AllByRecursion IsClients frames → Wrote (connect_frame ∷ frames) gone out
         → Travels gone received (Some waiting) (Some carried)
-        → Happened MAX_BODY calls held → fed calls ≡ received
+        → LeadsFromNew MAX_BODY calls held → fed calls ≡ received
         → AllByRecursion (λ answer. IsOk answer) (answers_of false (given calls)) }
 {}

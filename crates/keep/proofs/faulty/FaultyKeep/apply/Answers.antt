@@ -1,4 +1,4 @@
--- the keep inside is asked, and then the call fails
+-- the store inside is asked, and then the call fails
 use Rattle.std.proofs.Common.{Some, refl, sym, ap, ◌∙◌}
 use Rattle.keep.specs.Tables.{changed, ArePlaced}
 use Rattle.keep.specs.Failing.{Failing}
