@@ -1,7 +1,7 @@
 pub mod Aged
 pub mod Named
 pub mod Numbered
-pub mod Ranges
+pub mod Searches
 pub mod Slots
 pub mod Sorting
 pub mod Touching

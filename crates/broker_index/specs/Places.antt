@@ -1,11 +1,16 @@
--- What places stand in a map of keys.
-use Rattle.std.specs.Prelude.{ℕ, List, map}
+-- Places in order of their numbers.
+use Rattle.std.specs.Prelude.{ℕ, ◌<◌, ◌≤◌, Bool, List}
 use Rattle.broker_index.specs.declared.places.Place.{Place}
+use Rattle.broker_index.specs.Slots.{is_rising}
 
--- the place that an entry says
-abbrev pub place_of : ℕ × ℕ → Place
-place_of e = record { number = e.0; key = e.1 }
+-- a place is before a number
+abbrev pub IsBefore : ℕ → Place → Type 0
+IsBefore number p = p.number < number
 
--- the places that entries say
-abbrev pub places_of : List (ℕ × ℕ) → List Place
-places_of es = map place_of es
+-- a place is at a number or behind it
+abbrev pub IsFrom : ℕ → Place → Type 0
+IsFrom number p = number ≤ p.number
+
+-- whether the number of each place is below all that come behind it
+abbrev pub are_rising : List Place → Bool
+are_rising ps = is_rising (λ (p : Place). p.number) ps
