@@ -7,7 +7,8 @@ use Rattle.broker_book.specs.declared.parts.Accepted.{Accepted}
 use Rattle.broker_book.specs.declared.parts.Subscription.{Subscription}
 use Rattle.broker_book.specs.Books.{Book, QueuedMessage, Fate, Ready, empty_book, out_to, out_of}
 use Rattle.broker_book.specs.Steps.{Handed, Deal, left_of, acked, nacked, holder, covered, ready_if}
-use Rattle.broker_book.specs.Runs.{BookEvent, Puts, Hands, Acks, Nacks, Subscribes, Releases, Ends, Takes, BookStep, Run}
+use Rattle.broker_book.specs.Runs.{BookEvent, Puts, Hands, Acks, Nacks, Subscribes, Releases, Ends, Takes, BookStep}
+use Rattle.broker_book.specs.Runs.{Run}
 use Rattle.broker_book.specs.Runs.{put_by, put_in}
 use Rattle.broker_book.specs.Runs.{handed_by, handed_in}
 use Rattle.broker_book.specs.Laws.{numbered, AllPass, as_accepted}

@@ -10,7 +10,8 @@ use Rattle.broker_book.specs.declared.parts.Subscription.{Subscription}
 use Rattle.broker_book.specs.Books.{Book, QueuedMessage, Fate, Ready, Out, empty_book, out_to, out_of, is_auto}
 use Rattle.broker_book.specs.Steps.{Handed, Deal, left_of, acked, nacked, holder, covered, ready_if, subscribed}
 use Rattle.broker_book.specs.Steps.{released, ended}
-use Rattle.broker_book.specs.Runs.{BookEvent, Puts, Hands, Acks, Nacks, Subscribes, Releases, Ends, Takes, BookStep, Run}
+use Rattle.broker_book.specs.Runs.{BookEvent, Puts, Hands, Acks, Nacks, Subscribes, Releases, Ends, Takes, BookStep}
+use Rattle.broker_book.specs.Runs.{Run}
 use Rattle.broker_book.specs.Runs.{ended_by, ended_in}
 use Rattle.broker_book.specs.Runs.{numbers_covered}
 use Rattle.broker_book.specs.Laws.{is_numbered, IsKept}

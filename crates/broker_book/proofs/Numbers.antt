@@ -11,7 +11,8 @@ use Rattle.broker_book.specs.declared.parts.Subscription.{Subscription}
 use Rattle.broker_book.specs.declared.parts.Accepted.{Accepted}
 use Rattle.broker_book.specs.Books.{Book, QueuedMessage, empty_book}
 use Rattle.broker_book.specs.Steps.{put_of, with_message, acked, nacked, holder, covered, ready_if}
-use Rattle.broker_book.specs.Runs.{BookEvent, Puts, Hands, Acks, Nacks, Subscribes, Releases, Ends, Takes, BookStep, Run}
+use Rattle.broker_book.specs.Runs.{BookEvent, Puts, Hands, Acks, Nacks, Subscribes, Releases, Ends, Takes, BookStep}
+use Rattle.broker_book.specs.Runs.{Run}
 use Rattle.broker_book.specs.Runs.{put_by, put_in}
 use Rattle.broker_book.specs.Runs.{taken_by, taken_in}
 use Rattle.broker_book.specs.Laws.{numbered}

@@ -14,7 +14,8 @@ use Rattle.broker_book.specs.Books.{Book, QueuedMessage, Fate, Ready, Out, empty
 use Rattle.broker_book.specs.Books.{out_of, may_take}
 use Rattle.broker_book.specs.Steps.{Handed, Deal, left_of, last_given, acked, nacked, holder, covered, ready_if}
 use Rattle.broker_book.specs.Steps.{subscribed}
-use Rattle.broker_book.specs.Runs.{BookEvent, Puts, Hands, Acks, Nacks, Subscribes, Releases, Ends, Takes, BookStep, Run}
+use Rattle.broker_book.specs.Runs.{BookEvent, Puts, Hands, Acks, Nacks, Subscribes, Releases, Ends, Takes, BookStep}
+use Rattle.broker_book.specs.Runs.{Run}
 use Rattle.broker_book.specs.Laws.{RiseTo, is_delivery, deliveries, is_at, IsOrderly}
 use Rattle.broker_book.proofs.Counts.{count-cons, count-append, count-filter, count-map, count-less, no-count}
 use Rattle.broker_book.proofs.Numbers.{put_is}

@@ -90,7 +90,8 @@ finished full n piece old handled ended new count a h e (Err TooMany) f = absurd
 -- ---- a turn
 
 -- a frame that had its step, and the deals behind it
-pub turned_step : (full n : ℕ) (old mid new : Server) → Stepped full n old mid → DealsAll mid new → Turned full n old new
+pub turned_step : (full n : ℕ) (old mid new : Server) → Stepped full n old mid → DealsAll mid new
+    → Turned full n old new
 turned_step full n old mid new h s =
     turned full n old h.taken new h.frame h.takes (subst (λ (b : Server). DealsAll b new) h.changed s)
 

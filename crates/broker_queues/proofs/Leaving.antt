@@ -159,7 +159,8 @@ module _ (h i : Holding) (is : IsSound h) (age : ℕ) (s : Subscriber) (q : List
 
 -- ---- the book
 
-pub same_book : (h i : Holding) → LooksElsewhere h i → (accepted : List Accepted) → book_of i accepted ≡ book_of h accepted
+pub same_book : (h i : Holding) → LooksElsewhere h i → (accepted : List Accepted)
+    → book_of i accepted ≡ book_of h accepted
 same_book h i m accepted = rw (m.kept, m.subscribers, m.last, m.given) refl
 
 module _ (h i j : Holding) (is : IsSound h) (age : ℕ) (s : Subscriber) (sits : subscriber_at age h.subscribers ≡ Some s)

@@ -184,7 +184,8 @@ module _ {K T : Type 0} (seen : K → Seen T) (old new : Failing K) where
       left = rw due_is (λ clean _. failed_clean clean);
     })
 
-  -- a transaction that the store inside was asked for, and that fails: `asked` is the store then, and `answer` its answer
+  -- a transaction that the store inside was asked for, and that fails: `asked` is the store then, and `answer` what the
+  -- store inside answered
   module _ (mid asked : Failing K) (sound : IsSound (seen asked.keep)) (usable : (through seen old).usable ≡ true)
       (armed : mid ≡ record old { armed = counted_down old.armed })
       (counted : new ≡ record asked { is_down = true; failures = min (asked.failures + 1) (2 ^ 64 - 1) })

@@ -1,4 +1,4 @@
--- A keep that fails where it is told to.
+-- A store that fails where it is told to.
 use Rattle.std.specs.Prelude.{◌≡◌, ℕ, ◌+◌, not, ◌&&◌, ◌-◌, ◌^◌, min, nat_le, Bool, Option, Some, None, Result, Ok, Err}
 use Rattle.std.specs.Prelude.{if◌then◌else◌, ⊤}
 use Rattle.keep.specs.declared.fault.KeepFault.{KeepFault}

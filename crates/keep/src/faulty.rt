@@ -1,4 +1,4 @@
-//! A keep that fails where it is told to.
+//! A store that fails where it is told to.
 
 ghost use Rattle.std.specs.Prelude.{◌≡◌, ◌+◌, ◌-◌, ◌^◌, min, true, length, take, drop};
 
@@ -27,7 +27,7 @@ pub struct Arming {
     pub leaves: Leaves,
 }
 
-/// A keep over another one, which fails where it is told to.
+/// A store over another one, which fails where it is told to.
 #[derive(Drop)]
 pub struct Faulty<K: Keep + Drop> {
     keep: K,

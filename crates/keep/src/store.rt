@@ -12,7 +12,7 @@ use std::alloc::Global;
 ///
 /// Contracts see of it a `Seen`. Each word `Reads`, `Writes` and `Reopens` tells three things: what the call says of
 /// the store's use and its failures whatever the disk did; that doubt never falls; and what it says of tables, which
-/// holds while there is no doubt. A keep is not usable after `Failed`, until a `reopen` is Ok.
+/// holds while there is no doubt. A store is not usable after `Failed`, until a `reopen` is Ok.
 pub trait Keep {
     ghost use Rattle.keep.specs.Tables.{Tables, changed, ArePlaced};
     ghost use Rattle.keep.specs.Seen.{Seen, IsSound, keep_end};

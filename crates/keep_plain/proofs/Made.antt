@@ -124,7 +124,8 @@ same_tables old new h = same_parts (tables_in new) (tables_in old)
     (fun_ext (λ q. fun_ext (λ k. h.arrivals.held (record { pair = q; number = k }))))
 
 module _ {S C : Type 0} (old : Maps S C) where
-  pub state_made : (e : Entity) (row : Option S) (rows : BTreeMap Entity (Option S)) → SetsAt entity_cmp e row old.rows rows
+  pub state_made : (e : Entity) (row : Option S) (rows : BTreeMap Entity (Option S))
+      → SetsAt entity_cmp e row old.rows rows
       → tables_in (record old { rows = rows }) ≡ changed_by (State e row) (tables_in old)
   state_made e row rows h = ap (λ x. record (tables_in old) { entity = x }) (sets_entity e row old.rows rows h)
 

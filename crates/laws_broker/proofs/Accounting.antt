@@ -78,7 +78,8 @@ none_there n h t b (gone low none f) high = none
 
 none_taken : (full n : ℕ) (h : List Decided) (t : List ℕ) (m : ℕ) (octets : List ℕ) (old new : Server) (v : Bool)
     → (n == m) ≡ v
-    → DoesCall full old (TakenFrom m octets) new → Heard n h t old → old.opened < n → octets_by n (TakenFrom m octets) ≡ []
+    → DoesCall full old (TakenFrom m octets) new → Heard n h t old → old.opened < n
+    → octets_by n (TakenFrom m octets) ≡ []
 none_taken full n h t m octets old new true e d g high =
     let z : n ≡ m = eqb-true n m e in
     let none : out_in (session_of m old) ≡ [] =

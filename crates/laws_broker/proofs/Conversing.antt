@@ -184,7 +184,8 @@ module _ (T : Type 0) (R : Sent → Type 0) (Q : Subscription → Type 0) (n : �
   connected_taken : (c : Client T) → c.stage ≡ Connecting → unaccepted c connected_frame ≡ None
   connected_taken c stage = rw stage refl
 
-  connected_stage : (old new : Client T) (e : ClientEvent T) → TellsFrame connected_frame old new e → new.stage ≡ Connected
+  connected_stage : (old new : Client T) (e : ClientEvent T) → TellsFrame connected_frame old new e
+      → new.stage ≡ Connected
   connected_stage old new event.Connected k = ap (λ (c : Client T). c.stage) k.1
   connected_stage old new (event.Message m) k =
       absurd (let z : command.Connected ≡ command.Message = ap (λ (g : Content). g.command) (sym k.0) ∙ k.1.command

@@ -220,7 +220,8 @@ dealt_call m h t old new d g =
     heard_same m h t old new (seen_taken m (roster_of old) (roster_of new) d.handed d.taken)
     (same_opened m m d.handed (roster_of old) (roster_of new) d.taken) g
 
-pub heard_call : (full m : ℕ) (h : List Decided) (t : List ℕ) (c : BrokerCall) (old new : Server) → DoesCall full old c new
+pub heard_call : (full m : ℕ) (h : List Decided) (t : List ℕ) (c : BrokerCall) (old new : Server)
+    → DoesCall full old c new
     → Heard m h t old
     → Heard m (h ++ handled_by m c) (t ++ pieces_by m c) new
 heard_call full m h t (Opened (Ok k)) old new d g =

@@ -13,7 +13,8 @@ use Rattle.broker_book.specs.Books.{has_credit}
 use Rattle.broker_book.specs.Books.{may_take}
 use Rattle.broker_book.specs.Books.{out_to, out_of}
 use Rattle.broker_book.specs.Laws.{RiseTo, IsOrderly, as_accepted, numbered}
-use Rattle.broker_book.specs.Runs.{BookEvent, Puts, Hands, Acks, Nacks, Subscribes, Releases, Ends, Takes, BookStep, Run}
+use Rattle.broker_book.specs.Runs.{BookEvent, Puts, Hands, Acks, Nacks, Subscribes, Releases, Ends, Takes, BookStep}
+use Rattle.broker_book.specs.Runs.{Run}
 use Rattle.broker_book.specs.Runs.{put_by, put_in}
 use Rattle.broker_book.specs.Steps.{Handed, Deal, left_of, acked, nacked, holder, covered, ready_if}
 use Rattle.broker_book.specs.declared.parts.Accepted.{Accepted}

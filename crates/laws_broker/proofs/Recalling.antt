@@ -58,7 +58,8 @@ fed_known full m all front calls old f new answer e (taken was t) =
 fed_known full m all front calls old f new answer e (thrown was same none) =
     subst (AllByRecursion (Knows (IsBrought all) (IsAsked all) m)) (sym none) tt
 
-call_known : (full n : ℕ) (all front calls : List BrokerCall) (c : BrokerCall) (old new : Server) → DoesCall full old c new
+call_known : (full n : ℕ) (all front calls : List BrokerCall) (c : BrokerCall) (old new : Server)
+    → DoesCall full old c new
     → all ≡ front ++ c ∷ calls → KnowsCall (IsBrought all) (IsAsked all) n c
 call_known full n all front calls (FedTo m f answer) old new h e =
     fed_known full m all front calls old f new answer e (answered full m old f new answer h)

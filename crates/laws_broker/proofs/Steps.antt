@@ -179,7 +179,8 @@ put_leads full session r sent (Some name) = adds session r name (Put sent)
 -- a subscription begins only where its name is free
 begins : (session : ℕ) (r : Reach) (s : Subscription) (taken room : Bool)
     → list_any (is_named s.session s.id) r.book.subscriptions ≡ taken
-    → PaysWhereDone session r [] (cond taken (Err SubscriptionExists) (cond room (Ok (record r { book = subscribed r.book s }))
+    → PaysWhereDone session r [] (cond taken (Err SubscriptionExists)
+    (cond room (Ok (record r { book = subscribed r.book s }))
     (Err TooMany)))
 begins session r s true room e = tt
 begins session r s false true e =

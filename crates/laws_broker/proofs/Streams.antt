@@ -92,7 +92,8 @@ feeding full n m old new fed (Err (Memory false)) d h = still n old new h.same
 feeding full n m old new fed (Err NoSession) d h = still n old new h.1
 feeding full n m old new fed (Err TooMany) d h = absurd h
 
-other_stays : (full n : ℕ) (old new : Server) (c : BrokerCall) (s : Session) → touches n c ≡ false → DoesCall full old c new
+other_stays : (full n : ℕ) (old new : Server) (c : BrokerCall) (s : Session) → touches n c ≡ false
+    → DoesCall full old c new
     → session_of n old ≡ Some s → Stays n old new
 other_stays full n old new (Opened answer) s d h found = opening n old new s answer found h
 other_stays full n old new (FedTo m fed answer) s d h found = feeding full n m old new fed answer d h.0

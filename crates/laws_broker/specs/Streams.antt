@@ -4,7 +4,8 @@ use Rattle.std.specs.List.{list_any}
 use Rattle.broker_core.specs.Serving.{Server, nothing_incoming, session_of}
 use Rattle.broker_core.specs.Streams.{AreFirst, FedInTurn, Untouched}
 use Rattle.broker_core.specs.declared.session.Session.{Session}
-use Rattle.laws_broker.specs.Lives.{BrokerCall, DoesCall, Dropped, FedTo, Lives, fed_in, handled_in, pieces_in, was_taken}
+use Rattle.laws_broker.specs.Lives.{BrokerCall, DoesCall, Dropped, FedTo, Lives, fed_in, handled_in, pieces_in}
+use Rattle.laws_broker.specs.Lives.{was_taken}
 
 -- whether a call takes a session away
 abbrev pub drops : ℕ → BrokerCall → Bool

@@ -124,7 +124,8 @@ answered t kind e seat c rows (Err refusal) k seated is = inl refl
 answered t kind e seat c rows (Ok done) k seated is =
     inr (record { of_kind = k; seated = grind (arith, nat_tests); accepted = rw is refl; next = tt }, refl)
 
-commanded : {S C : Type 0} (t : Reactions S C) (kind : Kind) (e : Entity) (seat : ℕ) (c : C) (rows : List (JournalRow C))
+commanded : {S C : Type 0} (t : Reactions S C) (kind : Kind) (e : Entity) (seat : ℕ) (c : C)
+    (rows : List (JournalRow C))
     → e.kind ≡ kind → Commanded t kind rows (command_row e seat c) (with_command t e seat c rows)
 commanded t kind e seat c rows k = by_case (nat_lt seat 16) refl
   where
@@ -150,10 +151,12 @@ letter_adds known js Stock l k from next =
 letter_adds known js Account l k from next =
     AddsAccount _ (record { of_kind = k; seated = tt; accepted = refl; next = next }) from refl
 
-letter_does : (w : Configuration) (l : LetterOf) → Contains w.sent (Letter l) → StepsOrRests w (arrives w (Some (Letter l)))
+letter_does : (w : Configuration) (l : LetterOf) → Contains w.sent (Letter l)
+    → StepsOrRests w (arrives w (Some (Letter l)))
 letter_does w l there = by_case (l.number == suc (handled_in w.journals l.pair)) refl
   where
-    by_case : (b : Bool) → (l.number == suc (handled_in w.journals l.pair)) ≡ b → StepsOrRests w (arrives w (Some (Letter l)))
+    by_case : (b : Bool) → (l.number == suc (handled_in w.journals l.pair)) ≡ b
+        → StepsOrRests w (arrives w (Some (Letter l)))
     by_case true e =
         let next : l.number ≡ suc (handled_in w.journals l.pair) = grind (arith, nat_tests) in
         rw e (inr (Writes (letter_adds (Contains w.sent) w.journals l.pair.to.kind l refl there next) refl refl))

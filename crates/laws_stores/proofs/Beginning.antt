@@ -8,7 +8,8 @@ use Rattle.envelope.specs.declared.message.Envelope.TheVariants.{Letter, Settle}
 use Rattle.laws_journals.specs.Journals.{AreLawful}
 use Rattle.laws_journals.specs.Envelopes.{SettledAreHandled}
 use Rattle.laws_journals.proofs.Steps.{start_good}
-use Rattle.laws_stores.specs.Good.{journals_of, settled_by, settled_in, letters_held_by, IsHeldIn, HoldsAuthentic, IsGood}
+use Rattle.laws_stores.specs.Good.{journals_of, settled_by, settled_in, letters_held_by, IsHeldIn, HoldsAuthentic}
+use Rattle.laws_stores.specs.Good.{IsGood}
 use Rattle.laws_stores.specs.Sight.{AllTables, Sight, MayLeave, all_empty}
 
 empty_settled : (kind : Kind) (p : Pair) → settled_by all_empty kind p ≡ 0

@@ -36,7 +36,8 @@ use Rattle.endpoint.specs.Deeds.{Kept, kept, Did, Deed, Nothing, TakesIn, Holds,
 use Rattle.endpoint.specs.Matches.{AllMatch, TablesMatchJournal}
 use Rattle.endpoint.proofs.Examples.{o1, bolts, acme}
 use Rattle.laws_stores.specs.Deeds.{DeedIs, FoundedDeed, DeedOfOne, OfPurchasing, OfWarehouse, OfBilling, ComesOf}
-use Rattle.laws_stores.specs.Good.{journals_of, settled_by, settled_in, letters_held_by, IsHeldIn, HoldsAuthentic, IsGenuine}
+use Rattle.laws_stores.specs.Good.{journals_of, settled_by, settled_in, letters_held_by, IsHeldIn, HoldsAuthentic}
+use Rattle.laws_stores.specs.Good.{IsGenuine}
 use Rattle.laws_stores.specs.Good.{IsGood, AllAgree}
 use Rattle.laws_stores.specs.Sight.{AllTables, Sight, MayLeave, AreClean, AreMatching, OrderTables, StockTables}
 use Rattle.laws_stores.specs.Sight.{AccountTables, all_empty}
@@ -438,7 +439,8 @@ contents_come_of_deeds y may =
     moved t (inr new) = subst (FoundedDeed stocks_service (λ e. ⊥) empty) (sym new) bolts_come_in
 
 -- tables that lost what a store has kept come of nothing
-lost_rows_come_of_nothing : ComesOf (DeedOfOne (λ e. ⊤)) (sees (only empty) (only stocked)) (sees (only empty) (only empty))
+lost_rows_come_of_nothing : ComesOf (DeedOfOne (λ e. ⊤)) (sees (only empty) (only stocked))
+    (sees (only empty) (only empty))
     → ⊥
 lost_rows_come_of_nothing h =
     ∥∥₁_elim (h all_empty (record { purchasing = refl; warehouse = refl; billing = refl })) (λ a b. absurd a)

@@ -68,7 +68,8 @@ module _ (known P : Envelope → Type 0) (x y : AllTables) (all : (e : Envelope)
   founds_all kind e h = either h (all e) (held kind e)
 
   -- the journals stay, or one service wrote a row
-  pub one_journals : DeedOfOne known x y → (journals_of y ≡ journals_of x) ⊎ AddsRowFrom P (journals_of x) (journals_of y)
+  pub one_journals : DeedOfOne known x y → (journals_of y ≡ journals_of x)
+      ⊎ AddsRowFrom P (journals_of x) (journals_of y)
   one_journals (OfPurchasing m w b) = either (journal_by_deed orders_service known P x.purchasing y.purchasing m)
       (λ same. inl (λ i. record { orders = same i; stocks = (w i).journal; accounts = (b i).journal }))
       (λ more. inr (adds-known (Founds known x.purchasing) P (journals_of x) (journals_of y) (founds_all Order)
@@ -95,7 +96,8 @@ module _ (known P : Envelope → Type 0) (x y : AllTables) (all : (e : Envelope)
       }))))
 
   -- a mark stays, or is raised to a number that has the property
-  pub one_marks : DeedOfOne known x y → (kind : Kind) (p : Pair) → Raises P p (settled_by x kind p) (settled_by y kind p)
+  pub one_marks : DeedOfOne known x y → (kind : Kind) (p : Pair)
+      → Raises P p (settled_by x kind p) (settled_by y kind p)
   one_marks (OfPurchasing m w b) Order p =
       mark_by_deed orders_service known P x.purchasing y.purchasing m (founds_all Order) p
   one_marks (OfPurchasing m w b) Stock p = inl (λ i. (w i).settled p)
@@ -110,7 +112,8 @@ module _ (known P : Envelope → Type 0) (x y : AllTables) (all : (e : Envelope)
       mark_by_deed accounts_service known P x.billing y.billing m (founds_all Account) p
 
   -- what is held in tables that stayed has the property
-  still_held : (kind : Kind) (e : Envelope) → letters_held_by y kind ≡ letters_held_by x kind → IsHeldIn (letters_held_by y kind) e → P e
+  still_held : (kind : Kind) (e : Envelope) → letters_held_by y kind ≡ letters_held_by x kind
+      → IsHeldIn (letters_held_by y kind) e → P e
   still_held kind e same h = held kind e (subst (λ letters. IsHeldIn letters e) same h)
 
   -- and so has all that is held then

@@ -17,7 +17,8 @@ DeedIs P (Holds l) = P (Letter l)
 DeedIs P (Settles p n) = P (Settle p n)
 
 -- a deed leads from tables to these, and what it takes in, holds or settles is known or was held
-pub record FoundedDeed {S C : Type 0} (service : Service S C) (known : Envelope → Type 0) (x y : Tables S C) : Type 0 where
+pub record FoundedDeed {S C : Type 0} (service : Service S C) (known : Envelope → Type 0) (x y : Tables S C)
+    : Type 0 where
   pub deed : Deed C
   pub founded : DeedIs (λ e. known e ⊎ IsHeldIn x.held e) deed
   pub did : Did service (kept x) deed (kept y)
@@ -27,9 +28,11 @@ pub data DeedOfOne (known : Envelope → Type 0) (x y : AllTables) : Type 0 wher
   OfPurchasing : FoundedDeed orders_service known x.purchasing y.purchasing → y.warehouse ≡ x.warehouse
       → y.billing ≡ x.billing
       → DeedOfOne known x y
-  OfWarehouse : FoundedDeed stocks_service known x.warehouse y.warehouse → y.purchasing ≡ x.purchasing → y.billing ≡ x.billing
+  OfWarehouse : FoundedDeed stocks_service known x.warehouse y.warehouse → y.purchasing ≡ x.purchasing
+      → y.billing ≡ x.billing
       → DeedOfOne known x y
-  OfBilling : FoundedDeed accounts_service known x.billing y.billing → y.purchasing ≡ x.purchasing → y.warehouse ≡ x.warehouse
+  OfBilling : FoundedDeed accounts_service known x.billing y.billing → y.purchasing ≡ x.purchasing
+      → y.warehouse ≡ x.warehouse
       → DeedOfOne known x y
 
 -- what a stop may leave now comes so of what it might leave before

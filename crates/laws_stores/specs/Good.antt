@@ -50,7 +50,8 @@ IsGenuine s e = (t : AllTables) → MayLeave s t → IsAuthentic (journals_of t)
 pub record IsGood (s : Sight) : Type 0 where
   pub lawful : (t : AllTables) → MayLeave s t → AreLawful (journals_of t)
   pub settled : (t : AllTables) → MayLeave s t → SettledAreHandled (journals_of t) (settled_in t)
-  pub held : (t : AllTables) → MayLeave s t → (kind : Kind) (e : Envelope) → IsHeldIn (letters_held_by t kind) e → IsGenuine s e
+  pub held : (t : AllTables) → MayLeave s t → (kind : Kind) (e : Envelope) → IsHeldIn (letters_held_by t kind) e
+      → IsGenuine s e
 
 -- Whatever a stop leaves: the partners of each order agree, and of each stock and each account nothing is lost or used
 -- twice.

@@ -147,7 +147,8 @@ module _ (messages : Messages) (m : Pair → ℕ) where
   jump (Some here) (Some next) j sent = jumped here next j sent
 
   -- and behind all of the last one's pair
-  pub moved_sent : (here next : Option Place) → StaysOrJumps m here next → AllSent m messages here → AllSent m messages next
+  pub moved_sent : (here next : Option Place) → StaysOrJumps m here next → AllSent m messages here
+      → AllSent m messages next
   moved_sent here next (inl same) sent = subst (λ (x : Option Place). AllSent m messages x) (sym same) sent
   moved_sent here next (inr j) sent = jump here next j sent
 

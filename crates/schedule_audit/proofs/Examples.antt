@@ -149,7 +149,8 @@ stores_rest = (inl refl, counted, changed)
 -- a read that fails counts a failure and leaves the store unusable; want of memory doesn't
 reads_fail : FailsToRead seen stocks (false, 5, stocks_with Done) StoreFailed × FailsToRead seen stocks stocks Memory
     × FailsToRead seen (false, 5, stocks_with Done) (false, 5, stocks_with Done) Unusable
-    × (FailsToRead seen stocks stocks StoreFailed → ⊥) × (FailsToRead seen stocks (false, 5, stocks_with Done) Memory → ⊥)
+    × (FailsToRead seen stocks stocks StoreFailed → ⊥) × (FailsToRead seen stocks (false, 5, stocks_with Done) Memory
+    → ⊥)
 reads_fail = (
   record { call = (refl, refl, (omega arith, omega arith), inl refl); doubt = omega arith; clean = λ _ t h. h },
   record { call = (refl, refl, refl, refl); doubt = omega arith; clean = λ _. refl },

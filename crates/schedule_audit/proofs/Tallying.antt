@@ -88,7 +88,8 @@ module _ {KS KA : Type 0} (stocks : KS → Seen StockTables) (accounts : KA → 
   -- a read that wasn't done ends it
   pub stopped : {R : Type 0} (gives : StockTables → AccountTables → R → Type 0) {Q : Type 0} (wants : StockTables
       → AccountTables → Q → Type 0)
-      (order : Entity) (partners : List Partner) (taken given_back : Bool) (fault : AuditFault) (s t u : KS) (a b c : KA)
+      (order : Entity) (partners : List Partner) (taken given_back : Bool) (fault : AuditFault) (s t u : KS)
+      (a b c : KA)
       → SoFar order partners taken given_back s t a b → LooksAtPartners stocks accounts gives (Err fault) t u b c
       → LooksAtPartners stocks accounts wants (Err fault) s u a c
   stopped gives wants order partners taken given_back (Purchasing fault) s t u a b c far look = absurd look
@@ -98,7 +99,8 @@ module _ {KS KA : Type 0} (stocks : KS → Seen StockTables) (accounts : KA → 
       (rests_on stocks s t u far.warehouse look.0, fails_on accounts a b c fault far.billing look.1)
 
   -- the partner at this place
-  pub next_one : (order : Entity) (partners : List Partner) (i j : ℕ) (p : Partner) (e : Entity) (phase : Option LinePhase)
+  pub next_one : (order : Entity) (partners : List Partner) (i j : ℕ) (p : Partner) (e : Entity)
+      (phase : Option LinePhase)
       (taken given_back is_taken_now is_given_back_now : Bool) (s t u : KS) (a b c : KA) → j ≡ suc i
       → slice_get partners i ≡ Some p
       → e ≡ p.entity → is_taken_now ≡ is_taken phase → is_given_back_now ≡ is_given_back phase

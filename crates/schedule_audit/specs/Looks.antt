@@ -44,6 +44,7 @@ module _ {KO KS KA : Type 0} (orders : KO → Seen OrderTables) (stocks : KS →
       → (x : OrderTables) (y : StockTables) (z : AccountTables) → StandsFor orders o x → StandsFor stocks s y
       → StandsFor accounts a z
       → gives x y z r)
-  Looks gives (Err (Purchasing fault)) o p s t a b = FailsToRead orders o p fault × Rests stocks s t × Rests accounts a b
+  Looks gives (Err (Purchasing fault)) o p s t a b = FailsToRead orders o p fault × Rests stocks s t
+      × Rests accounts a b
   Looks gives (Err (Warehouse fault)) o p s t a b = Rests orders o p × FailsToRead stocks s t fault × Rests accounts a b
   Looks gives (Err (Billing fault)) o p s t a b = Rests orders o p × Rests stocks s t × FailsToRead accounts a b fault

@@ -7,7 +7,8 @@ use Rattle.broker_core.specs.declared.session.Session.{Session}
 use Rattle.broker_book.specs.declared.parts.Accepted.{Accepted}
 use Rattle.broker_book.specs.declared.parts.Sent.{Sent}
 use Rattle.schedule_mail.specs.Mails.{Mail, all_accepted, collected, taken_from}
-use Rattle.schedule_mail.specs.Repeating.{SentAgain, FedAgain, Unsent, Repeats, FailsToRepeat, uncollected, unfound, unsent}
+use Rattle.schedule_mail.specs.Repeating.{SentAgain, FedAgain, Unsent, Repeats, FailsToRepeat, uncollected, unfound}
+use Rattle.schedule_mail.specs.Repeating.{unsent}
 use Rattle.schedule_mail.specs.Repeating.{refused}
 use Rattle.schedule_mail.specs.declared.repeat_fault.RepeatFault.{RepeatFault}
 use Rattle.schedule_mail.specs.declared.repeat_fault.RepeatFault.TheVariants.{QueueFull, Memory, TooMany}

@@ -5,7 +5,8 @@ use Rattle.std.specs.Prelude.{◌==◌, is_some}
 use Rattle.base.specs.declared.limits.TheConstants.{MAX_QUEUED}
 use Rattle.broker_book.specs.declared.parts.Sent.{Sent}
 use Rattle.schedule_mail.specs.Mails.{Mail, taken_from, collected}
-use Rattle.schedule_mail.specs.Repeating.{FedAgain, SentAgain, Unsent, Repeats, FailsToRepeat, uncollected, unfound, unsent}
+use Rattle.schedule_mail.specs.Repeating.{FedAgain, SentAgain, Unsent, Repeats, FailsToRepeat, uncollected, unfound}
+use Rattle.schedule_mail.specs.Repeating.{unsent}
 use Rattle.schedule_mail.specs.Repeating.{refused}
 use Rattle.schedule_mail.specs.Sessions.{has_session, KeepsSessions, KeepsOthers}
 use Rattle.schedule_mail.specs.Texts.{again_text}

@@ -58,4 +58,5 @@ TellsRepeat sent accepted out (Ok (Some number)) = IsAgain sent number accepted
 TellsRepeat sent accepted out (Ok None) = ⊥
 TellsRepeat sent accepted out (Err QueueFull) = ((m : ℕ) → IsAgain sent m accepted → ⊥) × (out ≡ told_full)
 TellsRepeat sent accepted out (Err TooMany) = ((m : ℕ) → IsAgain sent m accepted → ⊥) × (out ≡ told_used)
-TellsRepeat sent accepted out (Err Memory) = ((m : ℕ) → IsAgain sent m accepted → ⊥) × (out ≢ told_full) × (out ≢ told_used)
+TellsRepeat sent accepted out (Err Memory) = ((m : ℕ) → IsAgain sent m accepted → ⊥) × (out ≢ told_full)
+    × (out ≢ told_used)

@@ -147,7 +147,8 @@ module _ {KO KS KA : Type 0} (orders : KO → Seen OrderTables) (stocks : KS →
       (old new : W)
       → o ≡ shown_told result → Passes orders stocks accounts (D result) (Both (D result) Same) old new
       → Passes orders stocks accounts (TellsReading D o) (Both (TellsReading D o) Same) old new
-  passes_told D result o old new is = passes_map orders stocks accounts (D result) (TellsReading D o) (Both (D result) Same)
+  passes_told D result o old new is = passes_map orders stocks accounts (D result) (TellsReading D o)
+      (Both (D result) Same)
       (Both (TellsReading D o) Same)
       old new (λ did. (result, did, is)) (λ a b h. ((result, h.0, is), h.1))
 

@@ -27,7 +27,8 @@ use Rattle.schedule_service.specs.declared.site.Site.{Site}
 use Rattle.schedule_runner.specs.declared.looking.Listing.TheVariants.{Frames, Journal}
 use Rattle.schedule_runner.specs.declared.looking.Mark.TheVariants.{Sent, Settled, Handled}
 use Rattle.schedule_runner.specs.Looks.{mark_of, IsRow, AreListed, read_told, shown_told, ReadsSite}
-use Rattle.schedule_runner.specs.Shows.{TellsReading, Behind, ShowsLine, RowOf, ListOf, MarkOf, Marks, ShowsPair, ShowsSettled}
+use Rattle.schedule_runner.specs.Shows.{TellsReading, Behind, ShowsLine, RowOf, ListOf, MarkOf, Marks, ShowsPair}
+use Rattle.schedule_runner.specs.Shows.{ShowsSettled}
 use Rattle.schedule_runner.specs.Shows.{ShowsHandled}
 use Rattle.schedule_runner.specs.Steps.{WorldStep}
 use Rattle.schedule_runner.proofs.PathExamples.{seen, store, TheWorld, world}

@@ -35,7 +35,8 @@ abbrev pub moment : {KO KS KA : Type 0} → World KO KS KA → AllTables → Mom
 moment w t = record { world = w; tables = t }
 
 -- a deed that this event and its outcome allow leads from tables to these
-abbrev pub AllowedDeed : {S C : Type 0} → Service S C → Channels → SiteEvent C → Outcome → Tables S C → Tables S C → Type 0
+abbrev pub AllowedDeed : {S C : Type 0} → Service S C → Channels → SiteEvent C → Outcome → Tables S C → Tables S C
+    → Type 0
 AllowedDeed {S} {C} service channels e o x y =
     (d : Deed C) × SiteMay service channels e o (kept x) d × Did service (kept x) d (kept y)
 
@@ -47,7 +48,8 @@ module _ {KO KS KA : Type 0} where
       × (b.tables.warehouse ≡ a.tables.warehouse) × (b.tables.billing ≡ a.tables.billing)
 
   abbrev pub InWarehouse : SiteEvent StockCommand → Outcome → (a b : Moment KO KS KA) → Type 0
-  InWarehouse e o a b = AllowedDeed stocks_service (channels_of a.world.warehouse) e o a.tables.warehouse b.tables.warehouse
+  InWarehouse e o a b = AllowedDeed stocks_service (channels_of a.world.warehouse) e o a.tables.warehouse
+      b.tables.warehouse
       × (b.tables.purchasing ≡ a.tables.purchasing) × (b.tables.billing ≡ a.tables.billing)
 
   abbrev pub InBilling : SiteEvent AccountCommand → Outcome → (a b : Moment KO KS KA) → Type 0

@@ -27,7 +27,8 @@ MayShow line _ = ⊥
 
 module _ {KO KS KA : Type 0} where
   -- what was read is shown, or the outcome of its fault told
-  abbrev pub TellsReading : (Result (Vec ℕ) Outcome → (a b : World KO KS KA) → Type 0) → Outcome → (a b : World KO KS KA)
+  abbrev pub TellsReading : (Result (Vec ℕ) Outcome → (a b : World KO KS KA) → Type 0) → Outcome
+      → (a b : World KO KS KA)
       → Type 0
   TellsReading Reads o a b = (result : Result (Vec ℕ) Outcome) × Reads result a b × (o ≡ shown_told result)
 

@@ -20,7 +20,8 @@ pub record KeepsHolding {S : Type 0} (h : Holding S) (P : S → Type 0) : Type 0
       → P (held_for h x s n)
   pub refuses : (x : S) (s : Entity) (n : ℕ) → s.kind ≡ Order → line_of s (h.lines x) ≡ None → P x
       → P (refused_to h x s n)
-  pub finishes : (x : S) (s : Entity) (n : ℕ) → held_by (line_of s (h.lines x)) ≡ Some n → P x → P (finished_for h x s n)
+  pub finishes : (x : S) (s : Entity) (n : ℕ) → held_by (line_of s (h.lines x)) ≡ Some n → P x
+      → P (finished_for h x s n)
   pub frees : (x : S) (s : Entity) (n : ℕ) → held_by (line_of s (h.lines x)) ≡ Some n → P x → P (freed_for h x s n)
 
 pub order_is : (k : Kind) → is_order k ≡ true → k ≡ Order

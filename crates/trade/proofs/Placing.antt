@@ -119,7 +119,8 @@ differs : (o : Entity) (l : Line) (c : Ordering) → entity_cmp l.order o ≡ c 
     → same_entity o l.order ≡ false
 differs o l c e apart = same_entity-comm o l.order ∙ same_entity-ties l.order o ∙ rw e apart
 
-no_place_in_tail : (o : Entity) (l : Line) (ls : List Line) (at : ℕ) → IsPlaceFor o (l ∷ ls) (suc at) → IsPlaceFor o ls at
+no_place_in_tail : (o : Entity) (l : Line) (ls : List Line) (at : ℕ) → IsPlaceFor o (l ∷ ls) (suc at)
+    → IsPlaceFor o ls at
 no_place_in_tail o l ls at h = record {
   in_range = omega (arith, h.in_range);
   before = λ i d lt. h.before (suc i) d (omega arith);

@@ -75,7 +75,8 @@ returns-clause-fills g c =
     (λ clean. (c.in_ok-rows.ensures.read.clean clean).0) c.in-Ok.sent (rw c.deref.ensures.value at
     c.in-Ok.ensures.fills)
     c.if-sent-limit.false
-    (subst (λ (x : Option Place). StaysOrJumps (marks_of c.fill_letters.new.self) (place_behind x c.in_ok-rows.rows.items)
+    (subst (λ (x : Option Place). StaysOrJumps (marks_of c.fill_letters.new.self)
+    (place_behind x c.in_ok-rows.rows.items)
     c.go_behind-2.new.self.behind) c.in-Ok.ensures.behind c.go_behind-2.ensures.behind))
 
 pub returns-clause-sent : goal.returns-clause-sent
