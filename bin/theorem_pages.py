@@ -126,6 +126,7 @@ SIGNS = [
     ("Unit", r"\bUnit\b", "The type of `()`."),
     ("ghost", r"\bghost\b", "Is seen by contracts and proofs alone, and not there when the program runs."),
     ("KO.seen", r"\bK\w?\.seen|\bseen\b", "What contracts see of a store of the type `KO`."),
+    ("⟦<T as Tr>⟧.found", r"⟦", "The `found` that the type `T` has as a `Tr`."),
 ]
 
 WORDS = [
@@ -466,8 +467,22 @@ PROGRAM = {
     "sections": [
         ("A schedule is run as its text says",
          ["The program's one public call, and the run of a text that it ends in: what is printed are the lines of the outcomes of its"
-          " events."],
-         [("programs", "words", "run_schedule"), ("programs", "schedule", "run_text")]),
+          " events (`IsRunOf`). They were made one after another, and each did what its outcome says (`HasRun`). Where the run had a good"
+          " start and in the end no file is in doubt, it has a good end: the tables match the journals, the partners of each order agree,"
+          " and the commands that stand in the journals are those that were told (`IsGoodEnd`). Over tables in memory nothing is asked:"
+          " the end is always good (`a_run_in_memory_ends_well`)."],
+         [("programs", "words", "run_schedule"), ("programs", "schedule", "run_text"), ("programs", "specs/Ends", "IsRunOf"),
+          *[("programs", "specs/Runs", it) for it in ("HasRun", "IsGoodStart", "IsGoodEnd")],
+          ("programs", "laws", "a_run_in_memory_ends_well")], True),
+        ("What the services stand on",
+         ["Three stores, in memory or in files. What is known of the tables that are found, and for which faults an opening may fail, each"
+          " kind of stores says itself: of tables in memory that they are empty, and that no opening fails."],
+         [("programs", "stores", "Stores"), ("programs", "stores", "PlainStores"), ("programs", "specs/Runs", "HasRun"),
+          ("programs", "specs/InMemory", "EndsWellInMemory")]),
+        ("How a text is read, and how a run ends", ["The rest of what the program's call says: which events a text has, which lines tell"
+                                                    " outcomes and faults, and what the words of the command line come to."],
+         [("programs", "words", "run_schedule"), ("schedule_text", "specs/Events", "events_of"),
+          ("schedule_text", "specs/Outcomes", "outcome_lines")]),
         ("What shows print", ["The lines that tell what the store of a service holds, between two worlds, before and after."],
          OF_SHOWS[:-1]),
         ("Whether all partners agree",

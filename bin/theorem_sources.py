@@ -221,7 +221,7 @@ class Source:
 
     def contract(self, at):
         """The lines of a function from its `fn` to the end of its contract."""
-        deep, found = indent_of(self.lines[at]), []
+        deep, found, open_braces = indent_of(self.lines[at]), [], 0
         for line in self.lines[at:]:
             if indent_of(line) == deep and line.strip() in ("{", "{}"):
                 return found
@@ -229,7 +229,8 @@ class Source:
             if indent_of(line) == deep and line.rstrip().endswith("{"):
                 found[-1] = line.rstrip()[:-1].rstrip()
                 return found
-            if line.rstrip().endswith(";"):
+            open_braces += line.count("{") - line.count("}")
+            if line.rstrip().endswith(";") and open_braces == 0:
                 return found
         fail(f"{self.file}:{at + 1}: no body of this function")
 

@@ -1,7 +1,7 @@
 //! Runs a schedule, read from standard input, and prints the outcome of each line.
 #![tactic(auto)]
 
-use programs::{RunFault, run_schedule, tell_bad_words, tell_fault};
+use programs::{PlainStores, RunFault, run_schedule, tell_bad_words, tell_fault};
 use std::io::{BufReader, BufWriter, ErrorKind, Write};
 use std::process::ExitCode;
 use std::{env, io};
@@ -12,7 +12,14 @@ fn run<E: Write>(rt: &HostRuntime, err: &mut E) -> io::Result<u8> {
     let words: Vec<String> = env::args(rt)?.collect(rt.alloc())?;
     let mut input = BufReader::new(rt.alloc(), rt.reader())?;
     let mut out = BufWriter::new(rt.alloc(), io::writer(rt))?;
-    Ok(run_schedule(rt.alloc(), words.as_slice(), &mut input, &mut out, err))
+    Ok(run_schedule(
+        rt.alloc(),
+        &PlainStores,
+        words.as_slice(),
+        &mut input,
+        &mut out,
+        err,
+    ))
 }
 
 fn main(rt: HostRuntime) -> io::Result<ExitCode> {

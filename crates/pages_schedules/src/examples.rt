@@ -15,7 +15,7 @@ use keep::{Faulty, Keep};
 use keep_plain::PlainKeep;
 use laws_events::each_event_makes_nothing_up;
 use laws_mail::what_is_read_passes;
-use programs::{RunFault, run_text};
+use programs::{PlainStores, RunFault, run_text};
 use purchasing::Orders;
 use schedule_mail::{Connection, Mail, OpenFault};
 use schedule_runner::World;
@@ -82,6 +82,6 @@ pub fn a_row_is_shown(alloc: Global, bolt: &Entity) -> Result<bool, AllocError> 
 
 pub fn a_schedule_is_run(alloc: Global) -> Result<bool, RunFault> {
     let mut out = Vec::new(alloc);
-    run_text(alloc, b"cancel 0 o1\n", &mut out)?;
+    run_text(alloc, &PlainStores, b"cancel 0 o1\n", &mut out)?;
     Ok(out.as_slice() == b"refused 61 71\n".as_slice())
 }

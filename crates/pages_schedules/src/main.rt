@@ -11,7 +11,7 @@ use examples::{
     octets_wait_where_they_were_written, what_is_read_of_a_good_frame_passes,
 };
 use keep_plain::PlainKeep;
-use programs::open_world;
+use programs::{PlainStores, StoresFault, a_run_in_memory_ends_well, open_world};
 use purchasing::Orders;
 use schedule_text::{ConnectionName, ConnectionNumber, ServiceName};
 use std::alloc::Global;
@@ -35,13 +35,13 @@ fn tell<T: Debug + Drop, E: Error>(
 }
 
 /// Opens a connection of a warehouse twice, in a world where nothing has happened yet.
-fn a_warehouse_stays_open(alloc: Global) -> bool {
-    let mut world = open_world(alloc);
+fn a_warehouse_stays_open(alloc: Global) -> Result<bool, StoresFault> {
+    let mut world = open_world(alloc, &PlainStores)?;
     let connection = ConnectionName {
         service: ServiceName::Warehouse,
         number: ConnectionNumber::Zero,
     };
-    an_open_connection_stays_open(&mut world, connection)
+    Ok(an_open_connection_stays_open(&mut world, connection))
 }
 
 /// The mail, and one service that uses it.
@@ -60,9 +60,10 @@ fn print_events(rt: &impl Print, alloc: Global) -> Result<()> {
 
 /// Three services, what is shown of them, and a schedule of what they're given.
 fn print_runs(rt: &impl Print, alloc: Global) -> Result<()> {
-    show(rt, "schedule_runner", &a_warehouse_stays_open(alloc))?;
+    tell(rt, "schedule_runner", a_warehouse_stays_open(alloc))?;
     let bolt = Entity::read(alloc, "stock/bolt")?;
     tell(rt, "showing", a_row_is_shown(alloc, &bolt))?;
+    a_run_in_memory_ends_well();
     tell(rt, "programs", a_schedule_is_run(alloc))
 }
 

@@ -1,7 +1,8 @@
 -- Examples: how a run of a text ends, in what its writers hold then and in its status, and what the words of the
 -- command line come to.
-use Rattle.std.proofs.Common.{◌≡◌, List, [], ◌∷◌, ◌++◌, ℕ, refl, sym, subst, ◌∙◌, ap, inl, inr, get_or, arith}
-use Rattle.std.specs.Prelude.{codes, Some, None, Ok, Err}
+use Rattle.std.proofs.Common.{◌≡◌, List, [], ◌∷◌, ◌++◌, ℕ, true, false, refl, sym, subst, ◌∙◌, ap, inl, inr, get_or}
+use Rattle.std.proofs.Common.{arith}
+use Rattle.std.specs.Prelude.{codes, Some, None, Result, Ok, Err, IsOk}
 use Rattle.std.specs.Fmt.{digits}
 use Rattle.std.specs.Str.{is_utf8, chars}
 use Rattle.base.specs.Entity.{order_of}
@@ -14,9 +15,14 @@ use Rattle.schedule_text.specs.declared.event.Event.{Event}
 use Rattle.schedule_text.specs.declared.event.Event.TheVariants.{Order}
 use Rattle.schedule_text.specs.declared.outcome.Outcome.TheVariants.{NotDone}
 use Rattle.schedule_text.specs.Events.{events_of}
-use Rattle.programs.specs.declared.fault.RunFault.TheVariants.{BadEvent, Memory, Device}
+use Rattle.keep.specs.declared.fault.KeepFault.{KeepFault}
+use Rattle.keep.specs.declared.fault.KeepFault.TheVariants as keep
+use Rattle.programs.specs.declared.fault.RunFault.TheVariants.{BadEvent, Memory, Device, Unopened}
+use Rattle.programs.specs.declared.fault.StoresFault.{StoresFault}
+use Rattle.programs.specs.declared.fault.StoresFault.TheVariants.{Purchasing, Warehouse, Billing}
+use Rattle.programs.specs.StoresFaults.{keep_fault_words}
 use Rattle.programs.specs.Ends.{Writers, lines_of, IsRunOf, IsUnread, IsRunFrom, IsEndOf, IsUntold, fault_line}
-use Rattle.programs.specs.Runs.{HasRun}
+use Rattle.schedule_text.specs.declared.outcome.Outcome.{Outcome}
 use Rattle.programs.specs.Usage.{command_line, Streams, IsStatusOf, IsUsage, IsCutUsage, IsWordAnswer, IsAnswered}
 use Rattle.streams.specs.Written.{AppendsPart}
 
@@ -66,15 +72,30 @@ a_beginning_is_written = (
       let first : 114 ≡ 117 = ap (λ text. get_or text 0 0) whole in omega arith,
 )
 
--- where the second line is faulty the first isn't run either
-a_faulty_line_runs_nothing : (IsRunOf faulty (Some []) (Some []) (Err (BadEvent 2)))
-    × (IsRunOf faulty (Some []) (Some refused) (Err (BadEvent 2)) → ⊥)
-    × (IsRunOf faulty (Some []) (Some refused) (Ok tt) → ⊥)
-a_faulty_line_runs_nothing = (
-  (second_line_is_faulty, refl),
-  λ h. let more = h.1 in absurd (cc),
-  λ h. let events = sym second_line_is_faulty ∙ h.1.read in absurd (cc),
-)
+-- ---- whatever a run is, and for whatever faults stores fail
+module _ (Run : List Event → List Outcome → Type 0) (Fails : StoresFault → Type 0) where
+  -- where the second line is faulty the first isn't run either
+  a_faulty_line_runs_nothing : (IsRunOf Run Fails faulty (Some []) (Some []) (Err (BadEvent 2)))
+      × (IsRunOf Run Fails faulty (Some []) (Some refused) (Err (BadEvent 2)) → ⊥)
+      × (IsRunOf Run Fails faulty (Some []) (Some refused) (Ok tt) → ⊥)
+  a_faulty_line_runs_nothing = (
+    (second_line_is_faulty, refl),
+    λ h. let more = h.1 in absurd (cc),
+    λ h. let events = sym second_line_is_faulty ∙ h.1.read in absurd (cc),
+  )
+
+  -- where a store can't be opened nothing is written; that isn't told of a faulty text, nor where no store fails so
+  an_unopened_store_runs_nothing : (fault : StoresFault) → Fails fault
+      → (IsRunOf Run Fails cancels (Some []) (Some []) (Err (Unopened fault)))
+      × (IsRunOf Run Fails cancels (Some []) (Some refused) (Err (Unopened fault)) → ⊥)
+      × (IsRunOf Run Fails faulty (Some []) (Some []) (Err (Unopened fault)) → ⊥)
+      × (IsRunOf Run (λ _. ⊥) cancels (Some []) (Some []) (Err (Unopened fault)) → ⊥)
+  an_unopened_store_runs_nothing fault fails = (
+    (subst (λ (r : Result (List Event) ℕ). IsOk r) (sym line_is_read) refl, fails, refl),
+    λ h. let more = h.2 in absurd (cc),
+    λ h. let no : false ≡ true = subst (λ (r : Result (List Event) ℕ). IsOk r) second_line_is_faulty h.0 in absurd (cc),
+    λ h. h.1,
+  )
 
 -- where nothing was read, for want of memory or since the reader failed, nothing is written and no line is at fault
 nothing_is_read : (IsUnread (Some refused) (Some refused) (Err Memory))
@@ -146,12 +167,13 @@ abbrev faults_of : List (List ℕ) → Kinds
 faults_of words = fault_of command_line (codes "outbox-schedule" ∷ words)
 
 -- ---- a run of one line whose outcome is that refusal
-module _ (ran : HasRun (cancel ∷ []) (NotDone NotOpen ∷ [])) where
+module _ (Run : List Event → List Outcome → Type 0) (Fails : StoresFault → Type 0)
+    (ran : Run (cancel ∷ []) (NotDone NotOpen ∷ [])) where
   -- it is run and the refusal written, or a beginning of it where the writer failed; or memory was refused, and nothing
   -- is written
-  a_line_is_run : (IsRunOf cancels (Some []) (Some refused) (Ok tt))
-      × (IsRunOf cancels (Some []) (Some (codes "refu")) (Err Device))
-      × (IsRunOf cancels (Some []) (Some []) (Err Memory))
+  a_line_is_run : (IsRunOf Run Fails cancels (Some []) (Some refused) (Ok tt))
+      × (IsRunOf Run Fails cancels (Some []) (Some (codes "refu")) (Err Device))
+      × (IsRunOf Run Fails cancels (Some []) (Some []) (Err Memory))
   a_line_is_run = (
     (NotDone NotOpen ∷ [], record { events = cancel ∷ []; read = line_is_read; ran = ran }, sym refusal_is_told),
     (
@@ -163,31 +185,31 @@ module _ (ran : HasRun (cancel ∷ []) (NotDone NotOpen ∷ [])) where
   )
 
   -- what the reader has left is run, where it is known; else it's the run of some text
-  what_is_left_is_run : (IsRunFrom (Some cancels) (Some []) (Some refused) (Ok tt))
-      × (IsRunFrom None (Some []) (Some refused) (Ok tt))
-      × (IsRunFrom (Some faulty) (Some []) (Some []) (Err (BadEvent 2)))
-      × (IsRunFrom (Some faulty) (Some []) (Some []) (Err Device))
-      × (IsRunFrom (Some cancels) (Some []) (Some []) (Err (BadEvent 2)) → ⊥)
+  what_is_left_is_run : (IsRunFrom Run Fails (Some cancels) (Some []) (Some refused) (Ok tt))
+      × (IsRunFrom Run Fails None (Some []) (Some refused) (Ok tt))
+      × (IsRunFrom Run Fails (Some faulty) (Some []) (Some []) (Err (BadEvent 2)))
+      × (IsRunFrom Run Fails (Some faulty) (Some []) (Some []) (Err Device))
+      × (IsRunFrom Run Fails (Some cancels) (Some []) (Some []) (Err (BadEvent 2)) → ⊥)
   what_is_left_is_run = (
     inl (cancels, refl, a_line_is_run.0),
     inl (cancels, tt, a_line_is_run.0),
-    inl (faulty, refl, a_faulty_line_runs_nothing.0),
+    inl (faulty, refl, (a_faulty_line_runs_nothing Run Fails).0),
     inr refl,
     not_faulty,
   )
     where
-      not_faulty : IsRunFrom (Some cancels) (Some []) (Some []) (Err (BadEvent 2)) → ⊥
+      not_faulty : IsRunFrom Run Fails (Some cancels) (Some []) (Some []) (Err (BadEvent 2)) → ⊥
       not_faulty (inl (text, is, told)) = let answer = sym line_is_read ∙ ap events_of (sym is) ∙ told.0 in absurd (cc)
       not_faulty (inr h) = h
 
   -- status 0: the refusal stands on `out` and nothing on `err`; status 1: the faulty line is told on `err`, and nothing
   -- stands on `out`
-  ends_have_a_status : (IsEndOf (Some cancels) (hold [] []) (hold refused []) 0)
-      × (IsEndOf (Some faulty) (hold [] []) (hold [] (codes "line 2: bad event\n")) 1)
-      × (IsEndOf (Some cancels) (hold [] []) (hold (codes "refu") (codes "fault 2 Device\n")) 1)
-      × (IsEndOf (Some cancels) (hold [] []) (hold refused []) 1 → ⊥)
-      × (IsEndOf (Some cancels) (hold [] []) (hold refused []) 2 → ⊥)
-      × (IsEndOf (Some cancels) (hold [] []) (hold [] refused) 0 → ⊥)
+  ends_have_a_status : (IsEndOf Run Fails (Some cancels) (hold [] []) (hold refused []) 0)
+      × (IsEndOf Run Fails (Some faulty) (hold [] []) (hold [] (codes "line 2: bad event\n")) 1)
+      × (IsEndOf Run Fails (Some cancels) (hold [] []) (hold (codes "refu") (codes "fault 2 Device\n")) 1)
+      × (IsEndOf Run Fails (Some cancels) (hold [] []) (hold refused []) 1 → ⊥)
+      × (IsEndOf Run Fails (Some cancels) (hold [] []) (hold refused []) 2 → ⊥)
+      × (IsEndOf Run Fails (Some cancels) (hold [] []) (hold [] refused) 0 → ⊥)
   ends_have_a_status = (
     inl (refl, refl, what_is_left_is_run.0),
     inr (refl, BadEvent 2, what_is_left_is_run.2, sym fault_is_told),
@@ -200,38 +222,49 @@ module _ (ran : HasRun (cancel ∷ []) (NotDone NotOpen ∷ [])) where
       nothing : (octet : ℕ) (octets : List ℕ) → [] ≡ octet ∷ octets → ⊥
       nothing octet octets told = absurd (cc)
 
-      silent : IsEndOf (Some cancels) (hold [] []) (hold refused []) 1 → ⊥
+      spoken : (fault : KeepFault) (service end : List ℕ) → [] ≡ keep_fault_words fault ++ service ++ end → ⊥
+      spoken keep.Failed service end told = nothing _ _ told
+      spoken keep.Memory service end told = nothing _ _ told
+      spoken keep.WrongFile service end told = nothing _ _ told
+
+      silent : IsEndOf Run Fails (Some cancels) (hold [] []) (hold refused []) 1 → ⊥
       silent (inl whole) = let status = whole.0 in absurd (cc)
       silent (inr (status, BadEvent number, run, told)) = nothing _ _ told
       silent (inr (status, Memory, run, told)) = nothing _ _ told
       silent (inr (status, Device, run, told)) = nothing _ _ told
+      silent (inr (status, Unopened (Purchasing fault), run, told)) =
+          spoken fault (codes "purchasing") (codes "\n") told
+      silent (inr (status, Unopened (Warehouse fault), run, told)) =
+          spoken fault (codes "warehouse") (codes "\n") told
+      silent (inr (status, Unopened (Billing fault), run, told)) =
+          spoken fault (codes "billing") (codes "\n") told
 
   -- `err` failed while the faulty line was told: it holds a beginning of that, and the status is 1 as well
-  an_end_is_told_in_part : (IsUntold (Some faulty) (hold [] []) (hold [] (codes "line")))
-      × (IsStatusOf (Some faulty) (hold [] []) (hold [] (codes "line")) 1)
-      × (IsStatusOf (Some cancels) (hold [] []) (hold refused []) 0)
-      × (IsStatusOf (Some faulty) (hold [] []) (hold [] (codes "line")) 2 → ⊥)
+  an_end_is_told_in_part : (IsUntold Run Fails (Some faulty) (hold [] []) (hold [] (codes "line")))
+      × (IsStatusOf Run Fails (Some faulty) (hold [] []) (hold [] (codes "line")) 1)
+      × (IsStatusOf Run Fails (Some cancels) (hold [] []) (hold refused []) 0)
+      × (IsStatusOf Run Fails (Some faulty) (hold [] []) (hold [] (codes "line")) 2 → ⊥)
   an_end_is_told_in_part = (untold, inr (refl, untold), inl (ends_have_a_status.0), no_usage)
     where
-      untold : IsUntold (Some faulty) (hold [] []) (hold [] (codes "line"))
+      untold : IsUntold Run Fails (Some faulty) (hold [] []) (hold [] (codes "line"))
       untold = (
         BadEvent 2,
         what_is_left_is_run.2,
         record { part = codes "line"; rest = codes " 2: bad event\n"; whole = fault_is_told; appended = refl },
       )
 
-      no_usage : IsStatusOf (Some faulty) (hold [] []) (hold [] (codes "line")) 2 → ⊥
+      no_usage : IsStatusOf Run Fails (Some faulty) (hold [] []) (hold [] (codes "line")) 2 → ⊥
       no_usage (inl (inl whole)) = let status = whole.0 in absurd (cc)
       no_usage (inl (inr fault)) = let status = fault.0 in absurd (cc)
       no_usage (inr part) = let status = part.0 in absurd (cc)
 
   -- with the name alone the schedule is run; with `--help` or `--version` it isn't, and the input is as it was
-  only_a_run_reads : IsAnswered (faults_of []) (streams cancels (hold [] [])) (streams [] (hold refused [])) 0
-      × IsAnswered (faults_of (codes "--help" ∷ [])) (streams cancels (hold [] []))
+  only_a_run_reads : IsAnswered Run Fails (faults_of []) (streams cancels (hold [] [])) (streams [] (hold refused [])) 0
+      × IsAnswered Run Fails (faults_of (codes "--help" ∷ [])) (streams cancels (hold [] []))
       (streams cancels (hold (codes "Runs\n") [])) 0
-      × IsAnswered (faults_of (codes "--version" ∷ [])) (streams cancels (hold [] []))
+      × IsAnswered Run Fails (faults_of (codes "--version" ∷ [])) (streams cancels (hold [] []))
       (streams cancels (hold (codes "outbox-schedule 0.1.0\n") [])) 0
-      × (IsAnswered (faults_of (codes "--help" ∷ [])) (streams cancels (hold [] []))
+      × (IsAnswered Run Fails (faults_of (codes "--help" ∷ [])) (streams cancels (hold [] []))
       (streams [] (hold (codes "Runs\n") [])) 0 → ⊥)
   unfolding walk_fault defaults_fault
   only_a_run_reads = (

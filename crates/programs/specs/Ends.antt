@@ -1,5 +1,6 @@
 -- How a whole schedule ends.
-use Rattle.std.specs.Prelude.{◌≡◌, ◌⊎◌, ℕ, List, ◌++◌, codes, decimal, Option, Result, Ok, Err, IfSome}
+use Rattle.std.specs.Prelude.{◌≡◌, ◌⊎◌, ℕ, List, ◌++◌, length, take, codes, decimal, Option, Result, Ok, Err, IfSome}
+use Rattle.std.specs.Prelude.{IsOk}
 use Rattle.std.specs.List.{flat_map}
 use Rattle.std.specs.Io.KnownBytes.{Appends}
 use Rattle.schedule_text.specs.declared.event.Event.{Event}
@@ -7,8 +8,9 @@ use Rattle.schedule_text.specs.declared.outcome.Outcome.{Outcome}
 use Rattle.schedule_text.specs.Events.{events_of}
 use Rattle.schedule_text.specs.Outcomes.{outcome_lines}
 use Rattle.programs.specs.declared.fault.RunFault.{RunFault}
-use Rattle.programs.specs.declared.fault.RunFault.TheVariants.{BadEvent, Memory, Device}
-use Rattle.programs.specs.Runs.{HasRun, HasBegun}
+use Rattle.programs.specs.declared.fault.RunFault.TheVariants.{BadEvent, Memory, Device, Unopened}
+use Rattle.programs.specs.declared.fault.StoresFault.{StoresFault}
+use Rattle.programs.specs.StoresFaults.{reason_of, service_of}
 use Rattle.streams.specs.Written.{AppendsPart}
 
 -- the line that tells a fault
@@ -16,34 +18,16 @@ abbrev pub fault_line : RunFault → List ℕ
 fault_line (BadEvent number) = codes "line " ++ decimal number ++ codes ": bad event\n"
 fault_line Memory = codes "fault 81 Memory\n"
 fault_line Device = codes "fault 2 Device\n"
+fault_line (Unopened fault) = reason_of fault ++ service_of fault ++ codes "\n"
 
 -- the lines that tell outcomes, in order
 abbrev pub lines_of : List Outcome → List ℕ
 lines_of outcomes = flat_map outcome_lines outcomes
 
--- the events of a text, the first of which were made, with these outcomes
-pub record BeginsRun (text : List ℕ) (outcomes : List Outcome) : Type 0 where
-  pub events : List Event
-  pub read : events_of text ≡ Ok events
-  pub ran : HasBegun events outcomes
-
--- the events of a text, all of which were made, with these outcomes
-pub record RunsWhole (text : List ℕ) (outcomes : List Outcome) : Type 0 where
-  pub events : List Event
-  pub read : events_of text ≡ Ok events
-  pub ran : HasRun events outcomes
-
--- What running a text answers, over the known octets of the writer before it and after it: its events are made and
--- their outcomes written; or the writer failed, and took a beginning of the outcomes of the first events; or the first
--- faulty line is told, and nothing is written; or memory was refused, before the first event or before a later one, and
--- the outcomes of those before it are written.
-abbrev pub IsRunOf : List ℕ → Option (List ℕ) → Option (List ℕ) → Result Unit RunFault → Type 0
-IsRunOf text old new (Ok _) = (outcomes : List Outcome) × RunsWhole text outcomes × Appends old new (lines_of outcomes)
-IsRunOf text old new (Err (BadEvent number)) = (events_of text ≡ Err number) × (new ≡ old)
-IsRunOf text old new (Err Memory) =
-    (new ≡ old) ⊎ ((outcomes : List Outcome) × BeginsRun text outcomes × Appends old new (lines_of outcomes))
-IsRunOf text old new (Err Device) =
-    (outcomes : List Outcome) × BeginsRun text outcomes × AppendsPart old new (lines_of outcomes)
+-- what the two writers hold, where that is known: `out` the outcomes, and `err` what is told of faults
+pub record Writers : Type 0 where
+  pub out : Option (List ℕ)
+  pub err : Option (List ℕ)
 
 -- nothing was read, for want of memory or since the reader failed; nothing is written
 abbrev pub IsUnread : Option (List ℕ) → Option (List ℕ) → Result Unit RunFault → Type 0
@@ -51,25 +35,51 @@ IsUnread old new (Err Memory) = new ≡ old
 IsUnread old new (Err Device) = new ≡ old
 IsUnread old new _ = ⊥
 
--- a run of what the reader had left, where that is known; or nothing was read
-abbrev pub IsRunFrom : Option (List ℕ) → Option (List ℕ) → Option (List ℕ) → Result Unit RunFault → Type 0
-IsRunFrom input old new r =
-    ((text : List ℕ) × IfSome input (λ xs. text ≡ xs) × IsRunOf text old new r) ⊎ IsUnread old new r
+-- `Run` says that events were made, with these outcomes
+module _ (Run : List Event → List Outcome → Type 0) where
+  -- the events of a text, the first of which were made, with these outcomes
+  pub record BeginsRun (text : List ℕ) (outcomes : List Outcome) : Type 0 where
+    pub events : List Event
+    pub read : events_of text ≡ Ok events
+    pub ran : Run (take (length outcomes) events) outcomes
 
--- what the two writers hold, where that is known: `out` the outcomes, and `err` what is told of faults
-pub record Writers : Type 0 where
-  pub out : Option (List ℕ)
-  pub err : Option (List ℕ)
+  -- the events of a text, all of which were made, with these outcomes
+  pub record RunsWhole (text : List ℕ) (outcomes : List Outcome) : Type 0 where
+    pub events : List Event
+    pub read : events_of text ≡ Ok events
+    pub ran : Run events outcomes
 
--- With status 0 the schedule was run whole: its outcomes are written to `out`, and nothing to `err`. With status 1 a
--- fault is told on `err`.
-abbrev pub IsEndOf : Option (List ℕ) → Writers → Writers → ℕ → Type 0
-IsEndOf input old new status =
-    ((status ≡ 0) × (new.err ≡ old.err) × IsRunFrom input old.out new.out (Ok tt))
-    ⊎ ((status ≡ 1) × (fault : RunFault) × IsRunFrom input old.out new.out (Err fault)
-    × Appends old.err new.err (fault_line fault))
+  -- and `Fails` for which faults the opening of stores may fail
+  module _ (Fails : StoresFault → Type 0) where
+    -- What running a text answers, over the known octets of the writer before it and after it: its events are made and
+    -- their outcomes written; or the writer failed, and took a beginning of the outcomes of the first events; or the
+    -- first faulty line is told, or that a store can't be opened, and nothing is written; or memory was refused, before
+    -- the first event or before a later one, and the outcomes of those before it are written.
+    abbrev pub IsRunOf : List ℕ → Option (List ℕ) → Option (List ℕ) → Result Unit RunFault → Type 0
+    IsRunOf text old new (Ok _) =
+        (outcomes : List Outcome) × RunsWhole text outcomes × Appends old new (lines_of outcomes)
+    IsRunOf text old new (Err (BadEvent number)) = (events_of text ≡ Err number) × (new ≡ old)
+    IsRunOf text old new (Err (Unopened fault)) = IsOk (events_of text) × Fails fault × (new ≡ old)
+    IsRunOf text old new (Err Memory) =
+        (new ≡ old) ⊎ ((outcomes : List Outcome) × BeginsRun text outcomes × Appends old new (lines_of outcomes))
+    IsRunOf text old new (Err Device) =
+        (outcomes : List Outcome) × BeginsRun text outcomes × AppendsPart old new (lines_of outcomes)
 
--- the same where `err` failed while a fault was told: it took a beginning of the fault's line
-abbrev pub IsUntold : Option (List ℕ) → Writers → Writers → Type 0
-IsUntold input old new =
-    (fault : RunFault) × IsRunFrom input old.out new.out (Err fault) × AppendsPart old.err new.err (fault_line fault)
+    -- a run of what the reader had left, where that is known; or nothing was read
+    abbrev pub IsRunFrom : Option (List ℕ) → Option (List ℕ) → Option (List ℕ) → Result Unit RunFault → Type 0
+    IsRunFrom input old new r =
+        ((text : List ℕ) × IfSome input (λ xs. text ≡ xs) × IsRunOf text old new r) ⊎ IsUnread old new r
+
+    -- With status 0 the schedule was run whole: its outcomes are written to `out`, and nothing to `err`. With status 1
+    -- a fault is told on `err`.
+    abbrev pub IsEndOf : Option (List ℕ) → Writers → Writers → ℕ → Type 0
+    IsEndOf input old new status =
+        ((status ≡ 0) × (new.err ≡ old.err) × IsRunFrom input old.out new.out (Ok tt))
+        ⊎ ((status ≡ 1) × (fault : RunFault) × IsRunFrom input old.out new.out (Err fault)
+        × Appends old.err new.err (fault_line fault))
+
+    -- the same where `err` failed while a fault was told: it took a beginning of the fault's line
+    abbrev pub IsUntold : Option (List ℕ) → Writers → Writers → Type 0
+    IsUntold input old new =
+        (fault : RunFault) × IsRunFrom input old.out new.out (Err fault)
+        × AppendsPart old.err new.err (fault_line fault)

@@ -1,9 +1,12 @@
 -- What the words of the command line come to.
-use Rattle.std.specs.Prelude.{◌≡◌, ◌⊎◌, ℕ, Bool, true, false, List, [], codes, Option}
+use Rattle.std.specs.Prelude.{◌≡◌, ◌⊎◌, ℕ, true, false, List, [], codes, Option}
 use Rattle.clap.specs.Words.{App, Kinds, IsAmong, new_app}
 use Rattle.clap.specs.declared.error.kind.ErrorKind.{ErrorKind}
 use Rattle.command_line.specs.Usage.{with_version, is_request}
+use Rattle.schedule_text.specs.declared.event.Event.{Event}
+use Rattle.schedule_text.specs.declared.outcome.Outcome.{Outcome}
 use Rattle.programs.specs.declared.fault.RunFault.TheVariants.{Memory}
+use Rattle.programs.specs.declared.fault.StoresFault.{StoresFault}
 use Rattle.programs.specs.Ends.{Writers, IsEndOf, IsUntold, fault_line}
 use Rattle.streams.specs.Written.{AppendsPart}
 
@@ -15,10 +18,6 @@ command_line = with_version (new_app (codes "outbox-schedule"))
 pub record Streams : Type 0 where
   pub input : Option (List ℕ)
   pub writers : Writers
-
--- the status of a run: that of its end, or 1 where `err` failed while a fault was told
-abbrev pub IsStatusOf : Option (List ℕ) → Writers → Writers → ℕ → Type 0
-IsStatusOf input old new status = IsEndOf input old new status ⊎ ((status ≡ 1) × IsUntold input old new)
 
 -- what was asked for is told on `out`, with status 0, and a fault of usage on `err`, with status 2; the other stream is
 -- as it was
@@ -39,8 +38,14 @@ IsWordAnswer kinds old new status =
     ((kind : ErrorKind) × IsAmong kind kinds × (IsUsage kind old new status ⊎ ((status ≡ 1) × IsCutUsage kind old new)))
     ⊎ ((status ≡ 1) × (new.out ≡ old.out) × AppendsPart old.err new.err (fault_line Memory))
 
--- With nothing at fault in the words the schedule is run. Else nothing is: the input is left as it was.
-abbrev pub IsAnswered : Kinds → Streams → Streams → ℕ → Type 0
-IsAnswered kinds old new status =
-    ((kinds ≡ []) × IsStatusOf old.input old.writers new.writers status)
-    ⊎ ((new.input ≡ old.input) × IsWordAnswer kinds old.writers new.writers status)
+module _ (Run : List Event → List Outcome → Type 0) (Fails : StoresFault → Type 0) where
+  -- the status of a run: that of its end, or 1 where `err` failed while a fault was told
+  abbrev pub IsStatusOf : Option (List ℕ) → Writers → Writers → ℕ → Type 0
+  IsStatusOf input old new status =
+      IsEndOf Run Fails input old new status ⊎ ((status ≡ 1) × IsUntold Run Fails input old new)
+
+  -- With nothing at fault in the words the schedule is run. Else nothing is: the input is left as it was.
+  abbrev pub IsAnswered : Kinds → Streams → Streams → ℕ → Type 0
+  IsAnswered kinds old new status =
+      ((kinds ≡ []) × IsStatusOf old.input old.writers new.writers status)
+      ⊎ ((new.input ≡ old.input) × IsWordAnswer kinds old.writers new.writers status)

@@ -1,13 +1,14 @@
 //! The functions of the programs: schedules of events, run and told.
 //!
-//! A schedule is run by three services over tables in memory, with a broker between them. What is printed are the
-//! outcomes of its events, line for line. Where a line is no event nothing is run, and where a writer fails it holds a
+//! A schedule is run by three services, with a broker between them, over any three stores that open: `Stores` is what
+//! opens them, and `PlainStores` does so with tables in memory. What is printed are the outcomes of its events, line for
+//! line. Where a line is no event or a store can't be opened nothing is run, and where a writer fails it holds a
 //! beginning of what was to be printed.
 //!
 //! ```rust
 //! pub fn a_schedule_is_run(alloc: Global) -> Result<bool, RunFault> {
 //!     let mut out = Vec::new(alloc);
-//!     run_text(alloc, b"cancel 0 o1\n", &mut out)?;
+//!     run_text(alloc, &PlainStores, b"cancel 0 o1\n", &mut out)?;
 //!     Ok(out.as_slice() == b"refused 61 71\n".as_slice())
 //! }
 //! ```
@@ -16,12 +17,16 @@
 #![tactic(auto)]
 
 mod fault;
+mod laws;
 mod running;
 mod schedule;
+mod stores;
 mod words;
 mod writing;
 
-pub use fault::RunFault;
-pub use running::{PlainWorld, open_world};
+pub use fault::{RunFault, StoresFault};
+pub use laws::a_run_in_memory_ends_well;
+pub use running::open_world;
 pub use schedule::{run_input, run_text, tell_fault};
+pub use stores::{PlainStores, Stores};
 pub use words::{run_schedule, tell_bad_words};

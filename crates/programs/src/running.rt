@@ -1,49 +1,48 @@
-//! Events, made one by one in the world of three services over tables in memory.
+//! Events, made one by one in the world of three services over their stores.
 
-ghost use Rattle.std.specs.Prelude.{◌≡◌, [], length, OnOk};
-ghost use Rattle.programs.specs.Runs.{IsBeginning, IsGoodPlain, HasBegun};
+ghost use Rattle.std.specs.Prelude.{◌≡◌, [], length, take, OnOk, IfOk, IfErr};
+ghost use Rattle.programs.specs.Runs.{IsBeginning, HasRun};
 
-use billing::Accounts;
-use endpoint::{Endpoint, empty_tables_match};
+use crate::fault::StoresFault;
+use crate::stores::Stores;
+use endpoint::Endpoint;
 use keep::Faulty;
-use keep_plain::PlainKeep;
-use purchasing::Orders;
 use schedule_runner::World;
 use schedule_text::{Event, Outcome};
 use std::alloc::{AllocError, Global};
-use warehouse::Stocks;
 
-/// Three services over tables in memory, and the mail between them.
-pub type PlainWorld = World<PlainKeep<Orders>, PlainKeep<Stocks>, PlainKeep<Accounts>>;
-
-/// The world where a schedule begins: empty tables that match their journals, stores that are usable, no connection; it
-/// is good. It takes no memory.
-pub fn open_world(alloc: Global) -> PlainWorld
-    ensures beginning { IsBeginning result }
-    ensures good { IsGoodPlain result }
+/// The world where a schedule begins: stores that were just opened, no connection, and a broker that accepted nothing.
+///
+/// # Errors
+/// Where a store can't be opened.
+pub fn open_world<S: Stores>(
+    alloc: Global,
+    stores: &S,
+) -> Result<World<S::Orders, S::Stocks, S::Accounts>, StoresFault>
+    ensures beginning { IfOk result (IsBeginning S.Orders.seen S.Stocks.seen S.Accounts.seen S.found) }
+    ensures unopened { IfErr result S.fails }
 {
-    empty_tables_match::<Orders>();
-    empty_tables_match::<Stocks>();
-    empty_tables_match::<Accounts>();
-    let purchasing = Endpoint::new(Faulty::new(PlainKeep::new(alloc)));
-    let warehouse = Endpoint::new(Faulty::new(PlainKeep::new(alloc)));
-    let billing = Endpoint::new(Faulty::new(PlainKeep::new(alloc)));
-    World::open(alloc, purchasing, warehouse, billing)
+    let (orders, stocks, accounts) = stores.open(alloc)?;
+    let purchasing = Endpoint::new(Faulty::new(orders));
+    let warehouse = Endpoint::new(Faulty::new(stocks));
+    let billing = Endpoint::new(Faulty::new(accounts));
+    Ok(World::open(alloc, purchasing, warehouse, billing))
 }
 
-/// Makes events, and puts their outcomes into an empty list.
+/// Makes events in a world that was just opened, and puts their outcomes into an empty list.
 ///
 /// # Errors
 /// Where there was no room for an outcome: its event isn't made then, nor any after it.
-pub(crate) fn run_events(
-    alloc: Global,
+pub(crate) fn run_events<S: Stores>(
+    mut world: World<S::Orders, S::Stocks, S::Accounts>,
     events: &[Event],
     outcomes: &mut Vec<Outcome>,
 ) -> Result<(), AllocError>
-    requires { outcomes.old.items ≡ [] }
-    ensures begun { HasBegun events.now outcomes.new.items }
+    requires beginning { IsBeginning S.Orders.seen S.Stocks.seen S.Accounts.seen S.found world }
+    requires none { outcomes.old.items ≡ [] }
+    ensures begun { HasRun S.Orders.seen S.Stocks.seen S.Accounts.seen S.found
+        (take (length outcomes.new.items) events.now) outcomes.new.items }
     ensures all { OnOk result (length outcomes.new.items ≡ length events.now) }
 {
-    let mut world = open_world(alloc);
     world.run(events, outcomes)
 }

@@ -3,30 +3,39 @@
 ghost use Rattle.std.specs.Prelude.{◌≡◌, ◌⊎◌, OnOk, OnErr, IfOk, MatchResult, IfSome};
 ghost use Rattle.std.specs.Io.KnownBytes.{Appends};
 ghost use Rattle.programs.specs.Ends.{fault_line, IsRunOf, IsRunFrom, IsEndOf, IsUntold};
+ghost use Rattle.programs.specs.Runs.{HasRun};
 ghost use Rattle.streams.specs.Written.{AppendsPart};
 
 use crate::fault::RunFault;
-use crate::running::run_events;
+use crate::running::{open_world, run_events};
+use crate::stores::Stores;
 use crate::writing::{write_numbered, write_outcomes};
 use schedule_text::read_schedule;
 use std::alloc::Global;
 use std::io;
 use std::io::{ErrorKind, Read, Write};
-use streams::write_octets;
+use streams::{write_octets, write_three};
 
-/// Reads a schedule from its text and runs it: nothing is run before the whole of it is read, and the outcomes are
-/// written at the end.
+/// Reads a schedule from its text and runs it over these stores: nothing is opened or run before the whole of it is
+/// read, and the outcomes are written at the end.
 ///
 /// # Errors
-/// `BadEvent` with the number of the first faulty line: nothing was run. `Memory` where the events or an outcome
-/// couldn't be held: what was run before is told. `Device` where `out` failed: it took a beginning of what is told of
-/// the first events.
-pub fn run_text<W: Write>(alloc: Global, text: &[u8], out: &mut W) -> Result<(), RunFault>
-    ensures { IsRunOf text.now (W.contents out.old) (W.contents out.new) result }
+/// `BadEvent` with the number of the first faulty line, and `Unopened` where a store can't be opened: nothing was run.
+/// `Memory` where the events or an outcome couldn't be held: what was run before is told. `Device` where `out` failed:
+/// it took a beginning of what is told of the first events.
+pub fn run_text<S: Stores, W: Write>(
+    alloc: Global,
+    stores: &S,
+    text: &[u8],
+    out: &mut W,
+) -> Result<(), RunFault>
+    ensures { IsRunOf (HasRun S.Orders.seen S.Stocks.seen S.Accounts.seen S.found) S.fails text.now
+        (W.contents out.old) (W.contents out.new) result }
 {
     let events = read_schedule(alloc, text)?;
+    let world = open_world(alloc, stores)?;
     let mut outcomes = Vec::new(alloc);
-    let ran = run_events(alloc, events.as_slice(), &mut outcomes);
+    let ran = run_events::<S>(world, events.as_slice(), &mut outcomes);
     match write_outcomes(out, outcomes.as_slice()) {
         Ok(()) => match ran {
             Ok(()) => Ok(()),
@@ -58,6 +67,12 @@ fn write_run_fault<E: Write>(err: &mut E, fault: RunFault) -> io::Result<()>
         RunFault::BadEvent(number) => write_numbered(err, b"line ", number, b": bad event\n"),
         RunFault::Memory => write_octets(err, b"fault 81 Memory\n"),
         RunFault::Device => write_octets(err, b"fault 2 Device\n"),
+        RunFault::Unopened(stores) => write_three(
+            err,
+            stores.reason().as_bytes(),
+            stores.service().as_bytes(),
+            b"\n",
+        ),
     }
 }
 
@@ -76,37 +91,42 @@ pub fn tell_fault<E: Write>(err: &mut E, fault: RunFault) -> io::Result<u8>
 }
 
 /// Reads a schedule from `input` and runs it.
-fn read_and_run<R: Read, W: Write>(
+fn read_and_run<S: Stores, R: Read, W: Write>(
     alloc: Global,
+    stores: &S,
     input: &mut R,
     out: &mut W,
 ) -> Result<(), RunFault>
-    ensures { IsRunFrom (R.remaining input.old) (W.contents out.old) (W.contents out.new) result }
+    ensures { IsRunFrom (HasRun S.Orders.seen S.Stocks.seen S.Accounts.seen S.found) S.fails (R.remaining input.old)
+        (W.contents out.old) (W.contents out.new) result }
 {
     let text = read_all(alloc, input)?;
-    run_text(alloc, text.as_slice(), out)
+    run_text(alloc, stores, text.as_slice(), out)
 }
 
-/// Reads a schedule from `input`, runs it, and writes the outcome of each line to `out`. A fault is told on `err`.
+/// Reads a schedule from `input`, runs it over these stores, and writes the outcome of each line to `out`. A fault is
+/// told on `err`.
 ///
 /// The status is 0 where all lines were run, else 1.
 ///
 /// # Errors
 /// Where `err` failed while a fault was told.
-pub fn run_input<R: Read, W: Write, E: Write>(
+pub fn run_input<S: Stores, R: Read, W: Write, E: Write>(
     alloc: Global,
+    stores: &S,
     input: &mut R,
     out: &mut W,
     err: &mut E,
 ) -> io::Result<u8>
-    ensures ended { IfOk result (λ status. IsEndOf (R.remaining input.old)
+    ensures ended { IfOk result (λ status.
+        IsEndOf (HasRun S.Orders.seen S.Stocks.seen S.Accounts.seen S.found) S.fails (R.remaining input.old)
         (record { out = W.contents out.old; err = E.contents err.old })
         (record { out = W.contents out.new; err = E.contents err.new }) status) }
-    ensures untold { OnErr result (IsUntold (R.remaining input.old) (record
-        { out = W.contents out.old; err = E.contents err.old })
+    ensures untold { OnErr result (IsUntold (HasRun S.Orders.seen S.Stocks.seen S.Accounts.seen S.found) S.fails
+        (R.remaining input.old) (record { out = W.contents out.old; err = E.contents err.old })
         (record { out = W.contents out.new; err = E.contents err.new })) }
 {
-    match read_and_run(alloc, input, out) {
+    match read_and_run(alloc, stores, input, out) {
         Ok(()) => Ok(0),
         Err(fault) => tell_fault(err, fault),
     }

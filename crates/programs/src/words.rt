@@ -4,11 +4,13 @@ ghost use Rattle.std.specs.Prelude.{◌≡◌, true, map, IfOk, IfErr, OnErr, Ma
 ghost use Rattle.std.specs.Io.KnownBytes.{Appends};
 ghost use Rattle.clap.specs.Words.{FailsBy, fault_of, kind_of, takes};
 ghost use Rattle.command_line.specs.Usage.{bad_words_text};
+ghost use Rattle.programs.specs.Runs.{HasRun};
 ghost use Rattle.programs.specs.Usage.{command_line, IsStatusOf, IsAnswered};
 ghost use Rattle.streams.specs.Written.{AppendsPart};
 
 use crate::fault::RunFault;
 use crate::schedule::{run_input, tell_fault};
+use crate::stores::Stores;
 use clap::error::ErrorKind;
 use clap::{Command, Error};
 use command_line::tell_words;
@@ -87,10 +89,10 @@ Exit status:
 
 /// Reads the words of the command line, the program's name first; there are no options but `--help` and
 /// `--version`.
-fn read_words<S: AsStr>(alloc: Global, words: &[S]) -> Result<(), Error>
-    ensures takes { IfErr result (λ e. takes command_line (map S.text words.now) ≡ true
+fn read_words<T: AsStr>(alloc: Global, words: &[T]) -> Result<(), Error>
+    ensures takes { IfErr result (λ e. takes command_line (map T.text words.now) ≡ true
         → kind_of e ≡ ErrorKind.OutOfMemory) }
-    ensures fails { FailsBy (fault_of command_line (map S.text words.now)) result }
+    ensures fails { FailsBy (fault_of command_line (map T.text words.now)) result }
 {
     let command = Command::new(alloc, "outbox-schedule")
         .version(VERSION)
@@ -125,23 +127,26 @@ fn status_of(answer: io::Result<u8>) -> u8
 }
 
 /// The program `outbox-schedule`: reads the words of its command line, the program's name first, and a schedule from
-/// `input`, runs it, and writes the outcome of each line to `out`.
+/// `input`, runs it over these stores, and writes the outcome of each line to `out`.
 ///
 /// The answer is the status: 0, 2 for a fault of usage, which is told on `err` as `clap` words it, and 1 for another
 /// fault, which is told on `err` too. With words that the command line takes it ends as `run_input` says, or with 1
 /// where memory was refused over the words or `err` failed. With others nothing is run: `input` isn't read. Help and
 /// the version are told on `out`, with status 0.
-pub fn run_schedule<S: AsStr, R: Read, W: Write, E: Write>(
+pub fn run_schedule<S: Stores, T: AsStr, R: Read, W: Write, E: Write>(
     alloc: Global,
-    words: &[S],
+    stores: &S,
+    words: &[T],
     input: &mut R,
     out: &mut W,
     err: &mut E,
 ) -> u8
-    ensures taken { takes command_line (map S.text words.now) ≡ true
-        → IsStatusOf (R.remaining input.old) (record { out = W.contents out.old; err = E.contents err.old })
+    ensures taken { takes command_line (map T.text words.now) ≡ true
+        → IsStatusOf (HasRun S.Orders.seen S.Stocks.seen S.Accounts.seen S.found) S.fails (R.remaining input.old)
+        (record { out = W.contents out.old; err = E.contents err.old })
         (record { out = W.contents out.new; err = E.contents err.new }) result }
-    ensures answered { IsAnswered (fault_of command_line (map S.text words.now))
+    ensures answered { IsAnswered (HasRun S.Orders.seen S.Stocks.seen S.Accounts.seen S.found) S.fails
+        (fault_of command_line (map T.text words.now))
         (record {
           input = R.remaining input.old;
           writers =
@@ -154,7 +159,7 @@ pub fn run_schedule<S: AsStr, R: Read, W: Write, E: Write>(
         }) result }
 {
     let Err(error) = read_words(alloc, words) else {
-        return status_of(run_input(alloc, input, out, err));
+        return status_of(run_input(alloc, stores, input, out, err));
     };
     if error.kind() == ErrorKind::OutOfMemory {
         return status_of(tell_fault(err, RunFault::Memory));

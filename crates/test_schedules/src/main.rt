@@ -15,7 +15,8 @@
 //! - `reader gives N`: at most N octets a read;
 //! - `out takes N`, `err takes N`: it takes so many octets in all, and fails then;
 //! - `out takes-at-once N`, `err takes-at-once N`: at most N octets a write;
-//! - `out is-interrupted`, `err is-interrupted`: its first write is.
+//! - `out is-interrupted`, `err is-interrupted`: its first write is;
+//! - `unopened SERVICE N`: the store of this service can't be opened, for the fault of this number.
 //!
 //! Calls:
 //! - `read`: `read_schedule` over it;
@@ -34,6 +35,7 @@ mod devices;
 mod fault;
 mod runs;
 mod session;
+mod stores;
 
 use session::Session;
 use std::io;

@@ -2,7 +2,10 @@
 
 use crate::devices::{Limits, Sink, Source};
 use crate::fault::CallFault;
-use programs::{RunFault, run_input, run_schedule, run_text, tell_bad_words, tell_fault};
+use crate::stores::TestStores;
+use programs::{
+    RunFault, StoresFault, run_input, run_schedule, run_text, tell_bad_words, tell_fault,
+};
 use schedule_text::{ScheduleFault, read_schedule};
 use std::alloc::Global;
 use std::fmt::Write;
@@ -20,6 +23,8 @@ pub struct Devices {
     pub out: Limits,
     /// What `err` takes.
     pub err: Limits,
+    /// Why stores can't be opened, where they can't.
+    pub unopened: Option<StoresFault>,
 }
 
 impl Devices {
@@ -35,6 +40,7 @@ impl Devices {
             reader_gives: usize::MAX,
             out: limits,
             err: limits,
+            unopened: None,
         }
     }
 }
@@ -168,27 +174,29 @@ fn fault(word: &str) -> Result<RunFault, LineFault> {
 /// What a whole run comes to by the words of its command line.
 fn run(
     alloc: Global,
+    stores: &TestStores,
     line: &str,
     input: &mut Source<'_>,
     out: &mut Sink,
     err: &mut Sink,
 ) -> Result<End, CallFault> {
     let words: Vec<&str> = line.split_whitespace().collect(alloc)?;
-    Ok(End::Status(run_schedule(alloc, words.as_slice(), input, out, err)))
+    Ok(End::Status(run_schedule(alloc, stores, words.as_slice(), input, out, err)))
 }
 
-/// What the call comes to that a line names, over these devices.
+/// What the call comes to that a line names, over these stores and devices.
 fn end_of(
     alloc: Global,
+    stores: &TestStores,
     line: &str,
     input: &mut Source<'_>,
     out: &mut Sink,
     err: &mut Sink,
 ) -> Result<End, CallFault> {
     match first_word(line) {
-        ("run", _) => run(alloc, line, input, out, err),
-        ("run-text", "") => Ok(End::of_run(run_text(alloc, input.left, out))),
-        ("run-input", "") => Ok(End::of_status(run_input(alloc, input, out, err))),
+        ("run", _) => run(alloc, stores, line, input, out, err),
+        ("run-text", "") => Ok(End::of_run(run_text(alloc, stores, input.left, out))),
+        ("run-input", "") => Ok(End::of_status(run_input(alloc, stores, input, out, err))),
         ("tell", "not-utf8") => Ok(End::of_status(tell_bad_words(err))),
         ("tell", word) => Ok(End::of_status(tell_fault(err, fault(word)?))),
         _ => Err(LineFault::Unknown.into()),
@@ -208,7 +216,17 @@ fn call(alloc: Global, devices: Devices, schedule: &[u8], line: &str) -> Result<
         end: End::Ran,
         left: 0,
     };
-    told.end = end_of(alloc, line, &mut input, &mut told.out, &mut told.err)?;
+    let stores = TestStores {
+        fault: devices.unopened,
+    };
+    told.end = end_of(
+        alloc,
+        &stores,
+        line,
+        &mut input,
+        &mut told.out,
+        &mut told.err,
+    )?;
     told.left = input.left.len();
     if told.wants_memory() {
         return Err(LineFault::Memory.into());

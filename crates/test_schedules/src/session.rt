@@ -3,6 +3,7 @@
 use crate::devices::Limits;
 use crate::fault::CallFault;
 use crate::runs::{Devices, push_call, push_each, push_read, push_sizes};
+use crate::stores::stores_fault;
 use std::alloc::{AllocError, Global};
 use std::io;
 use std::io::Write;
@@ -80,6 +81,12 @@ impl Session {
         Ok(())
     }
 
+    /// The store of a service can't be opened from now on: `SERVICE N`.
+    fn set_unopened(&mut self, text: &str) -> Result<(), CallFault> {
+        self.devices.unopened = Some(stores_fault(text)?);
+        Ok(())
+    }
+
     /// Adds what stands behind the mark of a line of a schedule: behind `-` without an LF, behind `#` with the place of
     /// a number.
     fn add_marked(&mut self, text: &str) -> Result<(), CallFault> {
@@ -113,6 +120,7 @@ impl Session {
             "repeat" => self.repeat(rest),
             "octets" => self.add_octets(rest),
             "reader" => self.set_reader(rest),
+            "unopened" => self.set_unopened(rest),
             "out" => limit(&mut self.devices.out, rest),
             "err" => limit(&mut self.devices.err, rest),
             "measure" => push_sizes(alloc, out, self.devices, schedule, rest),

@@ -1,16 +1,21 @@
 use Rattle.std.proofs.lemmas.Result.{err_from_is_err_and}
+use Rattle.programs.specs.Runs.{HasRun}
 use Rattle.programs.proofs.Endings.{from_nothing, from_text}
 use Rattle.programs.proofs.schedule.read_and_run.Goals as goal
 
 pub returns-in_err-text : goal.returns-in_err-text
 returns-in_err-text g c =
+    let run = HasRun g.S.Orders.Keep.seen g.S.Stocks.Keep.seen g.S.Accounts.Keep.seen g.S.Stores.found in
     let p = err_from_is_err_and c.from_residual.result c.from_residual.ensures.1 in
-    rw (p.1, p.2) (from_nothing (g.R.Read.remaining c.args.input.now) (g.W.Write.contents c.args.out.now)
+    rw (p.1, p.2) (from_nothing run g.S.Stores.fails (g.R.Read.remaining c.args.input.now)
+    (g.W.Write.contents c.args.out.now)
     c.in_err-text.field-0.0
     c.in_err-text.ensures)
 
 pub returns : goal.returns
 returns g c =
+    let run = HasRun g.S.Orders.Keep.seen g.S.Stocks.Keep.seen g.S.Accounts.Keep.seen g.S.Stores.found in
     let told = rw c.as_slice.ensures.value at c.run_text.ensures in
-    from_text (g.R.Read.remaining c.args.input.now) c.in_ok-text.text.items (g.W.Write.contents c.args.out.now)
+    from_text run g.S.Stores.fails (g.R.Read.remaining c.args.input.now) c.in_ok-text.text.items
+    (g.W.Write.contents c.args.out.now)
     (g.W.Write.contents c.run_text.new.out) c.run_text.result c.in_ok-text.ensures told

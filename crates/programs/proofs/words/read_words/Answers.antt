@@ -16,7 +16,7 @@ returns-clause-takes g c = λ taken.
     let shape = ap app_of_fields c.after_help-command.ensures ∙ ap app_of_fields c.override_usage.ensures
     ∙ ap app_of_fields c.about.ensures
     ∙ ap app_of_fields c.version.ensures in
-    c.in-Err.ensures.passes (subst (λ (app : App). takes app (map g.S.AsStr.text c.args.words.now) ≡ true)
+    c.in-Err.ensures.passes (subst (λ (app : App). takes app (map g.T.AsStr.text c.args.words.now) ≡ true)
     (sym (shape ∙ ap with_version c.new.ensures.app)) taken)
 
 pub returns-clause-fails : goal.returns-clause-fails
@@ -25,7 +25,7 @@ returns-clause-fails g c =
     ∙ ap app_of_fields c.about.ensures
     ∙ ap app_of_fields c.version.ensures in
     let same = shape ∙ ap with_version c.new.ensures.app in
-    subst (λ (app : App). HasKind (fault_of app (map g.S.AsStr.text c.args.words.now)) c.in-Err.error) same
+    subst (λ (app : App). HasKind (fault_of app (map g.T.AsStr.text c.args.words.now)) c.in-Err.error) same
     (c.in-Err.ensures.kinds (subst (λ (app : App). is_simple_and_free app ≡ true) (sym same) is_known))
 
 pub returns-in-Ok-clause-fails : goal.returns-in-Ok-clause-fails
@@ -34,5 +34,5 @@ returns-in-Ok-clause-fails g c =
     ∙ ap app_of_fields c.about.ensures
     ∙ ap app_of_fields c.version.ensures in
     let same = shape ∙ ap with_version c.new.ensures.app in
-    subst (λ (app : App). fault_of app (map g.S.AsStr.text c.args.words.now) ≡ []) same
+    subst (λ (app : App). fault_of app (map g.T.AsStr.text c.args.words.now) ≡ []) same
     (c.in-Ok.ensures.kinds (subst (λ (app : App). is_simple_and_free app ≡ true) (sym same) is_known))

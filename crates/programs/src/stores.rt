@@ -1,0 +1,80 @@
+//! The stores that three services stand on.
+
+ghost use Rattle.std.specs.Prelude.{◌≡◌, IfOk, IfErr};
+ghost use Rattle.laws_stores.specs.Sight.{AllTables, all_empty};
+ghost use Rattle.programs.specs.Opened.{AreOpened};
+
+use crate::fault::StoresFault;
+use billing::{Account, Accounts};
+use keep::Keep;
+use keep_plain::PlainKeep;
+use purchasing::{Order, Orders};
+use std::alloc::Global;
+use trade::{AccountCommand, OrderCommand, StockCommand};
+use warehouse::{Stock, Stocks};
+
+/// Where purchasing, warehouse and billing have their tables: in memory, or in files that may have some already.
+pub trait Stores {
+    ghost use Rattle.laws_stores.specs.Sight.{AllTables};
+    ghost use Rattle.programs.specs.Opened.{AreOpened};
+    ghost use Rattle.programs.specs.declared.fault.StoresFault.{StoresFault};
+    ghost use Rattle.std.specs.Prelude.{IfOk, IfErr};
+
+    /// What keeps the orders.
+    type Orders: Keep<State = Option<Order>, Command = OrderCommand> + Drop;
+    /// What keeps the stocks.
+    type Stocks: Keep<State = Stock, Command = StockCommand> + Drop;
+    /// What keeps the accounts.
+    type Accounts: Keep<State = Account, Command = AccountCommand> + Drop;
+
+    /// What is known of the tables that are found. A file may have any.
+    ghost found: { AllTables → Type 0 };
+
+    /// The faults for which an opening may fail.
+    ghost fails: { StoresFault → Type 0 };
+
+    /// Opens all three.
+    ///
+    /// # Errors
+    /// Where one can't be opened; none is open then.
+    fn open(
+        &self,
+        alloc: Global,
+    ) -> Result<(Self::Orders, Self::Stocks, Self::Accounts), StoresFault>
+        ensures opened { IfOk result (λ keeps. AreOpened found (record {
+          purchasing = Self.Orders.seen keeps.0;
+          warehouse = Self.Stocks.seen keeps.1;
+          billing = Self.Accounts.seen keeps.2;
+        })) }
+        ensures unopened { IfErr result fails };
+}
+
+/// Tables in memory: they are empty at first, and gone in the end. To open them takes no memory and never fails.
+#[derive(Clone, Copy, Debug)]
+pub struct PlainStores;
+
+impl Stores for PlainStores {
+    ghost use Rattle.std.specs.Prelude.{◌≡◌};
+    ghost use Rattle.laws_stores.specs.Sight.{all_empty};
+
+    type Orders = PlainKeep<Orders>;
+
+    type Stocks = PlainKeep<Stocks>;
+
+    type Accounts = PlainKeep<Accounts>;
+
+    ghost found = { λ tables. tables ≡ all_empty };
+
+    ghost fails = { λ _. ⊥ };
+
+    fn open(
+        &self,
+        alloc: Global,
+    ) -> Result<(PlainKeep<Orders>, PlainKeep<Stocks>, PlainKeep<Accounts>), StoresFault> {
+        Ok((
+            PlainKeep::new(alloc),
+            PlainKeep::new(alloc),
+            PlainKeep::new(alloc),
+        ))
+    }
+}
