@@ -36,7 +36,7 @@ pub trait Stores {
     /// Opens all three.
     ///
     /// # Errors
-    /// Where one can't be opened; none is open then.
+    /// Where one can't be opened.
     fn open(
         &self,
         alloc: Global,
