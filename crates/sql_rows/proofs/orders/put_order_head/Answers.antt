@@ -1,0 +1,22 @@
+use Rattle.std.proofs.Common.{arith, w64}
+use Rattle.std.proofs.lemmas.Int.{to_z-of_z}
+use Rattle.sqlite.specs.Held.{state}
+use Rattle.sqlite.specs.State.{HasCleanDisk}
+use Rattle.sql_rows.proofs.OrderRows.{puts_head}
+use Rattle.sql_rows.proofs.orders.put_order_head.Goals as goal
+
+pub returns-clause-ok : goal.returns-clause-ok
+returns-clause-ok g c clean =
+    let old = state g.S.Store c.args.tx.now.conn.now in
+    let early : HasCleanDisk old = omega (arith, c.write.ensures.survives.clean) in
+    puts_head c.args.key.now c.args.account.now c.args.amount c.args.status.now c.args.account_phase.now old
+    (state g.S.Store c.write.new.tx.conn.now) c.write.result (c.requires.schema early) (c.requires.rising early)
+    (rw (
+      c.text.ensures,
+      c.text-2.ensures,
+      c.int.ensures,
+      c.text-3.ensures,
+      c.text-4.ensures,
+      to_z-of_z w64
+          c.args.amount c.ranges.amount,
+    ) at (c.write.ensures.runs clean))

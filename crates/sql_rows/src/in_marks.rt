@@ -1,0 +1,70 @@
+//! The last number handled of each pair.
+
+ghost use Rattle.std.specs.Prelude.{◌≡◌, ◌≤◌, false, OnOk, IfOk, IsTrue, None, filter, [], ◌∷◌};
+ghost use Rattle.sqlite.specs.Held.{state};
+ghost use Rattle.sqlite.specs.State.{HasCleanDisk, Survives, KeepsCommit};
+ghost use Rattle.sqlite_trees.specs.Tree.{Trees};
+ghost use Rattle.sqlite_trees.specs.View.{doubt};
+ghost use Rattle.sqlite_value.specs.Order.{column};
+ghost use Rattle.sql_rows.specs.Schema.{IsService};
+ghost use Rattle.sql_rows.specs.Tables.{has_key, IsRising, Puts, Edits, Stays, AreInOrder, pair_key, place_cells};
+ghost use Rattle.sql_rows.specs.Tables.{by_pair};
+
+use crate::statements::{int, read, text, write};
+use sqlite::{Alter, Connection, Error, Row, Transaction};
+
+/// Sets the last number handled of a pair.
+pub fn put_in_marks<S: Alter>(
+    tx: &mut Transaction<'_, S>,
+    sender: &str,
+    receiver: &str,
+    handled: i64,
+) -> Result<usize, Error>
+    requires schema { HasCleanDisk (state S.Store tx.old.conn.now)
+        → IsService (state S.Store tx.old.conn.now).now.schema }
+    requires rising { HasCleanDisk (state S.Store tx.old.conn.now)
+        → IsRising ((state S.Store tx.old.conn.now).now.trees 5) }
+    requires inside { HasCleanDisk (state S.Store tx.old.conn.now)
+        → IsTrue (state S.Store tx.old.conn.now).in_transaction }
+    ensures same_reference { tx.new.conn.ghost_name ≡ tx.old.conn.ghost_name }
+    ensures ok { HasCleanDisk (state S.Store tx.new.conn.now) → OnOk result (Edits 5
+        (Puts (pair_key sender.now receiver.now) (place_cells sender.now receiver.now handled))
+        (state S.Store tx.old.conn.now) (state S.Store tx.new.conn.now)) }
+    ensures kept { HasCleanDisk (state S.Store tx.new.conn.now)
+        → KeepsCommit (state S.Store tx.old.conn.now) (state S.Store tx.new.conn.now) }
+    ensures survives { Survives (state S.Store tx.old.conn.now) (state S.Store tx.new.conn.now) (λ _. ⊥) }
+{
+    write(
+        tx,
+        "INSERT OR REPLACE INTO in_marks (sender, receiver, handled) VALUES (?1, ?2, ?3)",
+        &[text(sender), text(receiver), int(handled)],
+    )
+}
+
+/// The last number handled of a pair; no row, where it has none.
+pub fn read_handled<S: Alter>(
+    conn: &mut Connection<S>,
+    sender: &str,
+    receiver: &str,
+) -> Result<Vec<Row>, Error>
+    requires schema { HasCleanDisk (state S.Store conn.old) → IsService (state S.Store conn.old).now.schema }
+    requires settled { HasCleanDisk (state S.Store conn.old)
+        → (state S.Store conn.old).now ≡ (state S.Store conn.old).committed }
+    requires autocommit { conn.old.in_transaction ≡ false }
+    ensures rows { HasCleanDisk (state S.Store conn.new) → IfOk result (λ rows.
+        AreInOrder by_pair None (λ x. column x 3 ∷ [])
+        (filter (has_key (pair_key sender.now receiver.now)) ((state S.Store conn.old).now.trees 5)) rows.items) }
+    ensures autocommit { conn.new.in_transaction ≡ false }
+    ensures open { HasCleanDisk (state S.Store conn.new) → OnOk result (IsTrue (state S.Store conn.new).is_open) }
+    ensures stays { HasCleanDisk (state S.Store conn.new) → Stays (state S.Store conn.old) (state S.Store conn.new) }
+    ensures clean { doubt (state S.Store conn.old).is_clean ≤ doubt (state S.Store conn.new).is_clean }
+    ensures crash { HasCleanDisk (state S.Store conn.new) → (db : Trees)
+        → (state S.Store conn.new).may_leave db → (state S.Store conn.old).may_leave db }
+{
+    read(
+        conn,
+        "SELECT handled FROM in_marks WHERE sender = ?1 AND receiver = ?2 \
+         ORDER BY sender, receiver",
+        &[text(sender), text(receiver)],
+    )
+}
