@@ -1,0 +1,7 @@
+pub mod Bodies
+pub mod Columns
+pub mod LineRows
+pub mod OrderRows
+pub mod Reading
+pub mod Steps
+pub mod Words
