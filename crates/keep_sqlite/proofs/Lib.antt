@@ -1,0 +1,11 @@
+mod Lookup
+mod Unique
+mod Keys
+mod Frames
+mod Changes
+mod Commits
+mod Reading
+mod Ends
+mod Rows
+mod Journals
+mod NewFiles

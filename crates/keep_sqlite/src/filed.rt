@@ -1,0 +1,83 @@
+//! What differs between the files of services.
+
+ghost use Rattle.std.specs.Prelude.{◌≡◌, ◌≤◌, ℕ, List, false, OnOk, IfOk, IsTrue};
+ghost use Rattle.sqlite_trees.specs.Tree.{Trees};
+ghost use Rattle.sqlite_trees.specs.View.{doubt};
+ghost use Rattle.sqlite.specs.Effect.{IsDatabase};
+ghost use Rattle.sqlite.specs.Held.{state};
+ghost use Rattle.sqlite.specs.State.{HasCleanDisk, Survives, KeepsCommit};
+ghost use Rattle.keep.specs.Tables.{changed_by};
+ghost use Rattle.keep.specs.declared.change.Change.TheVariants.{State};
+ghost use Rattle.sql_rows.specs.Tables.{Stays};
+ghost use Rattle.keep_sqlite.specs.Ready.{IsFiled, IsReady, Makes};
+
+use base::Entity;
+use sql_bodies::CommandBody;
+use sql_rows::Service;
+use sqlite::{Alter, Connection, Error, Transaction};
+use std::alloc::Global;
+
+/// A service whose states and commands can stand in a file.
+pub trait Filed {
+    ghost use Rattle.keep_sqlite.specs.Filing.{Filing};
+
+    /// What is kept of an entity.
+    type State: Drop;
+    /// What its seats ask for.
+    type Command: CommandBody;
+
+    /// Its schema, and how the rows of its own tables are read.
+    ghost filing: { Filing Self.State Self.Command };
+
+    /// Which service it is.
+    fn service() -> Service
+        ensures { result ≡ filing.is_service.service };
+
+    /// The row of an entity.
+    ///
+    /// # Errors
+    /// Where the store failed or a growth was refused, and where the file has a row that isn't one of a state.
+    fn read_state<S: Alter>(
+        alloc: Global,
+        conn: &mut Connection<S>,
+        entity: &Entity,
+        _count: u64,
+    ) -> Result<Option<Self::State>, Error>
+        requires autocommit { conn.old.in_transaction ≡ false }
+        requires ready { HasCleanDisk (state S.Store conn.old) → IsReady filing.schema _count (state S.Store conn.old) }
+        ensures row { HasCleanDisk (state S.Store conn.new)
+            → IfOk result (λ row. row ≡ filing.entity (state S.Store conn.old).now.trees entity.now) }
+        ensures autocommit { conn.new.in_transaction ≡ false }
+        ensures open { HasCleanDisk (state S.Store conn.new) → OnOk result (IsTrue (state S.Store conn.new).is_open) }
+        ensures stays { HasCleanDisk (state S.Store conn.new) → Stays (state S.Store conn.old) (state S.Store conn.new) }
+        ensures crash { HasCleanDisk (state S.Store conn.new) → (db : Trees) → (state S.Store conn.new).may_leave db
+            → (state S.Store conn.old).may_leave db }
+        ensures clean { doubt (state S.Store conn.old).is_clean ≤ doubt (state S.Store conn.new).is_clean };
+
+    /// Sets the row of an entity, or takes it away.
+    ///
+    /// # Errors
+    /// Where the store failed or a growth was refused, and where the file has no place for the entity.
+    fn write_state<S: Alter>(
+        alloc: Global,
+        tx: &mut Transaction<'_, S>,
+        entity: &Entity,
+        row: &Option<Self::State>,
+        count: u64,
+    ) -> Result<u64, Error>
+        requires filed { HasCleanDisk (state S.Store tx.old.conn.now)
+            → IsFiled filing.schema count (state S.Store tx.old.conn.now).now }
+        requires sound { HasCleanDisk (state S.Store tx.old.conn.now) → IsDatabase (state S.Store tx.old.conn.now).now }
+        requires inside { HasCleanDisk (state S.Store tx.old.conn.now)
+            → IsTrue (state S.Store tx.old.conn.now).in_transaction }
+        ensures same_reference { tx.new.conn.ghost_name ≡ tx.old.conn.ghost_name }
+        ensures ok { HasCleanDisk (state S.Store tx.new.conn.now)
+            → IfOk result (λ count. Makes filing (changed_by (State entity.now row.now)) count
+            (state S.Store tx.old.conn.now) (state S.Store tx.new.conn.now)) }
+        ensures kept { HasCleanDisk (state S.Store tx.new.conn.now)
+            → KeepsCommit (state S.Store tx.old.conn.now) (state S.Store tx.new.conn.now) }
+        ensures survives { Survives (state S.Store tx.old.conn.now) (state S.Store tx.new.conn.now) (λ _. ⊥) };
+
+    /// Commands are read as their bodies are.
+    ghost commands: { (body : List ℕ) → filing.command body ≡ Self.Command.read body };
+}

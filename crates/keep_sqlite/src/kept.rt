@@ -1,0 +1,232 @@
+//! A keep over a connection.
+
+ghost use Rattle.std.specs.Prelude.{◌≡◌, ◌≤◌, true, false, IsTrue, IfOk, OnOk, Err};
+ghost use Rattle.sqlite_trees.specs.Tree.{Trees};
+ghost use Rattle.sqlite_trees.specs.View.{doubt};
+ghost use Rattle.sqlite.specs.Held.{state};
+ghost use Rattle.sqlite.specs.State.{HasCleanDisk};
+ghost use Rattle.keep.specs.Law.{MoreFailures, Writes};
+ghost use Rattle.keep.specs.Seen.{keep_end};
+ghost use Rattle.keep.specs.declared.fault.KeepFault.TheVariants.{Failed};
+ghost use Rattle.keep.specs.Tables.{changed, empty, ArePlaced};
+ghost use Rattle.sql_rows.specs.Tables.{Stays};
+ghost use Rattle.keep_sqlite.specs.Ready.{IsEnd, IsReady};
+ghost use Rattle.keep_sqlite.specs.Law.{ready_prop, seen_of, seen_sound};
+
+use crate::filed::Filed;
+use crate::founding::found;
+use crate::journal::find_rows;
+use crate::reads::{find_handled, find_held, find_sent, find_settled, is_live};
+use crate::writes::write_all;
+use activities::JournalRow;
+use base::{Entity, Number, Pair};
+use envelope::{Letter, Message};
+use keep::{Change, Keep, KeepFault, Place};
+use sqlite::{Alter, Connection, Error, ErrorCode, MemStore};
+use std::alloc::Global;
+use std::marker::PhantomData;
+
+/// The tables of a service in a file, or in memory, over a connection that stays open.
+pub struct SqliteKeep<H: Filed, S: Alter> {
+    conn: Connection<S>,
+    // How many rows the journal has.
+    count: u64,
+    failures: u64,
+    is_usable: bool,
+    service: PhantomData<H>,
+    ghost autocommit: { conn.in_transaction ≡ false },
+    ghost sound: { HasCleanDisk (state S.Store conn) → IsTrue (state S.Store conn).is_open
+        → IsReady H.filing.schema count (state S.Store conn) } by { ready_prop _ _ _ },
+    ghost live: { IsTrue is_usable → HasCleanDisk (state S.Store conn) → IsTrue (state S.Store conn).is_open },
+}
+
+/// Written by hand, since the service is no value that could be dropped.
+impl<H: Filed, S: Alter + Drop> Drop for SqliteKeep<H, S> {
+    fn drop(self) {
+        let SqliteKeep {
+            conn: _conn,
+            count: _,
+            failures: _,
+            is_usable: _,
+            service: _,
+        } = self;
+    }
+}
+
+impl<H: Filed, S: Alter> SqliteKeep<H, S> {
+    /// Counts a failure.
+    fn fail<R>(&mut self) -> Result<R, KeepFault>
+        ensures failed { result ≡ Err Failed }
+        ensures counted { MoreFailures self.old.failures self.new.failures }
+        ensures shut { self.new.is_usable ≡ false }
+        ensures same { self.new.conn ≡ self.old.conn }
+    {
+        self.is_usable = false;
+        self.failures = self.failures.saturating_add(1);
+        Err(KeepFault::Failed)
+    }
+
+    /// Ends a call whose statements did this. Where they wanted memory, and the connection is open still, nothing failed.
+    fn end<R: Drop>(&mut self, done: Result<R, Error>) -> Result<R, KeepFault>
+        requires shut { self.old.is_usable ≡ false }
+        requires open { HasCleanDisk (state S.Store self.old.conn)
+            → OnOk done (IsTrue (state S.Store self.old.conn).is_open) }
+        ensures end { IsEnd done result self.new.is_usable self.old.failures self.new.failures }
+        ensures stays { HasCleanDisk (state S.Store self.new.conn)
+            → Stays (state S.Store self.old.conn) (state S.Store self.new.conn) }
+        ensures crash { HasCleanDisk (state S.Store self.new.conn) → (db : Trees)
+            → (state S.Store self.new.conn).may_leave db → (state S.Store self.old.conn).may_leave db }
+        ensures clean { doubt (state S.Store self.old.conn).is_clean ≤ doubt (state S.Store self.new.conn).is_clean }
+        ensures live { IsTrue self.new.is_usable → HasCleanDisk (state S.Store self.new.conn)
+            → IsTrue (state S.Store self.new.conn).is_open }
+    {
+        match done {
+            Ok(value) => {
+                self.is_usable = true;
+                Ok(value)
+            }
+            Err(Error::SqliteFailure(ErrorCode::OutOfMemory)) => {
+                if is_live(&mut self.conn) {
+                    self.is_usable = true;
+                    return Err(KeepFault::Memory);
+                }
+                self.fail()
+            }
+            Err(_) => self.fail(),
+        }
+    }
+}
+
+impl<H: Filed> SqliteKeep<H, MemStore> {
+    /// Empty tables in memory: they end with the run.
+    ///
+    /// # Errors
+    /// `Memory` where a growth was refused.
+    pub fn memory(alloc: Global) -> Result<Self, KeepFault>
+        ensures usable { IfOk result (λ k. (⟦<SqliteKeep<H, MemStore> as Keep>⟧.seen k).usable ≡ true) }
+        ensures empty { IfOk result (λ k. (⟦<SqliteKeep<H, MemStore> as Keep>⟧.seen k).doubt ≡ 0
+            → (⟦<SqliteKeep<H, MemStore> as Keep>⟧.seen k).tables ≡ empty) }
+    {
+        let mut conn = Connection::open_in_memory(alloc)?;
+        match found::<H, MemStore>(&mut conn) {
+            Ok(()) => Ok(SqliteKeep {
+                conn,
+                count: 0,
+                failures: 0,
+                is_usable: true,
+                service: PhantomData,
+            }),
+            Err(Error::SqliteFailure(ErrorCode::OutOfMemory)) => Err(KeepFault::Memory),
+            Err(_) => Err(KeepFault::Failed),
+        }
+    }
+}
+
+impl<H: Filed, S: Alter> Keep for SqliteKeep<H, S> {
+    type State = H::State;
+
+    type Command = H::Command;
+
+    ghost seen = { λ k. seen_of H.filing (state S.Store k.conn) k.is_usable k.failures };
+
+    fn usable(&self) -> bool {
+        self.is_usable
+    }
+
+    // NOT YET: a read that always fails keeps the law too.
+    #[tactic(auto, using(crate::proofs::Ends::gave_up))]
+    fn entity(&mut self, _alloc: Global, _entity: &Entity) -> Result<Option<H::State>, KeepFault> {
+        self.fail()
+    }
+
+    fn sent(&mut self, _alloc: Global, pair: &Pair) -> Result<u64, KeepFault> {
+        self.is_usable = false;
+        let found = find_sent::<H, S>(&mut self.conn, pair, self.count);
+        self.end(found)
+    }
+
+    fn settled(&mut self, _alloc: Global, pair: &Pair) -> Result<u64, KeepFault> {
+        self.is_usable = false;
+        let found = find_settled::<H, S>(&mut self.conn, pair, self.count);
+        self.end(found)
+    }
+
+    fn handled(&mut self, _alloc: Global, pair: &Pair) -> Result<u64, KeepFault> {
+        self.is_usable = false;
+        let found = find_handled::<H, S>(&mut self.conn, pair, self.count);
+        self.end(found)
+    }
+
+    fn held(
+        &mut self,
+        alloc: Global,
+        pair: &Pair,
+        number: Number,
+    ) -> Result<Option<Message>, KeepFault> {
+        self.is_usable = false;
+        let found = find_held::<H, S>(alloc, &mut self.conn, pair, number, self.count);
+        self.end(found)
+    }
+
+    #[tactic(auto, using(crate::proofs::Ends::gave_up))]
+    fn drainable(&mut self, _alloc: Global) -> Result<Option<Pair>, KeepFault> {
+        self.fail()
+    }
+
+    #[tactic(auto, using(crate::proofs::Ends::gave_up))]
+    fn unsettled(
+        &mut self,
+        _alloc: Global,
+        _after: &Option<Place>,
+        _limit: usize,
+    ) -> Result<Vec<Letter>, KeepFault> {
+        self.fail()
+    }
+
+    fn journal(
+        &mut self,
+        alloc: Global,
+        from: u64,
+        limit: usize,
+    ) -> Result<Vec<JournalRow<H::Command>>, KeepFault> {
+        self.is_usable = false;
+        let found = find_rows::<H, S>(alloc, &mut self.conn, from, limit, self.count);
+        self.end(found)
+    }
+
+    fn length(&self) -> u64 {
+        self.count
+    }
+
+    fn apply(
+        &mut self,
+        alloc: Global,
+        changes: Vec<Change<H::State, H::Command>>,
+    ) -> Result<(), KeepFault>
+        requires { self.old.is_usable ≡ true }
+        ensures { Writes (λ k. seen_of H.filing (state S.Store k.conn) k.is_usable k.failures) self.old self.new
+            (ArePlaced changes.items) (changed changes.items) (keep_end result) }
+    {
+        self.is_usable = false;
+        match write_all::<H, S>(alloc, &mut self.conn, changes.as_slice(), self.count) {
+            Ok(count) => {
+                self.count = count;
+                self.is_usable = true;
+                Ok(())
+            }
+            Err(error) => self.end(Err(error)),
+        }
+    }
+
+    fn reopen(&mut self, _alloc: Global) -> Result<(), KeepFault> {
+        self.is_usable = false;
+        if is_live(&mut self.conn) {
+            self.is_usable = true;
+            return Ok(());
+        }
+        self.fail()
+    }
+
+    ghost sound = { λ k. seen_sound H.filing _ k.is_usable k.failures k.count k.sound k.live
+        (λ live db. S.Store.settled k.conn.store db live) (S.Store.stays k.conn.store) (S.Store.survives k.conn.store) };
+}

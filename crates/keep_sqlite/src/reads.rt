@@ -1,0 +1,152 @@
+//! What is read of a file.
+
+ghost use Rattle.std.specs.Prelude.{◌≡◌, ◌≤◌, false, OnOk, IfOk, IsTrue};
+ghost use Rattle.sqlite_trees.specs.Tree.{Trees};
+ghost use Rattle.sqlite_trees.specs.View.{doubt};
+ghost use Rattle.sqlite.specs.Held.{state};
+ghost use Rattle.sqlite.specs.State.{HasCleanDisk};
+ghost use Rattle.sql_rows.specs.Tables.{Stays};
+ghost use Rattle.keep_sqlite.specs.Tables.{tables_of};
+ghost use Rattle.keep_sqlite.specs.Ready.{IsReady, IsFirstMark, IsFirstMessage};
+
+use crate::filed::Filed;
+use crate::writes::bound_number;
+use base::{Number, Pair};
+use envelope::Message;
+use sql_bodies::read_message;
+use sql_rows::{read_handled, read_held, read_marks};
+use sqlite::{Alter, Connection, Error, Row};
+use std::alloc::Global;
+
+/// Whether the connection is still open. Where memory is short it answers false.
+pub fn is_live<S: Alter>(conn: &mut Connection<S>) -> bool
+    requires autocommit { conn.old.in_transaction ≡ false }
+    requires settled { HasCleanDisk (state S.Store conn.old) → IsTrue (state S.Store conn.old).is_open
+        → (state S.Store conn.old).now ≡ (state S.Store conn.old).committed }
+    ensures autocommit { conn.new.in_transaction ≡ false }
+    ensures is_open { HasCleanDisk (state S.Store conn.new) → IsTrue result → IsTrue (state S.Store conn.new).is_open }
+    ensures stays { HasCleanDisk (state S.Store conn.new) → Stays (state S.Store conn.old) (state S.Store conn.new) }
+    ensures crash { HasCleanDisk (state S.Store conn.new) → (db : Trees) → (state S.Store conn.new).may_leave db
+        → (state S.Store conn.old).may_leave db }
+    ensures clean { doubt (state S.Store conn.old).is_clean ≤ doubt (state S.Store conn.new).is_clean }
+{
+    conn.prepare("SELECT 1").is_ok()
+}
+
+/// The mark in a column of an answer's first row, or 0.
+fn mark_in(rows: &[Row], at: usize) -> Result<u64, Error>
+    ensures { IfOk result (IsFirstMark at rows.now) }
+{
+    match rows.first() {
+        None => Ok(0),
+        Some(row) => row.get(at),
+    }
+}
+
+/// The handled mark of a pair.
+pub fn find_handled<H: Filed, S: Alter>(
+    conn: &mut Connection<S>,
+    pair: &Pair,
+    _count: u64,
+) -> Result<u64, Error>
+    requires autocommit { conn.old.in_transaction ≡ false }
+    requires ready { HasCleanDisk (state S.Store conn.old)
+        → IsReady H.filing.schema _count (state S.Store conn.old) }
+    ensures mark { HasCleanDisk (state S.Store conn.new)
+        → IfOk result (λ n. n ≡ (tables_of H.filing (state S.Store conn.old).now.trees).handled pair.now) }
+    ensures autocommit { conn.new.in_transaction ≡ false }
+    ensures open { HasCleanDisk (state S.Store conn.new) → OnOk result (IsTrue (state S.Store conn.new).is_open) }
+    ensures stays { HasCleanDisk (state S.Store conn.new) → Stays (state S.Store conn.old) (state S.Store conn.new) }
+    ensures crash { HasCleanDisk (state S.Store conn.new) → (db : Trees) → (state S.Store conn.new).may_leave db
+        → (state S.Store conn.old).may_leave db }
+    ensures clean { doubt (state S.Store conn.old).is_clean ≤ doubt (state S.Store conn.new).is_clean }
+{
+    let _ = conn.schema();
+    let rows = read_handled(conn, pair.from.text(), pair.to.text())?;
+    mark_in(rows.as_slice(), 0)
+}
+
+/// The number of the last letter that a pair sent.
+pub fn find_sent<H: Filed, S: Alter>(
+    conn: &mut Connection<S>,
+    pair: &Pair,
+    _count: u64,
+) -> Result<u64, Error>
+    requires autocommit { conn.old.in_transaction ≡ false }
+    requires ready { HasCleanDisk (state S.Store conn.old)
+        → IsReady H.filing.schema _count (state S.Store conn.old) }
+    ensures mark { HasCleanDisk (state S.Store conn.new)
+        → IfOk result (λ n. n ≡ (tables_of H.filing (state S.Store conn.old).now.trees).sent pair.now) }
+    ensures autocommit { conn.new.in_transaction ≡ false }
+    ensures open { HasCleanDisk (state S.Store conn.new) → OnOk result (IsTrue (state S.Store conn.new).is_open) }
+    ensures stays { HasCleanDisk (state S.Store conn.new) → Stays (state S.Store conn.old) (state S.Store conn.new) }
+    ensures crash { HasCleanDisk (state S.Store conn.new) → (db : Trees) → (state S.Store conn.new).may_leave db
+        → (state S.Store conn.old).may_leave db }
+    ensures clean { doubt (state S.Store conn.old).is_clean ≤ doubt (state S.Store conn.new).is_clean }
+{
+    let _ = conn.schema();
+    let rows = read_marks(conn, pair.from.text(), pair.to.text())?;
+    mark_in(rows.as_slice(), 0)
+}
+
+/// The settled mark of a pair.
+pub fn find_settled<H: Filed, S: Alter>(
+    conn: &mut Connection<S>,
+    pair: &Pair,
+    _count: u64,
+) -> Result<u64, Error>
+    requires autocommit { conn.old.in_transaction ≡ false }
+    requires ready { HasCleanDisk (state S.Store conn.old)
+        → IsReady H.filing.schema _count (state S.Store conn.old) }
+    ensures mark { HasCleanDisk (state S.Store conn.new)
+        → IfOk result (λ n. n ≡ (tables_of H.filing (state S.Store conn.old).now.trees).settled pair.now) }
+    ensures autocommit { conn.new.in_transaction ≡ false }
+    ensures open { HasCleanDisk (state S.Store conn.new) → OnOk result (IsTrue (state S.Store conn.new).is_open) }
+    ensures stays { HasCleanDisk (state S.Store conn.new) → Stays (state S.Store conn.old) (state S.Store conn.new) }
+    ensures crash { HasCleanDisk (state S.Store conn.new) → (db : Trees) → (state S.Store conn.new).may_leave db
+        → (state S.Store conn.old).may_leave db }
+    ensures clean { doubt (state S.Store conn.old).is_clean ≤ doubt (state S.Store conn.new).is_clean }
+{
+    let _ = conn.schema();
+    let rows = read_marks(conn, pair.from.text(), pair.to.text())?;
+    mark_in(rows.as_slice(), 1)
+}
+
+/// The message whose body an answer's first value is, if there is one.
+fn message_in(alloc: Global, rows: &[Row]) -> Result<Option<Message>, Error>
+    ensures { IfOk result (IsFirstMessage rows.now) }
+{
+    let Some(row) = rows.first() else {
+        return Ok(None);
+    };
+    let body: String = row.get(0)?;
+    match read_message(alloc, body.as_str())? {
+        Some(message) => Ok(Some(message)),
+        None => Err(Error::InvalidQuery),
+    }
+}
+
+/// The held message of a pair and number.
+pub fn find_held<H: Filed, S: Alter>(
+    alloc: Global,
+    conn: &mut Connection<S>,
+    pair: &Pair,
+    number: Number,
+    _count: u64,
+) -> Result<Option<Message>, Error>
+    requires autocommit { conn.old.in_transaction ≡ false }
+    requires ready { HasCleanDisk (state S.Store conn.old)
+        → IsReady H.filing.schema _count (state S.Store conn.old) }
+    ensures message { HasCleanDisk (state S.Store conn.new)
+        → IfOk result (λ m. m ≡ (tables_of H.filing (state S.Store conn.old).now.trees).held pair.now number) }
+    ensures autocommit { conn.new.in_transaction ≡ false }
+    ensures open { HasCleanDisk (state S.Store conn.new) → OnOk result (IsTrue (state S.Store conn.new).is_open) }
+    ensures stays { HasCleanDisk (state S.Store conn.new) → Stays (state S.Store conn.old) (state S.Store conn.new) }
+    ensures crash { HasCleanDisk (state S.Store conn.new) → (db : Trees) → (state S.Store conn.new).may_leave db
+        → (state S.Store conn.old).may_leave db }
+    ensures clean { doubt (state S.Store conn.old).is_clean ≤ doubt (state S.Store conn.new).is_clean }
+{
+    let _ = conn.schema();
+    let rows = read_held(conn, pair.from.text(), pair.to.text(), bound_number(number))?;
+    message_in(alloc, rows.as_slice())
+}

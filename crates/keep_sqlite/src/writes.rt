@@ -1,0 +1,493 @@
+//! The changes of a transaction.
+
+ghost use Rattle.std.specs.Prelude.{◌≡◌, ◌<◌, ◌^◌, ◌≤◌, ◌⊎◌};
+ghost use Rattle.std.specs.Prelude.{true, false, OnOk, IfOk, OnErr, IsTrue, FitsSigned, pos};
+ghost use Rattle.std.specs.Int.{w64};
+ghost use Rattle.sqlite_trees.specs.Tree.{Trees};
+ghost use Rattle.sqlite_trees.specs.View.{doubt};
+ghost use Rattle.sqlite.specs.Effect.{IsDatabase};
+ghost use Rattle.sqlite.specs.Held.{state};
+ghost use Rattle.sqlite.specs.State.{HasCleanDisk, Survives, KeepsCommit};
+ghost use Rattle.keep.specs.Tables.{changed, changed_by};
+ghost use Rattle.keep.specs.declared.change.Change.TheVariants.{Sent, Settled, Handled, Held, NotHeld};
+ghost use Rattle.keep_sqlite.specs.Tables.{tables_of};
+ghost use Rattle.activities.specs.declared.input.Input.TheVariants.{FromSeat, FromEntity};
+ghost use Rattle.base.specs.Number.{is_number};
+ghost use Rattle.keep_sqlite.specs.Parts.{with_sent, with_settled, with_letter, without_letters, with_row};
+ghost use Rattle.keep_sqlite.specs.Ready.{IsFiled, IsReady, Makes, IsFirstCell};
+
+use crate::filed::Filed;
+use activities::{Input, JournalRow};
+use base::{Entity, Number, Pair};
+use envelope::{Letter, Message};
+use keep::Change;
+use sql_bodies::CommandBody;
+use sql_rows::{
+    add_command, add_message, find_marks, put_held, put_in_marks, put_out_marks, put_outbox,
+    settle_outbox, take_held,
+};
+use sqlite::{Alter, Connection, Error, Row, Transaction};
+use std::alloc::Global;
+
+/// A letter's number as SQL binds it.
+pub fn bound_number(number: Number) -> i64
+    ensures value { result ≡ pos number }
+    ensures small { number < 2 ^ 63 }
+    ensures number { is_number number ≡ true }
+{
+    let value = number.get();
+    value as i64
+}
+
+/// Sets the handled mark of a pair.
+fn write_handled<H: Filed, S: Alter>(
+    tx: &mut Transaction<'_, S>,
+    pair: &Pair,
+    number: Number,
+    count: u64,
+) -> Result<u64, Error>
+    requires filed { HasCleanDisk (state S.Store tx.old.conn.now)
+        → IsFiled H.filing.schema count (state S.Store tx.old.conn.now).now }
+    requires sound { HasCleanDisk (state S.Store tx.old.conn.now) → IsDatabase (state S.Store tx.old.conn.now).now }
+    requires inside { HasCleanDisk (state S.Store tx.old.conn.now)
+        → IsTrue (state S.Store tx.old.conn.now).in_transaction }
+    ensures same_reference { tx.new.conn.ghost_name ≡ tx.old.conn.ghost_name }
+    ensures ok { HasCleanDisk (state S.Store tx.new.conn.now)
+        → IfOk result (λ count. Makes H.filing (changed_by (Handled pair.now number)) count
+        (state S.Store tx.old.conn.now) (state S.Store tx.new.conn.now)) }
+    ensures kept { HasCleanDisk (state S.Store tx.new.conn.now)
+        → KeepsCommit (state S.Store tx.old.conn.now) (state S.Store tx.new.conn.now) }
+    ensures survives { Survives (state S.Store tx.old.conn.now) (state S.Store tx.new.conn.now) (λ _. ⊥) }
+{
+    put_in_marks(tx, pair.from.text(), pair.to.text(), bound_number(number))?;
+    Ok(count)
+}
+
+/// Takes a held message away.
+fn write_not_held<H: Filed, S: Alter>(
+    tx: &mut Transaction<'_, S>,
+    pair: &Pair,
+    number: Number,
+    count: u64,
+) -> Result<u64, Error>
+    requires filed { HasCleanDisk (state S.Store tx.old.conn.now)
+        → IsFiled H.filing.schema count (state S.Store tx.old.conn.now).now }
+    requires sound { HasCleanDisk (state S.Store tx.old.conn.now) → IsDatabase (state S.Store tx.old.conn.now).now }
+    requires inside { HasCleanDisk (state S.Store tx.old.conn.now)
+        → IsTrue (state S.Store tx.old.conn.now).in_transaction }
+    ensures same_reference { tx.new.conn.ghost_name ≡ tx.old.conn.ghost_name }
+    ensures ok { HasCleanDisk (state S.Store tx.new.conn.now)
+        → IfOk result (λ count. Makes H.filing (changed_by (NotHeld pair.now number)) count
+        (state S.Store tx.old.conn.now) (state S.Store tx.new.conn.now)) }
+    ensures kept { HasCleanDisk (state S.Store tx.new.conn.now)
+        → KeepsCommit (state S.Store tx.old.conn.now) (state S.Store tx.new.conn.now) }
+    ensures survives { Survives (state S.Store tx.old.conn.now) (state S.Store tx.new.conn.now) (λ _. ⊥) }
+{
+    take_held(tx, pair.from.text(), pair.to.text(), bound_number(number))?;
+    Ok(count)
+}
+
+/// Holds a letter that came too early.
+fn write_held<H: Filed, S: Alter>(
+    alloc: Global,
+    tx: &mut Transaction<'_, S>,
+    letter: &Letter,
+    count: u64,
+) -> Result<u64, Error>
+    requires filed { HasCleanDisk (state S.Store tx.old.conn.now)
+        → IsFiled H.filing.schema count (state S.Store tx.old.conn.now).now }
+    requires sound { HasCleanDisk (state S.Store tx.old.conn.now) → IsDatabase (state S.Store tx.old.conn.now).now }
+    requires inside { HasCleanDisk (state S.Store tx.old.conn.now)
+        → IsTrue (state S.Store tx.old.conn.now).in_transaction }
+    ensures same_reference { tx.new.conn.ghost_name ≡ tx.old.conn.ghost_name }
+    ensures ok { HasCleanDisk (state S.Store tx.new.conn.now)
+        → IfOk result (λ count. Makes H.filing (changed_by (Held letter.now)) count
+        (state S.Store tx.old.conn.now) (state S.Store tx.new.conn.now)) }
+    ensures kept { HasCleanDisk (state S.Store tx.new.conn.now)
+        → KeepsCommit (state S.Store tx.old.conn.now) (state S.Store tx.new.conn.now) }
+    ensures survives { Survives (state S.Store tx.old.conn.now) (state S.Store tx.new.conn.now) (λ _. ⊥) }
+{
+    let body = letter.message.body(alloc)?;
+    let pair = &letter.pair;
+    put_held(
+        tx,
+        pair.from.text(),
+        pair.to.text(),
+        bound_number(letter.number),
+        body.as_str(),
+    )?;
+    Ok(count)
+}
+
+/// The value in a column of an answer's first row, or 0.
+fn cell_in(rows: &[Row], at: usize) -> Result<i64, Error>
+    ensures cell { IfOk result (IsFirstCell at rows.now) }
+    ensures fits { IfOk result (FitsSigned w64) }
+{
+    match rows.first() {
+        None => Ok(0),
+        Some(row) => row.get(at),
+    }
+}
+
+/// Sets the number of the last letter that a pair sent.
+fn put_sent<H: Filed, S: Alter>(
+    tx: &mut Transaction<'_, S>,
+    pair: &Pair,
+    number: Number,
+    count: u64,
+) -> Result<u64, Error>
+    requires filed { HasCleanDisk (state S.Store tx.old.conn.now)
+        → IsFiled H.filing.schema count (state S.Store tx.old.conn.now).now }
+    requires sound { HasCleanDisk (state S.Store tx.old.conn.now) → IsDatabase (state S.Store tx.old.conn.now).now }
+    requires inside { HasCleanDisk (state S.Store tx.old.conn.now)
+        → IsTrue (state S.Store tx.old.conn.now).in_transaction }
+    ensures same_reference { tx.new.conn.ghost_name ≡ tx.old.conn.ghost_name }
+    ensures ok { HasCleanDisk (state S.Store tx.new.conn.now)
+        → IfOk result (λ count. Makes H.filing (with_sent pair.now number) count
+        (state S.Store tx.old.conn.now) (state S.Store tx.new.conn.now)) }
+    ensures kept { HasCleanDisk (state S.Store tx.new.conn.now)
+        → KeepsCommit (state S.Store tx.old.conn.now) (state S.Store tx.new.conn.now) }
+    ensures survives { Survives (state S.Store tx.old.conn.now) (state S.Store tx.new.conn.now) (λ _. ⊥) }
+{
+    let rows = find_marks(tx, pair.from.text(), pair.to.text())?;
+    let settled = cell_in(rows.as_slice(), 1)?;
+    put_out_marks(
+        tx,
+        pair.from.text(),
+        pair.to.text(),
+        bound_number(number),
+        settled,
+    )?;
+    Ok(count)
+}
+
+/// Puts a letter into the outbox.
+fn put_letter<H: Filed, S: Alter>(
+    alloc: Global,
+    tx: &mut Transaction<'_, S>,
+    letter: &Letter,
+    count: u64,
+) -> Result<u64, Error>
+    requires filed { HasCleanDisk (state S.Store tx.old.conn.now)
+        → IsFiled H.filing.schema count (state S.Store tx.old.conn.now).now }
+    requires sound { HasCleanDisk (state S.Store tx.old.conn.now) → IsDatabase (state S.Store tx.old.conn.now).now }
+    requires inside { HasCleanDisk (state S.Store tx.old.conn.now)
+        → IsTrue (state S.Store tx.old.conn.now).in_transaction }
+    ensures same_reference { tx.new.conn.ghost_name ≡ tx.old.conn.ghost_name }
+    ensures ok { HasCleanDisk (state S.Store tx.new.conn.now)
+        → IfOk result (λ count. Makes H.filing (with_letter letter.now) count
+        (state S.Store tx.old.conn.now) (state S.Store tx.new.conn.now)) }
+    ensures kept { HasCleanDisk (state S.Store tx.new.conn.now)
+        → KeepsCommit (state S.Store tx.old.conn.now) (state S.Store tx.new.conn.now) }
+    ensures survives { Survives (state S.Store tx.old.conn.now) (state S.Store tx.new.conn.now) (λ _. ⊥) }
+{
+    let body = letter.message.body(alloc)?;
+    let pair = &letter.pair;
+    put_outbox(
+        tx,
+        pair.from.text(),
+        pair.to.text(),
+        bound_number(letter.number),
+        body.as_str(),
+    )?;
+    Ok(count)
+}
+
+/// Sends a letter: its row of the outbox is put, and its number is the last that the pair sent.
+fn write_sent<H: Filed, S: Alter>(
+    alloc: Global,
+    tx: &mut Transaction<'_, S>,
+    letter: &Letter,
+    count: u64,
+) -> Result<u64, Error>
+    requires filed { HasCleanDisk (state S.Store tx.old.conn.now)
+        → IsFiled H.filing.schema count (state S.Store tx.old.conn.now).now }
+    requires sound { HasCleanDisk (state S.Store tx.old.conn.now) → IsDatabase (state S.Store tx.old.conn.now).now }
+    requires inside { HasCleanDisk (state S.Store tx.old.conn.now)
+        → IsTrue (state S.Store tx.old.conn.now).in_transaction }
+    ensures same_reference { tx.new.conn.ghost_name ≡ tx.old.conn.ghost_name }
+    ensures ok { HasCleanDisk (state S.Store tx.new.conn.now)
+        → IfOk result (λ count. Makes H.filing (changed_by (Sent letter.now)) count
+        (state S.Store tx.old.conn.now) (state S.Store tx.new.conn.now)) }
+    ensures kept { HasCleanDisk (state S.Store tx.new.conn.now)
+        → KeepsCommit (state S.Store tx.old.conn.now) (state S.Store tx.new.conn.now) }
+    ensures survives { Survives (state S.Store tx.old.conn.now) (state S.Store tx.new.conn.now) (λ _. ⊥) }
+{
+    let count = put_sent::<H, S>(tx, &letter.pair, letter.number, count)?;
+    put_letter::<H, S>(alloc, tx, letter, count)
+}
+
+/// Sets the settled mark of a pair.
+fn put_settled<H: Filed, S: Alter>(
+    tx: &mut Transaction<'_, S>,
+    pair: &Pair,
+    number: Number,
+    count: u64,
+) -> Result<u64, Error>
+    requires filed { HasCleanDisk (state S.Store tx.old.conn.now)
+        → IsFiled H.filing.schema count (state S.Store tx.old.conn.now).now }
+    requires sound { HasCleanDisk (state S.Store tx.old.conn.now) → IsDatabase (state S.Store tx.old.conn.now).now }
+    requires inside { HasCleanDisk (state S.Store tx.old.conn.now)
+        → IsTrue (state S.Store tx.old.conn.now).in_transaction }
+    ensures same_reference { tx.new.conn.ghost_name ≡ tx.old.conn.ghost_name }
+    ensures ok { HasCleanDisk (state S.Store tx.new.conn.now)
+        → IfOk result (λ count. Makes H.filing (with_settled pair.now number) count
+        (state S.Store tx.old.conn.now) (state S.Store tx.new.conn.now)) }
+    ensures kept { HasCleanDisk (state S.Store tx.new.conn.now)
+        → KeepsCommit (state S.Store tx.old.conn.now) (state S.Store tx.new.conn.now) }
+    ensures survives { Survives (state S.Store tx.old.conn.now) (state S.Store tx.new.conn.now) (λ _. ⊥) }
+{
+    let rows = find_marks(tx, pair.from.text(), pair.to.text())?;
+    let sent = cell_in(rows.as_slice(), 0)?;
+    put_out_marks(
+        tx,
+        pair.from.text(),
+        pair.to.text(),
+        sent,
+        bound_number(number),
+    )?;
+    Ok(count)
+}
+
+/// Takes the letters of a pair up to a number out of the outbox.
+fn take_letters<H: Filed, S: Alter>(
+    tx: &mut Transaction<'_, S>,
+    pair: &Pair,
+    number: Number,
+    count: u64,
+) -> Result<u64, Error>
+    requires filed { HasCleanDisk (state S.Store tx.old.conn.now)
+        → IsFiled H.filing.schema count (state S.Store tx.old.conn.now).now }
+    requires sound { HasCleanDisk (state S.Store tx.old.conn.now) → IsDatabase (state S.Store tx.old.conn.now).now }
+    requires inside { HasCleanDisk (state S.Store tx.old.conn.now)
+        → IsTrue (state S.Store tx.old.conn.now).in_transaction }
+    ensures same_reference { tx.new.conn.ghost_name ≡ tx.old.conn.ghost_name }
+    ensures ok { HasCleanDisk (state S.Store tx.new.conn.now)
+        → IfOk result (λ count. Makes H.filing (without_letters pair.now number) count
+        (state S.Store tx.old.conn.now) (state S.Store tx.new.conn.now)) }
+    ensures kept { HasCleanDisk (state S.Store tx.new.conn.now)
+        → KeepsCommit (state S.Store tx.old.conn.now) (state S.Store tx.new.conn.now) }
+    ensures survives { Survives (state S.Store tx.old.conn.now) (state S.Store tx.new.conn.now) (λ _. ⊥) }
+{
+    settle_outbox(tx, pair.from.text(), pair.to.text(), bound_number(number))?;
+    Ok(count)
+}
+
+/// Settles a pair up to a number.
+fn write_settled<H: Filed, S: Alter>(
+    tx: &mut Transaction<'_, S>,
+    pair: &Pair,
+    number: Number,
+    count: u64,
+) -> Result<u64, Error>
+    requires filed { HasCleanDisk (state S.Store tx.old.conn.now)
+        → IsFiled H.filing.schema count (state S.Store tx.old.conn.now).now }
+    requires sound { HasCleanDisk (state S.Store tx.old.conn.now) → IsDatabase (state S.Store tx.old.conn.now).now }
+    requires inside { HasCleanDisk (state S.Store tx.old.conn.now)
+        → IsTrue (state S.Store tx.old.conn.now).in_transaction }
+    ensures same_reference { tx.new.conn.ghost_name ≡ tx.old.conn.ghost_name }
+    ensures ok { HasCleanDisk (state S.Store tx.new.conn.now)
+        → IfOk result (λ count. Makes H.filing (changed_by (Settled pair.now number)) count
+        (state S.Store tx.old.conn.now) (state S.Store tx.new.conn.now)) }
+    ensures kept { HasCleanDisk (state S.Store tx.new.conn.now)
+        → KeepsCommit (state S.Store tx.old.conn.now) (state S.Store tx.new.conn.now) }
+    ensures survives { Survives (state S.Store tx.old.conn.now) (state S.Store tx.new.conn.now) (λ _. ⊥) }
+{
+    let count = put_settled::<H, S>(tx, pair, number, count)?;
+    take_letters::<H, S>(tx, pair, number, count)
+}
+
+/// Adds a row of a command to the journal.
+fn write_command<H: Filed, S: Alter>(
+    alloc: Global,
+    tx: &mut Transaction<'_, S>,
+    entity: &Entity,
+    seat: u8,
+    command: &H::Command,
+    count: u64,
+) -> Result<u64, Error>
+    requires filed { HasCleanDisk (state S.Store tx.old.conn.now)
+        → IsFiled H.filing.schema count (state S.Store tx.old.conn.now).now }
+    requires sound { HasCleanDisk (state S.Store tx.old.conn.now) → IsDatabase (state S.Store tx.old.conn.now).now }
+    requires inside { HasCleanDisk (state S.Store tx.old.conn.now)
+        → IsTrue (state S.Store tx.old.conn.now).in_transaction }
+    ensures same_reference { tx.new.conn.ghost_name ≡ tx.old.conn.ghost_name }
+    ensures ok { HasCleanDisk (state S.Store tx.new.conn.now)
+        → IfOk result (λ count. Makes H.filing (with_row (record { entity = entity.now; input = FromSeat seat command.now })) count
+        (state S.Store tx.old.conn.now) (state S.Store tx.new.conn.now)) }
+    ensures kept { HasCleanDisk (state S.Store tx.new.conn.now)
+        → KeepsCommit (state S.Store tx.old.conn.now) (state S.Store tx.new.conn.now) }
+    ensures survives { Survives (state S.Store tx.old.conn.now) (state S.Store tx.new.conn.now) (λ _. ⊥) }
+{
+    if count == u64::MAX {
+        return Err(Error::InvalidQuery);
+    }
+    let body = command.body(alloc)?;
+    add_command(tx, entity.text(), i64::from(seat), body.as_str())?;
+    Ok(count + 1)
+}
+
+/// Adds a row of a message to the journal.
+fn write_message<H: Filed, S: Alter>(
+    alloc: Global,
+    tx: &mut Transaction<'_, S>,
+    entity: &Entity,
+    sender: &Entity,
+    number: Number,
+    message: Message,
+    count: u64,
+) -> Result<u64, Error>
+    requires filed { HasCleanDisk (state S.Store tx.old.conn.now)
+        → IsFiled H.filing.schema count (state S.Store tx.old.conn.now).now }
+    requires sound { HasCleanDisk (state S.Store tx.old.conn.now) → IsDatabase (state S.Store tx.old.conn.now).now }
+    requires inside { HasCleanDisk (state S.Store tx.old.conn.now)
+        → IsTrue (state S.Store tx.old.conn.now).in_transaction }
+    ensures same_reference { tx.new.conn.ghost_name ≡ tx.old.conn.ghost_name }
+    ensures ok { HasCleanDisk (state S.Store tx.new.conn.now)
+        → IfOk result (λ count. Makes H.filing
+        (with_row (record { entity = entity.now; input = FromEntity sender.now number message })) count
+        (state S.Store tx.old.conn.now) (state S.Store tx.new.conn.now)) }
+    ensures kept { HasCleanDisk (state S.Store tx.new.conn.now)
+        → KeepsCommit (state S.Store tx.old.conn.now) (state S.Store tx.new.conn.now) }
+    ensures survives { Survives (state S.Store tx.old.conn.now) (state S.Store tx.new.conn.now) (λ _. ⊥) }
+{
+    if count == u64::MAX {
+        return Err(Error::InvalidQuery);
+    }
+    let body = message.body(alloc)?;
+    add_message(
+        tx,
+        entity.text(),
+        sender.text(),
+        bound_number(number),
+        body.as_str(),
+    )?;
+    Ok(count + 1)
+}
+
+/// Adds a row to the journal, behind the others.
+fn write_row<H: Filed, S: Alter>(
+    alloc: Global,
+    tx: &mut Transaction<'_, S>,
+    row: &JournalRow<H::Command>,
+    count: u64,
+) -> Result<u64, Error>
+    requires filed { HasCleanDisk (state S.Store tx.old.conn.now)
+        → IsFiled H.filing.schema count (state S.Store tx.old.conn.now).now }
+    requires sound { HasCleanDisk (state S.Store tx.old.conn.now) → IsDatabase (state S.Store tx.old.conn.now).now }
+    requires inside { HasCleanDisk (state S.Store tx.old.conn.now)
+        → IsTrue (state S.Store tx.old.conn.now).in_transaction }
+    ensures same_reference { tx.new.conn.ghost_name ≡ tx.old.conn.ghost_name }
+    ensures ok { HasCleanDisk (state S.Store tx.new.conn.now)
+        → IfOk result (λ count. Makes H.filing (with_row row.now) count
+        (state S.Store tx.old.conn.now) (state S.Store tx.new.conn.now)) }
+    ensures kept { HasCleanDisk (state S.Store tx.new.conn.now)
+        → KeepsCommit (state S.Store tx.old.conn.now) (state S.Store tx.new.conn.now) }
+    ensures survives { Survives (state S.Store tx.old.conn.now) (state S.Store tx.new.conn.now) (λ _. ⊥) }
+{
+    match &row.input {
+        Input::FromSeat(seat, command) => {
+            write_command::<H, S>(alloc, tx, &row.entity, *seat, command, count)
+        }
+        Input::FromEntity(sender, number, message) => {
+            write_message::<H, S>(alloc, tx, &row.entity, sender, *number, *message, count)
+        }
+    }
+}
+
+/// Makes one change, and answers how many rows the journal has then.
+fn write_one<H: Filed, S: Alter>(
+    alloc: Global,
+    tx: &mut Transaction<'_, S>,
+    change: &Change<H::State, H::Command>,
+    count: u64,
+) -> Result<u64, Error>
+    requires filed { HasCleanDisk (state S.Store tx.old.conn.now)
+        → IsFiled H.filing.schema count (state S.Store tx.old.conn.now).now }
+    requires sound { HasCleanDisk (state S.Store tx.old.conn.now) → IsDatabase (state S.Store tx.old.conn.now).now }
+    requires inside { HasCleanDisk (state S.Store tx.old.conn.now)
+        → IsTrue (state S.Store tx.old.conn.now).in_transaction }
+    ensures same_reference { tx.new.conn.ghost_name ≡ tx.old.conn.ghost_name }
+    ensures ok { HasCleanDisk (state S.Store tx.new.conn.now)
+        → IfOk result (λ count. Makes H.filing (changed_by change.now) count
+        (state S.Store tx.old.conn.now) (state S.Store tx.new.conn.now)) }
+    ensures kept { HasCleanDisk (state S.Store tx.new.conn.now)
+        → KeepsCommit (state S.Store tx.old.conn.now) (state S.Store tx.new.conn.now) }
+    ensures survives { Survives (state S.Store tx.old.conn.now) (state S.Store tx.new.conn.now) (λ _. ⊥) }
+{
+    match change {
+        Change::Journal(_, row) => write_row::<H, S>(alloc, tx, row, count),
+        Change::State(entity, row) => H::write_state::<S>(alloc, tx, entity, row, count),
+        Change::Sent(letter) => write_sent::<H, S>(alloc, tx, letter, count),
+        Change::Settled(pair, number) => write_settled::<H, S>(tx, pair, *number, count),
+        Change::Handled(pair, number) => write_handled::<H, S>(tx, pair, *number, count),
+        Change::NotHeld(pair, number) => write_not_held::<H, S>(tx, pair, *number, count),
+        Change::Held(letter) => write_held::<H, S>(alloc, tx, letter, count),
+    }
+}
+
+/// Makes the changes, in order, up to the first that is refused, and answers how many rows the journal has then.
+fn stage<H: Filed, S: Alter>(
+    alloc: Global,
+    tx: &mut Transaction<'_, S>,
+    changes: &[Change<H::State, H::Command>],
+    count: u64,
+) -> Result<u64, Error>
+    requires filed { HasCleanDisk (state S.Store tx.old.conn.now)
+        → IsFiled H.filing.schema count (state S.Store tx.old.conn.now).now }
+    requires sound { HasCleanDisk (state S.Store tx.old.conn.now) → IsDatabase (state S.Store tx.old.conn.now).now }
+    requires inside { HasCleanDisk (state S.Store tx.old.conn.now)
+        → IsTrue (state S.Store tx.old.conn.now).in_transaction }
+    requires open { HasCleanDisk (state S.Store tx.old.conn.now) → IsTrue (state S.Store tx.old.conn.now).is_open }
+    ensures same_reference { tx.new.conn.ghost_name ≡ tx.old.conn.ghost_name }
+    ensures ok { HasCleanDisk (state S.Store tx.new.conn.now)
+        → IfOk result (λ count. Makes H.filing (changed changes.now) count
+        (state S.Store tx.old.conn.now) (state S.Store tx.new.conn.now)) }
+    ensures kept { HasCleanDisk (state S.Store tx.new.conn.now)
+        → KeepsCommit (state S.Store tx.old.conn.now) (state S.Store tx.new.conn.now) }
+    ensures survives { Survives (state S.Store tx.old.conn.now) (state S.Store tx.new.conn.now) (λ _. ⊥) }
+{
+    let mut count = count;
+    for change in changes {
+        count = write_one::<H, S>(alloc, tx, change, count)?;
+    }
+    Ok(count)
+}
+
+/// Makes all changes in one transaction, or none, and answers how many rows the journal has then.
+pub fn write_all<H: Filed, S: Alter>(
+    alloc: Global,
+    conn: &mut Connection<S>,
+    changes: &[Change<H::State, H::Command>],
+    count: u64,
+) -> Result<u64, Error>
+    requires autocommit { conn.old.in_transaction ≡ false }
+    requires ready { HasCleanDisk (state S.Store conn.old) → IsReady H.filing.schema count (state S.Store conn.old) }
+    ensures autocommit { conn.new.in_transaction ≡ false }
+    ensures ok { HasCleanDisk (state S.Store conn.new)
+        → IfOk result (λ count. IsReady H.filing.schema count (state S.Store conn.new)
+        × (tables_of H.filing (state S.Store conn.new).now.trees
+        ≡ changed changes.now (tables_of H.filing (state S.Store conn.old).now.trees))) }
+    ensures err { HasCleanDisk (state S.Store conn.new) → IsTrue (state S.Store conn.new).is_open
+        → OnErr result (IsReady H.filing.schema count (state S.Store conn.new)
+        × ((state S.Store conn.new).now.trees ≡ (state S.Store conn.old).now.trees)) }
+    ensures crash { (db : Trees) → HasCleanDisk (state S.Store conn.new) → (state S.Store conn.new).may_leave db
+        → (state S.Store conn.old).may_leave db
+        ⊎ (tables_of H.filing db ≡ changed changes.now (tables_of H.filing (state S.Store conn.old).now.trees)) }
+    ensures clean { doubt (state S.Store conn.old).is_clean ≤ doubt (state S.Store conn.new).is_clean }
+{
+    let _ = conn.schema();
+    let mut tx = conn.transaction();
+    let count = match stage::<H, S>(alloc, &mut tx, changes, count) {
+        Ok(count) => count,
+        Err(error) => {
+            tx.rollback();
+            return Err(error);
+        }
+    };
+    match tx.commit() {
+        Ok(()) => Ok(count),
+        Err(error) => Err(error),
+    }
+}
