@@ -78,25 +78,22 @@ ends_quiet h is none accepted =
       may = due.may;
     }))
 
-module _ {S : Type 0} (takes : S → Handed → S → Type 0) (h i j : Holding) (from between : S) (r : Rests i j)
-    (d : (accepted : List Accepted) → Dealt takes (book_of h accepted) from (book_of i accepted) between) where
+module _ {S : Type 0} (takes : S → Handed → S → Type 0) (book : Book) (i j : Holding) (from between : S) (r : Rests i j)
+    (accepted : List Accepted) (d : Dealt takes book from (book_of i accepted) between) where
   -- the parts rest behind some deals
-  pub dealt_still : (accepted : List Accepted) → Dealt takes (book_of h accepted) from (book_of j accepted) between
-  dealt_still accepted = rw (rests_book i j r accepted) (d accepted)
+  pub dealt_still : Dealt takes book from (book_of j accepted) between
+  dealt_still = rw (rests_book i j r accepted) d
 
   -- one deal more
-  pub dealt_next : (k : Holding) (to : S) (accepted : List Accepted) (one : Handed)
-      → Deal (book_of j accepted) one (book_of k accepted)
-      → takes between one to → Dealt takes (book_of h accepted) from (book_of k accepted) to
-  dealt_next k to accepted one deal took =
-      dealt_more takes (book_of h accepted) (book_of j accepted) (book_of k accepted) from between to one
-      (dealt_still accepted) deal took
+  pub dealt_next : (k : Holding) (to : S) (one : Handed) → Deal (book_of j accepted) one (book_of k accepted)
+      → takes between one to → Dealt takes book from (book_of k accepted) to
+  dealt_next k to one deal took =
+      dealt_more takes book (book_of j accepted) (book_of k accepted) from between to one dealt_still deal took
 
   -- none, since memory was refused
-  pub dealt_no_more : (k : Holding) (to : S) (accepted : List Accepted) → book_of k accepted ≡ book_of j accepted
-      → to ≡ between
-      → Dealt takes (book_of h accepted) from (book_of k accepted) to
-  dealt_no_more k to accepted same still = rw (same, still) (dealt_still accepted)
+  pub dealt_no_more : (k : Holding) (to : S) → book_of k accepted ≡ book_of j accepted → to ≡ between
+      → Dealt takes book from (book_of k accepted) to
+  dealt_no_more k to same still = rw (same, still) dealt_still
 
 -- fewer are ready behind a deal
 pub fewer_kept : (i j k : Holding) → Rests i j → (one : Handed) → Deal (book_of j []) one (book_of k [])

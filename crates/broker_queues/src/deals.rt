@@ -4,12 +4,11 @@
 //! a look is needed. A pick is made from messages that are ready and subscribers with credit as they stand.
 
 ghost use Rattle.broker_index.specs.Index.{queue_at};
-ghost use Rattle.broker_queues.specs.Parts.Choosing.{Chooses, Dispatching, Hands, Looks, NextDeal, Rests, earlier};
+ghost use Rattle.broker_queues.specs.Parts.Choosing.{Chooses, Hands, Looks, NextDeal, Rests, earlier};
 ghost use Rattle.broker_queues.specs.Parts.Choosing.{is_at_most, is_auto_of};
 ghost use Rattle.broker_queues.specs.Parts.Dealings.{HandsOut, HandsWhole};
 ghost use Rattle.broker_queues.specs.Parts.Facts.{queue_of, subscriber_at};
 ghost use Rattle.broker_queues.specs.Parts.Held.{holding_of};
-ghost use Rattle.broker_queues.specs.Parts.Storing.{NoneGone};
 ghost use Rattle.broker_queues.specs.Parts.Whole.{IsSound};
 ghost use Rattle.std.specs.Prelude.{[], ◌<◌, ◌≡◌, OnOk, false, length, slice_index_or, true};
 
@@ -119,9 +118,15 @@ impl Parts {
 
     /// The next deal, if any can be made.
     ///
+    /// It looks at the destinations that are awake: at most by a search for their names, where they can have no
+    /// message before the best so far. Where nothing can be dealt a destination sleeps, until a message or a subscriber
+    /// wakes it; and each notes how far it looked, so that messages that are out and subscribers without credit are
+    /// passed once, until one of them comes back. So a deal costs nothing for messages that wait, destinations that
+    /// sleep or other sessions.
+    ///
     /// # Errors
     /// Where memory is refused; then nothing can be said of the next deal, and nothing has changed.
-    fn next_deal(&mut self) -> Result<Option<Pick>, AllocError>
+    pub fn next_deal(&mut self) -> Result<Option<Pick>, AllocError>
         ensures { NextDeal (holding_of self.old) (holding_of self.new) result }
     {
         self.rouse()?;
@@ -217,7 +222,7 @@ impl Parts {
     ///
     /// # Errors
     /// Where memory is refused; then no message has gone out.
-    fn hand<S: Sink>(&mut self, pick: Pick, sink: &mut S) -> Result<(), AllocError>
+    pub fn hand<S: Sink>(&mut self, pick: Pick, sink: &mut S) -> Result<(), AllocError>
         ensures hands { Hands S.takes pick.message.number pick.taker.number (holding_of self.old) sink.old
             (holding_of self.new) sink.new result }
         ensures whole { HandsWhole (holding_of self.old) pick.message.number pick.taker.number (holding_of self.new) }
@@ -227,27 +232,5 @@ impl Parts {
         } else {
             self.hand_out(pick.message, pick.taker, sink)
         }
-    }
-
-    /// Hands out what is ready until no message can go out: always the first that can, to the oldest subscription that
-    /// may take it.
-    ///
-    /// Each deal looks at the destinations that are awake: at most by a search for their names, where they can have no
-    /// message before the best so far. Where nothing can be dealt a destination sleeps, until a message or a subscriber
-    /// wakes it; and each notes how far it looked, so that messages that are out and subscribers without credit are
-    /// passed once, until one of them comes back. So a deal costs nothing for messages that wait, destinations that
-    /// sleep or other sessions.
-    ///
-    /// # Errors
-    /// Where memory is refused, here or by the sink. Then some messages may have been handed out, each of them wholly.
-    pub fn dispatch<S: Sink>(&mut self, sink: &mut S) -> Result<(), AllocError>
-        requires { IsSound (holding_of self.old) }
-        ensures deals { Dispatching S.takes (holding_of self.old) sink.old (holding_of self.new) sink.new result }
-        ensures taken { NoneGone self.old.messages → NoneGone self.new.messages }
-    {
-        while let Some(pick) = self.next_deal()? {
-            self.hand(pick, sink)?;
-        }
-        Ok(())
     }
 }

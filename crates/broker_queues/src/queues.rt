@@ -186,6 +186,9 @@ impl<const FULL: usize> Queues<FULL> {
     pub fn dispatch<S: Sink>(&mut self, sink: &mut S) -> Result<(), AllocError>
         ensures { Dispatches S.takes self.old sink.old self.new sink.new result }
     {
-        self.parts.dispatch(sink)
+        while let Some(pick) = self.parts.next_deal()? {
+            self.parts.hand(pick, sink)?;
+        }
+        Ok(())
     }
 }

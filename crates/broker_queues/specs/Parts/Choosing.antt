@@ -4,7 +4,7 @@ use Rattle.std.specs.Prelude.{Ok, Err}
 use Rattle.std.specs.Str.{bytes_eq}
 use Rattle.broker_book.specs.declared.parts.Accepted.{Accepted}
 use Rattle.broker_book.specs.Books.{Ready, is_auto}
-use Rattle.broker_book.specs.Steps.{Dispatches, Handed}
+use Rattle.broker_book.specs.Steps.{Handed}
 use Rattle.broker_index.specs.Index.{Kept, Subscriber}
 use Rattle.broker_queues.specs.declared.deals.Pick.{Pick}
 use Rattle.broker_queues.specs.Parts.Dealings.{DealsOne}
@@ -99,9 +99,3 @@ abbrev pub Hands : {S E : Type 0} → (S → Handed → S → Type 0) → ℕ �
 Hands takes n a old from new to result =
     (accepted : List Accepted) (k : Kept) (s : Subscriber) → IsSound old → Picks old n k a s
     → IsSound new × DealsOne takes (book_of old accepted) from (book_of new accepted) to result
-
--- the parts still agree, and the book was dealt from until nothing more can go out, or until memory was refused
-abbrev pub Dispatching : {S E : Type 0} → (S → Handed → S → Type 0) → Holding → S → Holding → S → Result (Unit {0}) E
-    → Type 0
-Dispatching takes old from new to result = (accepted : List Accepted) → IsSound old
-    → IsSound new × Dispatches takes (book_of old accepted) from (book_of new accepted) to result
