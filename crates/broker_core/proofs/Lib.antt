@@ -3,6 +3,7 @@ pub mod Feedings
 pub mod Left
 pub mod Places
 pub mod Rising
+pub mod Standing
 pub mod Streams
 pub mod Taking
 pub mod Turning

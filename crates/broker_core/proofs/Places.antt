@@ -1,7 +1,7 @@
 -- A write at the place of a session changes the session of its number.
 use Rattle.std.proofs.Common.{◌≡◌, ◌<◌, ℕ, Bool, true, false, cond, List, [], ◌∷◌, Option, Some, None, Result, Ok, Err}
-use Rattle.std.proofs.Common.{refl}
-use Rattle.std.proofs.Common.{sym, ap, ◌∙◌}
+use Rattle.std.proofs.Common.{get_or, length, refl, sym, ap, ◌∙◌}
+use Rattle.std.proofs.lemmas.Option.{slice_get-get_or}
 use Rattle.std.specs.Prelude.{◌==◌, ◌≢◌, slice_set, IfOk}
 use Rattle.std.specs.List.{find, slice_get}
 use Rattle.broker_book.specs.Books.{Book}
@@ -16,8 +16,6 @@ use Rattle.broker_core.specs.Parts.Taking.{was_closed}
 use Rattle.broker_core.specs.Serving.{Part, Roster, broker_of, changing, changing_part, in_roster, is_session, part}
 use Rattle.broker_core.specs.Serving.{refused, served}
 use Rattle.broker_core.specs.Serving.{with_session}
-use Rattle.broker_core.specs.declared.fault.BrokerFault.{BrokerFault}
-use Rattle.broker_core.specs.declared.fault.BrokerFault.TheVariants.{Memory as OutOfMemory}
 use Rattle.broker_core.specs.declared.fault.FrameRefusal.TheVariants.{BadFrame}
 use Rattle.broker_core.specs.declared.session.Session.{Session}
 use Rattle.broker_core.proofs.Left.{find_with, served_number}
@@ -32,6 +30,10 @@ roster items opened = record { sessions = items; opened = opened }
 
 same_item : (o : Option Session) (x y : Session) → o ≡ Some x → o ≡ Some y → y ≡ x
 same_item o x y p q = cc
+
+-- what an index within the list reads
+pub got_at : (ss : List Session) (at : ℕ) (s : Session) → at < length ss → s ≡ get_or ss at s → slice_get ss at ≡ Some s
+got_at ss at s h e = slice_get-get_or ss at s h ∙ ap (λ y. Some y) (sym e)
 
 -- what stands at the place of a session is the session of its number
 pub found_at : (n : ℕ) (ss : List Session) (at : ℕ) (s : Session) → IsFirstAt (is_session n) ss at
@@ -115,22 +117,6 @@ part_twice n change f book book2 ss news opened at s t k h get set eq =
 
 -- ---- a piece
 
--- a piece is fed to the session at a place
-pub begun_at : (n : ℕ) (piece : List ℕ) (book : Book) (ss news : List Session) (opened at : ℕ) (s t : Session)
-    (bound : ℕ)
-    → IsFirstAt (is_session n) ss at → slice_get ss at ≡ Some s → news ≡ slice_set ss at t → t ≡ taking piece s
-    → left_of t.incoming < bound
-    → BegunAnswer n piece (broker_of book (roster ss opened)) (broker_of book (roster news opened)) (Ok bound)
-begun_at n piece book ss news opened at s t bound h get set e less =
-    let written = written_at n ss news opened at s (taking piece) h get (set ∙ ap (λ y. slice_set ss at y) e) in
-    let found : find (is_session n) news ≡ Some (taking piece s) =
-    ap (λ (r : Roster). find (is_session n) r.sessions) written
-    ∙ find_with n (taking piece) ss s (number_if s.closed s _ refl) (found_at n ss at s h get) in (
-      rw (found_at n ss at s h get) refl,
-      ap (broker_of book) written,
-      rw (found, ← e) less,
-    )
-
 -- memory was refused to it
 pub refused_at : (n : ℕ) (piece : List ℕ) (book : Book) (ss news : List Session) (opened at : ℕ) (s t : Session)
     → IsFirstAt (is_session n) ss at → slice_get ss at ≡ Some s → news ≡ slice_set ss at t
@@ -145,16 +131,19 @@ refused_at n piece book ss news opened at s t h get set a = record {
 }
 
 -- what a piece is answered, once it was fed to the session at a place
-abbrev pub begun_of : {E : Type 0} → Result ℕ E → Result ℕ BrokerFault
-begun_of (Ok bound) = Ok bound
-begun_of (Err x) = Err (OutOfMemory false)
-
 pub begun_so : {E : Type 0} (n : ℕ) (piece : List ℕ) (book : Book) (ss news : List Session) (opened at : ℕ)
     (s t : Session) → IsFirstAt (is_session n) ss at → slice_get ss at ≡ Some s → news ≡ slice_set ss at t
     → (r : Result ℕ E) → SessionPieceAnswer piece s t r → IfOk r (λ bound. left_of t.incoming < bound)
-    → BegunAnswer n piece (broker_of book (roster ss opened)) (broker_of book (roster news opened)) (begun_of r)
-begun_so n piece book ss news opened at s t h get set (Ok bound) a less =
-    begun_at n piece book ss news opened at s t bound h get set a less
+    → BegunAnswer n piece (broker_of book (roster ss opened)) (broker_of book (roster news opened)) r
+begun_so n piece book ss news opened at s t h get set (Ok bound) e less =
+    let written = written_at n ss news opened at s (taking piece) h get (set ∙ ap (λ y. slice_set ss at y) e) in
+    let found : find (is_session n) news ≡ Some (taking piece s) =
+    ap (λ (r : Roster). find (is_session n) r.sessions) written
+    ∙ find_with n (taking piece) ss s (number_if s.closed s _ refl) (found_at n ss at s h get) in (
+      rw (found_at n ss at s h get) refl,
+      ap (broker_of book) written,
+      rw (found, ← e) less,
+    )
 begun_so n piece book ss news opened at s t h get set (Err x) a less =
     refused_at n piece book ss news opened at s t h get set a
 

@@ -13,13 +13,14 @@ use Rattle.std.proofs.lemmas.Bool.Decides.{nat_tests}
 use Rattle.std.proofs.lemmas.Cmp.{ranked}
 use Rattle.std.proofs.lemmas.List.{set_split, take-append-drop}
 use Rattle.std.proofs.lemmas.Option.{slice_get-get_or, slice_get_cases}
+use Rattle.stomp_frame.specs.Frames.{Content}
 use Rattle.broker_book.specs.Books.{Book}
 use Rattle.broker_tx.proofs.Places.{changed_between, nowhere, passes_none, somewhere}
 use Rattle.broker_tx.specs.First.{first_changed, IsFirstAt}
 use Rattle.broker_core.specs.Calls.{NamesFresh, OpensSession, is_fresh, named, new_session, others}
 use Rattle.broker_core.specs.Parts.Rising.{AreRising, FreshPlace, IsFreshAt}
 use Rattle.broker_core.specs.Parts.Taking.{PlaceAnswer, SessionPieceAnswer}
-use Rattle.broker_core.specs.Serving.{broker_of, is_session}
+use Rattle.broker_core.specs.Serving.{broker_of, is_session, writing}
 use Rattle.broker_core.proofs.Places.{found_at, number_if, roster, written_at}
 use Rattle.broker_core.specs.declared.session.Session.{Session}
 
@@ -192,14 +193,12 @@ pub kept_at : (last : ℕ) (ss news : List Session) (at : ℕ) (s t : Session) �
     → news ≡ slice_set ss at t → t.number ≡ s.number → AreRising 0 news last
 kept_at last ss news at s t r get set e = rw set (rising_set 0 last ss r at s t get e)
 
--- the same where memory may be refused
-pub kept_unless : {T E : Type 0} (last : ℕ) (ss news : List Session) (at : ℕ) (f : Session → Session)
-    → ((s : Session) → (f s).number ≡ s.number)
-    → AreRising 0 ss last → (r : Result T E)
-    → OnOk r ((s : Session) × ((slice_get ss at ≡ Some s) × (news ≡ slice_set ss at (f s))))
-    → OnErr r (news ≡ ss) → AreRising 0 news last
-kept_unless last ss news at f e r (Ok x) ok err = kept_at last ss news at ok.0 (f ok.0) r ok.1.0 ok.1.1 (e ok.0)
-kept_unless last ss news at f e r (Err x) ok err = rw err r
+-- what may write a frame keeps the number
+pub writing_number : {T E : Type 0} (f : Content) (s t : Session) (r : Result T E) → OnOk r (t ≡ writing f s)
+    → OnErr r (t ≡ s)
+    → t.number ≡ s.number
+writing_number f s t (Ok x) ok err = ap (λ (y : Session). y.number) ok
+writing_number f s t (Err x) ok err = ap (λ (y : Session). y.number) err
 
 pub piece_number : {T E : Type 0} (piece : List ℕ) (s t : Session) (r : Result T E) → SessionPieceAnswer piece s t r
     → t.number ≡ s.number
@@ -227,7 +226,7 @@ step_passes : (p : Session → Bool) (s : Session) (ss : List Session) (x : Sess
 step_passes p s ss x true e ih h = let j : Some s ≡ Some x = rw e at h in let m : s ≡ x = cc in ap p (sym m) ∙ e
 step_passes p s ss x false e ih h = ih (rw e at h)
 
-passes : (p : Session → Bool) (ss : List Session) (x : Session) → find p ss ≡ Some x → p x ≡ true
+pub passes : (p : Session → Bool) (ss : List Session) (x : Session) → find p ss ≡ Some x → p x ≡ true
 passes p [] x h = cc
 passes p (s ∷ ss) x h = step_passes p s ss x (p s) refl (passes p ss x) h
 
@@ -242,7 +241,7 @@ place_fresh ss (Some at) e =
 place_fresh ss None e = none_fresh ss (nowhere is_fresh ss (sym e)).none
 
 -- what is got stands within the list
-got_within : (ss : List Session) (at : ℕ) (s : Session) → slice_get ss at ≡ Some s → at < length ss
+pub got_within : (ss : List Session) (at : ℕ) (s : Session) → slice_get ss at ≡ Some s → at < length ss
 got_within [] at s e = let z : None ≡ Some s = e in cc
 got_within (x ∷ xs) zero s e = omega arith
 got_within (x ∷ xs) (suc at) s e = let h = got_within xs at s e in omega (arith, h)

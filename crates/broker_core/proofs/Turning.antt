@@ -1,24 +1,14 @@
 -- One frame of a session, from what it was fed to the deals behind it.
-use Rattle.std.proofs.Common.{◌≡◌, ◌<◌, ◌≤◌, ℕ, ◌+◌, true, false, List, [], ◌∷◌, ◌++◌, length, Option, Some}
-use Rattle.std.proofs.Common.{None}
+use Rattle.std.proofs.Common.{◌≡◌, ◌<◌, ◌≤◌, ℕ, ◌+◌, Bool, true, false, List, [], ◌∷◌, ◌++◌, length, Some}
 use Rattle.std.proofs.Common.{refl, ap, ◌∙◌, subst, arith, length-append}
 use Rattle.std.specs.Prelude.{is_some, is_err, OnOk, Result, Ok, Err}
-use Rattle.std.specs.List.{find}
-use Rattle.broker_core.specs.Feeding.{TakesDecided, Handles, HandlesAll, DealsAll, Dealing, Ends, Stops}
-use Rattle.broker_core.specs.Feeding.{FeedAnswer, at_end, in_deals, taking, with_incoming}
-use Rattle.broker_core.specs.Parts.Taking.{BegunAnswer, EndAnswer, Handled, Stepped, Turned, left_of}
-use Rattle.broker_core.specs.Serving.{Decided, Server, roster_of, is_session, session_of, with_session, changing, step}
-use Rattle.broker_core.specs.declared.fault.BrokerFault.{BrokerFault}
-use Rattle.broker_core.specs.declared.fault.BrokerFault.TheVariants.{Memory, NoSession, TooMany}
-use Rattle.broker_core.specs.declared.session.Session.{Session}
-use Rattle.broker_core.proofs.Places.{number_if}
+use Rattle.broker_core.specs.Feeding.{TakesDecided, Handles, HandlesAll, DealsAll, Dealing, Stops}
+use Rattle.broker_core.specs.Feeding.{Feeds, at_end, in_deals, taking, with_incoming}
+use Rattle.broker_core.specs.Parts.Taking.{EndsQuiet, Handled, StepsOrEnds, Turned, TurnsOrEnds, left_of}
+use Rattle.broker_core.specs.Serving.{Decided, Server, roster_of, session_of, changing, step}
 use Rattle.broker_core.proofs.Left.{Seen, seen_in, seen_taken, seen_some, find_with, step_lessens, taken_less}
 
 -- ---- a frame that was handled
-
-there_in : (o : Option Session) (t : Session) → o ≡ Some t → is_some o ≡ true
-there_in None t e = cc
-there_in (Some s) t e = refl
 
 pub turned : (full n : ℕ) (old mid new : Server) (d : Decided) → TakesDecided old n d mid
     → DealsAll (step full n d mid) new
@@ -38,7 +28,6 @@ turned full n old mid new d t s =
       frame = d;
       handles = record { taken = mid; takes = t; settles = s };
       less = rw (u.1.0, t.is_open.found, same) (omega arith);
-      there = there_in (session_of n new) u.0 u.1.0;
     }
 
 -- ---- one frame after another
@@ -58,68 +47,41 @@ handled_more full n old mid new count h one = record {
   counted =
       let e = h.counted in let k : length (h.frames ++ one.frame ∷ []) ≡ length h.frames + 1 = length-append h.frames
       (one.frame ∷ []) in omega arith;
-  there = one.there;
 }
 
-pub finished : (full n : ℕ) (piece : List ℕ) (old handled ended new : Server) (count : ℕ)
+pub finished : (full n : ℕ) (piece : List ℕ) (old handled new : Server) (count : ℕ)
     → is_some (session_of n old) ≡ true
     → Handled full n (changing n (taking piece) old) count handled
-    → Ends handled n ended → (r : Result ℕ BrokerFault) → EndAnswer ended new count r
-    → FeedAnswer full old n piece new r
-finished full n piece old handled ended new count a h e (Ok c) f = record {
+    → EndsQuiet handled n new
+    → Feeds full old n piece new count
+finished full n piece old handled new count there h e = record {
   frames = h.frames;
   handled = handled;
-  ended = ended;
-  there = a;
+  ended = e.0;
+  there = there;
   handles = h.handles;
-  counted = f.1 ∙ h.counted;
-  ends = e;
-  settles = f.0;
+  counted = h.counted;
+  ends = e.1;
+  settles = e.2;
 }
-finished full n piece old handled ended new count a h e (Err (Memory true)) f = record {
-  frames = h.frames;
-  handled = handled;
-  there = a;
-  handles = h.handles;
-  stops = at_end ended e f;
-}
-finished full n piece old handled ended new count a h e (Err (Memory false)) f = absurd f
-finished full n piece old handled ended new count a h e (Err NoSession) f = absurd f
-finished full n piece old handled ended new count a h e (Err TooMany) f = absurd f
 
 -- ---- a turn
 
--- a frame that had its step, and the deals behind it
-pub turned_step : (full n : ℕ) (old mid new : Server) → Stepped full n old mid → DealsAll mid new
-    → Turned full n old new
-turned_step full n old mid new h s =
+-- a step, and the deals behind it
+pub turned_step : (full n : ℕ) (old mid new : Server) (stepped : Bool) → StepsOrEnds full n old mid stepped
+    → DealsAll mid new
+    → TurnsOrEnds full n old new stepped
+turned_step full n old mid new true h s =
     turned full n old h.taken new h.frame h.takes (subst (λ (b : Server). DealsAll b new) h.changed s)
+turned_step full n old mid new false h s = (mid, h, s)
 
 -- memory was refused to these
-pub stops_behind : (full n : ℕ) (old mid new : Server) → Stepped full n old mid → Dealing mid new → Stops full n old new
-stops_behind full n old mid new h d =
+pub stops_behind : (full n : ℕ) (old mid new : Server) (stepped : Bool) → StepsOrEnds full n old mid stepped
+    → Dealing mid new
+    → Stops full n old new
+stops_behind full n old mid new true h d =
     in_deals h.frame h.taken h.takes (subst (λ (b : Server). Dealing b new) h.changed d)
-
--- ---- a piece that was fed
-
-there_step : (n : ℕ) (piece : List ℕ) (ss : List Session) (o : Option Session) → find (is_session n) ss ≡ o
-    → is_some o ≡ true
-    → is_some (find (is_session n) (with_session n (taking piece) ss)) ≡ true
-there_step n piece ss None e h = cc
-there_step n piece ss (Some s) e h = rw (find_with n (taking piece) ss s (number_if s.closed s _ refl) e) refl
-
-pub there_fed : (n : ℕ) (piece : List ℕ) (ss : List Session) → is_some (find (is_session n) ss) ≡ true
-    → is_some (find (is_session n) (with_session n (taking piece) ss)) ≡ true
-there_fed n piece ss h = there_step n piece ss (find (is_session n) ss) refl h
-
--- why it wasn't
-pub none_begun : (full n : ℕ) (piece : List ℕ) (old new : Server) (e : BrokerFault)
-    → BegunAnswer n piece old new (Err e)
-    → FeedAnswer full old n piece new (Err e)
-none_begun full n piece old new (Memory true) h = absurd h
-none_begun full n piece old new (Memory false) h = h
-none_begun full n piece old new NoSession h = h
-none_begun full n piece old new TooMany h = absurd h
+stops_behind full n old mid new false h d = at_end mid h d
 
 -- ---- answers
 

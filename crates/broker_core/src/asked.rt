@@ -77,8 +77,11 @@ impl Form {
         ensures err { IfErr result (λ f. request_in f ≡ request_in self) }
     {
         match self {
-            Form::Whole(request) => share(alloc, request),
-            Form::Shared(send) => Ok(Form::Shared(send)),
+            Form::Whole(Request::Send(send)) => match SharedSend::new(alloc, send) {
+                Ok(send) => Ok(Form::Shared(send)),
+                Err(send) => Err(Form::Whole(Request::Send(send))),
+            },
+            form => Ok(form),
         }
     }
 
@@ -104,19 +107,6 @@ impl Form {
         ensures { result ≡ is_last (request_in self.now) }
     {
         matches!(self, Form::Whole(Request::Disconnect(_)))
-    }
-}
-
-fn share(alloc: Global, request: Request) -> Result<Form, Form>
-    ensures ok { IfOk result (λ f. (request_in f ≡ request) × (is_ready f ≡ true)) }
-    ensures err { IfErr result (λ f. request_in f ≡ request) }
-{
-    match request {
-        Request::Send(send) => match SharedSend::new(alloc, send) {
-            Ok(send) => Ok(Form::Shared(send)),
-            Err(send) => Err(Form::Whole(Request::Send(send))),
-        },
-        request => Ok(Form::Whole(request)),
     }
 }
 

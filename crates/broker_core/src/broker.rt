@@ -1,9 +1,10 @@
 //! The broker.
 
-ghost use Rattle.std.specs.Prelude.{◌≡◌, ◌≤◌, [], length, true, is_some};
+ghost use Rattle.std.specs.Prelude.{◌≡◌, ◌<◌, ◌≤◌, ℕ, [], length};
 ghost use Rattle.broker_core.specs.Calls.{FreshAnswer, OpenAnswer, closed_in, dropped, empty, out_in, without_first};
 ghost use Rattle.broker_core.specs.Feeding.{DispatchAnswer, FeedAnswer};
-ghost use Rattle.broker_core.specs.Parts.Taking.{EndAnswer, TurnAnswer};
+ghost use Rattle.broker_core.specs.Parts.Rising.{StandsAt};
+ghost use Rattle.broker_core.specs.Parts.Taking.{TurnAnswer};
 ghost use Rattle.broker_core.specs.Serving.{changing, session_of};
 
 use crate::sessions::Sessions;
@@ -78,15 +79,19 @@ impl<const FULL: usize> Broker<FULL> {
     pub fn feed(&mut self, session: SessionId, piece: &[u8]) -> Result<usize, BrokerFault>
         ensures { FeedAnswer FULL self.old session piece.now self.new result }
     {
-        let number = session.number();
+        let Some(at) = self.sessions.place(session.number()) else {
+            return Err(BrokerFault::NoSession);
+        };
         // Each turn takes an octet or the frame that waits, so that the bound is never reached: it shows that the loop
         // ends.
-        let bound = self.sessions.feed(number, piece)?;
+        let Ok(bound) = self.sessions.feed(at, piece) else {
+            return Err(BrokerFault::Memory { took: false });
+        };
         for count in 0..bound {
-            match self.turn(number) {
+            match self.turn(at) {
                 Err(_) => return Err(BrokerFault::Memory { took: true }),
                 Ok(true) => {}
-                Ok(false) => return self.finish(count),
+                Ok(false) => return Ok(count),
             }
         }
         unreachable!()
@@ -107,7 +112,10 @@ impl<const FULL: usize> Broker<FULL> {
     pub fn out(&self, session: SessionId) -> &[u8]
         ensures { result.now ≡ out_in (session_of session self.now) }
     {
-        self.sessions.out(session.number())
+        match self.sessions.get(session.number()) {
+            Some(session) => session.out.as_slice(),
+            None => &[],
+        }
     }
 
     /// Takes the first octets for a session away. It takes no memory.
@@ -123,7 +131,10 @@ impl<const FULL: usize> Broker<FULL> {
     pub fn is_closed(&self, session: SessionId) -> bool
         ensures { result ≡ closed_in (session_of session self.now) }
     {
-        self.sessions.is_closed(session.number())
+        match self.sessions.get(session.number()) {
+            Some(session) => session.closed,
+            None => true,
+        }
     }
 
     /// Takes a session away: its subscriptions end, what is out to them is ready again, and its transactions and octets
@@ -151,25 +162,14 @@ impl<const FULL: usize> Broker<FULL> {
         self.queues.take_accepted()
     }
 
-    /// Handles the next frame of a session and deals; `false` where there is none.
-    fn turn(&mut self, number: u64) -> Result<bool, AllocError>
-        requires { is_some (session_of number self.old) ≡ true }
-        ensures { TurnAnswer FULL number self.old self.new result }
+    /// Takes the next frame of the session at a place, makes its step and deals; `false` where there was none.
+    fn turn(&mut self, at: usize) -> Result<bool, AllocError>
+        requires { at < length self.old.sessions }
+        ensures { (n : ℕ) → StandsAt n self.old.sessions at → TurnAnswer FULL n self.old self.new result }
     {
-        if !self.sessions.turn(number, &mut self.queues)? {
-            return Ok(false);
-        }
-        self.dispatch()?;
-        Ok(true)
-    }
-
-    /// Deals at the end of `feed`.
-    fn finish(&mut self, count: usize) -> Result<usize, BrokerFault>
-        ensures { EndAnswer self.old self.new count result }
-    {
-        match self.dispatch() {
-            Ok(()) => Ok(count),
-            Err(_) => Err(BrokerFault::Memory { took: true }),
-        }
+        let queues = &mut self.queues;
+        let stepped = self.sessions.turn(at, queues)?;
+        queues.dispatch(&mut self.sessions)?;
+        Ok(stepped)
     }
 }

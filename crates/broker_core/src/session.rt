@@ -1,9 +1,9 @@
 //! A session of a broker.
 
-ghost use Rattle.std.specs.Prelude.{◌≡◌, ◌<◌, ◌≤◌, true, length, IfOk, IfErr, OnOk, OnErr};
+ghost use Rattle.std.specs.Prelude.{◌≡◌, ◌<◌, true, IfOk, IfErr, OnOk, OnErr};
 ghost use Rattle.std.specs.Option.{option_copied};
 ghost use Rattle.stomp_session.specs.Replies.{Delivered, message_frame};
-ghost use Rattle.broker_core.specs.Calls.{named, new_session, without_first};
+ghost use Rattle.broker_core.specs.Calls.{named, new_session};
 ghost use Rattle.broker_core.specs.Parts.Asked.{is_ready, request_in};
 ghost use Rattle.broker_core.specs.Parts.Taking.{PartTurn, SessionPieceAnswer, left_of};
 ghost use Rattle.broker_core.specs.Serving.{Part, part, served, refused, closing, closing_if, closed_of, writing};
@@ -86,14 +86,6 @@ impl Session {
                 Ok(true)
             }
         }
-    }
-
-    /// Takes the first octets that were written away.
-    pub fn taken(&mut self, count: usize)
-        requires { count ≤ length self.old.out }
-        ensures { self.new ≡ without_first count self.old }
-    {
-        self.out.taken(count);
     }
 
     /// Has it named: what was written is no longer fresh.

@@ -4,19 +4,15 @@
 //! and `noted` are hints: either may be wrong at any time, and is looked at before it counts. The first saves the
 //! search for a session that is called again, the second the search for one with fresh octets.
 
-ghost use Rattle.std.specs.Prelude.{◌≡◌, ◌<◌, ◌≤◌, ◌++◌, ◌∷◌, [], length, slice_set, true, is_some, Some, OnOk, OnErr};
-ghost use Rattle.std.specs.Prelude.{IfOk, IfSome};
+ghost use Rattle.std.specs.Prelude.{◌≡◌, ◌<◌, ◌≤◌, ◌++◌, ◌∷◌, ℕ, [], length, true, IfSome, OnOk, OnErr};
 ghost use Rattle.std.specs.Option.{option_copied};
-ghost use Rattle.std.specs.List.{find, position, slice_get};
-ghost use Rattle.stomp_session.specs.Replies.{message_frame};
+ghost use Rattle.std.specs.List.{find, position};
 ghost use Rattle.broker_book.specs.Books.{Book};
-ghost use Rattle.broker_core.specs.Calls.{FreshAnswer, OpenAnswer, closed_in, dropped, is_fresh, named, new_session};
-ghost use Rattle.broker_core.specs.Calls.{others, out_in};
+ghost use Rattle.broker_core.specs.Calls.{FreshAnswer, OpenAnswer, dropped, is_fresh, new_session, others, out_in};
 ghost use Rattle.broker_core.specs.Calls.{without_first};
-ghost use Rattle.broker_core.specs.Parts.Taking.{BegunAnswer, PartTurn, PlaceAnswer, SessionPieceAnswer, StepAnswer};
-ghost use Rattle.broker_core.specs.Parts.Taking.{left_of};
-ghost use Rattle.broker_core.specs.Parts.Rising.{FreshPlace, IsFreshAt};
-ghost use Rattle.broker_core.specs.Serving.{broker_of, in_roster, is_session, part, writing};
+ghost use Rattle.broker_core.specs.Parts.Taking.{BegunAnswer, PlaceAnswer, StepAnswer};
+ghost use Rattle.broker_core.specs.Parts.Rising.{FreshPlace, IsFreshAt, StandsAt};
+ghost use Rattle.broker_core.specs.Serving.{broker_of, in_roster, is_session};
 ghost use Rattle.broker_core.specs.declared.session.Session.{Session};
 
 use crate::session::Session;
@@ -28,8 +24,8 @@ use std::marker::Model;
 use stomp_session::Delivery;
 
 /// The sessions, the oldest first, and the last number that one was given: contracts see both. `noted` are numbers of
-/// sessions that may have fresh octets, at most one for each session, and `last` is where the session of the last call
-/// stood.
+/// sessions that may have fresh octets, at most one for each session, and `last` is where the session stood that was last
+/// fed or named.
 #[derive(Drop)]
 pub struct Sessions {
     alloc: Global,
@@ -91,10 +87,11 @@ impl Sessions {
     }
 
     /// Where the session of a number stands.
-    fn place(&self, number: u64) -> Option<usize>
+    pub fn place(&self, number: u64) -> Option<usize>
         ensures { PlaceAnswer number self.now.sessions result }
     {
-        // Calls for one session mostly follow one another: it is fed, and then its frames are taken.
+        // Calls for one session mostly follow one another: it is fed and asked whether it is closed, or it is named and
+        // its octets are taken.
         if is_at(&self.items, self.last, number) {
             return Some(self.last);
         }
@@ -104,33 +101,13 @@ impl Sessions {
             .ok()
     }
 
-    /// The octets for a session that were not taken yet.
-    pub fn out(&self, number: u64) -> &[u8]
-        ensures { result.now ≡ out_in (find (is_session number) self.now.sessions) }
-    {
-        match self.get(number) {
-            Some(session) => session.out.as_slice(),
-            None => &[],
-        }
-    }
-
-    /// Whether a session is closed, or there is none.
-    pub fn is_closed(&self, number: u64) -> bool
-        ensures { result ≡ closed_in (find (is_session number) self.now.sessions) }
-    {
-        match self.get(number) {
-            Some(session) => session.closed,
-            None => true,
-        }
-    }
-
     /// Takes the first octets for a session away.
     pub fn taken(&mut self, number: u64, count: usize)
         requires { count ≤ length (out_in (find (is_session number) self.old.sessions)) }
         ensures { self.new ≡ in_roster number (without_first count) self.old }
     {
         if let Some(at) = self.place(number) {
-            take_at(&mut self.items, at, count);
+            self.items[at].out.taken(count);
         }
     }
 
@@ -153,42 +130,35 @@ impl Sessions {
         match fresh_place(self.items.as_slice(), &mut self.noted) {
             Some(at) => {
                 self.last = at;
-                Some(name_at(&mut self.items, at))
+                Some(self.items[at].name())
             }
             None => None,
         }
     }
 
-    /// Feeds a piece to a session. The answer is more than the frames that can still be taken of it.
-    pub fn feed(&mut self, number: u64, piece: &[u8]) -> Result<usize, BrokerFault>
-        ensures { (book : Book) → BegunAnswer number piece.now (broker_of book self.old) (broker_of book self.new)
-            result }
+    /// Feeds a piece to the session at a place. The answer is more than the frames that can still be taken of it.
+    pub fn feed(&mut self, at: usize, piece: &[u8]) -> Result<usize, AllocError>
+        requires { at < length self.old.sessions }
+        ensures { (n : ℕ) (book : Book) → StandsAt n self.old.sessions at
+            → BegunAnswer n piece.now (broker_of book self.old) (broker_of book self.new) result }
     {
-        let Some(at) = self.place(number) else {
-            return Err(BrokerFault::NoSession);
-        };
         self.last = at;
-        match feed_at(&mut self.items, at, piece) {
-            Ok(bound) => Ok(bound),
-            Err(_) => Err(BrokerFault::Memory { took: false }),
-        }
+        self.items[at].feed(piece)
     }
 
-    /// Takes a session's next frame and makes its step; `false` where there is none, and where a fault of the octets
-    /// has ended it.
+    /// Takes the next frame of the session at a place and makes its step; `false` where there is none, and where a
+    /// fault of the octets has ended it.
     pub fn turn<const FULL: usize>(
         &mut self,
-        number: u64,
+        at: usize,
         queues: &mut Queues<FULL>,
     ) -> Result<bool, AllocError>
-        requires { is_some (find (is_session number) self.old.sessions) ≡ true }
-        ensures { StepAnswer FULL number (broker_of queues.old self.old) (broker_of queues.new self.new) result }
+        requires { at < length self.old.sessions }
+        ensures { (n : ℕ) → StandsAt n self.old.sessions at
+            → StepAnswer FULL n (broker_of queues.old self.old) (broker_of queues.new self.new) result }
     {
-        let Some(at) = self.place(number) else {
-            unreachable!()
-        };
-        let was_fresh = is_fresh_at(&self.items, at);
-        let done = turn_at(&mut self.items, at, self.alloc, queues);
+        let was_fresh = self.items[at].fresh;
+        let done = self.items[at].turn(self.alloc, queues);
         note(&self.items, at, was_fresh, &mut self.noted);
         done
     }
@@ -216,8 +186,8 @@ impl Sink for Sessions {
         };
         match self.place(to.session) {
             Some(at) => {
-                let was_fresh = is_fresh_at(&self.items, at);
-                let done = write_at(&mut self.items, at, &delivery);
+                let was_fresh = self.items[at].fresh;
+                let done = self.items[at].write_message(&delivery);
                 note(&self.items, at, was_fresh, &mut self.noted);
                 done
             }
@@ -228,17 +198,12 @@ impl Sink for Sessions {
 
 /// Whether the session of a number stands at this place.
 fn is_at(items: &[Session], at: usize, number: u64) -> bool
-    ensures { result ≡ true → (s : Session) × ((slice_get items.now at ≡ Some s) × (s.number ≡ number)) }
+    ensures { result ≡ true → StandsAt number items.now at }
 {
     match items.get(at) {
         Some(session) => session.number == number,
         None => false,
     }
-}
-
-/// Whether the session at this place has fresh octets.
-fn is_fresh_at(items: &[Session], at: usize) -> bool {
-    items.get(at).is_some_and(|session| session.fresh)
 }
 
 /// Notes the session at this place where its octets have become fresh. Where as many are noted as there are sessions,
@@ -298,56 +263,6 @@ fn push_new(items: &mut Vec<Session>, alloc: Global, number: u64) -> Result<(), 
 {
     items.push(Session::new(alloc, number))?;
     Ok(())
-}
-
-fn feed_at(items: &mut Vec<Session>, at: usize, piece: &[u8]) -> Result<usize, AllocError>
-    requires { at < length items.old.items }
-    ensures { (s : Session) × (t : Session)
-        × ((slice_get items.old.items at ≡ Some s) × (items.new.items ≡ slice_set items.old.items at t)
-        × SessionPieceAnswer piece.now s t result × IfOk result (λ bound. left_of t.incoming < bound)) }
-{
-    items[at].feed(piece)
-}
-
-fn turn_at<const FULL: usize>(
-    items: &mut Vec<Session>,
-    at: usize,
-    alloc: Global,
-    queues: &mut Queues<FULL>,
-) -> Result<bool, AllocError>
-    requires { at < length items.old.items }
-    ensures { (s : Session) × (t : Session)
-        × ((slice_get items.old.items at ≡ Some s) × (items.new.items ≡ slice_set items.old.items at t)
-        × PartTurn FULL (part queues.old s) (part queues.new t) result) }
-{
-    items[at].turn(alloc, queues)
-}
-
-fn write_at(items: &mut Vec<Session>, at: usize, delivery: &Delivery) -> Result<(), AllocError>
-    requires { at < length items.old.items }
-    ensures ok { OnOk result ((s : Session) × ((slice_get items.old.items at ≡ Some s)
-        × (items.new.items ≡ slice_set items.old.items at (writing (message_frame delivery.now) s)))) }
-    ensures err { OnErr result (items.new.items ≡ items.old.items) }
-{
-    items[at].write_message(delivery)
-}
-
-fn take_at(items: &mut Vec<Session>, at: usize, count: usize)
-    requires within { at < length items.old.items }
-    requires enough { (s : Session) → slice_get items.old.items at ≡ Some s → count ≤ length s.out }
-    ensures { (s : Session) × ((slice_get items.old.items at ≡ Some s)
-        × (items.new.items ≡ slice_set items.old.items at (without_first count s))) }
-{
-    items[at].taken(count);
-}
-
-fn name_at(items: &mut Vec<Session>, at: usize) -> SessionId
-    requires { at < length items.old.items }
-    ensures { (s : Session) × ((slice_get items.old.items at ≡ Some s)
-        × (items.new.items ≡ slice_set items.old.items at (named s))
-        × (result ≡ s.number)) }
-{
-    items[at].name()
 }
 
 fn remove_from(items: &mut Vec<Session>, number: u64)

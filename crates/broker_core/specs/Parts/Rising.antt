@@ -14,6 +14,10 @@ AreRising low (s ∷ ss) last = (low < s.number) × AreRising s.number ss last
 abbrev pub InOrder : Inside → Type 0
 InOrder r = AreRising 0 r.items.items r.opened
 
+-- the session of this number stands there
+abbrev pub StandsAt : ℕ → List Session → ℕ → Type 0
+StandsAt n ss at = (s : Session) × (slice_get ss at ≡ Some s) × (s.number ≡ n)
+
 -- a session with fresh octets stands there
 abbrev pub IsFreshAt : List Session → ℕ → Type 0
 IsFreshAt ss at = (s : Session) × (slice_get ss at ≡ Some s) × (s.fresh ≡ true)

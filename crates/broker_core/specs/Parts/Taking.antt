@@ -4,14 +4,12 @@ use Rattle.std.specs.Prelude.{Result, Ok, Err}
 use Rattle.stomp_frame.specs.declared.fault.FrameFault.{FrameFault}
 use Rattle.stomp_frame.specs.declared.fault.FrameFault.TheVariants.{Memory}
 use Rattle.broker_tx.specs.First.{IsFirstAt, PassesNone}
-use Rattle.broker_core.specs.Feeding.{Dealing, DecidesNext, Ends, FeedsNone, Handles, HandlesAll, HasNone, MeetsFault}
+use Rattle.broker_core.specs.Feeding.{DecidesNext, Ends, FeedsNone, Handles, HandlesAll, HasNone, MeetsFault}
 use Rattle.broker_core.specs.Feeding.{DealsAll, Stops}
 use Rattle.broker_core.specs.Feeding.{TakesDecided, fed, taking, with_incoming, with_waiting}
 use Rattle.broker_core.specs.Performing.{Reach, queue_refusal, transaction_refusal}
 use Rattle.broker_core.specs.Serving.{Decided, Part, Server, changing, is_session, part, refused, served, session_of}
 use Rattle.broker_core.specs.Serving.{step}
-use Rattle.broker_core.specs.declared.fault.BrokerFault.{BrokerFault}
-use Rattle.broker_core.specs.declared.fault.BrokerFault.TheVariants.{Memory as OutOfMemory, NoSession}
 use Rattle.broker_core.specs.declared.fault.HandlerFault.{HandlerFault}
 use Rattle.broker_core.specs.declared.fault.HandlerFault.TheVariants.{Refused as IsRefused, Memory as HasNoMemory}
 use Rattle.broker_core.specs.declared.fault.FrameRefusal.{FrameRefusal}
@@ -133,14 +131,11 @@ abbrev pub PlaceAnswer : ℕ → List Session → Option ℕ → Type 0
 PlaceAnswer n sessions None = PassesNone (is_session n) sessions
 PlaceAnswer n sessions (Some at) = IsFirstAt (is_session n) sessions at
 
--- a piece was fed to a session, of which fewer frames than this can still be taken; or memory was refused; or there is
--- none
-abbrev pub BegunAnswer : ℕ → List ℕ → Server → Server → Result ℕ BrokerFault → Type 0
+-- a piece was fed to a session, of which fewer frames than this can still be taken; or memory was refused
+abbrev pub BegunAnswer : {E : Type 0} → ℕ → List ℕ → Server → Server → Result ℕ E → Type 0
 BegunAnswer n piece old new (Ok bound) =
     (is_some (session_of n old) ≡ true) × (new ≡ changing n (taking piece) old) × (left_in (session_of n new) < bound)
-BegunAnswer n piece old new (Err (OutOfMemory false)) = FeedsNone old n piece new
-BegunAnswer n piece old new (Err NoSession) = (session_of n old ≡ None) × (new ≡ old)
-BegunAnswer n piece old new (Err _) = ⊥
+BegunAnswer n piece old new (Err _) = FeedsNone old n piece new
 
 -- a session's next frame was taken, and had its step
 pub record Stepped (full n : ℕ) (old new : Server) : Type 0 where
@@ -149,10 +144,14 @@ pub record Stepped (full n : ℕ) (old new : Server) : Type 0 where
   pub takes : TakesDecided old n frame taken
   pub changed : new ≡ step full n frame taken
 
--- the same, or none is left, or memory was refused
+-- the same, or none is left
+abbrev pub StepsOrEnds : ℕ → ℕ → Server → Server → Bool → Type 0
+StepsOrEnds full n old new true = Stepped full n old new
+StepsOrEnds full n old new false = Ends old n new
+
+-- the same, or memory was refused
 abbrev pub StepAnswer : {E : Type 0} → ℕ → ℕ → Server → Server → Result Bool E → Type 0
-StepAnswer full n old new (Ok true) = Stepped full n old new
-StepAnswer full n old new (Ok false) = Ends old n new
+StepAnswer full n old new (Ok stepped) = StepsOrEnds full n old new stepped
 StepAnswer full n old new (Err _) = Stops full n old new
 
 -- ---- one turn of `feed`
@@ -162,12 +161,19 @@ pub record Turned (full n : ℕ) (old new : Server) : Type 0 where
   pub frame : Decided
   pub handles : Handles full n old frame new
   pub less : left_in (session_of n new) < left_in (session_of n old)
-  pub there : is_some (session_of n new) ≡ true
 
--- a frame was handled, or none is left, or memory was refused
+-- no frame is left, and messages were dealt until none can be
+abbrev pub EndsQuiet : Server → ℕ → Server → Type 0
+EndsQuiet old n new = (ended : Server) × Ends old n ended × DealsAll ended new
+
+-- a frame was handled, or none is left
+abbrev pub TurnsOrEnds : ℕ → ℕ → Server → Server → Bool → Type 0
+TurnsOrEnds full n old new true = Turned full n old new
+TurnsOrEnds full n old new false = EndsQuiet old n new
+
+-- the same, or memory was refused
 abbrev pub TurnAnswer : {E : Type 0} → ℕ → ℕ → Server → Server → Result Bool E → Type 0
-TurnAnswer full n old new (Ok true) = Turned full n old new
-TurnAnswer full n old new (Ok false) = Ends old n new
+TurnAnswer full n old new (Ok turned) = TurnsOrEnds full n old new turned
 TurnAnswer full n old new (Err _) = Stops full n old new
 
 -- so many frames were handled
@@ -175,10 +181,3 @@ pub record Handled (full n : ℕ) (old : Server) (count : ℕ) (new : Server) : 
   pub frames : List Decided
   pub handles : HandlesAll full n old frames new
   pub counted : count ≡ length frames
-  pub there : is_some (session_of n new) ≡ true
-
--- the deals at the end
-abbrev pub EndAnswer : Server → Server → ℕ → Result ℕ BrokerFault → Type 0
-EndAnswer old new count (Ok c) = DealsAll old new × (c ≡ count)
-EndAnswer old new count (Err (OutOfMemory true)) = Dealing old new
-EndAnswer old new count (Err _) = ⊥

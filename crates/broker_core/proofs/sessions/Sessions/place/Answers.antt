@@ -17,5 +17,5 @@ pub returns-then-is_at : goal.returns-then-is_at
 returns-then-is_at c =
     let it = rw c.deref.ensures.value at (c.is_at.ensures c.if-is_at.true) in
     rw (← c.self.view_is)
-    (stands c.args.number c.self.inside.opened c.self.inside.items.items c.self.invariant c.self.inside.last it.0 it.1.0
-    it.1.1)
+    (stands c.args.number c.self.inside.opened c.self.inside.items.items c.self.invariant c.self.inside.last it.0 it.1
+    it.2)

@@ -1,28 +1,30 @@
-use Rattle.std.proofs.Common.{refl, subst}
-use Rattle.broker_core.specs.Calls.{named}
+use Rattle.std.proofs.Common.{refl, ap, subst}
+use Rattle.std.specs.Prelude.{slice_set}
 use Rattle.broker_core.specs.Parts.Rising.{FreshPlace}
-use Rattle.broker_core.proofs.Rising.{kept_at, names_fresh}
+use Rattle.broker_core.specs.declared.session.Session.{Session}
+use Rattle.broker_core.proofs.Places.{got_at}
+use Rattle.broker_core.proofs.Rising.{got_within, kept_at, names_fresh}
 use Rattle.broker_core.proofs.sessions.Sessions.take_fresh.Goals as goal
 
 pub invariant_of-self : goal.invariant_of-self
 invariant_of-self c =
-    let w = c.name_at.ensures in
-    kept_at c.self.inside.opened c.self.inside.items.items c.name_at.new.items.items c.in-Some.at w.0 (named w.0)
-    c.self.invariant w.1.0
-    w.1.1 refl
+    let items = c.self.inside.items.items in
+    let at = c.in-Some.at in
+    let s = c.index_mut.result.now in
+    let place = subst (FreshPlace items) c.in-Some.is
+    (subst (λ l. FreshPlace l c.fresh_place.result) c.as_slice.ensures.value c.fresh_place.ensures) in
+    kept_at c.self.inside.opened items (slice_set items at c.name.new.self) at s c.name.new.self c.self.invariant
+    (got_at items at s (got_within items at place.0 place.1) c.index_mut.ensures.value) refl
+    (ap (λ (x : Session). x.number) c.name.ensures.named)
 
 pub returns-in-Some : goal.returns-in-Some
 returns-in-Some c =
-    let w = c.name_at.ensures in
-    let place = subst (FreshPlace c.self.inside.items.items) c.in-Some.is
+    let items = c.self.inside.items.items in
+    let at = c.in-Some.at in
+    let s = c.index_mut.result.now in
+    let place = subst (FreshPlace items) c.in-Some.is
     (subst (λ l. FreshPlace l c.fresh_place.result) c.as_slice.ensures.value c.fresh_place.ensures) in
-    λ book. rw (← c.self.view_is) (names_fresh book c.self.inside.items.items c.name_at.new.items.items
-    c.self.inside.opened c.in-Some.at
-    c.name_at.result w.0
-    c.self.invariant place w.1.0 w.1.1 w.1.2)
-
-pub returns-in-None : goal.returns-in-None
-returns-in-None c =
-    let place = subst (FreshPlace c.self.inside.items.items) c.in-None.is
-    (subst (λ l. FreshPlace l c.fresh_place.result) c.as_slice.ensures.value c.fresh_place.ensures) in
-    λ book. rw (← c.self.view_is) (place, refl)
+    λ book. rw (← c.self.view_is)
+    (names_fresh book items (slice_set items at c.name.new.self) c.self.inside.opened at c.name.result s
+    c.self.invariant place (got_at items at s (got_within items at place.0 place.1) c.index_mut.ensures.value)
+    (ap (λ y. slice_set items at y) c.name.ensures.named) c.name.ensures.number)
