@@ -58,8 +58,8 @@ create_out_marks_defines = record { is = refl; whole = refl; plain = (refl, refl
 
 abbrev pub create_in_marks : List ℕ
 create_in_marks =
-    codes "CREATE TABLE in_marks (sender TEXT NOT NULL, receiver TEXT NOT NULL, handled INTEGER NOT NULL, "
-    ++ codes "PRIMARY KEY (sender, receiver)) STRICT"
+    codes "CREATE TABLE in_marks (sender TEXT NOT NULL, receiver TEXT NOT NULL, handled INTEGER NOT NULL "
+    ++ codes "CHECK (handled >= 0 AND handled <= 1099511627776), PRIMARY KEY (sender, receiver)) STRICT"
 
 pub create_in_marks_defines : Defines (schema_with (journal ∷ outbox ∷ out_marks ∷ [])) create_in_marks in_marks
 unfolding understood everything

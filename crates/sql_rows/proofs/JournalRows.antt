@@ -1,5 +1,6 @@
 -- What the texts on `journal` mean and do.
-use Rattle.std.proofs.Common.{◌≡◌, ℕ, ℤ, pos, List, [], ◌∷◌, filter, codes, slice_get, Some, Result, OnOk, IfOk, refl}
+use Rattle.std.proofs.Common.{◌≡◌, ℕ, ℤ, pos, List, [], ◌∷◌, filter, codes, length}
+use Rattle.std.proofs.Common.{slice_get, Some, Result, OnOk, IfOk, refl}
 use Rattle.sqlite.specs.declared.types.Value.TheVariants.{Null, Int, Text}
 use Rattle.sqlite.specs.declared.error.Error.{Error}
 use Rattle.sqlite.specs.Order.{Row}
@@ -8,19 +9,22 @@ use Rattle.sqlite.specs.Source.TheVariants.{Values}
 use Rattle.sqlite.specs.Listing.{understood}
 use Rattle.sqlite.specs.State.{State, ExecutesInside, Shown as ShownAs}
 use Rattle.sqlite_sql.specs.Query.{as_count}
-use Rattle.sqlite_sql.specs.Term.{lit, col}
+use Rattle.sqlite_sql.specs.Term.{lit, col, holds}
 use Rattle.sqlite_tied.specs.Compute.{everything}
 use Rattle.sqlite_value.specs.Order.{column}
 use Rattle.sql_rows.specs.declared.service.Service.{Service}
 use Rattle.sql_rows.specs.declared.service.Service.TheVariants.{Purchasing, Warehouse, Billing}
 use Rattle.sql_rows.specs.Schema.{IsService, schema_of, journal}
 use Rattle.sql_rows.specs.Tables.{IsRising, Adds, Edits, is_from, AreInOrder, by_position, by_position_down, down}
-use Rattle.sql_rows.specs.Tables.{shown_entry}
+use Rattle.sql_rows.specs.Tables.{shown_entry, is_within}
+use Rattle.std.specs.List.{list_all}
 use Rattle.sql_rows.proofs.Steps.{Says}
 use Rattle.sql_rows.proofs.Queries.{Asks, rows_of}
-use Rattle.sql_rows.proofs.Tests.{cast_null, cast_int, from_terms, from_test}
+use Rattle.sql_rows.proofs.Tests.{cast_null, cast_int, from_terms, from_test, within_terms, within_test}
 use Rattle.sql_rows.proofs.Edits.{added}
-use Rattle.sql_rows.proofs.Selects.{shows, shows_all}
+use Rattle.sql_rows.proofs.Selects.{shows, shows_all, kept_rows, whole_table}
+use Rattle.sql_rows.proofs.Counting.{count_of, shows_count}
+use Rattle.sqlite_sql.specs.Aggregate.{count}
 use Rattle.sql_rows.proofs.Services.{idle}
 
 journal_there : (service : Service) → slice_get (schema_of service).tables 0 ≡ Some journal
@@ -116,3 +120,41 @@ reads_last items old new result it h =
     (record (rows_of 0 [] (col 1 0 ∷ []) [] (lit (Int (pos 1)))) { order = (col 1 0, down) ∷ [] }) _
     (select_last_asks it.service) refl refl refl refl refl []
     by_position_down (λ x. column x 0 ∷ []) (Some 1) (λ a b. refl) (λ x. refl) refl old new it.is refl items result h
+
+abbrev pub select_count : List ℕ
+select_count = codes "SELECT count(*) FROM journal"
+
+pub select_count_asks : (service : Service)
+    → Asks (schema_of service) select_count (count_of 0 []) (codes "count(*)" ∷ [])
+unfolding understood everything
+select_count_asks Purchasing = ((refl, (refl, refl)), refl)
+select_count_asks Warehouse = ((refl, (refl, refl)), refl)
+select_count_asks Billing = ((refl, (refl, refl)), refl)
+
+pub reads_count : {X : Type 0} (items : X → List Row) (old new : State) (result : Result X Error)
+    → IsService old.now.schema → IfOk result (λ v. ShownAs select_count [] old new (items v))
+    → IfOk result (λ v. items v ≡ (count (length (old.now.trees 0)) ∷ []) ∷ [])
+reads_count items old new result it h =
+    shows_count 0 [] [] (schema_of it.service) select_count _ (select_count_asks it.service) old new it.is
+    (old.now.trees 0) (whole_table (λ r. [] ∷ r ∷ []) (old.now.trees 0)) items result h
+
+abbrev pub select_within : List ℕ
+select_within = codes "SELECT count(*) FROM journal WHERE pos >= ?1 AND pos <= ?2"
+
+pub select_within_asks : (service : Service)
+    → Asks (schema_of service) select_within (count_of 0 within_terms) (codes "count(*)" ∷ [])
+unfolding understood everything
+select_within_asks Purchasing = ((refl, (refl, refl)), refl)
+select_within_asks Warehouse = ((refl, (refl, refl)), refl)
+select_within_asks Billing = ((refl, (refl, refl)), refl)
+
+pub reads_within : (first last : ℤ) {X : Type 0} (items : X → List Row) (old new : State) (result : Result X Error)
+    → IsService old.now.schema
+    → IfOk result (λ v. ShownAs select_within (Int first ∷ Int last ∷ []) old new (items v))
+    → IfOk result (λ v. items v ≡ (count (length (filter (is_within first last) (old.now.trees 0))) ∷ []) ∷ [])
+reads_within first last items old new result it h =
+    let params = Int first ∷ Int last ∷ [] in
+    shows_count 0 within_terms params (schema_of it.service) select_within _ (select_within_asks it.service) old new
+    it.is (filter (is_within first last) (old.now.trees 0))
+    (kept_rows (λ x. list_all (holds (params ∷ x ∷ [])) within_terms) (is_within first last) (λ x. params ∷ x ∷ [])
+    (old.now.trees 0) (within_test first last)) items result h

@@ -4,6 +4,7 @@ pub mod Steps
 pub mod Queries
 pub mod Edits
 pub mod Selects
+pub mod Counting
 pub mod Stays
 pub mod Services
 pub mod InMarkRows

@@ -131,7 +131,7 @@ module _ (schema : Schema) (sql : List ℕ) (tree : ℕ) (terms project order : 
       cmp show n cmp_is show_is limit_is (items v)
       ((reads_as sql params old new schema has _ asks.0.0 asks.0.1 asks.1 (items v) h).answer Null)
 
-whole_table : {Y : Type 0} (env : Row → Y) (rows : List Row) → flat_map (λ (x : Row). env x ∷ []) rows ≡ map env rows
+pub whole_table : {Y : Type 0} (env : Row → Y) (rows : List Row) → flat_map (λ (x : Row). env x ∷ []) rows ≡ map env rows
 whole_table env [] = refl
 whole_table env (x ∷ rows) = ap (λ l. env x ∷ l) (whole_table env rows)
 

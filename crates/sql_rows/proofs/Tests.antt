@@ -17,6 +17,7 @@ use Rattle.sqlite_value.specs.declared.keys.Collation.TheVariants.{Binary}
 use Rattle.std.specs.Cmp.{tied_itself}
 use Rattle.sqlite_sql.specs.Term.{Term, holds, col, op2}
 use Rattle.sql_rows.specs.Tables.{Key, has_key, text_key, pair_key, place_key, place_cells, is_upto, is_after, is_from}
+use Rattle.sql_rows.specs.Tables.{is_within}
 use Rattle.sql_rows.proofs.Queries.{eq}
 
 either : (b : Bool) (x : Value) → cond b x x ≡ x
@@ -204,6 +205,16 @@ from_terms = op2 (Compare Ge Binary) (col 1 0) (col 0 0) ∷ []
 
 pub from_test : (n limit : ℤ) (x : Row) → list_all (holds ((Int n ∷ Int limit ∷ []) ∷ x ∷ [])) from_terms ≡ is_from n x
 from_test n limit x = and_true _ ∙ ge_int (column x 0) n
+
+-- those between two positions
+abbrev pub within_terms : List Term
+within_terms = op2 (Compare Ge Binary) (col 1 0) (col 0 0) ∷ op2 (Compare Le Binary) (col 1 0) (col 0 1) ∷ []
+
+pub within_test : (first last : ℤ) (x : Row)
+    → list_all (holds ((Int first ∷ Int last ∷ []) ∷ x ∷ [])) within_terms ≡ is_within first last x
+within_test first last x = rw (ge_int (column x 0) first, le_test (column x 0) last)
+    (ap (λ b. is_from first x && b)
+    (and_true (not (is_null (column x 0)) && is_le (value_cmp (column x 0) (Int last)))))
 
 -- ---- a row has the key of its own cells
 

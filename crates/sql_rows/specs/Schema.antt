@@ -78,6 +78,10 @@ refers_to parent = record {
   is_deferred = false;
 }
 
+abbrev pub between : ℕ → ℕ → Term → Term
+between low high t =
+    op2 And (op2 (Compare Ge Binary) t (lit (Int (pos low)))) (op2 (Compare Le Binary) t (lit (Int (pos high))))
+
 -- ---- the tables of every service
 
 -- what its entities took in: a command from a seat, or a message from a sender with a number
@@ -99,10 +103,11 @@ out_marks = keyed (codes "out_marks") 3 (1 ∷ 2 ∷ []) []
     (text (codes "sender") ∷ text (codes "receiver") ∷ int (codes "sent") ∷ int (codes "settled") ∷ [])
     (op2 (Compare Le Binary) (col 1 4) (col 1 3) ∷ []) []
 
--- the last number handled of a pair
+-- the last number handled of a pair: 0, or a letter's, which is 2^40 at most
 abbrev pub in_marks : Table
 in_marks = keyed (codes "in_marks") 5 (1 ∷ 2 ∷ []) []
-    (text (codes "sender") ∷ text (codes "receiver") ∷ int (codes "handled") ∷ []) [] []
+    (text (codes "sender") ∷ text (codes "receiver") ∷ int (codes "handled") ∷ [])
+    (between 0 1099511627776 (col 1 3) ∷ []) []
 
 -- the letters that came too early
 abbrev pub held : Table
@@ -121,10 +126,6 @@ abbrev pub order_heads : Table
 order_heads = keyed (codes "order_heads") 9 (1 ∷ []) []
     (text (codes "key") ∷ text (codes "account") ∷ int (codes "amount")
     ∷ text (codes "status") ∷ text (codes "account_phase") ∷ []) [] []
-
-abbrev pub between : ℕ → ℕ → Term → Term
-between low high t =
-    op2 And (op2 (Compare Ge Binary) t (lit (Int (pos low)))) (op2 (Compare Le Binary) t (lit (Int (pos high))))
 
 -- one to eight lines of an order, and no two at one stock
 abbrev pub order_lines : Table

@@ -152,6 +152,10 @@ shown_entry r = column r 0 ∷ column r 2 ∷ column r 3 ∷ column r 4 ∷ colu
 abbrev pub is_from : ℤ → Row → Bool
 is_from n x = is_ge (value_cmp (column x 0) (Int n))
 
+-- the row's position is between these two
+abbrev pub is_within : ℤ → ℤ → Row → Bool
+is_within first last x = is_from first x && (not (is_null (column x 0)) && is_le (value_cmp (column x 0) (Int last)))
+
 -- ---- held letters that are next
 
 abbrev pub sql_eq : Value → Value → Bool

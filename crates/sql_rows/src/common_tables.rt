@@ -84,7 +84,8 @@ fn create_in_marks<S: Alter>(tx: &mut Transaction<'_, S>) -> Result<usize, Error
     write(
         tx,
         "CREATE TABLE in_marks (sender TEXT NOT NULL, receiver TEXT NOT NULL, \
-         handled INTEGER NOT NULL, PRIMARY KEY (sender, receiver)) STRICT",
+         handled INTEGER NOT NULL CHECK (handled >= 0 AND handled <= 1099511627776), \
+         PRIMARY KEY (sender, receiver)) STRICT",
         &[],
     )
 }

@@ -1,15 +1,16 @@
 //! What the entities took in, in order.
 
-ghost use Rattle.std.specs.Prelude.{◌≡◌, ◌≤◌, false, OnOk, IfOk, IsTrue, Some, filter, [], ◌∷◌};
+ghost use Rattle.std.specs.Prelude.{◌≡◌, ◌≤◌, false, OnOk, IfOk, IsTrue, Some, filter, length, [], ◌∷◌};
 ghost use Rattle.sqlite.specs.Held.{state};
 ghost use Rattle.sqlite.specs.State.{HasCleanDisk, Survives, KeepsCommit};
 ghost use Rattle.sqlite.specs.declared.types.Value.TheVariants.{Null, Int, Text};
+ghost use Rattle.sqlite_sql.specs.Aggregate.{count};
 ghost use Rattle.sqlite_sql.specs.Query.{as_count};
 ghost use Rattle.sqlite_trees.specs.Tree.{Trees};
 ghost use Rattle.sqlite_trees.specs.View.{doubt};
 ghost use Rattle.sqlite_value.specs.Order.{column};
 ghost use Rattle.sql_rows.specs.Schema.{IsService};
-ghost use Rattle.sql_rows.specs.Tables.{IsRising, Adds, Edits, Stays, AreInOrder, is_from, by_position};
+ghost use Rattle.sql_rows.specs.Tables.{IsRising, Adds, Edits, Stays, AreInOrder, is_from, is_within, by_position};
 ghost use Rattle.sql_rows.specs.Tables.{by_position_down, shown_entry};
 
 use crate::statements::{int, read, text, write};
@@ -120,5 +121,49 @@ pub fn read_last_position<S: Alter>(conn: &mut Connection<S>) -> Result<Vec<Row>
         conn,
         "SELECT pos FROM journal ORDER BY pos DESC LIMIT 1",
         &[],
+    )
+}
+
+/// How many rows there are, in one row.
+pub fn count_rows<S: Alter>(conn: &mut Connection<S>) -> Result<Vec<Row>, Error>
+    requires schema { HasCleanDisk (state S.Store conn.old) → IsService (state S.Store conn.old).now.schema }
+    requires settled { HasCleanDisk (state S.Store conn.old)
+        → (state S.Store conn.old).now ≡ (state S.Store conn.old).committed }
+    requires autocommit { conn.old.in_transaction ≡ false }
+    ensures rows { HasCleanDisk (state S.Store conn.new) → IfOk result (λ rows.
+        rows.items ≡ (count (length ((state S.Store conn.old).now.trees 0)) ∷ []) ∷ []) }
+    ensures autocommit { conn.new.in_transaction ≡ false }
+    ensures open { HasCleanDisk (state S.Store conn.new) → OnOk result (IsTrue (state S.Store conn.new).is_open) }
+    ensures stays { HasCleanDisk (state S.Store conn.new) → Stays (state S.Store conn.old) (state S.Store conn.new) }
+    ensures clean { doubt (state S.Store conn.old).is_clean ≤ doubt (state S.Store conn.new).is_clean }
+    ensures crash { HasCleanDisk (state S.Store conn.new) → (db : Trees)
+        → (state S.Store conn.new).may_leave db → (state S.Store conn.old).may_leave db }
+{
+    read(conn, "SELECT count(*) FROM journal", &[])
+}
+
+/// How many rows have a position between these two, in one row.
+pub fn count_rows_within<S: Alter>(
+    conn: &mut Connection<S>,
+    first: i64,
+    last: i64,
+) -> Result<Vec<Row>, Error>
+    requires schema { HasCleanDisk (state S.Store conn.old) → IsService (state S.Store conn.old).now.schema }
+    requires settled { HasCleanDisk (state S.Store conn.old)
+        → (state S.Store conn.old).now ≡ (state S.Store conn.old).committed }
+    requires autocommit { conn.old.in_transaction ≡ false }
+    ensures rows { HasCleanDisk (state S.Store conn.new) → IfOk result (λ rows. rows.items
+        ≡ (count (length (filter (is_within first last) ((state S.Store conn.old).now.trees 0))) ∷ []) ∷ []) }
+    ensures autocommit { conn.new.in_transaction ≡ false }
+    ensures open { HasCleanDisk (state S.Store conn.new) → OnOk result (IsTrue (state S.Store conn.new).is_open) }
+    ensures stays { HasCleanDisk (state S.Store conn.new) → Stays (state S.Store conn.old) (state S.Store conn.new) }
+    ensures clean { doubt (state S.Store conn.old).is_clean ≤ doubt (state S.Store conn.new).is_clean }
+    ensures crash { HasCleanDisk (state S.Store conn.new) → (db : Trees)
+        → (state S.Store conn.new).may_leave db → (state S.Store conn.old).may_leave db }
+{
+    read(
+        conn,
+        "SELECT count(*) FROM journal WHERE pos >= ?1 AND pos <= ?2",
+        &[int(first), int(last)],
     )
 }

@@ -42,7 +42,9 @@ pub use accounts::{
 };
 pub use held::{put_held, read_drainable, read_held, take_held};
 pub use in_marks::{put_in_marks, read_handled};
-pub use journal::{add_command, add_message, read_journal, read_last_position};
+pub use journal::{
+    add_command, add_message, count_rows, count_rows_within, read_journal, read_last_position,
+};
 pub use orders::{
     add_order_line, put_order_head, read_order_head, read_order_lines, take_order_head,
     take_order_lines,

@@ -1,0 +1,17 @@
+use Rattle.std.proofs.Common.{arith}
+use Rattle.sqlite.specs.Held.{state}
+use Rattle.sqlite.specs.State.{HasCleanDisk}
+use Rattle.sql_rows.proofs.JournalRows.{select_count, select_count_asks, reads_count}
+use Rattle.sql_rows.proofs.Services.{plain_in}
+use Rattle.sql_rows.proofs.journal.count_rows.Goals as goal
+
+pub read-requires-clause-plain : goal.read-requires-clause-plain
+read-requires-clause-plain g c clean = plain_in select_count (λ service. (select_count_asks service).0.1) _
+    (c.requires.schema clean)
+
+pub returns-clause-rows : goal.returns-clause-rows
+returns-clause-rows g c clean =
+    let old = state g.S.Store c.args.conn.now in
+    let early : HasCleanDisk old = omega (arith, c.read.ensures.clean) in
+    reads_count (λ v. v.items) old (state g.S.Store c.read.new.conn) c.read.result (c.requires.schema early)
+    (c.read.ensures.shown clean)
