@@ -2,14 +2,13 @@
 use Rattle.std.proofs.Common.{◌≡◌, ◌≢◌, ◌<◌, ◌⊎◌, inl, inr, ℕ, ℤ, pos, List, [], ◌∷◌, Bool, true, false, ◌&&◌, ◌==◌}
 use Rattle.std.proofs.Common.{cond, Option, Some, None, Ok, Err, Result, IfOk, OnOk, refl, sym, ap, subst, ◌∙◌}
 use Rattle.std.proofs.Common.{true≢false, arith, map, length, ◌+◌, ◌++◌, fold, ◌+ℤ◌}
-use Rattle.std.specs.Prelude.{IsTrue, nat_le}
+use Rattle.std.specs.Prelude.{nat_le}
 use Rattle.std.specs.List.{AllByRecursion}
 use Rattle.std.proofs.lemmas.Bool.{cases_Bool}
 use Rattle.std.proofs.lemmas.Bool.Decides.{nat_tests}
 use Rattle.sqlite_value.specs.Order.{Row}
-use Rattle.sqlite_trees.specs.Tree.{Trees, rowid}
+use Rattle.sqlite_trees.specs.Tree.{rowid}
 use Rattle.sqlite_catalog.specs.Listing.{IsSound}
-use Rattle.sqlite_rules.specs.Lists.{Has}
 use Rattle.sqlite.specs.Effect.{Database, IsDatabase}
 use Rattle.sqlite.specs.State.{State, Survives, IsUnchanged, KeepsCommit}
 use Rattle.sqlite.proofs.StateLemmas.{survives_then}
@@ -22,9 +21,8 @@ use Rattle.envelope.specs.declared.message.Letter.{Letter}
 use Rattle.activities.specs.declared.input.JournalRow.{JournalRow}
 use Rattle.keep.specs.Tables.{Tables, changed, changed_by, set_mark}
 use Rattle.keep.specs.declared.change.Change.{Change}
-use Rattle.keep.specs.declared.change.Change.TheVariants.{Sent, Settled, Handled, Held, NotHeld}
-use Rattle.sql_rows.specs.Schema.{IsService}
-use Rattle.sql_rows.specs.Tables.{Cells, has_key, IsRising, IsCut, IsSet, Puts, Adds, Edits, place_cells}
+use Rattle.keep.specs.declared.change.Change.TheVariants.{Handled, Held, NotHeld}
+use Rattle.sql_rows.specs.Tables.{Cells, has_key, IsCut, Puts, Adds, Edits, place_cells}
 use Rattle.sql_rows.specs.Tables.{letter_cells, marks_cells, is_upto, pair_key, place_key}
 use Rattle.sqlite.specs.declared.types.Value.TheVariants.{Int, Text}
 use Rattle.keep_sqlite.specs.Filing.{Filing}

@@ -1,28 +1,22 @@
 -- How the calls of a keep end.
-use Rattle.std.proofs.Common.{◌≡◌, ◌≤◌, ◌⊎◌, inl, inr, ℕ, ◌+◌, Bool, true, false, List, [], ◌∷◌, Option, None, Result}
-use Rattle.std.proofs.Common.{Ok, Err, IfOk, OnOk}
-use Rattle.std.proofs.Common.{IsTrue, refl, sym, ap, subst, ◌∙◌, arith}
+use Rattle.std.proofs.Common.{◌≡◌, ◌≤◌, ◌⊎◌, inl, inr, ℕ, Bool, true, false, Result}
+use Rattle.std.proofs.Common.{Ok, Err, IfOk}
+use Rattle.std.proofs.Common.{IsTrue, refl, sym, ap, ◌∙◌, arith}
 use Rattle.sqlite_trees.specs.Tree.{Trees}
 use Rattle.sqlite_trees.specs.View.{doubt}
 use Rattle.sqlite.specs.declared.error.Error.{Error}
 use Rattle.sqlite.specs.Effect.{Database}
 use Rattle.sqlite.specs.State.{State, HasCleanDisk}
-use Rattle.keep.specs.Seen.{Seen, IsSound, keep_end, Cause, no_memory, failed}
-use Rattle.keep.specs.Law.{Tells, IsCall, IsRead, IsTransaction, Never, MoreFailures, Reads, Writes}
+use Rattle.keep.specs.Seen.{Seen, keep_end}
+use Rattle.keep.specs.Law.{MoreFailures, Reads, Writes}
 use Rattle.keep.specs.Tables.{Tables}
 use Rattle.keep.specs.declared.fault.KeepFault.{KeepFault}
-use Rattle.keep.specs.declared.fault.KeepFault.TheVariants.{Failed, Memory}
+use Rattle.keep.specs.declared.fault.KeepFault.TheVariants.{Failed}
 use Rattle.sql_rows.specs.Tables.{Stays}
 use Rattle.keep_sqlite.specs.Filing.{Filing}
 use Rattle.keep_sqlite.specs.Tables.{tables_of}
 use Rattle.keep_sqlite.specs.Law.{seen_of, LeavesTables}
 use Rattle.keep_sqlite.specs.Ready.{IsReady, IsEnd}
-
--- a keep that gives up leaves its tables
-pub gave_up : {T : Type 0} (old new : Seen T) → IsSound old → old.usable ≡ true → old.doubt ≡ new.doubt
-    → old.may_leave ≡ new.may_leave → new.doubt ≡ 0 → (t : T) → new.may_leave t → t ≡ old.tables
-gave_up old new sound usable doubt may clean t left =
-    sound.only_now (doubt ∙ clean) usable t (subst (λ m. m t) (sym may) left)
 
 -- a stop leaves the trees now, of a connection that is ready
 pub only_settled : {S C : Type 0} (f : Filing S C) (count : ℕ) (s : State)

@@ -1,11 +1,10 @@
 -- What a write of one table leaves of the others.
-use Rattle.std.proofs.Common.{◌≡◌, ◌≢◌, ◌≤◌, ◌<◌, ℕ, List, [], ◌∷◌, drop, refl, sym, ap, subst, ◌∙◌, arith, inl, inr}
-use Rattle.std.proofs.Common.{◌⊎◌, ◌==◌, true, false, Bool}
+use Rattle.std.proofs.Common.{◌≡◌, ◌≢◌, ◌≤◌, ◌<◌, ℕ, List, [], ◌∷◌, refl, sym, subst, arith, inl, inr}
+use Rattle.std.proofs.Common.{◌==◌, true}
 use Rattle.std.specs.Prelude.{nat_le}
 use Rattle.std.specs.List.{AllByRecursion}
 use Rattle.std.proofs.lemmas.Bool.{cases_Bool}
 use Rattle.std.proofs.lemmas.Bool.Decides.{nat_tests}
-use Rattle.sqlite_value.specs.Order.{Row}
 use Rattle.sqlite_trees.specs.Tree.{Trees}
 use Rattle.sqlite_schema.specs.declared.schema.Schema.{Schema}
 use Rattle.sqlite_schema.specs.declared.schema.Table.{Table}
@@ -81,3 +80,7 @@ frame schema is apart tree old new low left =
 pub journal_rises : (schema : Schema) → IsService schema → (db : Trees) → AreRising schema db → IsRising (db 0)
 journal_rises schema is db rising =
     (subst (AllByRecursion (λ (t : Table). IsRising (db t.tree))) (common_first schema is) rising).0
+
+pub outbox_rises : (schema : Schema) → IsService schema → (db : Trees) → AreRising schema db → IsRising (db 1)
+outbox_rises schema is db rising =
+    (subst (AllByRecursion (λ (t : Table). IsRising (db t.tree))) (common_first schema is) rising).1.0

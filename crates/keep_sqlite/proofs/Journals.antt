@@ -1,8 +1,8 @@
 -- What an answer tells of the journal.
 use Rattle.std.proofs.Common.{◌≡◌, ◌≢◌, ◌≤◌, ◌<◌, ℕ, ◌+◌, ◌-◌, min, pos, List, [], ◌∷◌, map, filter, take, drop}
-use Rattle.std.proofs.Common.{length, get_or, ◌++◌, Bool, true, false}
-use Rattle.std.proofs.Common.{Option, Some, None, MatchOption, Result, Ok, Err, IfOk, ℤ, refl, sym, ap, ap₂, subst}
-use Rattle.std.proofs.Common.{◌∙◌, Ordering, Less, Equal, suc, arith, inl, inr, ◌⊎◌}
+use Rattle.std.proofs.Common.{length, get_or, ◌++◌, true, false}
+use Rattle.std.proofs.Common.{Option, Some, None, MatchOption, Result, Ok, Err, IfOk, ℤ, refl, sym, ap, ap₂}
+use Rattle.std.proofs.Common.{◌∙◌, Less, Equal, suc, arith, inl, inr}
 use Rattle.std.specs.List.{AllByRecursion, take-map, drop-map}
 use Rattle.std.specs.Ordering.{ordering_then, is_ge, int_cmp}
 use Rattle.std.proofs.lemmas.Bool.{cases_Bool}
@@ -12,9 +12,9 @@ use Rattle.std.proofs.lemmas.List.{take_all, drop_all, take_more, length-drop}
 use Rattle.std.specs.Prelude.{nat_le, unwrap_or}
 use Rattle.sqlite.specs.declared.types.Value.{Value}
 use Rattle.sqlite.specs.declared.types.Value.TheVariants.{Null, Int, Text}
-use Rattle.sqlite_value.specs.Order.{Row, column, value_cmp}
+use Rattle.sqlite_value.specs.Order.{Row, value_cmp}
 use Rattle.sqlite_value.proofs.OrderLemmas.{value_cmp-Int}
-use Rattle.sqlite_trees.specs.Tree.{Trees, rowid, IsAscending, IsTable}
+use Rattle.sqlite_trees.specs.Tree.{rowid, IsAscending}
 use Rattle.sqlite_sql.specs.Query.{as_count}
 use Rattle.sqlite_sql.proofs.QueryLemmas.{key_cmp_total}
 use Rattle.sqlite_keyed.proofs.ListLemmas.{ascending-filter, ascending_weaker}

@@ -23,14 +23,14 @@ use Rattle.base.specs.Entity.{Entity, text_of}
 use Rattle.base.specs.declared.pair.Pair.{Pair}
 use Rattle.base.proofs.Entities.{text_of-injective}
 use Rattle.sql_rows.specs.Schema.{IsService, outbox, out_marks, in_marks, held}
-use Rattle.sql_rows.specs.Tables.{has_key, is_upto, IsRising}
+use Rattle.sql_rows.specs.Tables.{has_key, text_key, is_upto, IsRising}
 use Rattle.keep_sqlite.specs.Tables.{key_of, key_at}
 use Rattle.keep_sqlite.specs.Ready.{AreRising}
 use Rattle.keep_sqlite.proofs.Frames.{common_tables, common_first}
 use Rattle.keep_sqlite.proofs.Lookup.{IsOne}
-use Rattle.keep_sqlite.proofs.Unique.{one_row, pair_sample, place_sample}
+use Rattle.keep_sqlite.proofs.Unique.{one_row, text_sample, pair_sample, place_sample}
 
-equal_is : (o : Ordering) → is_eq o ≡ true → o ≡ Equal
+pub equal_is : (o : Ordering) → is_eq o ≡ true → o ≡ Equal
 equal_is Less h = absurd (true≢false (sym h))
 equal_is Equal h = refl
 equal_is Greater h = absurd (true≢false (sym h))
@@ -55,6 +55,9 @@ one_number : (v : Value) (m n : ℕ) → is_eq (value_cmp v (Int (pos m))) ≡ t
     → is_eq (value_cmp v (Int (pos n))) ≡ true → m ≡ n
 one_number v m n p q =
     same_nat m n (sym (value_cmp-Int (pos m) (pos n)) ∙ tied_both v (Int (pos m)) (Int (pos n)) p q)
+
+pub one_key : (r : Row) (j k : List ℕ) → has_key (text_key j) r ≡ true → has_key (text_key k) r ≡ true → j ≡ k
+one_key r j k h there = one_text (column r 1) j k (and_parts _ _ h).0 (and_parts _ _ there).0
 
 same_pairs : (p q : Pair) → text_of p.from ≡ text_of q.from → text_of p.to ≡ text_of q.to → p ≡ q
 same_pairs p q from to =
@@ -125,7 +128,14 @@ upto_place x p q n k h there =
     let to : is_eq (value_cmp (column x 2) (Text (text_of q.to))) ≡ true = b.0 in
     (one_pair x p q d.0 (rw (from, to) refl), sym (compares (column x 3) k n c.0) ∙ e.1)
 
--- ---- one row at most of a pair, and of a place
+-- ---- one row at most of a key, of a pair, and of a place
+
+pub one_of_text : (schema : Schema) (db : Trees) (t : Table) → IsSound schema db → Has schema.tables t
+    → slice_get t.uniques 0 ≡ Some (1 ∷ []) → get_or t.orders 0 plain ≡ plain → IsRising (db t.tree) → (k : List ℕ)
+    → IsOne (has_key (text_key k)) (db t.tree)
+one_of_text schema db t sound listed unique order rises k =
+    one_row schema db t (1 ∷ []) sound listed unique order rises (text_key k) (Null ∷ Text k ∷ []) (tt, tt)
+    (text_sample k)
 
 module _ (schema : Schema) (service : IsService schema) (db : Trees) (sound : IsSound schema db) (rising : AreRising
     schema db) where

@@ -1,7 +1,7 @@
 -- What the answers of the reads tell of the tables.
-use Rattle.std.proofs.Common.{◌≡◌, ◌⊎◌, inr, ℕ, ℤ, pos, List, [], ◌∷◌, map, filter, Bool, true, false, Option, Some}
+use Rattle.std.proofs.Common.{◌≡◌, ◌⊎◌, inr, ℕ, ℤ, pos, List, [], ◌∷◌, map, filter, Bool, Option, Some}
 use Rattle.std.proofs.Common.{None, Ok, Err, Result}
-use Rattle.std.proofs.Common.{IfOk, refl, sym, ap, subst, ◌∙◌, true≢false, inl, Ordering, IsPermutation, arith, length}
+use Rattle.std.proofs.Common.{IfOk, refl, sym, ap, subst, ◌∙◌, inl, Ordering, IsPermutation, arith}
 use Rattle.std.specs.Prelude.{find}
 use Rattle.std.proofs.lemmas.List.Sorted.{length_permutation, IsPermutation-sym, Contains-permutation}
 use Rattle.sqlite.specs.declared.types.Value.TheVariants.{Int}
@@ -16,7 +16,7 @@ use Rattle.envelope.specs.declared.message.Message.{Message}
 use Rattle.sql_rows.specs.Tables.{has_key, place_key, AreInOrder}
 use Rattle.keep_sqlite.specs.Filing.{Filing}
 use Rattle.keep_sqlite.specs.Tables.{key_of, key_at, number_in, mark_in, marks_in, letter_in, messages_in}
-use Rattle.keep_sqlite.specs.Ready.{AreRising, IsFiled, IsFirstMark, IsFirstCell, IsFirstMessage}
+use Rattle.keep_sqlite.specs.Ready.{IsFiled, IsFirstMark, IsFirstCell, IsFirstMessage}
 use Rattle.keep_sqlite.proofs.Lookup.{IsOne, found_is, none_is, not_true}
 use Rattle.keep_sqlite.proofs.Keys.{one_in_out_marks, one_in_in_marks, one_in_held}
 

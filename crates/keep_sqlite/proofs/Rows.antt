@@ -1,14 +1,13 @@
 -- The rows that are written for messages and for what entities took in are read as these.
-use Rattle.std.proofs.Common.{◌≡◌, ◌<◌, ℕ, ℤ, pos, List, [], ◌∷◌, true, Option, Some, None, refl, sym, ap, ap₂, ◌∙◌}
+use Rattle.std.proofs.Common.{◌≡◌, ◌<◌, ℕ, ℤ, pos, List, [], ◌∷◌, true, Some, None, refl, ap, ap₂, ◌∙◌}
 use Rattle.std.proofs.Common.{arith}
 use Rattle.std.specs.Prelude.{unwrap_or, nat_lt, option_map, option_and_then, if◌then◌else◌}
 use Rattle.std.proofs.lemmas.Bool.Decides.{nat_tests}
 use Rattle.sqlite.specs.declared.types.Value.TheVariants.{Null, Int, Text}
-use Rattle.base.specs.Entity.{Entity, IsEntity, text_of, order_of}
-use Rattle.base.specs.Number.{IsNumber, is_number}
+use Rattle.base.specs.Entity.{Entity, IsEntity, text_of}
+use Rattle.base.specs.Number.{is_number}
 use Rattle.envelope.specs.Bodies.{body_of, IsMessage}
 use Rattle.envelope.specs.declared.message.Message.{Message}
-use Rattle.envelope.specs.declared.message.Message.TheVariants.{Cancel}
 use Rattle.envelope.specs.Reading.{read_entity, read_message, as_number}
 use Rattle.envelope.proofs.Texts.{read_entity-text_of, read_message-body_of}
 use Rattle.activities.specs.declared.input.Input.{Input}

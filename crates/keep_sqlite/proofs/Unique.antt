@@ -1,13 +1,11 @@
 -- A database of the schema has one row at most of each key.
-use Rattle.std.proofs.Common.{◌≡◌, ℕ, ℤ, List, [], ◌∷◌, Bool, true, false, not, ◌&&◌, ◌||◌, Some, refl, sym, ap, ap₂}
+use Rattle.std.proofs.Common.{◌≡◌, ℕ, ℤ, List, [], ◌∷◌, Bool, true, false, ◌&&◌, Some, refl, sym, ap₂}
 use Rattle.std.proofs.Common.{subst, ◌∙◌, true≢false, Ordering, Less, Equal, Greater, get_or, slice_get}
 use Rattle.std.specs.Prelude.{IsTrue}
-use Rattle.std.specs.List.{list_any}
 use Rattle.std.specs.Ordering.{is_ne}
-use Rattle.sqlite.specs.declared.types.Value.{Value}
 use Rattle.sqlite.specs.declared.types.Value.TheVariants.{Null, Int, Text}
-use Rattle.sqlite_value.specs.Order.{Row, column, value_cmp}
-use Rattle.sqlite_value.specs.Keys.{plain, first_key, later}
+use Rattle.sqlite_value.specs.Order.{Row, value_cmp}
+use Rattle.sqlite_value.specs.Keys.{plain, first_key}
 use Rattle.sqlite_value.specs.declared.keys.Collation.TheVariants.{Binary}
 use Rattle.sqlite_trees.specs.Tree.{Trees, rowid}
 use Rattle.sqlite_trees.specs.View.{is_int}
@@ -25,7 +23,7 @@ use Rattle.sqlite_rules.proofs.ListLemmas.{all_has}
 use Rattle.sqlite_rules.proofs.KeyLemmas.{agree_back, agree_chain}
 use Rattle.sqlite_rules.proofs.PlaceLemmas.{tied_same}
 use Rattle.sqlite_rules.proofs.TableLemmas.{int_is}
-use Rattle.sql_rows.specs.Tables.{Key, has_key, pair_key, place_key, IsRising}
+use Rattle.sql_rows.specs.Tables.{Key, has_key, text_key, pair_key, place_key, IsRising}
 use Rattle.sql_rows.proofs.Rows.{none_of}
 use Rattle.sql_rows.proofs.Tests.{key_test, sql_key, AreSolid}
 use Rattle.keep_sqlite.proofs.Lookup.{IsOne}
@@ -76,6 +74,11 @@ module _ (schema : Schema) (db : Trees) (t : Table) (places : List ℕ) (sound :
       same_row x y h k (agree_chain plain places places places x sample y a (agree_back plain places places y sample b))
 
 -- the rows that agree with a sample have its key
+pub text_sample : (k : List ℕ) (x : Row)
+    → agree plain (1 ∷ []) x (1 ∷ []) (Null ∷ Text k ∷ []) ≡ sql_key (text_key k) x
+unfolding first_key
+text_sample k x = refl
+
 pub pair_sample : (s r : List ℕ) (x : Row)
     → agree plain (1 ∷ 2 ∷ []) x (1 ∷ 2 ∷ []) (Null ∷ Text s ∷ Text r ∷ []) ≡ sql_key (pair_key s r) x
 unfolding first_key

@@ -1,16 +1,15 @@
 -- From what a connection leaves to what the keep leaves.
-use Rattle.std.specs.Prelude.{◌≡◌, ℕ, ◌+◌, pos, IsTrue, List, [], ◌∷◌, Bool, None, ⊤}
+use Rattle.std.specs.Prelude.{◌≡◌, ℕ, ◌+◌, IsTrue, List, [], ◌∷◌, Bool, None}
 use Rattle.std.proofs.Common.{refl, ap, sym, ◌∙◌}
 use Rattle.std.proofs.Math.Logic.{∥∥₁_map}
 use base.Stored.{Coded-set}
 use native.Mathlib.Nat.{ℕ_set}
 use mathlib.Core.Bool.{Bool-set}
 use mathlib.Core.HLevel.{Π_prop}
-use Rattle.sqlite_trees.specs.Tree.{Trees, rowid}
+use Rattle.sqlite_trees.specs.Tree.{Trees}
 use Rattle.sqlite_trees.specs.View.{doubt}
 use Rattle.sqlite_trees.specs.Props.{Trees-set, Ordering-set, AllByRecursion-prop, IsAscending-prop}
 use Rattle.sqlite.specs.declared.types.Value.{Value}
-use Rattle.sqlite.specs.declared.types.Value.TheVariants.{Int}
 use Rattle.sqlite_value.specs.contracts.value.Value as value
 use Rattle.sqlite_schema.specs.declared.schema.Schema.{Schema}
 use Rattle.sqlite_schema.specs.declared.schema.Table.{Table}

@@ -3,4 +3,10 @@ pub mod Tables
 pub mod Parts
 pub mod Ready
 pub mod Law
+pub mod Found
 pub mod Orders
+pub mod Listing
+pub mod AddedRows
+pub mod Holders
+pub mod Stocks
+pub mod Accounts

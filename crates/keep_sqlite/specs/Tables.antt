@@ -1,7 +1,7 @@
 -- The tables that stand in the rows of a service's file. Each definition is total: a row that no call of a keep
 -- writes is
 -- read as something here, and the reads refuse it.
-use Rattle.std.specs.Prelude.{◌≡◌, ℕ, ℤ, pos, negsuc, List, [], ◌∷◌, map, find, Option, Some, None, unwrap_or}
+use Rattle.std.specs.Prelude.{ℕ, pos, negsuc, List, [], map, find, Option, Some, None, unwrap_or}
 use Rattle.sqlite.specs.declared.types.Value.{Value}
 use Rattle.sqlite.specs.declared.types.Value.TheVariants.{Null, Int, Real, Text, Blob}
 use Rattle.sqlite_value.specs.Order.{Row, column, bytes}

@@ -1,6 +1,7 @@
 //! How a service's tables are made.
 
-ghost use Rattle.std.specs.Prelude.{◌≡◌, false, OnOk};
+ghost use Rattle.std.specs.Prelude.{◌≡◌, ◌≤◌, ◌⊎◌, false, OnOk, IfOk};
+ghost use Rattle.sqlite_trees.specs.View.{doubt};
 ghost use Rattle.sqlite.specs.Held.{state};
 ghost use Rattle.sqlite.specs.State.{HasCleanDisk};
 ghost use Rattle.keep.specs.Tables.{empty};
@@ -9,7 +10,7 @@ ghost use Rattle.keep_sqlite.specs.Tables.{tables_of};
 ghost use Rattle.keep_sqlite.specs.Ready.{IsReady};
 
 use crate::filed::Filed;
-use sql_rows::create_tables;
+use sql_rows::{create_tables, has_no_tables};
 use sqlite::{Alter, Connection, Error};
 
 /// Makes the tables of a service where there are none, in one transaction.
@@ -20,6 +21,7 @@ pub fn found<H: Filed, S: Alter>(conn: &mut Connection<S>) -> Result<(), Error>
     ensures ready { HasCleanDisk (state S.Store conn.new)
         → OnOk result (IsReady H.filing.schema 0 (state S.Store conn.new)
         × (tables_of H.filing (state S.Store conn.new).now.trees ≡ empty)) }
+    ensures clean { doubt (state S.Store conn.old).is_clean ≤ doubt (state S.Store conn.new).is_clean }
 {
     let mut tx = conn.transaction();
     match create_tables(&mut tx, H::service()) {
@@ -29,4 +31,22 @@ pub fn found<H: Filed, S: Alter>(conn: &mut Connection<S>) -> Result<(), Error>
             Err(error)
         }
     }
+}
+
+/// The connection with the tables of the service: those that it has, or, where it has none, new ones.
+pub fn with_tables<H: Filed, S: Alter + Drop>(
+    mut conn: Connection<S>,
+) -> Result<Connection<S>, Error>
+    requires { conn.in_transaction ≡ false }
+    ensures autocommit { IfOk result (λ c. c.in_transaction ≡ false) }
+    ensures made { IfOk result (λ c. HasCleanDisk (state S.Store c) → (c ≡ conn)
+        ⊎ (((state S.Store conn).now.schema ≡ no_tables)
+        × (tables_of H.filing (state S.Store c).committed.trees ≡ empty))) }
+    ensures clean { IfOk result (λ c. doubt (state S.Store conn).is_clean ≤ doubt (state S.Store c).is_clean) }
+{
+    if !has_no_tables(&conn) {
+        return Ok(conn);
+    }
+    found::<H, S>(&mut conn)?;
+    Ok(conn)
 }

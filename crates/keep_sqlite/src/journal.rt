@@ -77,7 +77,7 @@ fn rows_at<H: Filed>(alloc: Global, rows: &[Row]) -> Result<Vec<JournalRow<H::Co
 }
 
 /// A position or a limit as SQL binds it.
-fn bound_count(count: u64) -> Result<i64, Error>
+pub fn bound_count(count: u64) -> Result<i64, Error>
     ensures value { IfOk result (λ bound. bound ≡ pos count) }
     ensures small { OnOk result (count < 2 ^ 63) }
 {

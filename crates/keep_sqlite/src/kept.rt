@@ -1,28 +1,34 @@
 //! A keep over a connection.
 
-ghost use Rattle.std.specs.Prelude.{◌≡◌, ◌≤◌, true, false, IsTrue, IfOk, OnOk, Err};
+ghost use Rattle.std.specs.Prelude.{◌≡◌, ◌≤◌, ◌⊎◌, true, false, IsTrue, IfOk, IfErr, OnOk, Err};
 ghost use Rattle.sqlite_trees.specs.Tree.{Trees};
 ghost use Rattle.sqlite_trees.specs.View.{doubt};
 ghost use Rattle.sqlite.specs.Held.{state};
 ghost use Rattle.sqlite.specs.State.{HasCleanDisk};
 ghost use Rattle.keep.specs.Law.{MoreFailures, Writes};
 ghost use Rattle.keep.specs.Seen.{keep_end};
-ghost use Rattle.keep.specs.declared.fault.KeepFault.TheVariants.{Failed};
+ghost use Rattle.keep.specs.declared.fault.KeepFault.TheVariants.{Failed, Memory};
 ghost use Rattle.keep.specs.Tables.{changed, empty, ArePlaced};
 ghost use Rattle.sql_rows.specs.Tables.{Stays};
+ghost use Rattle.sqlite_catalog.specs.Listing.{IsSound};
+ghost use Rattle.sqlite.specs.WalFiles.{image_at};
+ghost use Rattle.keep_sqlite.specs.Found.{IsFoundIn, IsTakenOver};
 ghost use Rattle.keep_sqlite.specs.Ready.{IsEnd, IsReady};
 ghost use Rattle.keep_sqlite.specs.Law.{ready_prop, seen_of, seen_sound};
 
 use crate::filed::Filed;
-use crate::founding::found;
+use crate::founding::{found, with_tables};
 use crate::journal::find_rows;
+use crate::listing::{find_drainable, find_letters};
+use crate::opening::{examine, opening_fault};
 use crate::reads::{find_handled, find_held, find_sent, find_settled, is_live};
 use crate::writes::write_all;
 use activities::JournalRow;
 use base::{Entity, Number, Pair};
 use envelope::{Letter, Message};
 use keep::{Change, Keep, KeepFault, Place};
-use sqlite::{Alter, Connection, Error, ErrorCode, MemStore};
+use sql_rows::with_sorted_rows;
+use sqlite::{Alter, Connection, Error, ErrorCode, FileFrom, FileStore, MemStore, Start};
 use std::alloc::Global;
 use std::marker::PhantomData;
 
@@ -106,6 +112,8 @@ impl<H: Filed> SqliteKeep<H, MemStore> {
         ensures usable { IfOk result (λ k. (⟦<SqliteKeep<H, MemStore> as Keep>⟧.seen k).usable ≡ true) }
         ensures empty { IfOk result (λ k. (⟦<SqliteKeep<H, MemStore> as Keep>⟧.seen k).doubt ≡ 0
             → (⟦<SqliteKeep<H, MemStore> as Keep>⟧.seen k).tables ≡ empty) }
+        ensures unfailed { IfOk result (λ k. (⟦<SqliteKeep<H, MemStore> as Keep>⟧.seen k).failures ≡ 0) }
+        ensures refused { IfErr result (λ fault. (fault ≡ Memory) ⊎ (fault ≡ Failed)) }
     {
         let mut conn = Connection::open_in_memory(alloc)?;
         match found::<H, MemStore>(&mut conn) {
@@ -133,10 +141,10 @@ impl<H: Filed, S: Alter> Keep for SqliteKeep<H, S> {
         self.is_usable
     }
 
-    // NOT YET: a read that always fails keeps the law too.
-    #[tactic(auto, using(crate::proofs::Ends::gave_up))]
-    fn entity(&mut self, _alloc: Global, _entity: &Entity) -> Result<Option<H::State>, KeepFault> {
-        self.fail()
+    fn entity(&mut self, alloc: Global, entity: &Entity) -> Result<Option<H::State>, KeepFault> {
+        self.is_usable = false;
+        let found = H::read_state::<S>(alloc, &mut self.conn, entity, self.count);
+        self.end(found)
     }
 
     fn sent(&mut self, _alloc: Global, pair: &Pair) -> Result<u64, KeepFault> {
@@ -168,19 +176,21 @@ impl<H: Filed, S: Alter> Keep for SqliteKeep<H, S> {
         self.end(found)
     }
 
-    #[tactic(auto, using(crate::proofs::Ends::gave_up))]
-    fn drainable(&mut self, _alloc: Global) -> Result<Option<Pair>, KeepFault> {
-        self.fail()
+    fn drainable(&mut self, alloc: Global) -> Result<Option<Pair>, KeepFault> {
+        self.is_usable = false;
+        let found = find_drainable::<H, S>(alloc, &mut self.conn, self.count);
+        self.end(found)
     }
 
-    #[tactic(auto, using(crate::proofs::Ends::gave_up))]
     fn unsettled(
         &mut self,
-        _alloc: Global,
-        _after: &Option<Place>,
-        _limit: usize,
+        alloc: Global,
+        after: &Option<Place>,
+        limit: usize,
     ) -> Result<Vec<Letter>, KeepFault> {
-        self.fail()
+        self.is_usable = false;
+        let found = find_letters::<H, S>(alloc, &mut self.conn, after, limit, self.count);
+        self.end(found)
     }
 
     fn journal(
@@ -229,4 +239,113 @@ impl<H: Filed, S: Alter> Keep for SqliteKeep<H, S> {
 
     ghost sound = { λ k. seen_sound H.filing _ k.is_usable k.failures k.count k.sound k.live
         (λ live db. S.Store.settled k.conn.store db live) (S.Store.stays k.conn.store) (S.Store.survives k.conn.store) };
+}
+
+impl<H: Filed, S: Alter + Drop> SqliteKeep<H, S> {
+    /// The tables in a connection, as its last commit left them. Where they can't be had the store comes back.
+    ///
+    /// # Errors
+    /// As [`adopt`](SqliteKeep::adopt), and `WrongFile` too where there are no tables.
+    pub fn resume(alloc: Global, conn: Connection<S>) -> Result<Self, (KeepFault, S)>
+        ensures fresh { IfOk result (λ k. (k.is_usable ≡ true) × (k.failures ≡ 0)) }
+        ensures sound { IfOk result (λ k. HasCleanDisk (state S.Store k.conn)
+            → IsSound H.filing.schema (state S.Store conn).committed.trees) }
+        ensures tables { IfOk result (λ k. HasCleanDisk (state S.Store k.conn)
+            → (state S.Store k.conn).now.trees ≡ (state S.Store conn).committed.trees) }
+        ensures clean { IfOk result (λ k. doubt (state S.Store conn).is_clean
+            ≤ doubt (state S.Store k.conn).is_clean) }
+    {
+        let mut conn = match with_sorted_rows(alloc, conn) {
+            Ok(conn) => conn,
+            Err((error, store)) => return Err((opening_fault(&error), store)),
+        };
+        match examine::<H, S>(alloc, &mut conn) {
+            Ok(Some(count)) => Ok(SqliteKeep {
+                conn,
+                count,
+                failures: 0,
+                is_usable: true,
+                service: PhantomData,
+            }),
+            Ok(None) => Err((KeepFault::WrongFile, conn.into_store())),
+            Err(error) => Err((opening_fault(&error), conn.into_store())),
+        }
+    }
+
+    /// Takes over a connection: the tables of the service that stand there, or, where there are no tables, new ones.
+    ///
+    /// # Errors
+    /// `WrongFile` where the tables are others, as those of another service or version. `Failed` where the positions of
+    /// the journal aren't 1, 2, .., where a transaction is open, and where the store failed. `Memory` where a growth
+    /// was refused.
+    pub fn adopt(alloc: Global, conn: Connection<S>) -> Result<Self, KeepFault>
+        ensures usable { IfOk result (λ k. (⟦<SqliteKeep<H, S> as Keep>⟧.seen k).usable ≡ true) }
+        ensures failures { IfOk result (λ k. (⟦<SqliteKeep<H, S> as Keep>⟧.seen k).failures ≡ 0) }
+        ensures found { IfOk result (λ k. (⟦<SqliteKeep<H, S> as Keep>⟧.seen k).doubt ≡ 0
+            → IsTakenOver H.filing (state S.Store conn) (⟦<SqliteKeep<H, S> as Keep>⟧.seen k).tables) }
+        ensures clean { IfOk result (λ k. doubt (state S.Store conn).is_clean
+            ≤ (⟦<SqliteKeep<H, S> as Keep>⟧.seen k).doubt) }
+    {
+        if !conn.is_autocommit() {
+            return Err(KeepFault::Failed);
+        }
+        let conn = match with_tables::<H, S>(conn) {
+            Ok(conn) => conn,
+            Err(error) => return Err(opening_fault(&error)),
+        };
+        match SqliteKeep::resume(alloc, conn) {
+            Ok(keep) => Ok(keep),
+            Err((fault, _store)) => Err(fault),
+        }
+    }
+}
+
+impl<H: Filed, D: Start> SqliteKeep<H, FileStore<FileFrom<D>>> {
+    /// Opens the file at a path with its log beside it, or makes them: two files that SQLite reads, the second under
+    /// the path with `-wal` behind it. `start` stands for what they hold: one value for each pair of files.
+    ///
+    /// # Errors
+    /// `WrongFile` where the file is no database, or one with other tables, as those of another service or version.
+    /// `Failed` where it can't be opened, as one that is open already, and where the positions of its journal aren't
+    /// 1, 2, ... `Memory` where a growth was refused.
+    pub fn open(rt: &HostRuntime, path: &str, start: D) -> Result<Self, KeepFault>
+        ensures usable { IfOk result (λ k. (⟦<SqliteKeep<H, FileStore<FileFrom<D>>> as Keep>⟧.seen k).usable ≡ true) }
+        ensures failures { IfOk result (λ k.
+            (⟦<SqliteKeep<H, FileStore<FileFrom<D>>> as Keep>⟧.seen k).failures ≡ 0) }
+        ensures found { IfOk result (λ k. (⟦<SqliteKeep<H, FileStore<FileFrom<D>>> as Keep>⟧.seen k).doubt ≡ 0
+            → IsFoundIn H.filing (image_at D.Start)
+            (⟦<SqliteKeep<H, FileStore<FileFrom<D>>> as Keep>⟧.seen k).tables) }
+    {
+        match Connection::open_from(rt, path, false, start) {
+            Ok(conn) => SqliteKeep::adopt(rt.alloc(), conn),
+            Err((error, _left)) => Err(opening_fault(&error)),
+        }
+    }
+}
+
+impl<H: Filed, S: Alter> SqliteKeep<H, S> {
+    /// The connection, and the failures that were counted.
+    pub fn into_conn(self) -> (Connection<S>, u64)
+        ensures conn { result.0 ≡ self.conn }
+        ensures failures { result.1 ≡ self.failures }
+    {
+        let SqliteKeep {
+            conn,
+            count: _,
+            failures,
+            is_usable: _,
+            service: _,
+        } = self;
+        (conn, failures)
+    }
+
+    /// The same tables, where so many failures were counted before.
+    pub fn with_failures(mut self, failures: u64) -> Self
+        ensures conn { result.conn ≡ self.conn }
+        ensures usable { result.is_usable ≡ self.is_usable }
+        ensures failures { result.failures ≡ failures }
+    {
+        self.failures = failures;
+        self
+    }
 }

@@ -1,10 +1,12 @@
-//! The tables of a service in SQL, in memory so far.
+//! The tables of a service in SQL: in memory, in a file, or in any connection.
 //!
 //! They keep the law of [`Keep`](keep::Keep) over the texts of `sql_rows`: a transaction is one transaction of SQL, made
-//! whole or not at all, and a read is one query, exact, which changes nothing. What SQL refuses, and a row that no call
-//! here writes, is a failure that is counted. A service has its tables here by the trait [`Filed`].
+//! whole or not at all, and a read is a query, or two of a state that has lines; it is exact and changes nothing. What
+//! SQL refuses, and a row that no call here writes, is a failure that is counted. The three services have their tables
+//! here by the trait [`Filed`]: orders, stocks and accounts.
 //!
-//! What isn't written yet fails: rows of states, the outbox in order, and the first pair that can be drained.
+//! A file that is opened gets the tables of its service where it has none. One of another service or version, and one
+//! that is no database, is refused as `WrongFile`.
 //!
 //! ```rust
 //! pub fn no_letter_was_sent(alloc: Global, pair: &Pair) -> Result<bool, KeepFault> {
@@ -17,13 +19,20 @@
 //! The answer is true.
 #![tactic(auto)]
 
+mod accounts;
 mod filed;
 mod founding;
 mod journal;
 mod kept;
+mod listing;
+mod opening;
+mod order_reads;
+mod order_writes;
 mod orders;
 mod reads;
+mod stocks;
 mod writes;
 
 pub use filed::Filed;
 pub use kept::SqliteKeep;
+pub use opening::opening_fault;

@@ -4,14 +4,15 @@ ghost use Rattle.std.specs.Prelude.{refl};
 ghost use Rattle.keep_sqlite.specs.Orders.{orders};
 
 use crate::filed::Filed;
-use base::Entity;
+use crate::order_reads::find_order;
+use crate::order_writes::write_order;
+use base::{Entity, Kind};
 use purchasing::{Order, Orders};
 use sql_rows::Service;
 use sqlite::{Alter, Connection, Error, Transaction};
 use std::alloc::Global;
 use trade::OrderCommand;
 
-// The rows of orders are neither read nor written yet: both are refused, so that a keep of purchasing fails there.
 impl Filed for Orders {
     type State = Option<Order>;
 
@@ -24,22 +25,33 @@ impl Filed for Orders {
     }
 
     fn read_state<S: Alter>(
-        _alloc: Global,
-        _conn: &mut Connection<S>,
-        _entity: &Entity,
-        _count: u64,
+        alloc: Global,
+        conn: &mut Connection<S>,
+        entity: &Entity,
+        count: u64,
     ) -> Result<Option<Option<Order>>, Error> {
-        Err(Error::InvalidQuery)
+        match entity.kind() {
+            Kind::Order => match find_order(alloc, conn, entity.key(), count)? {
+                Some(order) => Ok(Some(Some(order))),
+                None => Ok(None),
+            },
+            // No row here is one of theirs.
+            Kind::Stock | Kind::Account => Ok(None),
+        }
     }
 
     fn write_state<S: Alter>(
         _alloc: Global,
-        _tx: &mut Transaction<'_, S>,
-        _entity: &Entity,
-        _row: &Option<Option<Order>>,
-        _count: u64,
+        tx: &mut Transaction<'_, S>,
+        entity: &Entity,
+        row: &Option<Option<Order>>,
+        count: u64,
     ) -> Result<u64, Error> {
-        Err(Error::InvalidQuery)
+        match entity.kind() {
+            Kind::Order => write_order(tx, entity.key(), row, count),
+            // They have no place here.
+            Kind::Stock | Kind::Account => Err(Error::InvalidQuery),
+        }
     }
 
     ghost commands = { λ body. refl };

@@ -1,12 +1,13 @@
 //! What is read of a file.
 
 ghost use Rattle.std.specs.Prelude.{◌≡◌, ◌≤◌, false, OnOk, IfOk, IsTrue};
+ghost use Rattle.sqlite_value.specs.Order.{column};
 ghost use Rattle.sqlite_trees.specs.Tree.{Trees};
 ghost use Rattle.sqlite_trees.specs.View.{doubt};
 ghost use Rattle.sqlite.specs.Held.{state};
 ghost use Rattle.sqlite.specs.State.{HasCleanDisk};
 ghost use Rattle.sql_rows.specs.Tables.{Stays};
-ghost use Rattle.keep_sqlite.specs.Tables.{tables_of};
+ghost use Rattle.keep_sqlite.specs.Tables.{tables_of, message_in};
 ghost use Rattle.keep_sqlite.specs.Ready.{IsReady, IsFirstMark, IsFirstMessage};
 
 use crate::filed::Filed;
@@ -34,7 +35,7 @@ pub fn is_live<S: Alter>(conn: &mut Connection<S>) -> bool
 }
 
 /// The mark in a column of an answer's first row, or 0.
-fn mark_in(rows: &[Row], at: usize) -> Result<u64, Error>
+pub fn mark_in(rows: &[Row], at: usize) -> Result<u64, Error>
     ensures { IfOk result (IsFirstMark at rows.now) }
 {
     match rows.first() {
@@ -112,17 +113,24 @@ pub fn find_settled<H: Filed, S: Alter>(
     mark_in(rows.as_slice(), 1)
 }
 
+/// The message whose body a value is.
+pub fn message_at(alloc: Global, row: &Row, at: usize) -> Result<Message, Error>
+    ensures { IfOk result (λ message. message ≡ message_in (column row.now at)) }
+{
+    let body: String = row.get(at)?;
+    match read_message(alloc, body.as_str())? {
+        Some(message) => Ok(message),
+        None => Err(Error::InvalidQuery),
+    }
+}
+
 /// The message whose body an answer's first value is, if there is one.
 fn message_in(alloc: Global, rows: &[Row]) -> Result<Option<Message>, Error>
     ensures { IfOk result (IsFirstMessage rows.now) }
 {
-    let Some(row) = rows.first() else {
-        return Ok(None);
-    };
-    let body: String = row.get(0)?;
-    match read_message(alloc, body.as_str())? {
-        Some(message) => Ok(Some(message)),
-        None => Err(Error::InvalidQuery),
+    match rows.first() {
+        None => Ok(None),
+        Some(row) => Ok(Some(message_at(alloc, row, 0)?)),
     }
 }
 

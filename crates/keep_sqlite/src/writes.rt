@@ -13,6 +13,7 @@ ghost use Rattle.keep.specs.declared.change.Change.TheVariants.{Sent, Settled, H
 ghost use Rattle.keep_sqlite.specs.Tables.{tables_of};
 ghost use Rattle.activities.specs.declared.input.Input.TheVariants.{FromSeat, FromEntity};
 ghost use Rattle.base.specs.Number.{is_number};
+ghost use Rattle.base.specs.declared.limits.TheConstants.{MAX_NUMBER};
 ghost use Rattle.keep_sqlite.specs.Parts.{with_sent, with_settled, with_letter, without_letters, with_row};
 ghost use Rattle.keep_sqlite.specs.Ready.{IsFiled, IsReady, Makes, IsFirstCell};
 
@@ -37,6 +38,15 @@ pub fn bound_number(number: Number) -> i64
 {
     let value = number.get();
     value as i64
+}
+
+/// A quantity or an amount as SQL binds it.
+pub fn bound_quantity(quantity: u64) -> i64
+    requires { quantity ≤ MAX_NUMBER }
+    ensures value { result ≡ pos quantity }
+    ensures small { quantity < 2 ^ 63 }
+{
+    quantity as i64
 }
 
 /// Sets the handled mark of a pair.

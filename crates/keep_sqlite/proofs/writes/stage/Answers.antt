@@ -1,4 +1,4 @@
-use Rattle.std.proofs.Common.{refl, arith, ◌∙◌, ◌+◌, ◌∷◌, drop, ap, sym, subst}
+use Rattle.std.proofs.Common.{arith, ◌∙◌, ◌+◌, ◌∷◌, drop, ap, sym, subst}
 use Rattle.std.proofs.lemmas.List.{drop_more}
 use Rattle.sqlite.specs.Held.{state}
 use Rattle.sqlite.specs.State.{HasCleanDisk}

@@ -1,6 +1,5 @@
 use Rattle.std.proofs.Common.{◌≡◌, rules, ap, inl}
 use Rattle.sqlite.specs.Held.{state}
-use Rattle.sqlite.specs.State.{HasCleanDisk}
 use Rattle.keep_sqlite.proofs.Commits.{undone_ready, undone_may, done_ready, done_may, refused_ready}
 use Rattle.keep_sqlite.proofs.writes.write_all.Goals as goal
 

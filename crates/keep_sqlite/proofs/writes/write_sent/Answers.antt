@@ -2,7 +2,7 @@ use Rattle.std.proofs.Common.{arith}
 use Rattle.sqlite.specs.Held.{state}
 use Rattle.sqlite.specs.State.{HasCleanDisk}
 use Rattle.keep_sqlite.specs.Parts.{with_sent, with_letter}
-use Rattle.keep_sqlite.proofs.Changes.{both_made, both_keep, survives_quietly}
+use Rattle.keep_sqlite.proofs.Changes.{both_made}
 use Rattle.keep_sqlite.proofs.writes.write_sent.Goals as goal
 
 pub returns-clause-ok : goal.returns-clause-ok

@@ -1,0 +1,28 @@
+-- Accounts stand in the tables of billing.
+use Rattle.std.proofs.Common.{◌≡◌, refl, inl, inr, true, arith}
+use Rattle.base.specs.declared.entity.Kind.{Kind}
+use Rattle.base.specs.declared.entity.Kind.TheVariants as kind
+use Rattle.trade.specs.Words.{account_line_word}
+use Rattle.sql_bodies.proofs.LineRows.{account_lines_back}
+use Rattle.sql_rows.specs.Schema.{billing, accounts}
+use Rattle.keep_sqlite.specs.Accounts.{accounts as filing, account_rows, is_account}
+use Rattle.keep_sqlite.proofs.Holders.{AreHeld}
+use Rattle.keep_sqlite.proofs.Keys.{one_of_text}
+
+of_kind : (k : Kind) → is_account k ≡ true → k ≡ kind.Account
+of_kind kind.Account is = refl
+of_kind kind.Order is = absurd cc
+of_kind kind.Stock is = absurd cc
+
+pub accounts_held : AreHeld filing account_rows kind.Account account_line_word
+accounts_held = record {
+  tells = λ db. refl;
+  is = refl;
+  only = of_kind;
+  back = account_lines_back;
+  one_head = λ db sound up. one_of_text billing db accounts sound (inr (inr (inr (inr (inr (inl refl)))))) refl refl
+      up.1.1.1.1.1.0;
+  lines_rise = λ db up. up.1.1.1.1.1.1.0;
+  heads_left = λ old new left. left.1.1.1.1.1.0 (λ e. omega (arith, e));
+  lines_left = λ old new left. left.1.1.1.1.1.1.0 (λ e. omega (arith, e));
+}

@@ -1,0 +1,280 @@
+//! Billing in files.
+
+ghost use Rattle.std.specs.Prelude.{◌≡◌, ◌≤◌, false, refl, map, Some, None, OnOk, IfOk, IsTrue, slice_get};
+ghost use Rattle.std.specs.List.{AllByRecursion};
+ghost use Rattle.sqlite_trees.specs.Tree.{Trees};
+ghost use Rattle.sqlite_trees.specs.View.{doubt};
+ghost use Rattle.sqlite.specs.Effect.{IsDatabase};
+ghost use Rattle.sqlite.specs.Held.{state};
+ghost use Rattle.sqlite.specs.State.{HasCleanDisk, Survives, KeepsCommit};
+ghost use Rattle.base.specs.Entity.{account_of};
+ghost use Rattle.keep.specs.Tables.{changed_by};
+ghost use Rattle.keep.specs.declared.change.Change.TheVariants.{State};
+ghost use Rattle.sql_bodies.specs.LineRows.{lines_with, IsRow};
+ghost use Rattle.sql_bodies.specs.Words.{account_phase_in};
+ghost use Rattle.sql_rows.specs.Schema.{billing};
+ghost use Rattle.sql_rows.specs.Tables.{Adds, Edits, IsRising, Puts, Stays, text_key};
+ghost use Rattle.trade.specs.Words.{account_line_word};
+ghost use Rattle.keep_sqlite.specs.AddedRows.{AreAdded};
+ghost use Rattle.keep_sqlite.specs.Holders.{line_cells, lines_in, shown_line, state_in};
+ghost use Rattle.keep_sqlite.specs.Ready.{IsFiled, IsReady, Makes};
+ghost use Rattle.keep_sqlite.specs.Accounts.{accounts, account_cells, account_from};
+
+use crate::filed::Filed;
+use crate::writes::{bound_number, bound_quantity};
+use base::{Entity, Kind};
+use billing::{Account, Accounts};
+use sql_bodies::put_account_line;
+use sql_rows::{
+    Service, add_account_line, put_account, read_account, read_account_lines, take_account,
+    take_account_lines,
+};
+use sqlite::{Alter, Connection, Error, Row, Transaction};
+use std::alloc::Global;
+use trade::{AccountCommand, Holder, Line, Lines};
+
+/// Puts the line that a row tells among others.
+fn put_line(alloc: Global, lines: &mut Lines, row: &Row) -> Result<(), Error>
+    ensures { OnOk result (lines_with (shown_line account_phase_in row.now) lines.old ≡ Some lines.new) }
+{
+    let order: String = row.get(0)?;
+    let number: u64 = row.get(1)?;
+    let phase: String = row.get(2)?;
+    if put_account_line(alloc, lines, order.as_str(), number, phase.as_str())? {
+        Ok(())
+    } else {
+        Err(Error::InvalidQuery)
+    }
+}
+
+/// The lines that an answer tells.
+fn lines_in(alloc: Global, rows: &[Row]) -> Result<Lines, Error>
+    ensures { IfOk result (λ lines. lines_in (shown_line account_phase_in) rows.now ≡ Some lines) }
+{
+    let mut lines = Lines::new(alloc);
+    for row in rows {
+        put_line(alloc, &mut lines, row)?;
+    }
+    Ok(lines)
+}
+
+/// The account of these numbers and lines.
+fn account_from(head: &Row, lines: Lines) -> Result<Account, Error>
+    ensures { IfOk result (λ account. account ≡ account_from 0 head.now lines) }
+{
+    let limit: u64 = head.get(0)?;
+    let billed: u64 = head.get(1)?;
+    let held: u64 = head.get(2)?;
+    match Account::from_parts(limit, billed, held, lines) {
+        Some(account) => Ok(account),
+        None => Err(Error::InvalidQuery),
+    }
+}
+
+/// The account that two answers tell, if there is one.
+fn account_in(alloc: Global, heads: &[Row], rows: &[Row]) -> Result<Option<Account>, Error>
+    ensures { IfOk result (λ found. found
+        ≡ state_in (account_from 0) (shown_line account_phase_in) (slice_get heads.now 0) rows.now) }
+{
+    let Some(head) = heads.first() else {
+        return Ok(None);
+    };
+    let lines = lines_in(alloc, rows)?;
+    let account = account_from(head, lines)?;
+    Ok(Some(account))
+}
+
+/// The account of a key, if there is one.
+fn find_account<S: Alter>(
+    alloc: Global,
+    conn: &mut Connection<S>,
+    key: &str,
+    _count: u64,
+) -> Result<Option<Account>, Error>
+    requires autocommit { conn.old.in_transaction ≡ false }
+    requires ready { HasCleanDisk (state S.Store conn.old) → IsReady billing _count (state S.Store conn.old) }
+    ensures found { HasCleanDisk (state S.Store conn.new) → IfOk result (λ found. found
+        ≡ accounts.entity (state S.Store conn.old).now.trees (account_of key.now)) }
+    ensures autocommit { conn.new.in_transaction ≡ false }
+    ensures open { HasCleanDisk (state S.Store conn.new) → OnOk result (IsTrue (state S.Store conn.new).is_open) }
+    ensures stays { HasCleanDisk (state S.Store conn.new) → Stays (state S.Store conn.old) (state S.Store conn.new) }
+    ensures crash { HasCleanDisk (state S.Store conn.new) → (db : Trees) → (state S.Store conn.new).may_leave db
+        → (state S.Store conn.old).may_leave db }
+    ensures clean { doubt (state S.Store conn.old).is_clean ≤ doubt (state S.Store conn.new).is_clean }
+{
+    let _ = conn.schema();
+    let heads = read_account(conn, key)?;
+    let rows = read_account_lines(conn, key)?;
+    account_in(alloc, heads.as_slice(), rows.as_slice())
+}
+
+/// Adds a line.
+fn add_line<S: Alter>(tx: &mut Transaction<'_, S>, key: &str, line: &Line) -> Result<usize, Error>
+    requires schema { HasCleanDisk (state S.Store tx.old.conn.now)
+        → (state S.Store tx.old.conn.now).now.schema ≡ billing }
+    requires rising { HasCleanDisk (state S.Store tx.old.conn.now)
+        → IsRising ((state S.Store tx.old.conn.now).now.trees 11) }
+    requires inside { HasCleanDisk (state S.Store tx.old.conn.now)
+        → IsTrue (state S.Store tx.old.conn.now).in_transaction }
+    ensures same_reference { tx.new.conn.ghost_name ≡ tx.old.conn.ghost_name }
+    ensures row { IsRow line.now }
+    ensures ok { HasCleanDisk (state S.Store tx.new.conn.now) → OnOk result (Edits 11
+        (Adds (line_cells account_line_word key.now line.now))
+        (state S.Store tx.old.conn.now) (state S.Store tx.new.conn.now)) }
+    ensures kept { HasCleanDisk (state S.Store tx.new.conn.now)
+        → KeepsCommit (state S.Store tx.old.conn.now) (state S.Store tx.new.conn.now) }
+    ensures survives { Survives (state S.Store tx.old.conn.now) (state S.Store tx.new.conn.now) (λ _. ⊥) }
+{
+    let order = line.order();
+    add_account_line(
+        tx,
+        key,
+        order.key(),
+        bound_number(line.number()),
+        line.phase().account_word(),
+    )
+}
+
+/// Adds lines, in order.
+fn add_lines<S: Alter>(tx: &mut Transaction<'_, S>, key: &str, lines: &[Line]) -> Result<(), Error>
+    requires schema { HasCleanDisk (state S.Store tx.old.conn.now)
+        → (state S.Store tx.old.conn.now).now.schema ≡ billing }
+    requires rising { HasCleanDisk (state S.Store tx.old.conn.now)
+        → IsRising ((state S.Store tx.old.conn.now).now.trees 11) }
+    requires sound { HasCleanDisk (state S.Store tx.old.conn.now) → IsDatabase (state S.Store tx.old.conn.now).now }
+    requires inside { HasCleanDisk (state S.Store tx.old.conn.now)
+        → IsTrue (state S.Store tx.old.conn.now).in_transaction }
+    requires open { HasCleanDisk (state S.Store tx.old.conn.now) → IsTrue (state S.Store tx.old.conn.now).is_open }
+    ensures same_reference { tx.new.conn.ghost_name ≡ tx.old.conn.ghost_name }
+    ensures rows { OnOk result (AllByRecursion IsRow lines.now) }
+    ensures ok { HasCleanDisk (state S.Store tx.new.conn.now) → OnOk result (Edits 11
+        (AreAdded (map (line_cells account_line_word key.now) lines.now))
+        (state S.Store tx.old.conn.now) (state S.Store tx.new.conn.now)) }
+    ensures kept { HasCleanDisk (state S.Store tx.new.conn.now)
+        → KeepsCommit (state S.Store tx.old.conn.now) (state S.Store tx.new.conn.now) }
+    ensures survives { Survives (state S.Store tx.old.conn.now) (state S.Store tx.new.conn.now) (λ _. ⊥) }
+{
+    for line in lines {
+        add_line(tx, key, line)?;
+    }
+    Ok(())
+}
+
+/// Sets the numbers of an account.
+fn put_head<S: Alter>(
+    tx: &mut Transaction<'_, S>,
+    key: &str,
+    account: &Account,
+) -> Result<usize, Error>
+    requires schema { HasCleanDisk (state S.Store tx.old.conn.now)
+        → (state S.Store tx.old.conn.now).now.schema ≡ billing }
+    requires rising { HasCleanDisk (state S.Store tx.old.conn.now)
+        → IsRising ((state S.Store tx.old.conn.now).now.trees 9) }
+    requires inside { HasCleanDisk (state S.Store tx.old.conn.now)
+        → IsTrue (state S.Store tx.old.conn.now).in_transaction }
+    ensures same_reference { tx.new.conn.ghost_name ≡ tx.old.conn.ghost_name }
+    ensures ok { HasCleanDisk (state S.Store tx.new.conn.now) → OnOk result (Edits 9
+        (Puts (text_key key.now) (account_cells key.now account.now))
+        (state S.Store tx.old.conn.now) (state S.Store tx.new.conn.now)) }
+    ensures kept { HasCleanDisk (state S.Store tx.new.conn.now)
+        → KeepsCommit (state S.Store tx.old.conn.now) (state S.Store tx.new.conn.now) }
+    ensures survives { Survives (state S.Store tx.old.conn.now) (state S.Store tx.new.conn.now) (λ _. ⊥) }
+{
+    put_account(
+        tx,
+        key,
+        bound_quantity(account.limit()),
+        bound_quantity(account.billed()),
+        bound_quantity(account.held()),
+    )
+}
+
+/// Sets an account: its lines stand in place of those that were there.
+fn set_account<S: Alter>(
+    tx: &mut Transaction<'_, S>,
+    key: &str,
+    account: &Account,
+    count: u64,
+) -> Result<u64, Error>
+    requires filed { HasCleanDisk (state S.Store tx.old.conn.now)
+        → IsFiled billing count (state S.Store tx.old.conn.now).now }
+    requires sound { HasCleanDisk (state S.Store tx.old.conn.now) → IsDatabase (state S.Store tx.old.conn.now).now }
+    requires inside { HasCleanDisk (state S.Store tx.old.conn.now)
+        → IsTrue (state S.Store tx.old.conn.now).in_transaction }
+    ensures same_reference { tx.new.conn.ghost_name ≡ tx.old.conn.ghost_name }
+    ensures ok { HasCleanDisk (state S.Store tx.new.conn.now)
+        → IfOk result (λ count. Makes accounts (changed_by (State (account_of key.now) (Some account.now))) count
+        (state S.Store tx.old.conn.now) (state S.Store tx.new.conn.now)) }
+    ensures kept { HasCleanDisk (state S.Store tx.new.conn.now)
+        → KeepsCommit (state S.Store tx.old.conn.now) (state S.Store tx.new.conn.now) }
+    ensures survives { Survives (state S.Store tx.old.conn.now) (state S.Store tx.new.conn.now) (λ _. ⊥) }
+{
+    take_account_lines(tx, key)?;
+    put_head(tx, key, account)?;
+    add_lines(tx, key, account.lines().as_slice())?;
+    Ok(count)
+}
+
+/// Takes an account away, its lines first.
+fn remove_account<S: Alter>(
+    tx: &mut Transaction<'_, S>,
+    key: &str,
+    count: u64,
+) -> Result<u64, Error>
+    requires filed { HasCleanDisk (state S.Store tx.old.conn.now)
+        → IsFiled billing count (state S.Store tx.old.conn.now).now }
+    requires sound { HasCleanDisk (state S.Store tx.old.conn.now) → IsDatabase (state S.Store tx.old.conn.now).now }
+    requires inside { HasCleanDisk (state S.Store tx.old.conn.now)
+        → IsTrue (state S.Store tx.old.conn.now).in_transaction }
+    ensures same_reference { tx.new.conn.ghost_name ≡ tx.old.conn.ghost_name }
+    ensures ok { HasCleanDisk (state S.Store tx.new.conn.now)
+        → IfOk result (λ count. Makes accounts (changed_by (State (account_of key.now) None)) count
+        (state S.Store tx.old.conn.now) (state S.Store tx.new.conn.now)) }
+    ensures kept { HasCleanDisk (state S.Store tx.new.conn.now)
+        → KeepsCommit (state S.Store tx.old.conn.now) (state S.Store tx.new.conn.now) }
+    ensures survives { Survives (state S.Store tx.old.conn.now) (state S.Store tx.new.conn.now) (λ _. ⊥) }
+{
+    take_account_lines(tx, key)?;
+    take_account(tx, key)?;
+    Ok(count)
+}
+
+impl Filed for Accounts {
+    type State = Account;
+
+    type Command = AccountCommand;
+
+    ghost filing = { accounts };
+
+    fn service() -> Service {
+        Service::Billing
+    }
+
+    fn read_state<S: Alter>(
+        alloc: Global,
+        conn: &mut Connection<S>,
+        entity: &Entity,
+        count: u64,
+    ) -> Result<Option<Account>, Error> {
+        match entity.kind() {
+            Kind::Account => find_account(alloc, conn, entity.key(), count),
+            Kind::Order | Kind::Stock => Ok(None),
+        }
+    }
+
+    fn write_state<S: Alter>(
+        _alloc: Global,
+        tx: &mut Transaction<'_, S>,
+        entity: &Entity,
+        row: &Option<Account>,
+        count: u64,
+    ) -> Result<u64, Error> {
+        match (entity.kind(), row) {
+            (Kind::Account, Some(account)) => set_account(tx, entity.key(), account, count),
+            (Kind::Account, None) => remove_account(tx, entity.key(), count),
+            (Kind::Order | Kind::Stock, _) => Err(Error::InvalidQuery),
+        }
+    }
+
+    ghost commands = { λ body. refl };
+}

@@ -1,0 +1,273 @@
+//! The warehouse in files.
+
+ghost use Rattle.std.specs.Prelude.{◌≡◌, ◌≤◌, false, refl, map, Some, None, OnOk, IfOk, IsTrue, slice_get};
+ghost use Rattle.std.specs.List.{AllByRecursion};
+ghost use Rattle.sqlite_trees.specs.Tree.{Trees};
+ghost use Rattle.sqlite_trees.specs.View.{doubt};
+ghost use Rattle.sqlite.specs.Effect.{IsDatabase};
+ghost use Rattle.sqlite.specs.Held.{state};
+ghost use Rattle.sqlite.specs.State.{HasCleanDisk, Survives, KeepsCommit};
+ghost use Rattle.base.specs.Entity.{stock_of};
+ghost use Rattle.keep.specs.Tables.{changed_by};
+ghost use Rattle.keep.specs.declared.change.Change.TheVariants.{State};
+ghost use Rattle.sql_bodies.specs.LineRows.{lines_with, IsRow};
+ghost use Rattle.sql_bodies.specs.Words.{stock_phase_in};
+ghost use Rattle.sql_rows.specs.Schema.{warehouse};
+ghost use Rattle.sql_rows.specs.Tables.{Adds, Edits, IsRising, Puts, Stays, text_key};
+ghost use Rattle.trade.specs.Words.{stock_line_word};
+ghost use Rattle.keep_sqlite.specs.AddedRows.{AreAdded};
+ghost use Rattle.keep_sqlite.specs.Holders.{line_cells, lines_in, shown_line, state_in};
+ghost use Rattle.keep_sqlite.specs.Ready.{IsFiled, IsReady, Makes};
+ghost use Rattle.keep_sqlite.specs.Stocks.{stocks, stock_cells, stock_from};
+
+use crate::filed::Filed;
+use crate::writes::{bound_number, bound_quantity};
+use base::{Entity, Kind};
+use sql_bodies::put_stock_line;
+use sql_rows::{
+    Service, add_stock_line, put_stock, read_stock, read_stock_lines, take_stock, take_stock_lines,
+};
+use sqlite::{Alter, Connection, Error, Row, Transaction};
+use std::alloc::Global;
+use trade::{Holder, Line, Lines, StockCommand};
+use warehouse::{Stock, Stocks};
+
+/// Puts the line that a row tells among others.
+fn put_line(alloc: Global, lines: &mut Lines, row: &Row) -> Result<(), Error>
+    ensures { OnOk result (lines_with (shown_line stock_phase_in row.now) lines.old ≡ Some lines.new) }
+{
+    let order: String = row.get(0)?;
+    let number: u64 = row.get(1)?;
+    let phase: String = row.get(2)?;
+    if put_stock_line(alloc, lines, order.as_str(), number, phase.as_str())? {
+        Ok(())
+    } else {
+        Err(Error::InvalidQuery)
+    }
+}
+
+/// The lines that an answer tells.
+fn lines_in(alloc: Global, rows: &[Row]) -> Result<Lines, Error>
+    ensures { IfOk result (λ lines. lines_in (shown_line stock_phase_in) rows.now ≡ Some lines) }
+{
+    let mut lines = Lines::new(alloc);
+    for row in rows {
+        put_line(alloc, &mut lines, row)?;
+    }
+    Ok(lines)
+}
+
+/// The stock of these numbers and lines.
+fn stock_from(head: &Row, lines: Lines) -> Result<Stock, Error>
+    ensures { IfOk result (λ stock. stock ≡ stock_from 0 head.now lines) }
+{
+    let on_hand: u64 = head.get(0)?;
+    let held: u64 = head.get(1)?;
+    let shipped: u64 = head.get(2)?;
+    let received: u64 = head.get(3)?;
+    match Stock::from_parts(on_hand, held, shipped, received, lines) {
+        Some(stock) => Ok(stock),
+        None => Err(Error::InvalidQuery),
+    }
+}
+
+/// The stock that two answers tell, if there is one.
+fn stock_in(alloc: Global, heads: &[Row], rows: &[Row]) -> Result<Option<Stock>, Error>
+    ensures { IfOk result (λ found. found
+        ≡ state_in (stock_from 0) (shown_line stock_phase_in) (slice_get heads.now 0) rows.now) }
+{
+    let Some(head) = heads.first() else {
+        return Ok(None);
+    };
+    let lines = lines_in(alloc, rows)?;
+    let stock = stock_from(head, lines)?;
+    Ok(Some(stock))
+}
+
+/// The stock of a key, if there is one.
+fn find_stock<S: Alter>(
+    alloc: Global,
+    conn: &mut Connection<S>,
+    key: &str,
+    _count: u64,
+) -> Result<Option<Stock>, Error>
+    requires autocommit { conn.old.in_transaction ≡ false }
+    requires ready { HasCleanDisk (state S.Store conn.old) → IsReady warehouse _count (state S.Store conn.old) }
+    ensures found { HasCleanDisk (state S.Store conn.new) → IfOk result (λ found. found
+        ≡ stocks.entity (state S.Store conn.old).now.trees (stock_of key.now)) }
+    ensures autocommit { conn.new.in_transaction ≡ false }
+    ensures open { HasCleanDisk (state S.Store conn.new) → OnOk result (IsTrue (state S.Store conn.new).is_open) }
+    ensures stays { HasCleanDisk (state S.Store conn.new) → Stays (state S.Store conn.old) (state S.Store conn.new) }
+    ensures crash { HasCleanDisk (state S.Store conn.new) → (db : Trees) → (state S.Store conn.new).may_leave db
+        → (state S.Store conn.old).may_leave db }
+    ensures clean { doubt (state S.Store conn.old).is_clean ≤ doubt (state S.Store conn.new).is_clean }
+{
+    let _ = conn.schema();
+    let heads = read_stock(conn, key)?;
+    let rows = read_stock_lines(conn, key)?;
+    stock_in(alloc, heads.as_slice(), rows.as_slice())
+}
+
+/// Adds a line.
+fn add_line<S: Alter>(tx: &mut Transaction<'_, S>, key: &str, line: &Line) -> Result<usize, Error>
+    requires schema { HasCleanDisk (state S.Store tx.old.conn.now)
+        → (state S.Store tx.old.conn.now).now.schema ≡ warehouse }
+    requires rising { HasCleanDisk (state S.Store tx.old.conn.now)
+        → IsRising ((state S.Store tx.old.conn.now).now.trees 11) }
+    requires inside { HasCleanDisk (state S.Store tx.old.conn.now)
+        → IsTrue (state S.Store tx.old.conn.now).in_transaction }
+    ensures same_reference { tx.new.conn.ghost_name ≡ tx.old.conn.ghost_name }
+    ensures row { IsRow line.now }
+    ensures ok { HasCleanDisk (state S.Store tx.new.conn.now) → OnOk result (Edits 11
+        (Adds (line_cells stock_line_word key.now line.now))
+        (state S.Store tx.old.conn.now) (state S.Store tx.new.conn.now)) }
+    ensures kept { HasCleanDisk (state S.Store tx.new.conn.now)
+        → KeepsCommit (state S.Store tx.old.conn.now) (state S.Store tx.new.conn.now) }
+    ensures survives { Survives (state S.Store tx.old.conn.now) (state S.Store tx.new.conn.now) (λ _. ⊥) }
+{
+    let order = line.order();
+    add_stock_line(
+        tx,
+        key,
+        order.key(),
+        bound_number(line.number()),
+        line.phase().stock_word(),
+    )
+}
+
+/// Adds lines, in order.
+fn add_lines<S: Alter>(tx: &mut Transaction<'_, S>, key: &str, lines: &[Line]) -> Result<(), Error>
+    requires schema { HasCleanDisk (state S.Store tx.old.conn.now)
+        → (state S.Store tx.old.conn.now).now.schema ≡ warehouse }
+    requires rising { HasCleanDisk (state S.Store tx.old.conn.now)
+        → IsRising ((state S.Store tx.old.conn.now).now.trees 11) }
+    requires sound { HasCleanDisk (state S.Store tx.old.conn.now) → IsDatabase (state S.Store tx.old.conn.now).now }
+    requires inside { HasCleanDisk (state S.Store tx.old.conn.now)
+        → IsTrue (state S.Store tx.old.conn.now).in_transaction }
+    requires open { HasCleanDisk (state S.Store tx.old.conn.now) → IsTrue (state S.Store tx.old.conn.now).is_open }
+    ensures same_reference { tx.new.conn.ghost_name ≡ tx.old.conn.ghost_name }
+    ensures rows { OnOk result (AllByRecursion IsRow lines.now) }
+    ensures ok { HasCleanDisk (state S.Store tx.new.conn.now) → OnOk result (Edits 11
+        (AreAdded (map (line_cells stock_line_word key.now) lines.now))
+        (state S.Store tx.old.conn.now) (state S.Store tx.new.conn.now)) }
+    ensures kept { HasCleanDisk (state S.Store tx.new.conn.now)
+        → KeepsCommit (state S.Store tx.old.conn.now) (state S.Store tx.new.conn.now) }
+    ensures survives { Survives (state S.Store tx.old.conn.now) (state S.Store tx.new.conn.now) (λ _. ⊥) }
+{
+    for line in lines {
+        add_line(tx, key, line)?;
+    }
+    Ok(())
+}
+
+/// Sets the numbers of a stock.
+fn put_head<S: Alter>(tx: &mut Transaction<'_, S>, key: &str, stock: &Stock) -> Result<usize, Error>
+    requires schema { HasCleanDisk (state S.Store tx.old.conn.now)
+        → (state S.Store tx.old.conn.now).now.schema ≡ warehouse }
+    requires rising { HasCleanDisk (state S.Store tx.old.conn.now)
+        → IsRising ((state S.Store tx.old.conn.now).now.trees 9) }
+    requires inside { HasCleanDisk (state S.Store tx.old.conn.now)
+        → IsTrue (state S.Store tx.old.conn.now).in_transaction }
+    ensures same_reference { tx.new.conn.ghost_name ≡ tx.old.conn.ghost_name }
+    ensures ok { HasCleanDisk (state S.Store tx.new.conn.now) → OnOk result (Edits 9
+        (Puts (text_key key.now) (stock_cells key.now stock.now))
+        (state S.Store tx.old.conn.now) (state S.Store tx.new.conn.now)) }
+    ensures kept { HasCleanDisk (state S.Store tx.new.conn.now)
+        → KeepsCommit (state S.Store tx.old.conn.now) (state S.Store tx.new.conn.now) }
+    ensures survives { Survives (state S.Store tx.old.conn.now) (state S.Store tx.new.conn.now) (λ _. ⊥) }
+{
+    put_stock(
+        tx,
+        key,
+        bound_quantity(stock.on_hand()),
+        bound_quantity(stock.held()),
+        bound_quantity(stock.shipped()),
+        bound_quantity(stock.received()),
+    )
+}
+
+/// Sets a stock: its lines stand in place of those that were there.
+fn set_stock<S: Alter>(
+    tx: &mut Transaction<'_, S>,
+    key: &str,
+    stock: &Stock,
+    count: u64,
+) -> Result<u64, Error>
+    requires filed { HasCleanDisk (state S.Store tx.old.conn.now)
+        → IsFiled warehouse count (state S.Store tx.old.conn.now).now }
+    requires sound { HasCleanDisk (state S.Store tx.old.conn.now) → IsDatabase (state S.Store tx.old.conn.now).now }
+    requires inside { HasCleanDisk (state S.Store tx.old.conn.now)
+        → IsTrue (state S.Store tx.old.conn.now).in_transaction }
+    ensures same_reference { tx.new.conn.ghost_name ≡ tx.old.conn.ghost_name }
+    ensures ok { HasCleanDisk (state S.Store tx.new.conn.now)
+        → IfOk result (λ count. Makes stocks (changed_by (State (stock_of key.now) (Some stock.now))) count
+        (state S.Store tx.old.conn.now) (state S.Store tx.new.conn.now)) }
+    ensures kept { HasCleanDisk (state S.Store tx.new.conn.now)
+        → KeepsCommit (state S.Store tx.old.conn.now) (state S.Store tx.new.conn.now) }
+    ensures survives { Survives (state S.Store tx.old.conn.now) (state S.Store tx.new.conn.now) (λ _. ⊥) }
+{
+    take_stock_lines(tx, key)?;
+    put_head(tx, key, stock)?;
+    add_lines(tx, key, stock.lines().as_slice())?;
+    Ok(count)
+}
+
+/// Takes a stock away, its lines first.
+fn remove_stock<S: Alter>(tx: &mut Transaction<'_, S>, key: &str, count: u64) -> Result<u64, Error>
+    requires filed { HasCleanDisk (state S.Store tx.old.conn.now)
+        → IsFiled warehouse count (state S.Store tx.old.conn.now).now }
+    requires sound { HasCleanDisk (state S.Store tx.old.conn.now) → IsDatabase (state S.Store tx.old.conn.now).now }
+    requires inside { HasCleanDisk (state S.Store tx.old.conn.now)
+        → IsTrue (state S.Store tx.old.conn.now).in_transaction }
+    ensures same_reference { tx.new.conn.ghost_name ≡ tx.old.conn.ghost_name }
+    ensures ok { HasCleanDisk (state S.Store tx.new.conn.now)
+        → IfOk result (λ count. Makes stocks (changed_by (State (stock_of key.now) None)) count
+        (state S.Store tx.old.conn.now) (state S.Store tx.new.conn.now)) }
+    ensures kept { HasCleanDisk (state S.Store tx.new.conn.now)
+        → KeepsCommit (state S.Store tx.old.conn.now) (state S.Store tx.new.conn.now) }
+    ensures survives { Survives (state S.Store tx.old.conn.now) (state S.Store tx.new.conn.now) (λ _. ⊥) }
+{
+    take_stock_lines(tx, key)?;
+    take_stock(tx, key)?;
+    Ok(count)
+}
+
+impl Filed for Stocks {
+    type State = Stock;
+
+    type Command = StockCommand;
+
+    ghost filing = { stocks };
+
+    fn service() -> Service {
+        Service::Warehouse
+    }
+
+    fn read_state<S: Alter>(
+        alloc: Global,
+        conn: &mut Connection<S>,
+        entity: &Entity,
+        count: u64,
+    ) -> Result<Option<Stock>, Error> {
+        match entity.kind() {
+            Kind::Stock => find_stock(alloc, conn, entity.key(), count),
+            Kind::Order | Kind::Account => Ok(None),
+        }
+    }
+
+    fn write_state<S: Alter>(
+        _alloc: Global,
+        tx: &mut Transaction<'_, S>,
+        entity: &Entity,
+        row: &Option<Stock>,
+        count: u64,
+    ) -> Result<u64, Error> {
+        match (entity.kind(), row) {
+            (Kind::Stock, Some(stock)) => set_stock(tx, entity.key(), stock, count),
+            (Kind::Stock, None) => remove_stock(tx, entity.key(), count),
+            (Kind::Order | Kind::Account, _) => Err(Error::InvalidQuery),
+        }
+    }
+
+    ghost commands = { λ body. refl };
+}
