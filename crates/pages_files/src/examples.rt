@@ -2,11 +2,13 @@
 
 use base::Pair;
 use keep::{Keep, KeepFault};
+use keep_files::FileKeep;
 use keep_sqlite::SqliteKeep;
 use purchasing::Orders;
 use sql_bodies::CommandBody;
 use sql_rows::{Service, create_tables, read_about};
-use sqlite::{Connection, Error, MemStore};
+use sqlite::{Connection, Error, FileStore, Files, MemStore, Options};
+use sqlite_disk::Memory;
 use std::alloc::{AllocError, Global};
 use trade::AccountCommand;
 
@@ -28,4 +30,15 @@ pub fn no_letter_was_sent(alloc: Global, pair: &Pair) -> Result<bool, KeepFault>
     let mut keep: SqliteKeep<Orders, MemStore> = SqliteKeep::memory(alloc)?;
     let sent = keep.sent(alloc, pair)?;
     Ok(sent == 0)
+}
+
+pub fn empty_files_are_opened_twice(alloc: Global) -> Result<bool, KeepFault> {
+    let files = Files {
+        log: Memory::new(alloc),
+        db: Memory::new(alloc),
+    };
+    let mut keep: FileKeep<Orders, FileStore<Memory>> =
+        FileKeep::adopt(alloc, files, Options::new(1))?;
+    keep.reopen(alloc)?;
+    Ok(keep.usable())
 }

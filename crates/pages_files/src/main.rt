@@ -5,7 +5,9 @@ mod examples;
 
 use anyhow::Result;
 use base::{Entity, Pair};
-use examples::{a_limit_is_written, a_service_knows_its_tables, no_letter_was_sent};
+use examples::{
+    a_limit_is_written, a_service_knows_its_tables, empty_files_are_opened_twice, no_letter_was_sent,
+};
 use std::alloc::Global;
 
 /// A pair of which nothing was sent.
@@ -23,5 +25,7 @@ fn main(rt: HostRuntime) -> Result<()> {
     let pair = quiet_pair(rt.alloc())?;
     let none = no_letter_was_sent(rt.alloc(), &pair)?;
     println!(rt; "keep_sqlite: {none}")?;
+    let again = empty_files_are_opened_twice(rt.alloc())?;
+    println!(rt; "keep_files: {again}")?;
     Ok(())
 }
