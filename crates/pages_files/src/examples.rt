@@ -10,6 +10,8 @@ use sql_rows::{Service, create_tables, read_about};
 use sqlite::{Connection, Error, FileStore, Files, MemStore, Options};
 use sqlite_disk::Memory;
 use std::alloc::{AllocError, Global};
+use test_script::Script;
+use test_store_lines::{CallFault, Empty, Session};
 use trade::AccountCommand;
 
 pub fn a_service_knows_its_tables(alloc: Global) -> Result<usize, Error> {
@@ -37,8 +39,16 @@ pub fn empty_files_are_opened_twice(alloc: Global) -> Result<bool, KeepFault> {
         log: Memory::new(alloc),
         db: Memory::new(alloc),
     };
-    let mut keep: FileKeep<Orders, FileStore<Memory>> =
-        FileKeep::adopt(alloc, files, Options::new(1))?;
+    let mut keep: FileKeep<Orders, FileStore<Memory>> = FileKeep::adopt(
+        alloc,
+        files,
+        Options::new(1),
+    )?;
     keep.reopen(alloc)?;
     Ok(keep.usable())
+}
+
+pub fn a_row_is_asked_for<E: Empty>(alloc: Global) -> Result<String, CallFault> {
+    let mut session: Session<E> = Session::new(alloc)?;
+    session.answer(alloc, "store entity order/o1")
 }

@@ -65,14 +65,13 @@ def armings():
 
 
 def armed_transactions():
-    section("A transaction that is armed leaves what was chosen",
-            "These two lines ask functions whose contracts say it.")
+    section("A transaction that is armed leaves what was chosen", "A function makes it whose contract says so.")
     for leaves, sent in (("old", 0), ("new", 3)):
         say("store new")
         say("store note sent order/o1 stock/bolt 3 Request 3")
         say(f"store apply-armed {leaves}", STORE_FAILED)
         say("store reopen")
-        say("store sent-disarmed order/o1 stock/bolt", str(sent))
+        say("store sent order/o1 stock/bolt", str(sent))
 
 
 ROW = order("Open", "Requested", "Requested", 7)

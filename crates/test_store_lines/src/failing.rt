@@ -1,14 +1,11 @@
 //! A store that fails where it is told to, as a caller meets it: what its contract tells is in the contracts here.
 
-ghost use Rattle.std.specs.Prelude.{◌≡◌, ◌≢◌, true, Err};
+ghost use Rattle.std.specs.Prelude.{◌≡◌, true, Err};
 ghost use Rattle.keep.specs.Failing.{LeavesOnly};
 ghost use Rattle.keep.specs.declared.fault.KeepFault.TheVariants.{Failed};
 ghost use Rattle.keep.specs.declared.faulty.Leaves.TheVariants.{Old};
 
-use activities::Handler;
-use base::Pair;
 use keep::{Change, Faulty, Keep, KeepFault, Leaves};
-use keep_plain::PlainKeep;
 use std::alloc::Global;
 
 /// A transaction that is armed fails, and where it is to leave the old tables a stop leaves them alone.
@@ -25,17 +22,4 @@ pub fn apply_armed<K: Keep + Drop>(
 {
     store.arm(1, leaves);
     store.apply(alloc, changes)
-}
-
-/// A read that isn't armed fails only where the store inside does; tables in memory never fail.
-pub fn sent_disarmed<H: Handler>(
-    store: &mut Faulty<PlainKeep<H>>,
-    alloc: Global,
-    pair: &Pair,
-) -> Result<u64, KeepFault>
-    requires { (⟦<Faulty<PlainKeep<H>> as Keep>⟧.seen store.old).usable ≡ true }
-    ensures { result ≢ Err Failed }
-{
-    store.disarm();
-    store.sent(alloc, pair)
 }

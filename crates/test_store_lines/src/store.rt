@@ -1,33 +1,41 @@
 //! A store of orders, which fails where it is told to.
 
-use crate::failing::{apply_armed, sent_disarmed};
+ghost use Rattle.std.specs.Prelude.{◌≡◌, true, IfOk};
+ghost use Rattle.keep.specs.Tables.{empty};
+
+use crate::failing::apply_armed;
 use crate::fault::CallFault;
 use crate::reads::read_store;
 use crate::tables::{OrderChange, add_change};
 use crate::words::leaves;
-use keep::{Faulty, Keep};
-use keep_plain::PlainKeep;
-use purchasing::{Order, Orders};
+use keep::{Faulty, Keep, KeepFault};
+use purchasing::Order;
 use std::alloc::Global;
 use std::mem;
-use test_script::{first_word, natural, pair};
+use test_script::{first_word, natural};
 use trade::OrderCommand;
 
-/// A store that can be made with empty tables.
+/// What makes stores with empty tables.
 pub trait Empty {
-    /// One with empty tables.
-    fn empty(alloc: Global) -> Self;
-}
+    ghost use Rattle.std.specs.Prelude.{◌≡◌, true, IfOk};
+    ghost use Rattle.keep.specs.Tables.{empty};
 
-impl Empty for PlainKeep<Orders> {
-    fn empty(alloc: Global) -> PlainKeep<Orders> {
-        PlainKeep::new(alloc)
-    }
+    /// What keeps the orders.
+    type Store: Keep<State = Option<Order>, Command = OrderCommand> + Drop;
+
+    /// One with empty tables.
+    ///
+    /// # Errors
+    /// Where none can be made.
+    fn empty(alloc: Global) -> Result<Self::Store, KeepFault>
+        ensures usable { IfOk result (λ store. (Self.Store.seen store).usable ≡ true) }
+        ensures empty { IfOk result (λ store. (Self.Store.seen store).doubt ≡ 0
+            → (Self.Store.seen store).tables ≡ empty) };
 }
 
 /// A store that fails where it is told to, with empty tables and no call armed.
-pub fn empty_tables<K: Keep + Empty + Drop>(alloc: Global) -> Faulty<K> {
-    Faulty::new(K::empty(alloc))
+pub fn empty_tables<E: Empty>(alloc: Global) -> Result<Faulty<E::Store>, KeepFault> {
+    Ok(Faulty::new(E::empty(alloc)?))
 }
 
 /// Appends the answer to a read.
@@ -85,22 +93,6 @@ where
     apply_armed(store, alloc, changes, leaves).map_err(CallFault::from)
 }
 
-/// Appends the last number sent, by a read that isn't armed: `FROM TO`.
-pub fn read_disarmed(
-    store: &mut Faulty<PlainKeep<Orders>>,
-    alloc: Global,
-    out: &mut String,
-    text: &str,
-) -> Result<(), CallFault> {
-    let (from, to) = first_word(text);
-    let pair = pair(alloc, from, to)?;
-    if !store.usable() {
-        return Err(CallFault::NotUsable);
-    }
-    let sent = sent_disarmed(store, alloc, &pair)?;
-    write!(out, "{sent}").map_err(CallFault::from)
-}
-
 /// Tells a store when to fail: `N LEAVES`.
 fn arm<K: Keep + Drop>(store: &mut Faulty<K>, text: &str) -> Result<(), CallFault> {
     let (calls, word) = first_word(text);
@@ -131,24 +123,28 @@ where
     }
 }
 
+/// The store is one with empty tables, and no change is noted.
+fn renew<E: Empty>(
+    store: &mut Faulty<E::Store>,
+    noted: &mut Vec<OrderChange>,
+    alloc: Global,
+) -> Result<(), CallFault> {
+    *store = empty_tables::<E>(alloc)?;
+    noted.clear();
+    Ok(())
+}
+
 /// The answer to a line that begins with `store`. Where the call gives nothing, nothing is appended.
-pub fn answer_store<K>(
-    store: &mut Faulty<K>,
+pub fn answer_store<E: Empty>(
+    store: &mut Faulty<E::Store>,
     noted: &mut Vec<OrderChange>,
     alloc: Global,
     out: &mut String,
     text: &str,
-) -> Result<(), CallFault>
-where
-    K: Keep<State = Option<Order>, Command = OrderCommand> + Empty + Drop,
-{
+) -> Result<(), CallFault> {
     let (word, rest) = first_word(text);
     match word {
-        "new" => {
-            *store = empty_tables(alloc);
-            noted.clear();
-            Ok(())
-        }
+        "new" => renew::<E>(store, noted, alloc),
         "note" => add_change(alloc, noted, rest),
         "do" => make(store, alloc, rest),
         "apply" => apply(store, alloc, mem::replace(noted, Vec::new(alloc))),

@@ -4,50 +4,57 @@ use crate::endpoints::call_endpoint;
 use crate::fault::CallFault;
 use crate::fault_texts::answer_fault;
 use crate::handler::answer_order;
-use crate::store::{Empty, answer_store, empty_tables, read_disarmed};
+use crate::store::{Empty, answer_store, empty_tables};
 use crate::tables::OrderChange;
 use crate::words::leaves;
 use endpoint::Endpoint;
-use keep::{Faulty, Keep};
-use keep_plain::PlainKeep;
+use keep::Faulty;
 use purchasing::{Order, Orders};
 use std::alloc::Global;
 use std::io::Write;
 use std::{io, mem};
 use test_script::{LineFault, Script, first_word, natural, or_done};
-use trade::OrderCommand;
 
 /// An order; a store that fails where it is told to, and the changes that were noted for its next transaction; and an
 /// endpoint over another such store.
 #[derive(Drop)]
-pub struct Session<K>
-where
-    K: Keep<State = Option<Order>, Command = OrderCommand> + Drop,
-{
+pub struct Session<E: Empty> {
     order: Option<Order>,
-    store: Faulty<K>,
+    store: Faulty<E::Store>,
     noted: Vec<OrderChange>,
-    endpoint: Endpoint<Orders, Faulty<K>>,
+    endpoint: Endpoint<Orders, Faulty<E::Store>>,
 }
 
-impl<K> Session<K>
-where
-    K: Keep<State = Option<Order>, Command = OrderCommand> + Empty + Drop,
-{
+impl<E: Empty> Session<E> {
     /// No order, and empty tables.
-    pub fn new(alloc: Global) -> Self {
-        Session {
+    ///
+    /// # Errors
+    /// Where no store could be made.
+    pub fn new(alloc: Global) -> Result<Self, CallFault> {
+        Ok(Session {
             order: None,
-            store: empty_tables(alloc),
+            store: empty_tables::<E>(alloc)?,
             noted: Vec::new(alloc),
-            endpoint: Endpoint::new(empty_tables(alloc)),
-        }
+            endpoint: Endpoint::new(empty_tables::<E>(alloc)?),
+        })
+    }
+
+    /// The store, which a line of a program's own may call.
+    pub fn store(&mut self) -> &mut Faulty<E::Store> {
+        &mut self.store
+    }
+
+    /// The endpoint is over empty tables.
+    fn renew_endpoint(&mut self, alloc: Global) -> Result<(), CallFault> {
+        self.endpoint = Endpoint::new(empty_tables::<E>(alloc)?);
+        Ok(())
     }
 
     /// The endpoint is over the store, in whose place there are empty tables then.
-    fn move_store(&mut self, alloc: Global) {
-        let store = mem::replace(&mut self.store, empty_tables(alloc));
+    fn move_store(&mut self, alloc: Global) -> Result<(), CallFault> {
+        let store = mem::replace(&mut self.store, empty_tables::<E>(alloc)?);
         self.endpoint = Endpoint::new(store);
+        Ok(())
     }
 
     /// Tells the endpoint's store when to fail: `N LEAVES`.
@@ -66,14 +73,16 @@ where
     ) -> Result<(), CallFault> {
         let (word, rest) = first_word(text);
         match word {
-            "new" => self.endpoint = Endpoint::new(empty_tables(alloc)),
+            "new" => self.renew_endpoint(alloc),
             "over-store" => self.move_store(alloc),
-            "arm" => return self.arm(rest),
-            "disarm" => self.endpoint.disarm(),
-            "reopen" => return self.endpoint.reopen(alloc).map_err(CallFault::from),
-            _ => return call_endpoint(&mut self.endpoint, alloc, out, word, rest),
+            "arm" => self.arm(rest),
+            "disarm" => {
+                self.endpoint.disarm();
+                Ok(())
+            }
+            "reopen" => self.endpoint.reopen(alloc).map_err(CallFault::from),
+            _ => call_endpoint(&mut self.endpoint, alloc, out, word, rest),
         }
-        Ok(())
     }
 
     /// Appends the answer to a line, or nothing where the call gives nothing.
@@ -86,7 +95,7 @@ where
         let (whom, text) = first_word(line);
         match whom {
             "order" => answer_order(alloc, out, &mut self.order, text),
-            "store" => answer_store(&mut self.store, &mut self.noted, alloc, out, text),
+            "store" => answer_store::<E>(&mut self.store, &mut self.noted, alloc, out, text),
             "endpoint" => self.answer_endpoint(alloc, out, text),
             "fault" => answer_fault(out, text),
             _ => Err(LineFault::Unknown.into()),
@@ -94,27 +103,14 @@ where
     }
 }
 
-/// The same of a session over tables in memory: one line asks what such tables alone promise.
-fn answer_plain(
-    session: &mut Session<PlainKeep<Orders>>,
-    alloc: Global,
-    out: &mut String,
-    line: &str,
-) -> Result<(), CallFault> {
-    match line.strip_prefix("store sent-disarmed ") {
-        Some(text) => read_disarmed(&mut session.store, alloc, out, text),
-        None => session.answer_line(alloc, out, line),
-    }
-}
-
-impl Script for Session<PlainKeep<Orders>> {
+impl<E: Empty> Script for Session<E> {
     type Answer = String;
 
     type Fault = CallFault;
 
     fn answer(&mut self, alloc: Global, line: &str) -> Result<String, CallFault> {
         let mut out = String::new(alloc);
-        answer_plain(self, alloc, &mut out, line)?;
+        self.answer_line(alloc, &mut out, line)?;
         Ok(or_done(alloc, out)?)
     }
 

@@ -1,0 +1,71 @@
+//! Lines that name calls of tables, stores, handlers of orders and endpoints, and their answers, over any store of
+//! orders.
+//!
+//! A program has a type that makes its stores, with empty tables, by the trait `Empty`, and hands a `Session` over them
+//! to the loop of `test_script`. So one folder of lines and answers is run over each store.
+//!
+//! ```rust
+//! pub fn a_row_is_asked_for<E: Empty>(alloc: Global) -> Result<String, CallFault> {
+//!     let mut session: Session<E> = Session::new(alloc)?;
+//!     session.answer(alloc, "store entity order/o1")
+//! }
+//! ```
+//!
+//! The answer is `no row`.
+//!
+//! An order:
+//! - `order opening`, `order is ORDER`: from now on it is the one that took nothing in, or this one;
+//! - `order take INPUT`, `order try INPUT`: it takes an input in, or only a copy of it does;
+//! - `order is-none`: whether no row stands for it.
+//!
+//! A store:
+//! - `store new`: its tables are empty, and no call is armed;
+//! - `store note CHANGE`, `store apply`: a change is noted; one transaction makes those that were noted;
+//! - `store do CHANGE`, `store apply-armed LEAVES`: a transaction makes one change; one is to make those that were
+//!   noted, and fails;
+//! - `store arm N LEAVES`, `store disarm`: the N-th call from now on fails, or none does;
+//! - `store usable`, `store reopen`: whether it may be called; it is opened again;
+//! - `store entity ENTITY`, `store held PAIR N`, `store drainable`, `store length`: a row, a held message, the first
+//!   pair that can be drained, how many rows the journal has;
+//! - `store sent PAIR`, `store settled PAIR`, `store handled PAIR`: a mark of a pair;
+//! - `store outbox LIMIT [PAIR N]`, `store journal N LIMIT`: the first letters after a letter's place; the first rows
+//!   from a position on.
+//!
+//! An endpoint:
+//! - `endpoint new`, `endpoint over-store`: it is over empty tables, or over the store's, which are empty then;
+//! - `endpoint commit SEAT ENTITY COMMAND`, `endpoint view ENTITY`: a seat's command; a row;
+//! - `endpoint ingest PAIR N MESSAGE`, `endpoint drain PAIR`, `endpoint settle PAIR N`, `endpoint drainable`: a letter
+//!   arrives; the next letter is handled where it is held; letters are settled; the first pair that can be drained;
+//! - `arm`, `disarm`, `usable`, `reopen`, `sent`, `settled`, `handled`, `outbox`, `journal` and `length` as of a store.
+//!
+//! `fault store N` and `fault endpoint N` give the text of the fault of this number.
+//!
+//! In these lines
+//! - a PAIR is two entities, the sender and the receiver, as `order/o1 stock/bolt`;
+//! - LEAVES is `old` or `new`: the tables that a transaction leaves which fails;
+//! - a MESSAGE is `Request N`, `Tentative`, `Refused`, `Confirm` or `Cancel`;
+//! - a COMMAND is `place STOCK N .. ACCOUNT N`, by their keys, with STOCK N as often as one likes, or `cancel`;
+//! - an INPUT is `seat N COMMAND`, or `from ENTITY N MESSAGE`, with the letter's number;
+//! - an ORDER is `none`, or as `Open stock/bolt 3 Requested stock/nut 4 Tentative account/ann 500 Tentative`: one to
+//!   eight stocks, each once, and then an account;
+//! - a CHANGE is `journal N ENTITY INPUT`, at position N, `state ENTITY ORDER`, `no-state ENTITY`, `sent PAIR N
+//!   MESSAGE`, `settled PAIR N`, `handled PAIR N`, `held PAIR N MESSAGE` or `not-held PAIR N`.
+#![tactic(auto)]
+
+mod arrivals;
+mod endpoints;
+mod failing;
+mod fault;
+mod fault_texts;
+mod handler;
+mod reads;
+mod session;
+mod store;
+mod tables;
+mod texts;
+mod words;
+
+pub use fault::CallFault;
+pub use session::Session;
+pub use store::Empty;
+pub use tables::{OrderChange, add_change};
