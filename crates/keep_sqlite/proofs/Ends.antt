@@ -1,4 +1,4 @@
--- How the calls of a keep end.
+-- How the calls of a store end.
 use Rattle.std.proofs.Common.{◌≡◌, ◌≤◌, ◌⊎◌, inl, inr, ℕ, Bool, true, false, Result}
 use Rattle.std.proofs.Common.{Ok, Err, IfOk}
 use Rattle.std.proofs.Common.{IsTrue, refl, sym, ap, ◌∙◌, arith}
@@ -26,7 +26,7 @@ pub only_settled : {S C : Type 0} (f : Filing S C) (count : ℕ) (s : State)
 only_settled f count s sound live settled clean db may =
     settled (live clean) db may ∙ ap (λ (d : Database). d.trees) (sym (sound clean (live clean)).settled)
 
--- `E` are the keeps, with their connections, their use and their failures
+-- `E` are the stores, with their connections, their use and their failures
 module _ {E S C : Type 0} (f : Filing S C) (conn : E → State) (usable : E → Bool) (failures : E → ℕ) where
   abbrev seen : E → Seen (Tables S C)
   seen k = seen_of f (conn k) (usable k) (failures k)

@@ -33,15 +33,14 @@ use Rattle.keep_sqlite.specs.Holders.{line_cells}
 use Rattle.keep_sqlite.specs.Ready.{AreRising, IsFiled, Makes}
 use Rattle.keep_sqlite.specs.Tables.{number_in}
 use Rattle.keep_sqlite.proofs.AddedRows.{own_rows, other_rows}
-use Rattle.keep_sqlite.proofs.Frames.{IsLeft}
 use Rattle.keep_sqlite.proofs.Keys.{one_key}
 use Rattle.keep_sqlite.proofs.Lookup.{IsOne, cut_gone, cut_apart, set_here, set_apart}
-use Rattle.keep_sqlite.proofs.OwnTables.{WritesOwn, own_first, own_then, makes_state}
+use Rattle.keep_sqlite.proofs.OwnTables.{AreApart, WritesOwn, heads_stay, lines_stay, own_first, own_then, makes_state}
 use Rattle.keep_sqlite.proofs.Passing.{passing_apart}
 use Rattle.keep_sqlite.proofs.Reading.{shown_row}
 use Rattle.keep_sqlite.proofs.Steps.{steps_map, steps_more}
 
--- heads of the tree 9 and lines of the tree 11, of which a write leaves one alone
+-- heads of the tree 9 and lines of the tree 11
 pub record AreHeld {S C : Type 0} (f : Filing S C) (h : Holders S) (kind : Kind) (word : LinePhase → List ℕ) :
     Type 0 where
   pub tells : (db : Trees) → f.entity db ≡ (λ e. holder_in h e (db 9) (db 11))
@@ -52,8 +51,7 @@ pub record AreHeld {S C : Type 0} (f : Filing S C) (h : Holders S) (kind : Kind)
   pub one_head : (db : Trees) → IsSound f.schema db → AreRising f.schema db → (k : List ℕ)
       → IsOne (has_key (text_key k)) (db 9)
   pub lines_rise : (db : Trees) → AreRising f.schema db → IsRising (db 11)
-  pub heads_left : (old new : Trees) → AllByRecursion (IsLeft 11 old new) f.schema.tables → new 9 ≡ old 9
-  pub lines_left : (old new : Trees) → AllByRecursion (IsLeft 9 old new) f.schema.tables → new 11 ≡ old 11
+  pub apart : AreApart f.schema
 
 -- ---- rows of lines
 
@@ -80,17 +78,6 @@ module _ {S C : Type 0} (f : Filing S C) (h : Holders S) (kind : Kind) (word : L
   abbrev of_key : List ℕ → List Row → List Row → Option S
   of_key k heads lines = state_in h.state (line_in h.phase_in) (find (has_key (text_key k)) heads)
       (filter (has_key (text_key k)) lines)
-
-  -- a write of the lines leaves the heads, and one of the heads leaves the lines
-  module _ (count : ℕ) (B : List Row → List Row → Type 0) (old new : State) (filed : IsFiled f.schema count old.now)
-    where
-      heads_stay : Edits 11 B old new → new.now.trees 9 ≡ old.now.trees 9
-      heads_stay h = held.heads_left old.now.trees new.now.trees
-          (subst (λ s. AllByRecursion (IsLeft 11 old.now.trees new.now.trees) s.tables) filed.is h.others)
-
-      lines_stay : Edits 9 B old new → new.now.trees 11 ≡ old.now.trees 11
-      lines_stay h = held.lines_left old.now.trees new.now.trees
-          (subst (λ s. AllByRecursion (IsLeft 9 old.now.trees new.now.trees) s.tables) filed.is h.others)
 
   module _ (key : List ℕ) where
     abbrev one : Entity
@@ -131,8 +118,8 @@ module _ {S C : Type 0} (f : Filing S C) (h : Holders S) (kind : Kind) (word : L
         let a = old.now.trees in let b = mid.now.trees in let c = new.now.trees in
         let half = own_first f count 11 _ old mid (omega arith) filed first in
         let rest = own_first f count 9 _ mid new (omega arith) half.filed second in
-        let heads : b 9 ≡ a 9 = heads_stay count _ old mid filed first in
-        let lines : c 11 ≡ b 11 = lines_stay count _ mid new half.filed second in
+        let heads : b 9 ≡ a 9 = heads_stay held.apart _ old mid filed.is first in
+        let lines : c 11 ≡ b 11 = lines_stay held.apart _ mid new half.filed.is second in
         let gone = subst (λ rows. IsCut (has_key (text_key key)) rows (c 9)) heads second.rows in
         let cut = subst (IsCut (has_key (text_key key)) (a 11)) (sym lines) first.rows in
         let unique = held.one_head a (subst (λ s. IsSound s a) filed.is sound) filed.rising in
@@ -158,9 +145,9 @@ module _ {S C : Type 0} (f : Filing S C) (h : Holders S) (kind : Kind) (word : L
         let one_third = own_first f count 11 _ old cut (omega arith) filed first in
         let two_thirds = own_first f count 9 _ cut head (omega arith) one_third.filed second in
         let rest = own_first f count 11 _ head new (omega arith) two_thirds.filed third in
-        let heads : b 9 ≡ a 9 = heads_stay count _ old cut filed first in
-        let lines : c 11 ≡ b 11 = lines_stay count _ cut head one_third.filed second in
-        let after : d 9 ≡ c 9 = heads_stay count _ head new two_thirds.filed third in
+        let heads : b 9 ≡ a 9 = heads_stay held.apart _ old cut filed.is first in
+        let lines : c 11 ≡ b 11 = lines_stay held.apart _ cut head one_third.filed.is second in
+        let after : d 9 ≡ c 9 = heads_stay held.apart _ head new two_thirds.filed.is third in
         let put = subst (λ rows. Puts (text_key key) cells rows (d 9)) heads
         (subst (Puts (text_key key) cells (b 9)) (sym after) second.rows) in
         let added = subst (λ rows. AreAdded (map (line_cells word key) ls) rows (d 11)) lines third.rows in

@@ -3,12 +3,12 @@ use Rattle.std.proofs.Common.{◌≡◌, ◌≢◌, ◌≤◌, ◌<◌, ℕ, ◌
 use Rattle.std.proofs.Common.{length, get_or, ◌++◌, true, false}
 use Rattle.std.proofs.Common.{Option, Some, None, MatchOption, Result, Ok, Err, IfOk, ℤ, refl, sym, ap, ap₂}
 use Rattle.std.proofs.Common.{◌∙◌, Less, Equal, suc, arith, inl, inr}
-use Rattle.std.specs.List.{AllByRecursion, take-map, drop-map}
+use Rattle.std.specs.List.{take-map, drop-map}
 use Rattle.std.specs.Ordering.{ordering_then, is_ge, int_cmp}
 use Rattle.std.proofs.lemmas.Bool.{cases_Bool}
 use Rattle.std.proofs.lemmas.Bool.Decides.{nat_tests}
 use Rattle.std.proofs.lemmas.Int.{ints}
-use Rattle.std.proofs.lemmas.List.{take_all, drop_all, take_more, length-drop}
+use Rattle.std.proofs.lemmas.List.{take_all, drop_all, take_more, length-drop, length-map}
 use Rattle.std.specs.Prelude.{nat_le, unwrap_or}
 use Rattle.sqlite.specs.declared.types.Value.{Value}
 use Rattle.sqlite.specs.declared.types.Value.TheVariants.{Null, Int, Text}
@@ -130,10 +130,6 @@ one_more_read g xs at x ys y in_range is so_far read =
     ∙ ap (map g) (sym (take_more xs at x in_range))
 
 module _ {S C : Type 0} (f : Filing S C) (rows : List Row) (count : ℕ) (counted : count ≡ length rows) where
-  map_length : {X Y : Type 0} (g : X → Y) (xs : List X) → length (map g xs) ≡ length xs
-  map_length g [] = refl
-  map_length g (x ∷ xs) = ap suc (map_length g xs)
-
   drop_length : {X : Type 0} (k : ℕ) (xs : List X) → length (drop k xs) ≤ length xs
   drop_length k xs = let e = length-drop k xs in omega (arith, e)
 
@@ -146,7 +142,7 @@ module _ {S C : Type 0} (f : Filing S C) (rows : List Row) (count : ℕ) (counte
       → IfOk r (λ v. entries v ≡ take limit (drop (from - 1) (map (row_in f) rows)))
   rows_are entries (Ok v) numbered rising from top first most limit a b at last small start clip items order told =
       let all = map (row_in f) rows in
-      let few : length all ≤ count = (let m = map_length (row_in f) rows in omega (arith, m, counted)) in
+      let few : length all ≤ count = (let m = length-map rows (row_in f) in omega (arith, m, counted)) in
       told ∙ journal_is f rows numbered rising first most items (rw (at, last) at order)
       ∙ ap (λ k. take most (drop (k - 1) all)) start ∙ ap (take most) (from_by_count count from top all few small)
       ∙ ap (λ n. take n (drop (from - 1) all)) clip

@@ -6,7 +6,7 @@ use Rattle.std.proofs.Common.{IfOk, Ordering, Less, Equal, Greater, refl, sym, a
 use Rattle.std.specs.List.{AllZip, IsDistinct}
 use Rattle.std.specs.Ordering.{is_eq, is_gt, ordering_reverse}
 use Rattle.std.specs.Cmp.{tied_itself}
-use Rattle.std.proofs.lemmas.List.{take_all, take_more}
+use Rattle.std.proofs.lemmas.List.{length-map, take_all, take_more}
 use Rattle.std.proofs.lemmas.List.Sorted.{IsPermutation-sym, Contains-permutation}
 use Rattle.std.proofs.lemmas.Map.Keys.{IsDistinct-IsPermutation}
 use Rattle.sqlite.specs.declared.types.Value.TheVariants.{Int, Text}
@@ -62,16 +62,12 @@ told_of_shown R show [] (y ∷ ys) h = absurd h
 told_of_shown R show (z ∷ zs) [] h = absurd h
 told_of_shown R show (z ∷ zs) (y ∷ ys) h = (h.0, told_of_shown R show zs ys h.1)
 
-map_length : {X Y : Type 0} (g : X → Y) (xs : List X) → length (map g xs) ≡ length xs
-map_length g [] = refl
-map_length g (x ∷ xs) = ap suc (map_length g xs)
-
 -- no limit of SQL is as one above the count
 limit_is : {X Y : Type 0} (g : X → Y) (bound : Option ℕ) (limit : ℕ) (xs : List X) (ys : List Y)
     → MatchOption bound (2 ^ 63 ≤ limit) (λ most. most ≡ limit) → length ys < 2 ^ 63 → ys ≡ map g (limited bound xs)
     → ys ≡ map g (take limit xs)
 limit_is g None limit xs ys is few shown =
-    let count : length ys ≡ length xs = ap length shown ∙ map_length g xs in
+    let count : length ys ≡ length xs = ap length shown ∙ length-map xs g in
     shown ∙ ap (map g) (sym (take_all limit xs (omega (arith, count, is, few))))
 limit_is g (Some most) limit xs ys is few shown = shown ∙ ap (λ n. map g (take n xs)) is
 

@@ -15,7 +15,7 @@ use Rattle.sql_rows.specs.Schema.{schema_of, common_tables, own_tables, about_tr
 use Rattle.sql_rows.specs.Tables.{IsRising}
 use Rattle.keep_sqlite.specs.Filing.{Filing}
 use Rattle.keep_sqlite.specs.Tables.{tables_of, marks_in, messages_in, row_in}
-use Rattle.keep_sqlite.specs.Ready.{AreRising, IsFiled, IsReady}
+use Rattle.keep_sqlite.specs.Ready.{AreNumbered, IsFiled, IsReady}
 
 no_rows : (rows : List Row) → rows ≡ [] → IsRising rows
 no_rows rows is = subst IsRising (sym is) (record { numbered = tt; ordered = tt })
@@ -74,7 +74,7 @@ module _ {S C : Type 0} (f : Filing S C) (db : Database) (new : IsNew f.is_servi
     rising = subst (λ s. AllByRecursion (λ (t : Table). IsRising (db.trees t.tree)) s.tables) (sym f.is_service.is)
         (all_rise f.is_service.service db.trees new.empty new.about);
     counted = sym (ap length new.empty.0);
-    numbered = subst (Rattle.keep_sqlite.specs.Ready.AreNumbered 1) (sym new.empty.0) tt;
+    numbered = subst (AreNumbered 1) (sym new.empty.0) tt;
   }
 
   new_tables : tables_of f db.trees ≡ empty

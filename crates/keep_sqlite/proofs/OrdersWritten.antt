@@ -34,12 +34,11 @@ use Rattle.keep_sqlite.specs.Orders.{IsNamed}
 use Rattle.keep_sqlite.specs.AddedRows.{AreAdded}
 use Rattle.keep_sqlite.specs.Ready.{IsFiled, Makes}
 use Rattle.keep_sqlite.proofs.Changes.{map_behind, survives_quietly}
-use Rattle.keep_sqlite.proofs.Frames.{IsLeft}
 use Rattle.keep_sqlite.proofs.Keys.{one_key, one_of_text}
 use Rattle.keep_sqlite.proofs.Lookup.{IsOne, not_true, cut_gone, cut_apart, set_here, set_apart}
 use Rattle.keep_sqlite.proofs.Steps.{steps_map}
 use Rattle.keep_sqlite.proofs.AddedRows.{own_rows, other_rows, none_added, one_more_row, edits_keep}
-use Rattle.keep_sqlite.proofs.OwnTables.{edits_then, own_first, own_then, makes_state}
+use Rattle.keep_sqlite.proofs.OwnTables.{AreApart, edits_then, heads_stay, lines_stay, own_first, own_then, makes_state}
 use Rattle.keep_sqlite.proofs.Passing.{passing_apart}
 
 -- ---- the lines that were added
@@ -238,17 +237,11 @@ adding_starts key ps s rising sound live inside = record {
   done = λ clean. none_added 11 s (rising clean) (sound clean) (inside clean) (live clean);
 }
 
--- a write of one table of orders leaves the other
-module _ (old new : State) (has : old.now.schema ≡ purchasing) (B : List Row → List Row → Type 0) where
-  lines_left : Edits 9 B old new → new.now.trees 11 ≡ old.now.trees 11
-  lines_left h =
-      let left = subst (λ s. AllByRecursion (IsLeft 9 old.now.trees new.now.trees) s.tables) has h.others in
-      left.1.1.1.1.1.1.0 (λ e. omega (arith, e))
-
-  heads_left : Edits 11 B old new → new.now.trees 9 ≡ old.now.trees 9
-  heads_left h =
-      let left = subst (λ s. AllByRecursion (IsLeft 11 old.now.trees new.now.trees) s.tables) has h.others in
-      left.1.1.1.1.1.0 (λ e. omega (arith, e))
+orders_apart : AreApart purchasing
+orders_apart = record {
+  heads_left = λ old new left. left.1.1.1.1.1.0 (λ e. omega (arith, e));
+  lines_left = λ old new left. left.1.1.1.1.1.1.0 (λ e. omega (arith, e));
+}
 
 pub one_head : (count : ℕ) (db : Database) → IsFiled purchasing count db → IsDatabase db → (k : List ℕ)
     → IsOne (has_key (text_key k)) (db.trees 9)
@@ -265,11 +258,12 @@ module _ (count : ℕ) (key : List ℕ) (old : State) (filed : IsFiled purchasin
         let first = own_first orders count 11 _ old mid (omega arith) filed lines in
         let second = own_first orders count 9 _ mid new (omega arith) first.filed heads in
         makes_state orders count (order_of key) None old new (own_then orders count old mid new first second) (λ x.
-        ap (λ l. placed (order_at x.kind x.key (new.now.trees 9) l)) (lines_left mid new first.filed.is _ heads)
+        ap (λ l. placed (order_at x.kind x.key (new.now.trees 9) l))
+        (lines_stay orders_apart _ mid new first.filed.is heads)
         ∙ taken_away key (old.now.trees 9) (old.now.trees 11) (new.now.trees 9) (one_head count old.now filed was)
         (mid.now.trees 11) filed.rising.1.1.1.1.1.1.0 lines.rising lines.rows
-        (subst (λ l. IsCut (has_key (text_key key)) l (new.now.trees 9)) (heads_left old mid filed.is _ lines)
-        heads.rows) x)
+        (subst (λ l. IsCut (has_key (text_key key)) l (new.now.trees 9))
+        (heads_stay orders_apart _ old mid filed.is lines) heads.rows) x)
 
     order_put : (a b new : State) (status : Status) (account : Partner) (stocks : List Partner)
         → Edits 11 (IsCut (has_key (text_key key))) old a
@@ -283,14 +277,15 @@ module _ (count : ℕ) (key : List ℕ) (old : State) (filed : IsFiled purchasin
         let third = own_first orders count 11 _ b new (omega arith) second.filed more in
         makes_state orders count (order_of key) _ old new
         (own_then orders count old a new first (own_then orders count a b new second third)) (λ x.
-        ap (λ l. placed (order_at x.kind x.key l (new.now.trees 11))) (heads_left b new second.filed.is _ more)
+        ap (λ l. placed (order_at x.kind x.key l (new.now.trees 11)))
+        (heads_stay orders_apart _ b new second.filed.is more)
         ∙ put_in_place key (old.now.trees 9) (old.now.trees 11) (b.now.trees 9) (one_head count old.now filed was)
         (a.now.trees 11) (new.now.trees 11) filed.rising.1.1.1.1.1.1.0 lines.rising
         (one_head count b.now second.filed second.sound) lines.rows status account
         (subst (λ l. Puts (text_key key) (head_cells key status account) l (b.now.trees 9))
-        (heads_left old a filed.is _ lines) head.rows) stocks
-        (subst (λ l. AreAdded (lines_cells key stocks) l (new.now.trees 11)) (lines_left a b first.filed.is _ head)
-        more.rows) are is x)
+        (heads_stay orders_apart _ old a filed.is lines) head.rows) stocks
+        (subst (λ l. AreAdded (lines_cells key stocks) l (new.now.trees 11))
+        (lines_stay orders_apart _ a b first.filed.is head) more.rows) are is x)
 
 -- ---- the order that is put
 

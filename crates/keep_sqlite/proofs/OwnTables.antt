@@ -3,6 +3,7 @@ use Rattle.std.proofs.Common.{◌≡◌, ◌≤◌, ℕ, List, [], ◌∷◌, le
 use Rattle.std.specs.Prelude.{map}
 use Rattle.std.specs.List.{AllByRecursion}
 use Rattle.sqlite_value.specs.Order.{Row}
+use Rattle.sqlite_trees.specs.Tree.{Trees}
 use Rattle.sqlite_schema.specs.declared.schema.Schema.{Schema}
 use Rattle.sqlite_schema.specs.declared.schema.Table.{Table}
 use Rattle.sqlite.specs.Effect.{IsDatabase}
@@ -56,6 +57,21 @@ edits_then tree A B C old mid new first second both = record {
         → AllByRecursion (IsLeft tree old.now.trees new.now.trees) ts
     left_twice [] a b = tt
     left_twice (t ∷ ts) a b = (λ other. b.0 other ∙ a.0 other, left_twice ts a.1 b.1)
+
+-- heads of the tree 9 and lines of the tree 11, of which a write leaves one alone
+pub record AreApart (schema : Schema) : Type 0 where
+  pub heads_left : (old new : Trees) → AllByRecursion (IsLeft 11 old new) schema.tables → new 9 ≡ old 9
+  pub lines_left : (old new : Trees) → AllByRecursion (IsLeft 9 old new) schema.tables → new 11 ≡ old 11
+
+module _ {schema : Schema} (apart : AreApart schema) (B : List Row → List Row → Type 0) (old new : State)
+    (has : old.now.schema ≡ schema) where
+  pub heads_stay : Edits 11 B old new → new.now.trees 9 ≡ old.now.trees 9
+  heads_stay h = apart.heads_left old.now.trees new.now.trees
+      (subst (λ s. AllByRecursion (IsLeft 11 old.now.trees new.now.trees) s.tables) has h.others)
+
+  pub lines_stay : Edits 9 B old new → new.now.trees 11 ≡ old.now.trees 11
+  lines_stay h = apart.lines_left old.now.trees new.now.trees
+      (subst (λ s. AllByRecursion (IsLeft 9 old.now.trees new.now.trees) s.tables) has h.others)
 
 module _ {S C : Type 0} (f : Filing S C) (count : ℕ) where
   -- a write of an own table

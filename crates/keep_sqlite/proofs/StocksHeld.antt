@@ -23,6 +23,8 @@ stocks_held = record {
   one_head = λ db sound up. one_of_text warehouse db stocks sound (inr (inr (inr (inr (inr (inl refl)))))) refl refl
       up.1.1.1.1.1.0;
   lines_rise = λ db up. up.1.1.1.1.1.1.0;
-  heads_left = λ old new left. left.1.1.1.1.1.0 (λ e. omega (arith, e));
-  lines_left = λ old new left. left.1.1.1.1.1.1.0 (λ e. omega (arith, e));
+  apart = record {
+    heads_left = λ old new left. left.1.1.1.1.1.0 (λ e. omega (arith, e));
+    lines_left = λ old new left. left.1.1.1.1.1.1.0 (λ e. omega (arith, e));
+  };
 }

@@ -13,7 +13,7 @@ use Rattle.sqlite_wal.specs.Recovery.{Image}
 use Rattle.keep.specs.Tables.{Tables, empty}
 use Rattle.keep.specs.declared.fault.KeepFault.{KeepFault}
 use Rattle.keep.specs.declared.fault.KeepFault.TheVariants.{Failed, Memory, WrongFile}
-use Rattle.sql_rows.specs.Schema.{name_of, no_tables}
+use Rattle.sql_rows.specs.Schema.{name_of, about_tree, no_tables}
 use Rattle.sql_rows.specs.declared.service.Service.{Service}
 use Rattle.keep_sqlite.specs.Filing.{Filing}
 use Rattle.keep_sqlite.specs.Tables.{tables_of}
@@ -36,15 +36,21 @@ TellsOf service (r ∷ []) = IsAbout service r
 TellsOf service (_ ∷ _ ∷ _) = ⊥
 
 module _ {S C : Type 0} (filing : Filing S C) where
+  -- the table `about` of a service's file tells version 2 of it
+  abbrev pub TellsOfService : Trees → Type 0
+  TellsOfService db = TellsOf filing.is_service.service (db (about_tree filing.is_service.service))
+
   -- a connection's tables are taken over as these: the service's, as its last commit left them; where it has none, they
   -- are made anew
   abbrev pub IsTakenOver : State → Tables S C → Type 0
-  IsTakenOver s t = (IsSound filing.schema s.committed.trees × (t ≡ tables_of filing s.committed.trees))
+  IsTakenOver s t = (IsSound filing.schema s.committed.trees × (t ≡ tables_of filing s.committed.trees)
+      × TellsOfService s.committed.trees)
       ⊎ ((s.now.schema ≡ no_tables) × (t ≡ empty))
 
   -- the tables in a database, or none where it has no tables yet
   abbrev pub AreIn : Trees → Tables S C → Type 0
-  AreIn db t = (IsSound filing.schema db × (t ≡ tables_of filing db)) ⊎ (IsSound no_tables db × (t ≡ empty))
+  AreIn db t = (IsSound filing.schema db × (t ≡ tables_of filing db) × TellsOfService db)
+      ⊎ (IsSound no_tables db × (t ≡ empty))
 
   -- what files held is opened as these tables
   pub record IsFoundIn (image : Image) (t : Tables S C) : Type 0 where

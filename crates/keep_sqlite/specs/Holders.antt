@@ -50,7 +50,7 @@ holder_in h e heads lines =
     (filter (has_key (text_key e.key)) lines)
     else None
 
--- where there are no heads, there is none
+-- where there are no heads, there is none; the filings name it
 pub no_holder : {S : Type 0} (h : Holders S) (e : Entity) (heads lines : List Row) → heads ≡ []
     → holder_in h e heads lines ≡ None
 no_holder {S} h e heads lines none =

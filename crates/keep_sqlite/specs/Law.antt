@@ -1,4 +1,4 @@
--- From what a connection leaves to what the keep leaves.
+-- From what a connection leaves to what the store leaves. The lemmas stand here, since ghost fields name them.
 use Rattle.std.specs.Prelude.{◌≡◌, ℕ, ◌+◌, IsTrue, List, [], ◌∷◌, Bool, None}
 use Rattle.std.proofs.Common.{refl, ap, sym, ◌∙◌}
 use Rattle.std.proofs.Math.Logic.{∥∥₁_map}
@@ -67,7 +67,7 @@ module _ (schema : Schema) (count : ℕ) where
   pub ready_prop : (s : State) → IsProp (HasCleanDisk s → IsTrue s.is_open → IsReady schema count s)
   ready_prop s = Π_prop (λ _. Π_prop (λ _. IsReady-prop s))
 
--- ---- the law of a keep
+-- ---- the law of a store
 
 module _ {S C : Type 0} (filing : Filing S C) where
   -- a stop may leave rows that read as these tables
@@ -76,7 +76,7 @@ module _ {S C : Type 0} (filing : Filing S C) where
     pub may : may_leave db
     pub reads : t ≡ tables_of filing db
 
-  -- what callers see of a keep with this connection
+  -- what callers see of a store with this connection
   abbrev pub seen_of : State → Bool → ℕ → Seen (Tables S C)
   seen_of s usable failures = record {
     tables = tables_of filing s.now.trees;

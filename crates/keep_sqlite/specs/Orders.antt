@@ -54,6 +54,7 @@ order_at kind.Order key heads lines =
 order_at kind.Stock key heads lines = None
 order_at kind.Account key heads lines = None
 
+-- where there are no heads, there is none; the filing names it
 pub no_order : (k : Kind) (key : List ℕ) (lines : List Row) → order_at k key [] lines ≡ None
 no_order kind.Order key lines = refl
 no_order kind.Stock key lines = refl

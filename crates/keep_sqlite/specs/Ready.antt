@@ -1,4 +1,4 @@
--- What a keep knows of its connection.
+-- What a store knows of its connection.
 use Rattle.std.specs.Prelude.{◌≡◌, ℕ, ℤ, ◌+◌, pos, Option, Some, None, IsTrue, List, [], ◌∷◌, length, Bool, true}
 use Rattle.std.specs.Prelude.{false, Result, Ok, Err, ◌⊎◌, ⊤}
 use Rattle.std.specs.List.{AllByRecursion}
@@ -10,6 +10,8 @@ use Rattle.sqlite.specs.State.{State, Shows}
 use Rattle.sqlite_schema.specs.declared.schema.Schema.{Schema}
 use Rattle.sqlite_schema.specs.declared.schema.Table.{Table}
 use Rattle.sqlite.specs.declared.error.Error.{Error}
+use Rattle.sqlite.specs.declared.error.Error.TheVariants.{SqliteFailure}
+use Rattle.sqlite.specs.declared.error.ErrorCode.TheVariants.{OutOfMemory}
 use Rattle.envelope.specs.declared.message.Message.{Message}
 use Rattle.keep.specs.Law.{MoreFailures}
 use Rattle.keep.specs.declared.fault.KeepFault.{KeepFault}
@@ -61,8 +63,8 @@ module _ {S C : Type 0} (filing : Filing S C) where
 -- has failed, which is counted
 abbrev pub IsEnd : {R : Type 0} → Result R Error → Result R KeepFault → Bool → ℕ → ℕ → Type 0
 IsEnd (Ok r) result usable before after = (result ≡ Ok r) × (usable ≡ true) × (after ≡ before)
-IsEnd (Err _) result usable before after =
-    ((result ≡ Err Memory) × (usable ≡ true) × (after ≡ before))
+IsEnd (Err x) result usable before after =
+    ((result ≡ Err Memory) × (usable ≡ true) × (after ≡ before) × (x ≡ SqliteFailure OutOfMemory))
     ⊎ ((result ≡ Err Failed) × (usable ≡ false) × MoreFailures before after)
 
 -- this is the number that an answer has in a column of its first row, or 0

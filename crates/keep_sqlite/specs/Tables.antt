@@ -1,6 +1,5 @@
--- The tables that stand in the rows of a service's file. Each definition is total: a row that no call of a keep
--- writes is
--- read as something here, and the reads refuse it.
+-- The tables that stand in the rows of a service's file. Each definition is total: a row that no call of a store writes
+-- is read as something here, and the reads refuse it.
 use Rattle.std.specs.Prelude.{ℕ, pos, negsuc, List, [], map, find, Option, Some, None, unwrap_or}
 use Rattle.sqlite.specs.declared.types.Value.{Value}
 use Rattle.sqlite.specs.declared.types.Value.TheVariants.{Null, Int, Real, Text, Blob}
@@ -70,7 +69,7 @@ abbrev pub text_at : Value → Option (List ℕ)
 text_at (Text t) = Some t
 text_at _ = None
 
--- what a row tells that no call of a keep writes
+-- what a row tells that no call of a store writes
 abbrev pub no_input : {C : Type 0} → Input C
 no_input = FromEntity (order_of []) 0 Cancel
 

@@ -33,7 +33,7 @@ pub trait Filed {
     fn service() -> Service
         ensures { result ≡ filing.is_service.service };
 
-    /// The row of an entity.
+    /// The row of an entity. How many rows the journal has stands for the contract alone.
     ///
     /// # Errors
     /// Where the store failed or a growth was refused, and where the file has a row that isn't one of a state.

@@ -1,4 +1,4 @@
-//! A keep over a connection.
+//! A store over a connection.
 
 ghost use Rattle.std.specs.Prelude.{◌≡◌, ◌≤◌, ◌⊎◌, true, false, IsTrue, IfOk, IfErr, OnOk, Err};
 ghost use Rattle.sqlite_trees.specs.Tree.{Trees};
@@ -12,7 +12,7 @@ ghost use Rattle.keep.specs.Tables.{changed, empty, ArePlaced};
 ghost use Rattle.sql_rows.specs.Tables.{Stays};
 ghost use Rattle.sqlite_catalog.specs.Listing.{IsSound};
 ghost use Rattle.sqlite.specs.WalFiles.{image_at};
-ghost use Rattle.keep_sqlite.specs.Found.{IsFoundIn, IsTakenOver};
+ghost use Rattle.keep_sqlite.specs.Found.{IsFoundIn, IsTakenOver, TellsOfService};
 ghost use Rattle.keep_sqlite.specs.Ready.{IsEnd, IsReady};
 ghost use Rattle.keep_sqlite.specs.Law.{ready_prop, seen_of, seen_sound};
 
@@ -250,6 +250,8 @@ impl<H: Filed, S: Alter + Drop> SqliteKeep<H, S> {
         ensures fresh { IfOk result (λ k. (k.is_usable ≡ true) × (k.failures ≡ 0)) }
         ensures sound { IfOk result (λ k. HasCleanDisk (state S.Store k.conn)
             → IsSound H.filing.schema (state S.Store conn).committed.trees) }
+        ensures tells { IfOk result (λ k. HasCleanDisk (state S.Store k.conn)
+            → TellsOfService H.filing (state S.Store conn).committed.trees) }
         ensures tables { IfOk result (λ k. HasCleanDisk (state S.Store k.conn)
             → (state S.Store k.conn).now.trees ≡ (state S.Store conn).committed.trees) }
         ensures clean { IfOk result (λ k. doubt (state S.Store conn).is_clean

@@ -146,6 +146,7 @@ pub fn find_letters<H: Filed, S: Alter>(
         → (state S.Store conn.old).may_leave db }
     ensures clean { doubt (state S.Store conn.old).is_clean ≤ doubt (state S.Store conn.new).is_clean }
 {
+    // Called for what its contract says: the rows are as the schema demands.
     let _ = conn.schema();
     let rows = read_after(conn, after, bound_limit(limit))?;
     letters_at(alloc, rows.as_slice())
@@ -180,6 +181,7 @@ pub fn find_drainable<H: Filed, S: Alter>(
         → (state S.Store conn.old).may_leave db }
     ensures clean { doubt (state S.Store conn.old).is_clean ≤ doubt (state S.Store conn.new).is_clean }
 {
+    // Called for what its contract says: the rows are as the schema demands.
     let _ = conn.schema();
     let rows = read_drainable(conn)?;
     pair_in(alloc, rows.as_slice())

@@ -1,16 +1,16 @@
 //! Tables that are found in a connection.
 
-ghost use Rattle.std.specs.Prelude.{◌≡◌, ◌≤◌, false, min, OnOk, IfOk, IfSome, IsTrue, filter, length, pos, [], ◌∷◌};
+ghost use Rattle.std.specs.Prelude.{◌≡◌, ◌≤◌, false, min, OnOk, IfOk, IfSome, IsTrue, filter, length, pos};
 ghost use Rattle.std.specs.List.{AllByRecursion};
 ghost use Rattle.sqlite.specs.Held.{state};
 ghost use Rattle.sqlite.specs.State.{HasCleanDisk};
 ghost use Rattle.sqlite_trees.specs.Tree.{Trees};
-ghost use Rattle.sqlite_trees.specs.View.{doubt, IsClean};
+ghost use Rattle.sqlite_trees.specs.View.{doubt};
 ghost use Rattle.sqlite_value.specs.Order.{column};
 ghost use Rattle.sqlite.specs.declared.types.Value.TheVariants.{Int, Text};
 ghost use Rattle.sql_rows.specs.Schema.{IsService, schema_of, about_tree, name_of};
 ghost use Rattle.sql_rows.specs.Tables.{IsRising, Stays, is_within};
-ghost use Rattle.keep_sqlite.specs.Found.{opening_fault, TellsOf};
+ghost use Rattle.keep_sqlite.specs.Found.{opening_fault, TellsOf, TellsOfService};
 ghost use Rattle.keep_sqlite.specs.Ready.{AreNumbered, IsReady};
 
 use crate::filed::Filed;
@@ -146,8 +146,7 @@ pub fn examine<H: Filed, S: Alter>(
     ensures ready { HasCleanDisk (state S.Store conn.new)
         → IfOk result (λ found. IfSome found (λ n. IsReady H.filing.schema n (state S.Store conn.new))) }
     ensures tells { HasCleanDisk (state S.Store conn.new) → IfOk result (λ found. IfSome found (λ _.
-        TellsOf H.filing.is_service.service
-        ((state S.Store conn.new).now.trees (about_tree H.filing.is_service.service)))) }
+        TellsOfService H.filing (state S.Store conn.new).now.trees)) }
     ensures autocommit { conn.new.in_transaction ≡ false }
     ensures stays { HasCleanDisk (state S.Store conn.new) → Stays (state S.Store conn.old) (state S.Store conn.new) }
     ensures crash { HasCleanDisk (state S.Store conn.new) → (db : Trees) → (state S.Store conn.new).may_leave db

@@ -97,6 +97,7 @@ pub fn find_order<S: Alter>(
         → (state S.Store conn.old).may_leave db }
     ensures clean { doubt (state S.Store conn.old).is_clean ≤ doubt (state S.Store conn.new).is_clean }
 {
+    // Called for what its contract says: the rows are as the schema demands.
     let _ = conn.schema();
     let heads = read_order_head(conn, key)?;
     let lines = read_order_lines(conn, key)?;

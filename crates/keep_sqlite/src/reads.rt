@@ -1,4 +1,4 @@
-//! What is read of a file.
+//! What is read of a file. A `_count`, how many rows the journal has, stands for the contracts alone: nothing reads it.
 
 ghost use Rattle.std.specs.Prelude.{◌≡◌, ◌≤◌, false, OnOk, IfOk, IsTrue};
 ghost use Rattle.sqlite_value.specs.Order.{column};
@@ -18,6 +18,11 @@ use sql_bodies::read_message;
 use sql_rows::{read_handled, read_held, read_marks};
 use sqlite::{Alter, Connection, Error, Row};
 use std::alloc::Global;
+
+// Where an answer of `read_marks` has the number of the last letter that was sent, and of the last that was settled.
+const SENT: usize = 0;
+
+const SETTLED: usize = 1;
 
 /// Whether the connection is still open. Where memory is short it answers false.
 pub fn is_live<S: Alter>(conn: &mut Connection<S>) -> bool
@@ -62,6 +67,7 @@ pub fn find_handled<H: Filed, S: Alter>(
         → (state S.Store conn.old).may_leave db }
     ensures clean { doubt (state S.Store conn.old).is_clean ≤ doubt (state S.Store conn.new).is_clean }
 {
+    // Called for what its contract says: the rows are as the schema demands.
     let _ = conn.schema();
     let rows = read_handled(conn, pair.from.text(), pair.to.text())?;
     mark_in(rows.as_slice(), 0)
@@ -85,9 +91,10 @@ pub fn find_sent<H: Filed, S: Alter>(
         → (state S.Store conn.old).may_leave db }
     ensures clean { doubt (state S.Store conn.old).is_clean ≤ doubt (state S.Store conn.new).is_clean }
 {
+    // Called for what its contract says: the rows are as the schema demands.
     let _ = conn.schema();
     let rows = read_marks(conn, pair.from.text(), pair.to.text())?;
-    mark_in(rows.as_slice(), 0)
+    mark_in(rows.as_slice(), SENT)
 }
 
 /// The settled mark of a pair.
@@ -108,9 +115,10 @@ pub fn find_settled<H: Filed, S: Alter>(
         → (state S.Store conn.old).may_leave db }
     ensures clean { doubt (state S.Store conn.old).is_clean ≤ doubt (state S.Store conn.new).is_clean }
 {
+    // Called for what its contract says: the rows are as the schema demands.
     let _ = conn.schema();
     let rows = read_marks(conn, pair.from.text(), pair.to.text())?;
-    mark_in(rows.as_slice(), 1)
+    mark_in(rows.as_slice(), SETTLED)
 }
 
 /// The message whose body a value is.
@@ -154,6 +162,7 @@ pub fn find_held<H: Filed, S: Alter>(
         → (state S.Store conn.old).may_leave db }
     ensures clean { doubt (state S.Store conn.old).is_clean ≤ doubt (state S.Store conn.new).is_clean }
 {
+    // Called for what its contract says: the rows are as the schema demands.
     let _ = conn.schema();
     let rows = read_held(conn, pair.from.text(), pair.to.text(), bound_number(number))?;
     message_in(alloc, rows.as_slice())

@@ -102,6 +102,7 @@ fn find_stock<S: Alter>(
         → (state S.Store conn.old).may_leave db }
     ensures clean { doubt (state S.Store conn.old).is_clean ≤ doubt (state S.Store conn.new).is_clean }
 {
+    // Called for what its contract says: the rows are as the schema demands.
     let _ = conn.schema();
     let heads = read_stock(conn, key)?;
     let rows = read_stock_lines(conn, key)?;

@@ -1,7 +1,7 @@
 //! The changes of a transaction.
 
 ghost use Rattle.std.specs.Prelude.{◌≡◌, ◌<◌, ◌^◌, ◌≤◌, ◌⊎◌};
-ghost use Rattle.std.specs.Prelude.{true, false, OnOk, IfOk, OnErr, IsTrue, FitsSigned, pos};
+ghost use Rattle.std.specs.Prelude.{true, false, IfOk, OnErr, IsTrue, FitsSigned, pos};
 ghost use Rattle.std.specs.Int.{w64};
 ghost use Rattle.sqlite_trees.specs.Tree.{Trees};
 ghost use Rattle.sqlite_trees.specs.View.{doubt};
@@ -324,7 +324,8 @@ fn write_command<H: Filed, S: Alter>(
         → IsTrue (state S.Store tx.old.conn.now).in_transaction }
     ensures same_reference { tx.new.conn.ghost_name ≡ tx.old.conn.ghost_name }
     ensures ok { HasCleanDisk (state S.Store tx.new.conn.now)
-        → IfOk result (λ count. Makes H.filing (with_row (record { entity = entity.now; input = FromSeat seat command.now })) count
+        → IfOk result (λ count. Makes H.filing
+        (with_row (record { entity = entity.now; input = FromSeat seat command.now })) count
         (state S.Store tx.old.conn.now) (state S.Store tx.new.conn.now)) }
     ensures kept { HasCleanDisk (state S.Store tx.new.conn.now)
         → KeepsCommit (state S.Store tx.old.conn.now) (state S.Store tx.new.conn.now) }
@@ -487,6 +488,7 @@ pub fn write_all<H: Filed, S: Alter>(
         ⊎ (tables_of H.filing db ≡ changed changes.now (tables_of H.filing (state S.Store conn.old).now.trees)) }
     ensures clean { doubt (state S.Store conn.old).is_clean ≤ doubt (state S.Store conn.new).is_clean }
 {
+    // Called for what its contract says: the rows are as the schema demands.
     let _ = conn.schema();
     let mut tx = conn.transaction();
     let count = match stage::<H, S>(alloc, &mut tx, changes, count) {
@@ -496,6 +498,7 @@ pub fn write_all<H: Filed, S: Alter>(
             return Err(error);
         }
     };
+    // The proof tells of both ends, each by its arm.
     match tx.commit() {
         Ok(()) => Ok(count),
         Err(error) => Err(error),
