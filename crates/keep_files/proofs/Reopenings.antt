@@ -1,4 +1,5 @@
--- What a keep tells of its calls, from what its open keep tells, and of a reopening, from what its files do.
+-- What a store in files tells of its calls, from what the open one in it tells, and of a reopening, from what its
+-- files do.
 use Rattle.std.proofs.Common.{◌≡◌, ℕ, ◌≤◌, Bool, true, false, Result, Ok, Err, OnOk, OnErr, is_ok, IsTrue, refl}
 use Rattle.std.proofs.Common.{sym, ◌∙◌, ap, subst, subst₂, le_refl, inl, inr, arith}
 use Rattle.std.proofs.Math.Logic.{∥∥₁_map}
@@ -29,7 +30,7 @@ use Rattle.keep.specs.declared.fault.KeepFault.TheVariants.{Failed, Memory, Wron
 use Rattle.keep_sqlite.specs.Filing.{Filing}
 use Rattle.keep_sqlite.specs.Tables.{tables_of}
 use Rattle.keep_sqlite.specs.Law.{LeavesTables}
-use Rattle.keep_sqlite.specs.Found.{IsTakenOver, AreIn}
+use Rattle.keep_sqlite.specs.Found.{IsTakenOver, AreIn, TellsOfService}
 use Rattle.keep_files.specs.declared.files.Access.{Access}
 use Rattle.keep_files.specs.declared.files.Access.TheVariants.{Open}
 use Rattle.keep_files.specs.Reopening.{seen_open, seen_by, AreCounted}
@@ -52,7 +53,7 @@ module _ {D : Type 0} {g : Ghosts D} (it : FileStore D g) (left : Files D)
       (may_leave_is it.pool _ both (stays _, stays _)) in
       opens_again it numbered sound (image_of g left) may
 
--- ---- calls of an open keep
+-- ---- calls of an open store
 
 -- what a call tells is told of what is seen before it and after it
 abbrev pick : {T : Type 0} → Seen T → Seen T → Bool → Seen T
@@ -244,11 +245,15 @@ told_left false s P held = λ none. absurd (omega (arith, none))
 pub taken_over : {S C : Type 0} (filing : Filing S C) (s : State) (db : Trees) (t : Tables S C) → Opens s → IsLive s
     → s.committed.trees ≡ db → IsTakenOver filing s t → AreIn filing db t
 taken_over filing s db t opens live is (inl own) =
-    inl (subst (IsSound filing.schema) is own.0, own.1 ∙ ap (tables_of filing) is)
+    inl (
+      subst (IsSound filing.schema) is own.0,
+      own.1 ∙ ap (tables_of filing) is,
+      subst (TellsOfService filing) is own.2,
+    )
 taken_over filing s db t opens live is (inr none) =
     inr (subst₂ IsSound none.0 (ap (λ (d : Database). d.trees) opens.clean ∙ is) (live opens.is_open).0, none.1)
 
--- of a keep `E` that has this access
+-- of a store `E` that has this access
 module _ {T K F E : Type 0} (seen : K → Seen T) (none : T) (told : E → Bool) (failures : E → ℕ)
     (access : E → Access K F) (old new : E) where
   abbrev shown : E → Seen T

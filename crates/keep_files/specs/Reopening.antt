@@ -1,4 +1,4 @@
--- What is seen of a keep whose files may be opened again.
+-- What is seen of a store whose files may be opened again.
 use Rattle.std.specs.Prelude.{◌≡◌, ℕ, zero, suc, Bool, true, false, Result, Ok, Err, None, ⊤}
 use Rattle.std.proofs.Common.{subst}
 use Rattle.keep.specs.Law.{MoreFailures}
@@ -8,15 +8,15 @@ use Rattle.keep.specs.declared.fault.KeepFault.TheVariants.{Failed, Memory, Wron
 use Rattle.keep_files.specs.declared.files.Access.{Access}
 use Rattle.keep_files.specs.declared.files.Access.TheVariants.{Open, Closed}
 
-abbrev IsSome : ℕ → Type 0
-IsSome zero = ⊥
-IsSome (suc n) = ⊤
+abbrev IsPositive : ℕ → Type 0
+IsPositive zero = ⊥
+IsPositive (suc n) = ⊤
 
 never : {P : Type 0} → ◌≡◌ {A = ℕ} 1 0 → P
-never none = absurd (subst IsSome none tt)
+never none = absurd (subst IsPositive none tt)
 
 module _ {T : Type 0} where
-  -- of an open keep, what it shows; where nothing is told of its files any more, it is in doubt
+  -- of an open store, what it shows; where nothing is told of its files any more, it is in doubt
   abbrev pub seen_open : Bool → Seen T → Seen T
   seen_open true s = s
   seen_open false s = record s { doubt = 1 }
@@ -36,7 +36,7 @@ module _ {T : Type 0} where
   sound_open false s sound =
       record { only_now = λ none. never none; stays = λ none. never none; leaves = λ none. never none }
 
-  -- what holds of the open keep while there is no doubt holds of it
+  -- what holds of the open store while there is no doubt holds of it; a ghost field names it
   pub sound_by : {K F : Type 0} (seen : K → Seen T) (none : T) (told : Bool) (failures : ℕ)
       → ((k : K) → IsSound (seen k)) → (a : Access K F) → IsSound (seen_by seen none told failures a)
   sound_by seen none told failures sound (Open k) = sound_open told (seen k) (sound k)

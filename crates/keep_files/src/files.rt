@@ -2,10 +2,11 @@
 
 ghost use Rattle.std.specs.Prelude.{◌≡◌, ◌≤◌, true, false, is_ok, IfOk, OnOk, OnErr, None};
 ghost use Rattle.sqlite_trees.specs.Tree.{Trees};
+ghost use Rattle.sqlite.specs.WalFiles.{image_at};
 ghost use Rattle.keep.specs.Law.{Reopens, Writes};
 ghost use Rattle.keep.specs.Seen.{keep_end};
 ghost use Rattle.keep.specs.Tables.{changed, empty, ArePlaced};
-ghost use Rattle.keep_sqlite.specs.Found.{AreIn};
+ghost use Rattle.keep_sqlite.specs.Found.{AreIn, IsFoundIn};
 ghost use Rattle.keep_sqlite.specs.Law.{seen_sound};
 ghost use Rattle.keep_sqlite.specs.Tables.{tables_of};
 ghost use Rattle.keep_files.specs.Reopening.{seen_by, sound_by, AreCounted};
@@ -17,10 +18,11 @@ use core::mem::replace_with;
 use envelope::{Letter, Message};
 use keep::{Change, Keep, KeepFault, Place};
 use keep_sqlite::{Filed, SqliteKeep, opening_fault};
-use sqlite::Options;
+use sqlite::{FileFrom, FileStore, Options, Start};
 use std::alloc::Global;
+use std::hash::{BuildHasher, RandomState};
 
-/// What a keep has of its files: they are open, or, behind a failure, closed.
+/// What a store has of its files: they are open, or, behind a failure, closed.
 #[derive(Drop)]
 enum Access<K, F> {
     Open(K),
@@ -101,7 +103,7 @@ impl<H: Filed, S: Reopenable + Drop> FileKeep<H, S> {
         }
     }
 
-    /// The files of a keep that couldn't be opened again. A failure is counted, unless memory was refused.
+    /// The files of a store that couldn't be opened again. A failure is counted, unless memory was refused.
     fn closed(
         files: S::Files,
         options: Options,
@@ -166,7 +168,7 @@ impl<H: Filed, S: Reopenable + Drop> FileKeep<H, S> {
         }
     }
 
-    /// The keep after a reopening, and what that answers.
+    /// The store after a reopening, and what that answers.
     fn reopened(self, alloc: Global) -> (Self, Result<(), KeepFault>)
         ensures { Reopens ⟦<FileKeep<H, S> as Keep>⟧.seen self result.0 (keep_end result.1) }
     {
@@ -183,6 +185,36 @@ impl<H: Filed, S: Reopenable + Drop> FileKeep<H, S> {
                 FileKeep::opened(alloc, files, options, counted, is_told)
             }
             Access::Closed(files) => FileKeep::opened(alloc, files, options, failures, false),
+        }
+    }
+}
+
+impl<H: Filed, D: Start> FileKeep<H, FileStore<FileFrom<D>>> {
+    /// Opens the file at a path with its log beside it, or makes them. `start` stands for what they hold: one value for
+    /// each pair of files.
+    ///
+    /// # Errors
+    /// As [`SqliteKeep::open`], and `Failed` where the system gives no random number.
+    pub fn open(rt: &HostRuntime, path: &str, start: D) -> Result<Self, KeepFault>
+        ensures usable { IfOk result (λ f. (⟦<FileKeep<H, FileStore<FileFrom<D>>> as Keep>⟧.seen f).usable ≡ true) }
+        ensures failures { IfOk result (λ f.
+            (⟦<FileKeep<H, FileStore<FileFrom<D>>> as Keep>⟧.seen f).failures ≡ 0) }
+        ensures armed { IfOk result (λ f. (⟦<FileKeep<H, FileStore<FileFrom<D>>> as Keep>⟧.seen f).armed ≡ None) }
+        ensures found { IfOk result (λ f. (⟦<FileKeep<H, FileStore<FileFrom<D>>> as Keep>⟧.seen f).doubt ≡ 0
+            → IsFoundIn H.filing (image_at D.Start)
+            (⟦<FileKeep<H, FileStore<FileFrom<D>>> as Keep>⟧.seen f).tables) }
+    {
+        let Ok(random) = RandomState::new(rt) else {
+            return Err(KeepFault::Failed);
+        };
+        match SqliteKeep::open(rt, path, start) {
+            Ok(keep) => Ok(FileKeep {
+                access: Access::Open(keep),
+                failures: 0,
+                options: Options::new(random.hash_one(&0u8)),
+                is_told: true,
+            }),
+            Err(fault) => Err(fault),
         }
     }
 }
