@@ -14,7 +14,7 @@ fn run<E: Write>(rt: &HostRuntime, err: &mut E) -> io::Result<u8> {
     let mut out = BufWriter::new(rt.alloc(), io::writer(rt))?;
     Ok(run_schedule(
         rt.alloc(),
-        &PlainStores,
+        PlainStores,
         words.as_slice(),
         &mut input,
         &mut out,

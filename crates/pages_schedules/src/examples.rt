@@ -82,6 +82,6 @@ pub fn a_row_is_shown(alloc: Global, bolt: &Entity) -> Result<bool, AllocError> 
 
 pub fn a_schedule_is_run(alloc: Global) -> Result<bool, RunFault> {
     let mut out = Vec::new(alloc);
-    run_text(alloc, &PlainStores, b"cancel 0 o1\n", &mut out)?;
+    run_text(alloc, PlainStores, b"cancel 0 o1\n", &mut out)?;
     Ok(out.as_slice() == b"refused 61 71\n".as_slice())
 }

@@ -36,7 +36,7 @@ fn tell<T: Debug + Drop, E: Error>(
 
 /// Opens a connection of a warehouse twice, in a world where nothing has happened yet.
 fn a_warehouse_stays_open(alloc: Global) -> Result<bool, StoresFault> {
-    let mut world = open_world(alloc, &PlainStores)?;
+    let mut world = open_world(alloc, PlainStores)?;
     let connection = ConnectionName {
         service: ServiceName::Warehouse,
         number: ConnectionNumber::Zero,

@@ -1,4 +1,5 @@
 pub mod Beginnings
+pub mod GoodTables
 pub mod InMemory
 pub mod Endings
 pub mod Examples

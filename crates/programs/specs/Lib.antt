@@ -2,6 +2,7 @@ pub mod StoresFaults
 pub mod RunFaults
 pub mod Opened
 pub mod Runs
+pub mod GoodTables
 pub mod InMemory
 pub mod Written
 pub mod Ends

@@ -8,7 +8,7 @@
 //! ```rust
 //! pub fn a_schedule_is_run(alloc: Global) -> Result<bool, RunFault> {
 //!     let mut out = Vec::new(alloc);
-//!     run_text(alloc, &PlainStores, b"cancel 0 o1\n", &mut out)?;
+//!     run_text(alloc, PlainStores, b"cancel 0 o1\n", &mut out)?;
 //!     Ok(out.as_slice() == b"refused 61 71\n".as_slice())
 //! }
 //! ```
@@ -25,7 +25,7 @@ mod words;
 mod writing;
 
 pub use fault::{RunFault, StoresFault};
-pub use laws::a_run_in_memory_ends_well;
+pub use laws::{a_run_goes_on, a_run_in_memory_ends_well};
 pub use running::open_world;
 pub use schedule::{run_input, run_text, tell_fault};
 pub use stores::{PlainStores, Stores};

@@ -17,7 +17,7 @@ use std::alloc::{AllocError, Global};
 /// Where a store can't be opened.
 pub fn open_world<S: Stores>(
     alloc: Global,
-    stores: &S,
+    stores: S,
 ) -> Result<World<S::Orders, S::Stocks, S::Accounts>, StoresFault>
     ensures beginning { IfOk result (IsBeginning S.Orders.seen S.Stocks.seen S.Accounts.seen S.found) }
     ensures unopened { IfErr result S.fails }

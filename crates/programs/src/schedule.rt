@@ -25,7 +25,7 @@ use streams::{write_octets, write_three};
 /// it took a beginning of what is told of the first events.
 pub fn run_text<S: Stores, W: Write>(
     alloc: Global,
-    stores: &S,
+    stores: S,
     text: &[u8],
     out: &mut W,
 ) -> Result<(), RunFault>
@@ -93,7 +93,7 @@ pub fn tell_fault<E: Write>(err: &mut E, fault: RunFault) -> io::Result<u8>
 /// Reads a schedule from `input` and runs it.
 fn read_and_run<S: Stores, R: Read, W: Write>(
     alloc: Global,
-    stores: &S,
+    stores: S,
     input: &mut R,
     out: &mut W,
 ) -> Result<(), RunFault>
@@ -113,7 +113,7 @@ fn read_and_run<S: Stores, R: Read, W: Write>(
 /// Where `err` failed while a fault was told.
 pub fn run_input<S: Stores, R: Read, W: Write, E: Write>(
     alloc: Global,
-    stores: &S,
+    stores: S,
     input: &mut R,
     out: &mut W,
     err: &mut E,

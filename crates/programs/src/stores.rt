@@ -14,7 +14,7 @@ use trade::{AccountCommand, OrderCommand, StockCommand};
 use warehouse::{Stock, Stocks};
 
 /// Where purchasing, warehouse and billing have their tables: in memory, or in files that may have some already.
-pub trait Stores {
+pub trait Stores: Drop {
     ghost use Rattle.laws_stores.specs.Sight.{AllTables};
     ghost use Rattle.programs.specs.Opened.{AreOpened};
     ghost use Rattle.programs.specs.declared.fault.StoresFault.{StoresFault};
@@ -33,12 +33,12 @@ pub trait Stores {
     /// The faults for which an opening may fail.
     ghost fails: { StoresFault → Type 0 };
 
-    /// Opens all three.
+    /// Opens all three, purchasing first, then warehouse, then billing.
     ///
     /// # Errors
     /// Where one can't be opened.
     fn open(
-        &self,
+        self,
         alloc: Global,
     ) -> Result<(Self::Orders, Self::Stocks, Self::Accounts), StoresFault>
         ensures opened { IfOk result (λ keeps. AreOpened found (record {
@@ -68,7 +68,7 @@ impl Stores for PlainStores {
     ghost fails = { λ _. ⊥ };
 
     fn open(
-        &self,
+        self,
         alloc: Global,
     ) -> Result<(PlainKeep<Orders>, PlainKeep<Stocks>, PlainKeep<Accounts>), StoresFault> {
         Ok((

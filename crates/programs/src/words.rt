@@ -135,7 +135,7 @@ fn status_of(answer: io::Result<u8>) -> u8
 /// the version are told on `out`, with status 0.
 pub fn run_schedule<S: Stores, T: AsStr, R: Read, W: Write, E: Write>(
     alloc: Global,
-    stores: &S,
+    stores: S,
     words: &[T],
     input: &mut R,
     out: &mut W,

@@ -174,7 +174,7 @@ fn fault(word: &str) -> Result<RunFault, LineFault> {
 /// What a whole run comes to by the words of its command line.
 fn run(
     alloc: Global,
-    stores: &TestStores,
+    stores: TestStores,
     line: &str,
     input: &mut Source<'_>,
     out: &mut Sink,
@@ -187,7 +187,7 @@ fn run(
 /// What the call comes to that a line names, over these stores and devices.
 fn end_of(
     alloc: Global,
-    stores: &TestStores,
+    stores: TestStores,
     line: &str,
     input: &mut Source<'_>,
     out: &mut Sink,
@@ -221,7 +221,7 @@ fn call(alloc: Global, devices: Devices, schedule: &[u8], line: &str) -> Result<
     };
     told.end = end_of(
         alloc,
-        &stores,
+        stores,
         line,
         &mut input,
         &mut told.out,

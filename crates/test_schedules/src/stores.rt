@@ -6,7 +6,7 @@ use std::alloc::Global;
 use test_script::{LineFault, first_word};
 
 /// Tables in memory, and why they can't be opened.
-#[derive(Drop)]
+#[derive(Clone, Copy)]
 pub struct TestStores {
     /// The fault, where they can't be.
     pub fault: Option<StoresFault>,
@@ -27,7 +27,7 @@ impl Stores for TestStores {
     ghost fails = { λ _. ⊤ };
 
     fn open(
-        &self,
+        self,
         alloc: Global,
     ) -> Result<(Self::Orders, Self::Stocks, Self::Accounts), StoresFault> {
         match self.fault {
