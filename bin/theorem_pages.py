@@ -87,6 +87,7 @@ SIGNS = [
     ("¬", r"¬", "It doesn't hold."),
     ("∥ A ∥₁", r"∥", "`A` holds; which one was found isn't told."),
     ("ℕ", r"ℕ", "The numbers 0, 1, 2, .. without an end."),
+    ("ℤ", r"ℤ", "The whole numbers: `pos n` is `n`, and `negsuc n` is -1 - `n`."),
     ("≤", r"≤", "Is at most."),
     ("<", r" < ", "Is less than."),
     ("+ - ^", r" [-+^] ", "Sum, difference (0 where it would be less than 0) and power of numbers."),
@@ -100,6 +101,9 @@ SIGNS = [
     ("Phase.Refused", r"\b[A-Za-z_]+\.[A-Z]\w+", "The name behind the point, of the type or the module before it: it tells the name from"
      " others that are spelled so."),
     ("_", r"\b_\b", "Whatever it is: it isn't used, or follows from the rest."),
+    ("p ∙ q", r"∙", "The proof of `a ≡ c` by `p` of `a ≡ b` and `q` of `b ≡ c`."),
+    ("elim x [ a ↦ .. ]", r"↦", "A proof by cases of `x`: where it is `a`, by what stands behind the arrow."),
+    ("Π_prop", r"Π", "That any two proofs of what is said of each value are equal, where they are so of each."),
     ("record T where", r"\brecord \w", "A type whose values have all of the fields that follow, or a proposition that holds where all of"
      " them do; `x.field` is one of them."),
     ("record { a = ..; b = .. }", r"record \{", "The value with these fields."),
@@ -470,15 +474,18 @@ PROGRAM = {
           " events (`IsRunOf`). They were made one after another, and each did what its outcome says (`HasRun`). Where the run had a good"
           " start and in the end no file is in doubt, it has a good end: the tables match the journals, the partners of each order agree,"
           " and the commands that stand in the journals are those that were told (`IsGoodEnd`). Over tables in memory nothing is asked:"
-          " the end is always good (`a_run_in_memory_ends_well`)."],
+          " the end is always good (`a_run_in_memory_ends_well`). Over stores that are found to have good tables, as those in files that an"
+          " earlier run left, the end is good too, and what it leaves another run may begin with (`a_run_goes_on`);"
+          " [THEOREM-FILES.md](THEOREM-FILES.md) has it over files."],
          [("programs", "words", "run_schedule"), ("programs", "schedule", "run_text"), ("programs", "specs/Ends", "IsRunOf"),
           *[("programs", "specs/Runs", it) for it in ("HasRun", "IsGoodStart", "IsGoodEnd")],
-          ("programs", "laws", "a_run_in_memory_ends_well")], True),
+          ("programs", "laws", "a_run_in_memory_ends_well"), ("programs", "laws", "a_run_goes_on")], True),
         ("What the services stand on",
          ["Three stores, in memory or in files. What is known of the tables that are found, and for which faults an opening may fail, each"
           " kind of stores says itself: of tables in memory that they are empty, and that no opening fails."],
          [("programs", "stores", "Stores"), ("programs", "stores", "PlainStores"), ("programs", "specs/Runs", "HasRun"),
-          ("programs", "specs/InMemory", "EndsWellInMemory")]),
+          ("programs", "specs/InMemory", "EndsWellInMemory"), ("programs", "specs/GoodTables", "AreGood"),
+          ("programs", "specs/GoodTables", "GoesOn")]),
         ("How a text is read, and how a run ends", ["The rest of what the program's call says: which events a text has, which lines tell"
                                                     " outcomes and faults, and what the words of the command line come to."],
          [("programs", "words", "run_schedule"), ("schedule_text", "specs/Events", "events_of"),
@@ -488,6 +495,30 @@ PROGRAM = {
         ("Whether all partners agree",
          ["Asked of the three stores, which stay: what is answered is what their tables say, and in a good world that they agree."],
          [("schedule_runner", "shows", "World::agreement"), ("schedule_runner", "specs/Agreeing", "TellsAgreement")]),
+    ],
+}
+
+FILES = {
+    "file": "docs/THEOREM-FILES.md",
+    "title": "A run over files goes on",
+    "said": ["What a service's three files are found to hold, and that a run over them goes on where an earlier one ended. It stands behind"
+             " [THEOREM-PROGRAM.md](THEOREM-PROGRAM.md): what is defined there isn't printed again. What files are, as `sqlite` reads them,"
+             " is said in that crate's own words (`HoldsDatabase`, `AreFoundIn`): a log and a database of the same octets as SQLite's."],
+    "behind": ["docs/THEOREM.md", "docs/THEOREM-STORE.md", "docs/THEOREM-SERVICE.md", "docs/THEOREM-EVENTS.md", "docs/THEOREM-MAIL.md",
+               "docs/THEOREM-PROGRAM.md"],
+    "sections": [
+        ("A run over files goes on",
+         ["Where three files hold good tables, as a run with a good end leaves them whenever it's stopped, a run over them begins with these"
+          " tables and has a good end (`GoesOn`), while the files give back what was written to them (`AreClean`). `O`, `S` and `A` stand"
+          " for what the files hold when they are opened, which no code can know: the law is proved whatever that is."],
+         [("schedule_stores", "laws", "a_run_over_files_goes_on"), ("schedule_stores", "laws", "a_run_in_sql_ends_well")], True),
+        ("What is opened",
+         ["The stores of a folder, and one service's file."],
+         [("keep_sqlite", "specs/Found", "IsFoundIn")]),
+        ("How tables stand in a file",
+         ["Which rows of a file are a service's tables."],
+         [("keep_sqlite", "specs/Tables", "tables_of"), ("keep_sqlite", "specs/Orders", "orders"), ("keep_sqlite", "specs/Stocks", "stocks"),
+          ("keep_sqlite", "specs/Accounts", "accounts")]),
     ],
 }
 
@@ -512,4 +543,4 @@ BROKER = {
     ],
 }
 
-PAGES = [CORE, STORE, SERVICE, EVENTS, MAIL, JOURNALS, PROGRAM, BROKER]
+PAGES = [CORE, STORE, SERVICE, EVENTS, MAIL, JOURNALS, PROGRAM, FILES, BROKER]

@@ -4,14 +4,14 @@ use base::Pair;
 use keep::{Keep, KeepFault};
 use keep_files::FileKeep;
 use keep_sqlite::SqliteKeep;
+use programs::{RunFault, run_text};
 use purchasing::Orders;
+use schedule_stores::SqliteStores;
 use sql_bodies::CommandBody;
 use sql_rows::{Service, create_tables, read_about};
 use sqlite::{Connection, Error, FileStore, Files, MemStore, Options};
 use sqlite_disk::Memory;
 use std::alloc::{AllocError, Global};
-use test_script::Script;
-use test_store_lines::{CallFault, Empty, Session};
 use trade::AccountCommand;
 
 pub fn a_service_knows_its_tables(alloc: Global) -> Result<usize, Error> {
@@ -48,7 +48,8 @@ pub fn empty_files_are_opened_twice(alloc: Global) -> Result<bool, KeepFault> {
     Ok(keep.usable())
 }
 
-pub fn a_row_is_asked_for<E: Empty>(alloc: Global) -> Result<String, CallFault> {
-    let mut session: Session<E> = Session::new(alloc)?;
-    session.answer(alloc, "store entity order/o1")
+pub fn a_schedule_is_run_in_sql(alloc: Global) -> Result<bool, RunFault> {
+    let mut out = Vec::new(alloc);
+    run_text(alloc, SqliteStores, b"cancel 0 o1\n", &mut out)?;
+    Ok(out.as_slice() == b"refused 61 71\n".as_slice())
 }

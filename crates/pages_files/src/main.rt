@@ -1,5 +1,5 @@
-//! The examples of the pages of the libraries of tables in SQL, run: their texts, what they keep, a store over them, and
-//! a line that asks it.
+//! The examples of the pages of the libraries of tables in SQL, run: their texts, what they keep, stores over them, and a
+//! schedule.
 #![tactic(auto)]
 
 mod examples;
@@ -7,26 +7,10 @@ mod examples;
 use anyhow::Result;
 use base::{Entity, Pair};
 use examples::{
-    a_limit_is_written, a_row_is_asked_for, a_service_knows_its_tables,
+    a_limit_is_written, a_schedule_is_run_in_sql, a_service_knows_its_tables,
     empty_files_are_opened_twice, no_letter_was_sent,
 };
-use keep::KeepFault;
-use keep_sqlite::SqliteKeep;
-use purchasing::Orders;
-use sqlite::MemStore;
 use std::alloc::Global;
-use test_store_lines::Empty;
-
-/// Makes tables of SQL in memory.
-struct InMemory;
-
-impl Empty for InMemory {
-    type Store = SqliteKeep<Orders, MemStore>;
-
-    fn empty(alloc: Global) -> Result<SqliteKeep<Orders, MemStore>, KeepFault> {
-        SqliteKeep::memory(alloc)
-    }
-}
 
 /// A pair of which nothing was sent.
 fn quiet_pair(alloc: Global) -> Result<Pair> {
@@ -45,7 +29,7 @@ fn main(rt: HostRuntime) -> Result<()> {
     println!(rt; "keep_sqlite: {none}")?;
     let again = empty_files_are_opened_twice(rt.alloc())?;
     println!(rt; "keep_files: {again}")?;
-    let row = a_row_is_asked_for::<InMemory>(rt.alloc())?;
-    println!(rt; "test_store_lines: {row}")?;
+    let ran = a_schedule_is_run_in_sql(rt.alloc())?;
+    println!(rt; "schedule_stores: {ran}")?;
     Ok(())
 }

@@ -1,0 +1,61 @@
+//! What is so of runs over tables of SQL.
+
+ghost use Rattle.std.specs.Prelude.{List};
+ghost use Rattle.sqlite.specs.WalFiles.{image_at};
+ghost use Rattle.keep.specs.Seen.{IsSound};
+ghost use Rattle.laws_stores.specs.Sight.{AllTables, AreClean, all_empty};
+ghost use Rattle.schedule_text.specs.declared.event.Event.{Event};
+ghost use Rattle.schedule_text.specs.declared.outcome.Outcome.{Outcome};
+ghost use Rattle.schedule_runner.specs.Sight.{sight};
+ghost use Rattle.programs.specs.GoodTables.{AreGood, GoesOn};
+ghost use Rattle.programs.specs.Runs.{HasRun};
+ghost use Rattle.schedule_stores.specs.Files.{AreHeldIn};
+
+use crate::files::FileStores;
+use crate::memory::SqliteStores;
+use billing::Accounts;
+use keep::Keep;
+use keep_files::FileKeep;
+use keep_sqlite::SqliteKeep;
+use programs::{Stores, a_run_goes_on};
+use purchasing::Orders;
+use sqlite::{FileFrom, FileStore, MemStore, Start};
+use warehouse::Stocks;
+
+/// The trait's law: what a stop leaves of a usable store are its tables.
+fn stores_are_sound<K: Keep>()
+    ensures { (k : K) → IsSound (K.seen k) }
+{}
+
+/// Over tables of SQL in memory nothing is asked of a run, as over those in ordered maps.
+pub fn a_run_in_sql_ends_well()
+    ensures { (events : List Event) (outcomes : List Outcome)
+        (run : HasRun ⟦<SqliteKeep<Orders, MemStore> as Keep>⟧.seen ⟦<SqliteKeep<Stocks, MemStore> as Keep>⟧.seen
+        ⟦<SqliteKeep<Accounts, MemStore> as Keep>⟧.seen ⟦<SqliteStores as Stores>⟧.found events outcomes)
+        → GoesOn ⟦<SqliteKeep<Orders, MemStore> as Keep>⟧.seen ⟦<SqliteKeep<Stocks, MemStore> as Keep>⟧.seen
+        ⟦<SqliteKeep<Accounts, MemStore> as Keep>⟧.seen all_empty events outcomes run.first run.last }
+{
+    a_run_goes_on::<SqliteStores>();
+}
+
+/// Where three files hold good tables, as a run with a good end leaves them, whenever it's stopped, a run over them
+/// begins with these tables and has a good end, while the files give back what was written to them.
+pub fn a_run_over_files_goes_on<O: Start, S: Start, A: Start>()
+    ensures { (left : AllTables) → AreGood left
+        → AreHeldIn (image_at O.Start) (image_at S.Start) (image_at A.Start) left
+        → (events : List Event) (outcomes : List Outcome)
+        (run : HasRun ⟦<FileKeep<Orders, FileStore<FileFrom<O>>> as Keep>⟧.seen
+        ⟦<FileKeep<Stocks, FileStore<FileFrom<S>>> as Keep>⟧.seen
+        ⟦<FileKeep<Accounts, FileStore<FileFrom<A>>> as Keep>⟧.seen
+        ⟦<FileStores<O, S, A> as Stores>⟧.found events outcomes)
+        → AreClean (sight ⟦<FileKeep<Orders, FileStore<FileFrom<O>>> as Keep>⟧.seen
+        ⟦<FileKeep<Stocks, FileStore<FileFrom<S>>> as Keep>⟧.seen
+        ⟦<FileKeep<Accounts, FileStore<FileFrom<A>>> as Keep>⟧.seen run.last)
+        → GoesOn ⟦<FileKeep<Orders, FileStore<FileFrom<O>>> as Keep>⟧.seen
+        ⟦<FileKeep<Stocks, FileStore<FileFrom<S>>> as Keep>⟧.seen
+        ⟦<FileKeep<Accounts, FileStore<FileFrom<A>>> as Keep>⟧.seen left events outcomes run.first run.last }
+{
+    stores_are_sound::<FileKeep<Orders, FileStore<FileFrom<O>>>>();
+    stores_are_sound::<FileKeep<Stocks, FileStore<FileFrom<S>>>>();
+    stores_are_sound::<FileKeep<Accounts, FileStore<FileFrom<A>>>>();
+}
