@@ -1,6 +1,8 @@
 //! Why a line has no answer.
 
+use receipts::ReceiptFault;
 use std::alloc::AllocError;
+use stomp_client::ClientFault;
 use stomp_frame::FrameFault;
 use stomp_session::SessionFault;
 use test_script::{Fault, LineFault};
@@ -14,13 +16,25 @@ pub enum CallFault {
     Line(#[from] LineFault),
     /// A text isn't the spelling of one frame.
     #[error("not one frame")]
+    NotOneFrame,
+    /// A text is no whole frame, or not one that the line is for.
+    #[error("no such frame")]
     NoFrame,
+    /// No MESSAGE was accepted.
+    #[error("no message")]
+    NoMessage,
     /// A text has a fault.
     #[error(transparent)]
     Frame(#[from] FrameFault),
-    /// The session's fault.
+    /// The server's fault.
     #[error(transparent)]
     Session(#[from] SessionFault),
+    /// The receipts' fault.
+    #[error(transparent)]
+    Receipt(#[from] ReceiptFault),
+    /// The client's fault.
+    #[error(transparent)]
+    Client(#[from] ClientFault),
     /// A growth was refused.
     #[error("out of memory")]
     Memory(#[from(alloc)] AllocError),
@@ -34,6 +48,8 @@ impl Fault for CallFault {
                 | CallFault::Memory(_)
                 | CallFault::Frame(FrameFault::Memory)
                 | CallFault::Session(SessionFault::Memory)
+                | CallFault::Receipt(ReceiptFault::Memory)
+                | CallFault::Client(ClientFault::Memory)
         )
     }
 }

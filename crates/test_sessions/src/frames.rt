@@ -20,7 +20,7 @@ fn one_frame(decoder: &mut Decoder<MAX_BODY>, octets: &[u8]) -> Result<Frame<MAX
     decoder.feed(octets)?;
     match (decoder.next()?, is_at_end(decoder)?) {
         (Some(frame), true) => Ok(frame),
-        _ => Err(CallFault::NoFrame),
+        _ => Err(CallFault::NotOneFrame),
     }
 }
 

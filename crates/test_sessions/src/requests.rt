@@ -69,19 +69,19 @@ fn push_acknowledge(text: &mut String, answer: &Acknowledge) -> Result<(), Alloc
     push_text(text, "transaction", &answer.transaction)
 }
 
-/// The name of a request's case.
-fn name(request: &Request) -> &'static str {
+/// Appends the name of a request's case.
+fn push_name(text: &mut String, request: &Request) -> Result<(), AllocError> {
     match request {
-        Request::Connect(_) => "Connect",
-        Request::Send(_) => "Send",
-        Request::Subscribe(_) => "Subscribe",
-        Request::Unsubscribe(_) => "Unsubscribe",
-        Request::Ack(_) => "Ack",
-        Request::Nack(_) => "Nack",
-        Request::Begin(_) => "Begin",
-        Request::Commit(_) => "Commit",
-        Request::Abort(_) => "Abort",
-        Request::Disconnect(_) => "Disconnect",
+        Request::Connect(_) => text.push_str("Connect"),
+        Request::Send(_) => text.push_str("Send"),
+        Request::Subscribe(_) => text.push_str("Subscribe"),
+        Request::Unsubscribe(_) => text.push_str("Unsubscribe"),
+        Request::Ack(_) => text.push_str("Ack"),
+        Request::Nack(_) => text.push_str("Nack"),
+        Request::Begin(_) => text.push_str("Begin"),
+        Request::Commit(_) => text.push_str("Commit"),
+        Request::Abort(_) => text.push_str("Abort"),
+        Request::Disconnect(_) => text.push_str("Disconnect"),
     }
 }
 
@@ -104,7 +104,7 @@ fn push_own(text: &mut String, request: &Request) -> Result<(), AllocError> {
 
 /// Appends a request.
 pub fn push_request(text: &mut String, request: &Request) -> Result<(), AllocError> {
-    text.push_str(name(request))?;
+    push_name(text, request)?;
     push_own(text, request)?;
     match request.receipt() {
         Some(receipt) => push_part(text, "receipt", receipt.as_bytes()),

@@ -1,6 +1,6 @@
 //! The session of a server.
 
-use crate::fault::CallFault;
+use crate::fault::{CallFault, session_fault};
 use crate::frames::read_frame;
 use crate::requests::{push_part, push_request};
 use base::limits::MAX_BODY;
@@ -23,6 +23,12 @@ fn push_refused(out: &mut String, refused: &Refused) -> Result<(), AllocError> {
         Some(receipt) => push_part(out, "receipt", receipt.as_bytes()),
         None => Ok(()),
     }
+}
+
+/// Appends the text of the fault of a number.
+fn push_fault(out: &mut String, number: &str) -> Result<(), CallFault> {
+    let fault = session_fault(number)?;
+    write!(out, "{fault}").map_err(CallFault::from)
 }
 
 impl Server {
@@ -73,14 +79,15 @@ impl Server {
     fn accept_again(&mut self, out: &mut String) -> Result<(), CallFault> {
         match self.refused.take() {
             Some(frame) => self.accept(frame, out).map_err(CallFault::from),
-            None => Err(CallFault::NoFrame),
+            None => Err(CallFault::NotOneFrame),
         }
     }
 
-    /// Appends the answer to a line that begins with `server`.
+    /// Appends the answer to a line that begins with `session`.
     pub fn answer(&mut self, alloc: Global, line: &str, out: &mut String) -> Result<(), CallFault> {
         match line.split_once(' ') {
             Some(("accept", text)) => self.accept_text(alloc, text, out),
+            Some(("fault", number)) => push_fault(out, number),
             None if line == "again" => self.accept_again(out),
             None if line == "new" => {
                 *self = Server::new();

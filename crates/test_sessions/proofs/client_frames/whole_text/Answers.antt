@@ -1,7 +1,7 @@
 use Rattle.std.proofs.Common.{[], ◌∷◌, ◌∙◌, sym}
 use Rattle.std.proofs.lemmas.List.{append-nil}
 use Rattle.stomp_frame.specs.Frames.{canonical}
-use Rattle.test_clients.proofs.frames.whole_text.Goals as goal
+use Rattle.test_sessions.proofs.client_frames.whole_text.Goals as goal
 
 pub returns : goal.returns
 returns c = record {

@@ -3,7 +3,7 @@
 ghost use Rattle.std.specs.Prelude.{◌≡◌, IfOk};
 ghost use Rattle.stomp_frame.specs.Frames.{has};
 ghost use Rattle.stomp_client.specs.Frames.{IsShort, IsPlain};
-ghost use Rattle.stomp_client.specs.Delivered.{IsDelivered};
+ghost use Rattle.stomp_client.specs.Delivered.{IsDelivered, is_whole};
 ghost use Rattle.stomp_client.specs.Written.{AreWhole};
 
 use crate::fault::CallFault;
@@ -71,6 +71,16 @@ pub fn short(text: &str) -> Result<&str, LineFault>
     Ok(text)
 }
 
+/// Whether a MESSAGE has all headers that it needs.
+fn is_whole(frame: &Frame<MAX_BODY>) -> bool
+    ensures { result ≡ is_whole frame.now }
+{
+    frame.get("destination").is_some()
+        && frame.get("message-id").is_some()
+        && frame.get("subscription").is_some()
+        && frame.get("ack").is_some()
+}
+
 /// The MESSAGE that was accepted last.
 pub fn delivered(message: &Option<Frame<MAX_BODY>>) -> Result<&Frame<MAX_BODY>, CallFault>
     ensures { IfOk result (λ frame. IsDelivered frame.now) }
@@ -82,11 +92,7 @@ pub fn delivered(message: &Option<Frame<MAX_BODY>>) -> Result<&Frame<MAX_BODY>, 
         Command::Message => (),
         _ => return Err(CallFault::NoMessage),
     }
-    let is_whole = frame.get("destination").is_some()
-        && frame.get("message-id").is_some()
-        && frame.get("subscription").is_some()
-        && frame.get("ack").is_some();
-    if is_whole {
+    if is_whole(frame) {
         Ok(frame)
     } else {
         Err(CallFault::NoMessage)

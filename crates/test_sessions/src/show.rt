@@ -7,23 +7,15 @@ use std::io::Write;
 use stomp_client::ClientEvent;
 use stomp_frame::Frame;
 
-/// The escape of an octet, where it is a backslash and a letter.
-fn escape(octet: u8) -> Option<&'static str> {
-    match octet {
-        b'\n' => Some("\\n"),
-        b'\r' => Some("\\r"),
-        0 => Some("\\0"),
-        b'\\' => Some("\\\\"),
-        _ => None,
-    }
-}
-
 /// An octet, as texts in lines have it; those that are no ASCII are printed by their number.
 fn show_octet<W: Write>(out: &mut W, octet: u8) -> io::Result<()> {
-    match (escape(octet), octet) {
-        (Some(text), _) => out.write_all(text.as_bytes()),
-        (None, 32..=126) => out.write_all(&[octet]),
-        (None, _) => write!(out, "\\x{octet:02x}"),
+    match octet {
+        b'\n' => out.write_all(b"\\n"),
+        b'\r' => out.write_all(b"\\r"),
+        0 => out.write_all(b"\\0"),
+        b'\\' => out.write_all(b"\\\\"),
+        32..=126 => out.write_all(&[octet]),
+        _ => write!(out, "\\x{octet:02x}"),
     }
 }
 
@@ -83,6 +75,7 @@ pub fn show_answer<W: Write>(out: &mut W, session: &Session, answer: Answer) -> 
         Answer::Message => show_if_any(out, &session.message)?,
         Answer::Out => show_octets(out, session.client.out())?,
         Answer::Frame(frame) => show_if_any(out, &frame)?,
+        Answer::Text(text) => out.write_all(text.as_bytes())?,
     }
     Ok(())
 }

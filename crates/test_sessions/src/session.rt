@@ -1,8 +1,10 @@
 //! What stands between two lines, and whom a line asks.
 
+use crate::client_frames::{delivered, frame, plain_send, short, whole_text};
 use crate::fault::CallFault;
 use crate::fault_texts::fault_named;
-use crate::frames::{delivered, frame, plain_send, short, whole_text};
+use crate::replies::answer_reply;
+use crate::server::Server;
 use crate::show::show_answer;
 use base::limits::MAX_BODY;
 use receipts::Receipts;
@@ -32,11 +34,14 @@ pub enum Answer {
     Out,
     /// A frame.
     Frame(Option<Frame<MAX_BODY>>),
+    /// What a server's session does, or what a server writes.
+    Text(String),
 }
 
-/// Receipts; a client, the MESSAGE that it accepted last, and the decoder at the other end.
+/// A server's session; receipts; a client, the MESSAGE that it accepted last, and the decoder at the other end.
 #[derive(Drop)]
 pub struct Session {
+    server: Server,
     receipts: Receipts<String>,
     pub client: ClientSession<String>,
     pub message: Option<Frame<MAX_BODY>>,
@@ -59,6 +64,13 @@ fn numbered(called: Result<u64, ClientFault>) -> Result<Answer, CallFault> {
     }
 }
 
+/// What a server writes, as a line asks for it.
+fn replied(alloc: Global, text: &str) -> Result<Answer, CallFault> {
+    let mut out = String::new(alloc);
+    answer_reply(alloc, text, &mut out)?;
+    Ok(Answer::Text(out))
+}
+
 /// The transaction in which a MESSAGE is answered: that of this number where the word is `ack-in` or `nack-in`, else
 /// none.
 fn transaction(word: &str, number: &str) -> Result<Option<u64>, LineFault> {
@@ -72,6 +84,7 @@ impl Session {
     /// Nothing was opened, written or read.
     pub fn new(alloc: Global) -> Session {
         Session {
+            server: Server::new(),
             receipts: Receipts::new(alloc),
             client: ClientSession::new(alloc),
             message: None,
@@ -267,7 +280,22 @@ impl Session {
         }
     }
 
-    /// What a line gives.
+    /// What a server's session does.
+    fn ask_session(&mut self, alloc: Global, text: &str) -> Result<Answer, CallFault> {
+        let mut out = String::new(alloc);
+        self.server.answer(alloc, text, &mut out)?;
+        Ok(Answer::Text(out))
+    }
+
+    /// What a line of receipts or a client gives, which is asked once more where a growth is refused.
+    fn ask_twice(&mut self, alloc: Global, line: &str) -> Result<Answer, CallFault> {
+        match self.ask(alloc, line) {
+            Err(fault) if fault.is_memory() => self.ask(alloc, line),
+            answer => answer,
+        }
+    }
+
+    /// What such a line gives.
     fn ask(&mut self, alloc: Global, line: &str) -> Result<Answer, CallFault> {
         let (whom, text) = first_word(line);
         match whom {
@@ -285,11 +313,11 @@ impl Script for Session {
 
     type Fault = CallFault;
 
-    /// Where a growth is refused the line is asked once more.
     fn answer(&mut self, alloc: Global, line: &str) -> Result<Answer, CallFault> {
-        match self.ask(alloc, line) {
-            Err(fault) if fault.is_memory() => self.ask(alloc, line),
-            answer => answer,
+        match first_word(line) {
+            ("session", text) => self.ask_session(alloc, text),
+            ("reply", text) => replied(alloc, text),
+            _ => self.ask_twice(alloc, line),
         }
     }
 
