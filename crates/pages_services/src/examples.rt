@@ -29,8 +29,6 @@ use resequencer::next_held;
 use std::alloc::{AllocError, Global};
 use stomp_client::ClientSession;
 use stomp_frame::{Command, Frame};
-use test_script::Script;
-use test_store_lines::{CallFault, Empty, Session};
 use trade::{AccountCommand, Items, OrderCommand, StockCommand};
 use warehouse::Stocks;
 
@@ -204,9 +202,4 @@ pub fn a_connected_client_subscribes(alloc: Global) -> Result<bool, ReceptionFau
             .out()
             .starts_with(b"SUBSCRIBE\nid:0\ndestination:/queue/purchasing\n"),
     )
-}
-
-pub fn a_row_is_asked_for<E: Empty>(alloc: Global) -> Result<String, CallFault> {
-    let mut session: Session<E> = Session::new(alloc)?;
-    session.answer(alloc, "store entity order/o1")
 }

@@ -12,10 +12,10 @@ use endpoint::Endpoint;
 use envelope::{Letter, Message};
 use examples::{
     a_command_is_taken_in, a_connected_client_subscribes, a_free_room_is_promised,
-    a_letter_comes_again, a_mark_is_one_change, a_mark_is_read, a_row_is_asked_for,
-    a_settle_is_sent, an_order_is_refused, first_state_of, lawful_journals_stay_lawful,
-    no_mark_is_taken_back, nothing_goes_out_before_the_broker_answers, nothing_is_held_at_first,
-    order_of_one, services_without_orders_agree, so_much_is_on_hand, so_much_is_the_limit,
+    a_letter_comes_again, a_mark_is_one_change, a_mark_is_read, a_settle_is_sent,
+    an_order_is_refused, first_state_of, lawful_journals_stay_lawful, no_mark_is_taken_back,
+    nothing_goes_out_before_the_broker_answers, nothing_is_held_at_first, order_of_one,
+    services_without_orders_agree, so_much_is_on_hand, so_much_is_the_limit,
     tables_hold_nothing_at_first, what_comes_early_waits,
 };
 use hotel::{RoomCommand, Rooms};
@@ -27,7 +27,6 @@ use purchasing::Orders;
 use std::alloc::Global;
 use std::error::Error;
 use std::fmt::Debug;
-use test_store_lines::Empty;
 use trade::{Items, OrderCommand};
 use warehouse::Stocks;
 
@@ -79,17 +78,6 @@ fn print_reactions(rt: &impl Print, alloc: Global) -> Result<()> {
     )
 }
 
-/// Makes tables in memory.
-struct InMemory;
-
-impl Empty for InMemory {
-    type Store = PlainKeep<Orders>;
-
-    fn empty(alloc: Global) -> Result<PlainKeep<Orders>, KeepFault> {
-        Ok(PlainKeep::new(alloc))
-    }
-}
-
 /// A mark of empty tables.
 fn first_mark(alloc: Global, pair: &Pair) -> Result<u64, KeepFault> {
     let mut keep: PlainKeep<Orders> = PlainKeep::new(alloc);
@@ -108,10 +96,7 @@ fn print_tables(rt: &impl Print, alloc: Global) -> Result<()> {
         number: Number::FIRST,
         message: Message::Confirm,
     };
-    show(rt, "inbox", &a_letter_comes_again(&letter))?;
-    let row = a_row_is_asked_for::<InMemory>(alloc)?;
-    println!(rt; "test_store_lines: {row}")?;
-    Ok(())
+    show(rt, "inbox", &a_letter_comes_again(&letter))
 }
 
 /// A command of a service.

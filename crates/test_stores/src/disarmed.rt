@@ -3,13 +3,13 @@
 ghost use Rattle.std.specs.Prelude.{◌≡◌, ◌≢◌, true, Err};
 ghost use Rattle.keep.specs.declared.fault.KeepFault.TheVariants.{Failed};
 
+use crate::fault::CallFault;
 use activities::Handler;
 use base::Pair;
 use keep::{Faulty, Keep, KeepFault};
 use keep_plain::PlainKeep;
 use std::alloc::Global;
 use test_script::{first_word, pair};
-use test_store_lines::CallFault;
 
 /// A read that isn't armed fails only where the store inside does; tables in memory never fail.
 pub fn sent_disarmed<H: Handler>(

@@ -1,63 +1,79 @@
-//! Runs the lines of `test_store_lines` over tables in memory, and one that asks what these alone promise.
+//! Reads lines that name calls of tables, stores, the handler of orders and endpoints, asks each over tables in memory
+//! and over tables in SQL, and prints the answers.
 //!
 //! A comment, which begins with `#`, and an empty line are printed as they are. Each other line has one answer: what
 //! the call gives, `done`, or the text of its fault. So the answer to a line of `stdin` stands at the same line of
-//! `stdout`. Where a growth is refused, the program ends there with status 3.
+//! `stdout`. Where the stores answer otherwise, both answers are printed, as `in memory: ANSWER; in SQL: ANSWER`. Where
+//! a growth is refused, the program ends there with status 3.
 //!
-//! `store sent-disarmed PAIR` is the last number sent, by a call that isn't armed.
+//! `plain LINE` asks tables in memory alone. For these there is `plain store sent-disarmed PAIR` too, the last number
+//! sent, by a call that isn't armed.
+//!
+//! An order:
+//! - `order opening`, `order is ORDER`: from now on it is the one that took nothing in, or this one;
+//! - `order take INPUT`, `order try INPUT`: it takes an input in, or only a copy of it does;
+//! - `order is-none`: whether no row stands for it.
+//!
+//! A store:
+//! - `store new`: its tables are empty, and no call is armed;
+//! - `store note CHANGE`, `store apply`: a change is noted; one transaction makes those that were noted;
+//! - `store do CHANGE`, `store apply-armed LEAVES`: a transaction makes one change; one is to make those that were
+//!   noted, and fails;
+//! - `store arm N LEAVES`, `store disarm`: the N-th call from now on fails, or none does;
+//! - `store usable`, `store reopen`: whether it may be called; it is opened again;
+//! - `store entity ENTITY`, `store held PAIR N`, `store drainable`, `store length`: a row, a held message, the first
+//!   pair that can be drained, how many rows the journal has;
+//! - `store sent PAIR`, `store settled PAIR`, `store handled PAIR`: a mark of a pair;
+//! - `store outbox LIMIT [PAIR N]`, `store journal N LIMIT`: the first letters after a letter's place; the first rows
+//!   from a position on.
+//!
+//! An endpoint:
+//! - `endpoint new`, `endpoint over-store`: it is over empty tables, or over the store's, which are empty then;
+//! - `endpoint commit SEAT ENTITY COMMAND`, `endpoint view ENTITY`: a seat's command; a row;
+//! - `endpoint ingest PAIR N MESSAGE`, `endpoint drain PAIR`, `endpoint settle PAIR N`, `endpoint drainable`: a letter
+//!   arrives; the next letter is handled where it is held; letters are settled; the first pair that can be drained;
+//! - `arm`, `disarm`, `usable`, `reopen`, `sent`, `settled`, `handled`, `outbox`, `journal` and `length` as of a store.
+//!
+//! `fault store N` and `fault endpoint N` give the text of the fault of this number.
+//!
+//! In these lines
+//! - a PAIR is two entities, the sender and the receiver, as `order/o1 stock/bolt`;
+//! - LEAVES is `old` or `new`: the tables that a transaction leaves which fails;
+//! - a MESSAGE is `Request N`, `Tentative`, `Refused`, `Confirm` or `Cancel`;
+//! - a COMMAND is `place STOCK N .. ACCOUNT N`, by their keys, with STOCK N as often as one likes, or `cancel`;
+//! - an INPUT is `seat N COMMAND`, or `from ENTITY N MESSAGE`, with the letter's number;
+//! - an ORDER is `none`, or as `Open stock/bolt 3 Requested stock/nut 4 Tentative account/ann 500 Tentative`: one to
+//!   eight stocks, each once, and then an account;
+//! - a CHANGE is `journal N ENTITY INPUT`, at position N, `state ENTITY ORDER`, `no-state ENTITY`, `sent PAIR N
+//!   MESSAGE`, `settled PAIR N`, `handled PAIR N`, `held PAIR N MESSAGE` or `not-held PAIR N`.
 #![tactic(auto)]
 
+mod arrivals;
+mod both;
 mod disarmed;
+mod endpoints;
+mod failing;
+mod fault;
+mod fault_texts;
+mod handler;
+mod reads;
+mod session;
+mod store;
+mod tables;
+mod texts;
+mod words;
 
-use disarmed::read_disarmed;
-use keep::KeepFault;
-use keep_plain::PlainKeep;
-use purchasing::Orders;
-use std::alloc::Global;
+use both::Both;
 use std::io;
-use std::io::Write;
 use std::process::ExitCode;
-use test_script::{Script, run};
-use test_store_lines::{CallFault, Empty, Session};
+use test_script::run;
 
 /// The status of a program that was refused a growth.
 const NO_MEMORY: u8 = 3;
 
-/// Tables in memory.
-struct Plain;
-
-impl Empty for Plain {
-    type Store = PlainKeep<Orders>;
-
-    fn empty(alloc: Global) -> Result<PlainKeep<Orders>, KeepFault> {
-        Ok(PlainKeep::new(alloc))
-    }
-}
-
-/// A session over them.
-#[derive(Drop)]
-struct Lines(Session<Plain>);
-
-impl Script for Lines {
-    type Answer = String;
-
-    type Fault = CallFault;
-
-    fn answer(&mut self, alloc: Global, line: &str) -> Result<String, CallFault> {
-        match line.strip_prefix("store sent-disarmed ") {
-            Some(text) => read_disarmed(self.0.store(), alloc, text),
-            None => self.0.answer(alloc, line),
-        }
-    }
-
-    fn show<W: Write>(&self, answer: String, out: &mut W) -> io::Result<()> {
-        self.0.show(answer, out)
-    }
-}
-
 fn main(rt: HostRuntime) -> io::Result<ExitCode> {
-    match Session::new(rt.alloc()) {
-        Ok(session) => run(&rt, &mut Lines(session)),
+    match Both::new(rt.alloc()) {
+        Ok(mut both) => run(&rt, &mut both),
         Err(_) => Ok(ExitCode::from(NO_MEMORY)),
     }
 }

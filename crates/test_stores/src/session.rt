@@ -1,4 +1,4 @@
-//! What stands between two lines, and whom a line asks.
+//! What stands between two lines over one store, and whom a line asks.
 
 use crate::endpoints::call_endpoint;
 use crate::fault::CallFault;
@@ -11,9 +11,8 @@ use endpoint::Endpoint;
 use keep::Faulty;
 use purchasing::{Order, Orders};
 use std::alloc::Global;
-use std::io::Write;
-use std::{io, mem};
-use test_script::{LineFault, Script, first_word, natural, or_done};
+use std::mem;
+use test_script::{LineFault, first_word, natural, or_done};
 
 /// An order; a store that fails where it is told to, and the changes that were noted for its next transaction; and an
 /// endpoint over another such store.
@@ -101,20 +100,11 @@ impl<E: Empty> Session<E> {
             _ => Err(LineFault::Unknown.into()),
         }
     }
-}
 
-impl<E: Empty> Script for Session<E> {
-    type Answer = String;
-
-    type Fault = CallFault;
-
-    fn answer(&mut self, alloc: Global, line: &str) -> Result<String, CallFault> {
+    /// The answer to a line, or `done` where the call gives nothing.
+    pub fn answer(&mut self, alloc: Global, line: &str) -> Result<String, CallFault> {
         let mut out = String::new(alloc);
         self.answer_line(alloc, &mut out, line)?;
         Ok(or_done(alloc, out)?)
-    }
-
-    fn show<W: Write>(&self, answer: String, out: &mut W) -> io::Result<()> {
-        out.write_all(answer.as_bytes())
     }
 }
