@@ -28,14 +28,15 @@ impl Calls {
         }
     }
 
-    /// Makes all anew.
-    fn prepare(&mut self, alloc: Global, count: usize) -> Result<Answer, CallFault> {
+    /// Makes all anew: `N`.
+    fn prepare(&mut self, alloc: Global, word: &str) -> Result<Answer, CallFault> {
+        let count = size(word)?;
         if count == 0 || count > 9 {
             return Err(LineFault::Unknown.into());
         }
-        self.queues = QueueCalls::prepared(alloc, count)?;
-        self.broker = BrokerCalls::prepared(alloc, count)?;
-        self.client = ClientCalls::prepared(alloc, count)?;
+        self.queues.prepare(alloc, count)?;
+        self.broker.prepare(alloc, count)?;
+        self.client.prepare(alloc, count)?;
         Ok(Answer::Done)
     }
 }
@@ -49,7 +50,7 @@ impl Script for Calls {
         let (whose, rest) = first_word(line);
         let (word, rest) = first_word(rest);
         match whose {
-            "prepare" => self.prepare(alloc, size(word)?),
+            "prepare" => self.prepare(alloc, word),
             "receipts" => self.queues.answer_receipts(word, rest),
             "transactions" => self.queues.answer_transactions(word, rest),
             "queues" => self.queues.answer_queues(word, rest),

@@ -24,22 +24,38 @@ pub struct ClientCalls {
     send: Option<Frame<MAX_BODY>>,
 }
 
-/// So many orders, each of which asks a stock and an account.
-fn place_all(
-    alloc: Global,
-    service: &mut Endpoint<Orders, PlainKeep<Orders>>,
-    count: usize,
-) -> Result<(), CallFault> {
+/// The service whose letters the relay sends.
+type Service = Endpoint<Orders, PlainKeep<Orders>>;
+
+/// The order of a number.
+fn order(alloc: Global, number: usize) -> Result<Entity, CallFault> {
+    let name = format!(in alloc; "order/o{number}")?;
+    Ok(Entity::read(alloc, name.as_str())?)
+}
+
+/// A command that asks a stock and an account.
+fn placing(alloc: Global) -> Result<OrderCommand, CallFault> {
+    let bolt = Key::read(alloc, "bolt")?;
+    let lines = Items::of_one(alloc, bolt, 1)?;
+    let account = Key::read(alloc, "ann")?;
+    Ok(OrderCommand::Place {
+        lines,
+        account,
+        amount: 1,
+    })
+}
+
+/// An order.
+fn place(alloc: Global, service: &mut Service, number: usize) -> Result<(), CallFault> {
+    let order = order(alloc, number)?;
+    service.commit(alloc, 0, &order, placing(alloc)?)?;
+    Ok(())
+}
+
+/// So many orders.
+fn place_all(alloc: Global, service: &mut Service, count: usize) -> Result<(), CallFault> {
     for number in 0..count {
-        let name = format!(in alloc; "order/o{number}")?;
-        let order = Entity::read(alloc, name.as_str())?;
-        let bolt = Key::read(alloc, "bolt")?;
-        let command = OrderCommand::Place {
-            lines: Items::of_one(alloc, bolt, 1)?,
-            account: Key::read(alloc, "ann")?,
-            amount: 1,
-        };
-        service.commit(alloc, 0, &order, command)?;
+        place(alloc, service, number)?;
     }
     Ok(())
 }
@@ -77,25 +93,55 @@ impl ClientCalls {
         }
     }
 
-    /// All that `prepare` says of them.
-    pub fn prepared(alloc: Global, count: usize) -> Result<ClientCalls, CallFault> {
-        let mut service = Endpoint::new(PlainKeep::new(alloc));
-        place_all(alloc, &mut service, count)?;
-        let mut calls = ClientCalls::new(alloc);
-        calls.client.connect()?;
+    /// A client that is connected.
+    fn connect(&mut self, alloc: Global) -> Result<(), CallFault> {
+        self.client.connect()?;
         let connected = Frame::new(alloc, Command::Connected);
-        let _ = calls.client.accept(connected)?;
-        let _ = calls.relay.fill(&mut calls.client, &mut service, 64)?;
-        calls.client.room(13)?;
-        calls.receipt = Some(frame(alloc, Command::Receipt, "receipt-id", "1")?);
-        calls.send = Some(send(alloc, count)?);
-        Ok(calls)
+        let _ = self.client.accept(connected)?;
+        Ok(())
+    }
+
+    /// So many orders of a service, whose letters the relay sends.
+    fn send_letters(
+        &mut self,
+        alloc: Global,
+        service: &mut Service,
+        count: usize,
+    ) -> Result<(), CallFault> {
+        place_all(alloc, service, count)?;
+        self.relay.fill(&mut self.client, service, 64)?;
+        Ok(())
+    }
+
+    /// The same of a service that did nothing yet.
+    fn send_all(&mut self, alloc: Global, count: usize) -> Result<(), CallFault> {
+        let mut service = Endpoint::new(PlainKeep::new(alloc));
+        self.send_letters(alloc, &mut service, count)
+    }
+
+    /// Makes all anew that `prepare` says of them.
+    pub fn prepare(&mut self, alloc: Global, count: usize) -> Result<(), CallFault> {
+        *self = ClientCalls::new(alloc);
+        self.connect(alloc)?;
+        self.send_all(alloc, count)?;
+        self.client.room(13)?;
+        self.receipt = Some(frame(alloc, Command::Receipt, "receipt-id", "1")?);
+        self.send = Some(send(alloc, count)?);
+        Ok(())
     }
 
     /// The text of a DISCONNECT is appended.
     #[tactic(auto, using(crate::proofs::Texts::disconnect_is_whole))]
-    fn append(&mut self) -> Result<(), CallFault> {
-        Ok(self.client.append(b"DISCONNECT\n\n\0")?)
+    fn append(&mut self) -> Result<Answer, CallFault> {
+        self.client.append(b"DISCONNECT\n\n\0")?;
+        Ok(Answer::Done)
+    }
+
+    /// All octets are taken.
+    fn take(&mut self) -> Answer {
+        let count = self.client.out().len();
+        self.client.taken(count);
+        Answer::Done
     }
 
     /// What the RECEIPT told.
@@ -121,27 +167,34 @@ impl ClientCalls {
     /// The answer of the client's session.
     pub fn answer(&mut self, word: &str) -> Result<Answer, CallFault> {
         match word {
-            "out" => return Ok(Answer::count(self.client.out().len())),
-            "append" => self.append()?,
-            "taken" => {
-                let count = self.client.out().len();
-                self.client.taken(count);
-            }
-            "count" => return self.count(),
-            "accept" => return self.accept(),
-            _ => return Err(LineFault::Unknown.into()),
+            "out" => Ok(Answer::count(self.client.out().len())),
+            "append" => self.append(),
+            "taken" => Ok(self.take()),
+            "count" => self.count(),
+            "accept" => self.accept(),
+            _ => Err(LineFault::Unknown.into()),
         }
-        Ok(Answer::Done)
+    }
+
+    /// The relay forgets what was sent.
+    fn forget(&mut self) -> Answer {
+        self.relay.forget();
+        Answer::Done
+    }
+
+    /// The relay looks anew for what is due.
+    fn look_anew(&mut self) -> Answer {
+        self.relay.look_anew();
+        Answer::Done
     }
 
     /// The answer of the relay.
     pub fn answer_relay(&mut self, word: &str) -> Result<Answer, CallFault> {
         match word {
-            "forget" => self.relay.forget(),
-            "anew" => self.relay.look_anew(),
-            _ => return Err(LineFault::Unknown.into()),
+            "forget" => Ok(self.forget()),
+            "anew" => Ok(self.look_anew()),
+            _ => Err(LineFault::Unknown.into()),
         }
-        Ok(Answer::Done)
     }
 
     /// The SEND gives its parts, and takes them back.
@@ -168,6 +221,17 @@ impl ClientCalls {
         }
     }
 
+    /// How many octets the first value of a name has in the SEND.
+    fn value(&self, name: &str) -> Answer {
+        let Some(frame) = &self.send else {
+            return Answer::None;
+        };
+        match frame.get(name) {
+            Some(value) => Answer::count(value.len()),
+            None => Answer::None,
+        }
+    }
+
     /// The answer of the SEND.
     pub fn answer_frame(
         &mut self,
@@ -175,14 +239,10 @@ impl ClientCalls {
         word: &str,
         rest: &str,
     ) -> Result<Answer, CallFault> {
-        match (word, &self.send) {
-            ("get", Some(frame)) => Ok(match frame.get(rest) {
-                Some(value) => Answer::count(value.len()),
-                None => Answer::None,
-            }),
-            ("get", None) => Ok(Answer::None),
-            ("parts", _) => self.parts(alloc),
-            ("accept", _) => self.taken_by_server(),
+        match word {
+            "get" => Ok(self.value(rest)),
+            "parts" => self.parts(alloc),
+            "accept" => self.taken_by_server(),
             _ => Err(LineFault::Unknown.into()),
         }
     }

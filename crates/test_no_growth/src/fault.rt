@@ -15,7 +15,7 @@ use test_script::{Fault, LineFault};
 use thiserror::Error;
 
 /// Why a line has no answer.
-#[derive(Debug, Drop, Error)]
+#[derive(Clone, Copy, Debug, Error)]
 pub enum CallFault {
     /// No line is so, or a word of it isn't one.
     #[error(transparent)]

@@ -100,7 +100,41 @@ fn begin_all(
     Ok(())
 }
 
-/// So many messages of a queue, and a session's subscription to it, of the name `a`.
+/// A session's subscription to a queue, of the name `a`.
+fn subscription(
+    alloc: Global,
+    queue: &str,
+    session: u64,
+    mode: Mode,
+) -> Result<Subscription, CallFault> {
+    let id = Shared::new(alloc, text(alloc, "a")?)?;
+    let destination = Shared::new(alloc, text(alloc, queue)?)?;
+    Ok(Subscription {
+        session,
+        id,
+        destination,
+        mode,
+    })
+}
+
+/// A session subscribes that has no subscription of that name.
+fn subscribe(
+    queues: &mut Queues<MAX_QUEUED>,
+    subscription: &Subscription,
+) -> Result<(), CallFault> {
+    if queues.has_named(subscription.session, subscription.id.get()) {
+        return Err(LineFault::Unknown.into());
+    }
+    Ok(queues.subscribe(subscription)?)
+}
+
+/// A message of a queue.
+fn put(alloc: Global, queues: &mut Queues<MAX_QUEUED>, queue: &str) -> Result<(), CallFault> {
+    let sent = sent(alloc, queue)?;
+    Ok(queues.put(&sent)?)
+}
+
+/// A session's subscription to a queue, and so many messages of it.
 fn fill(
     alloc: Global,
     queues: &mut Queues<MAX_QUEUED>,
@@ -108,20 +142,37 @@ fn fill(
     to: (u64, Mode),
     count: usize,
 ) -> Result<(), CallFault> {
-    let id = text(alloc, "a")?;
-    if queues.has_named(to.0, &id) {
-        return Err(LineFault::Unknown.into());
-    }
-    queues.subscribe(&Subscription {
-        session: to.0,
-        id: Shared::new(alloc, id)?,
-        destination: Shared::new(alloc, text(alloc, queue)?)?,
-        mode: to.1,
-    })?;
+    subscribe(queues, &subscription(alloc, queue, to.0, to.1)?)?;
     for _ in 0..count {
-        queues.put(&sent(alloc, queue)?)?;
+        put(alloc, queues, queue)?;
     }
     Ok(())
+}
+
+/// Two queues of so many messages, all of which are out.
+fn fill_both(
+    alloc: Global,
+    queues: &mut Queues<MAX_QUEUED>,
+    count: usize,
+) -> Result<(), CallFault> {
+    fill(alloc, queues, "/queue/a", (1, Mode::Individual), count)?;
+    fill(alloc, queues, "/queue/b", (2, Mode::Client), count)?;
+    Ok(queues.dispatch(&mut Nobody)?)
+}
+
+/// The names of transactions.
+fn names(alloc: Global) -> Result<Vec<Text>, CallFault> {
+    let mut names = Vec::new(alloc);
+    for name in ["a", "b", "c"] {
+        names.push(text(alloc, name)?)?;
+    }
+    Ok(names)
+}
+
+/// Two numbers: those of a session and of a message.
+fn two(rest: &str) -> Result<(u64, u64), LineFault> {
+    let (session, number) = first_word(rest);
+    Ok((natural(session)?, natural(number)?))
 }
 
 impl QueueCalls {
@@ -135,28 +186,13 @@ impl QueueCalls {
         }
     }
 
-    /// All that `prepare` says of them.
-    pub fn prepared(alloc: Global, count: usize) -> Result<QueueCalls, CallFault> {
-        let mut calls = QueueCalls::new(alloc);
-        open_receipts(&mut calls.receipts, count)?;
-        calls.names = vec![in alloc; text(alloc, "a")?, text(alloc, "b")?, text(alloc, "c")?]?;
-        begin_all(alloc, &mut calls.transactions, &calls.names, count)?;
-        fill(
-            alloc,
-            &mut calls.queues,
-            "/queue/a",
-            (1, Mode::Individual),
-            count,
-        )?;
-        fill(
-            alloc,
-            &mut calls.queues,
-            "/queue/b",
-            (2, Mode::Client),
-            count,
-        )?;
-        calls.queues.dispatch(&mut Nobody)?;
-        Ok(calls)
+    /// Makes all anew that `prepare` says of them.
+    pub fn prepare(&mut self, alloc: Global, count: usize) -> Result<(), CallFault> {
+        *self = QueueCalls::new(alloc);
+        self.names = names(alloc)?;
+        open_receipts(&mut self.receipts, count)?;
+        begin_all(alloc, &mut self.transactions, &self.names, count)?;
+        fill_both(alloc, &mut self.queues, count)
     }
 
     /// The answer of receipts.
@@ -167,35 +203,71 @@ impl QueueCalls {
         }
     }
 
+    /// A transaction ends as it was meant to.
+    fn commit(&mut self, name: &str) -> Result<Answer, CallFault> {
+        self.transactions.commit(named(&self.names, name)?)?;
+        Ok(Answer::Done)
+    }
+
+    /// A transaction ends as if it had never begun.
+    fn abort(&mut self, name: &str) -> Result<Answer, CallFault> {
+        self.transactions.abort(named(&self.names, name)?)?;
+        Ok(Answer::Done)
+    }
+
+    /// All transactions end so.
+    fn clear(&mut self) -> Answer {
+        self.transactions.clear();
+        Answer::Done
+    }
+
     /// The answer of transactions.
     pub fn answer_transactions(&mut self, word: &str, rest: &str) -> Result<Answer, CallFault> {
         match word {
-            "commit" => self.transactions.commit(named(&self.names, rest)?)?,
-            "abort" => self.transactions.abort(named(&self.names, rest)?)?,
-            "clear" => self.transactions.clear(),
-            "count" => return Ok(Answer::count(self.transactions.len())),
-            _ => return Err(LineFault::Unknown.into()),
+            "commit" => self.commit(rest),
+            "abort" => self.abort(rest),
+            "clear" => Ok(self.clear()),
+            "count" => Ok(Answer::count(self.transactions.len())),
+            _ => Err(LineFault::Unknown.into()),
         }
+    }
+
+    /// A session answers a message.
+    fn ack(&mut self, rest: &str) -> Result<Answer, CallFault> {
+        let (session, number) = two(rest)?;
+        self.queues.ack(session, number)?;
+        Ok(Answer::Done)
+    }
+
+    /// A session gives a message up.
+    fn nack(&mut self, rest: &str) -> Result<Answer, CallFault> {
+        let (session, number) = two(rest)?;
+        self.queues.nack(session, number)?;
+        Ok(Answer::Done)
+    }
+
+    /// A session's subscription of the name `a` ends.
+    fn release(&mut self, session: &str) -> Result<Answer, CallFault> {
+        let session = natural(session)?;
+        self.queues.release(session, named(&self.names, "a")?);
+        Ok(Answer::Done)
+    }
+
+    /// A session ends.
+    fn end(&mut self, session: &str) -> Result<Answer, CallFault> {
+        self.queues.end(natural(session)?);
         Ok(Answer::Done)
     }
 
     /// The answer of queues.
     pub fn answer_queues(&mut self, word: &str, rest: &str) -> Result<Answer, CallFault> {
-        if word == "accepted" {
-            return Ok(Answer::count(self.queues.take_accepted().len()));
-        }
-        let (session, number) = first_word(rest);
-        let session = natural(session)?;
         match word {
-            "ack" => self.queues.ack(session, natural(number)?)?,
-            "nack" => self.queues.nack(session, natural(number)?)?,
-            "release" => {
-                let name = self.names.first().ok_or(LineFault::Unknown)?;
-                self.queues.release(session, name);
-            }
-            "end" => self.queues.end(session),
-            _ => return Err(LineFault::Unknown.into()),
+            "accepted" => Ok(Answer::count(self.queues.take_accepted().len())),
+            "ack" => self.ack(rest),
+            "nack" => self.nack(rest),
+            "release" => self.release(rest),
+            "end" => self.end(rest),
+            _ => Err(LineFault::Unknown.into()),
         }
-        Ok(Answer::Done)
     }
 }

@@ -33,6 +33,25 @@ fn connect(broker: &mut Broker<MAX_QUEUED>) -> Result<SessionId, CallFault> {
     Ok(session)
 }
 
+/// Three sessions, of which the second takes what the first sends: so many messages, and so many in a transaction.
+fn fill(broker: &mut Broker<MAX_QUEUED>, count: usize) -> Result<(), CallFault> {
+    let sender = connect(broker)?;
+    let taker = connect(broker)?;
+    connect(broker)?;
+    broker.feed(
+        taker,
+        b"SUBSCRIBE\nid:0\ndestination:/queue/a\nack:client-individual\n\n\0",
+    )?;
+    feed_all(broker, sender, b"SEND\ndestination:/queue/a\n\nhi\0", count)?;
+    broker.feed(sender, b"BEGIN\ntransaction:t\n\n\0")?;
+    feed_all(
+        broker,
+        sender,
+        b"SEND\ndestination:/queue/a\ntransaction:t\n\nhi\0",
+        count,
+    )
+}
+
 impl BrokerCalls {
     /// A broker with no session.
     pub fn new(alloc: Global) -> BrokerCalls {
@@ -41,51 +60,33 @@ impl BrokerCalls {
         }
     }
 
-    /// All that `prepare` says of it.
-    pub fn prepared(alloc: Global, count: usize) -> Result<BrokerCalls, CallFault> {
-        let mut broker = Broker::new(alloc);
-        let sender = connect(&mut broker)?;
-        let taker = connect(&mut broker)?;
-        connect(&mut broker)?;
-        broker.feed(
-            taker,
-            b"SUBSCRIBE\nid:0\ndestination:/queue/a\nack:client-individual\n\n\0",
-        )?;
-        feed_all(
-            &mut broker,
-            sender,
-            b"SEND\ndestination:/queue/a\n\nhi\0",
-            count,
-        )?;
-        broker.feed(sender, b"BEGIN\ntransaction:t\n\n\0")?;
-        feed_all(
-            &mut broker,
-            sender,
-            b"SEND\ndestination:/queue/a\ntransaction:t\n\nhi\0",
-            count,
-        )?;
-        Ok(BrokerCalls { broker })
+    /// Makes all anew that `prepare` says of it.
+    pub fn prepare(&mut self, alloc: Global, count: usize) -> Result<(), CallFault> {
+        self.broker = Broker::new(alloc);
+        fill(&mut self.broker, count)
     }
 
     /// All octets for a session are taken.
-    fn taken(&mut self, session: SessionId) {
+    fn take(&mut self, session: SessionId) -> Answer {
         let count = self.broker.out(session).len();
         self.broker.taken(session, count);
+        Answer::Done
+    }
+
+    /// A session is taken away.
+    fn drop_session(&mut self, session: SessionId) -> Answer {
+        self.broker.drop_session(session);
+        Answer::Done
     }
 
     /// The answer of a session.
-    fn answer_session(&mut self, word: &str, session: SessionId) -> Result<Answer, CallFault> {
+    fn answer_session(&mut self, word: &str, number: &str) -> Result<Answer, CallFault> {
+        let session = SessionId::new(natural(number)?);
         match word {
             "out" => Ok(Answer::count(self.broker.out(session).len())),
-            "taken" => {
-                self.taken(session);
-                Ok(Answer::Done)
-            }
+            "taken" => Ok(self.take(session)),
             "closed" => Ok(Answer::whether(self.broker.is_closed(session))),
-            "drop" => {
-                self.broker.drop_session(session);
-                Ok(Answer::Done)
-            }
+            "drop" => Ok(self.drop_session(session)),
             _ => Err(LineFault::Unknown.into()),
         }
     }
@@ -95,7 +96,7 @@ impl BrokerCalls {
         match word {
             "accepted" => Ok(Answer::count(self.broker.take_accepted().len())),
             "fresh" => Ok(Answer::whether(self.broker.take_fresh().is_some())),
-            _ => self.answer_session(word, SessionId::new(natural(rest)?)),
+            _ => self.answer_session(word, rest),
         }
     }
 }
