@@ -3,7 +3,11 @@
 use activities::HandlerFault;
 use base::EntityFault;
 use endpoint::EndFault;
+use reception::ReceptionFault;
+use relay::RelayFault;
 use std::alloc::AllocError;
+use stomp_client::ClientFault;
+use stomp_frame::FrameFault;
 use test_script::{Fault, LineFault};
 use thiserror::Error;
 
@@ -25,6 +29,18 @@ pub enum CallFault {
     /// The endpoint's fault.
     #[error(transparent)]
     End(#[from] EndFault),
+    /// The decoder's fault.
+    #[error(transparent)]
+    Frame(#[from] FrameFault),
+    /// The client's fault.
+    #[error(transparent)]
+    Client(#[from] ClientFault),
+    /// The relay's fault.
+    #[error(transparent)]
+    Relay(#[from] RelayFault),
+    /// The reception's fault.
+    #[error(transparent)]
+    Reception(#[from] ReceptionFault),
     /// A growth was refused.
     #[error("out of memory")]
     Memory(#[from(alloc)] AllocError),
@@ -32,13 +48,17 @@ pub enum CallFault {
 
 impl Fault for CallFault {
     fn is_memory(&self) -> bool {
-        matches!(
-            self,
-            CallFault::Line(LineFault::Memory)
-                | CallFault::Memory(_)
-                | CallFault::Entity(EntityFault::Memory)
-                | CallFault::Handler(HandlerFault::Memory)
-                | CallFault::End(EndFault::Memory)
-        )
+        match self {
+            CallFault::Line(fault) => matches!(fault, LineFault::Memory),
+            CallFault::Unsound => false,
+            CallFault::Entity(fault) => matches!(fault, EntityFault::Memory),
+            CallFault::Handler(fault) => matches!(fault, HandlerFault::Memory),
+            CallFault::End(fault) => matches!(fault, EndFault::Memory),
+            CallFault::Frame(fault) => matches!(fault, FrameFault::Memory),
+            CallFault::Client(fault) => fault.number() == 44,
+            CallFault::Relay(fault) => matches!(fault.number(), 44 | 51 | 64),
+            CallFault::Reception(fault) => matches!(fault.number(), 44 | 51 | 64),
+            CallFault::Memory(_) => true,
+        }
     }
 }

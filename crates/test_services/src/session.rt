@@ -1,114 +1,39 @@
 //! What stands between two lines, and whom a line asks.
 
-use crate::endpoints::{Service, call};
+use crate::both::Both;
+use crate::connection::Connection;
 use crate::fault::CallFault;
-use crate::shown::Shown;
-use crate::states::take;
-use crate::words::leaves;
-use billing::{Account, Accounts};
-use endpoint::Endpoint;
-use keep::Faulty;
-use keep_plain::PlainKeep;
 use std::alloc::Global;
 use std::io;
 use std::io::Write;
-use test_script::{LineFault, Script, natural, or_done};
-use warehouse::{Stock, Stocks};
+use test_script::{Script, first_word, or_done};
 
-/// A stock and an account, and an endpoint of each service over tables in memory that fail where they are told to.
+/// A stock, an account and their endpoints; a service, a client, and the relay between them.
 #[derive(Drop)]
 pub struct Session {
-    stock: Stock,
-    warehouse: Service<Stocks>,
-    account: Account,
-    billing: Service<Accounts>,
-}
-
-/// An endpoint over empty tables.
-fn empty<S: Shown>(alloc: Global) -> Service<S> {
-    Endpoint::new(Faulty::new(PlainKeep::new(alloc)))
-}
-
-/// The state is as it is at first.
-fn open<S: Shown>(alloc: Global, state: &mut S::State) -> Result<(), CallFault> {
-    *state = S::opening(alloc)?;
-    Ok(())
-}
-
-/// The state is another.
-fn set<S: Shown>(alloc: Global, state: &mut S::State, words: &[&str]) -> Result<(), CallFault> {
-    *state = S::state(alloc, words)?;
-    Ok(())
-}
-
-/// A copy of the state takes an input in.
-fn take_copy<S: Shown>(
-    alloc: Global,
-    out: &mut String,
-    state: &S::State,
-    words: &[&str],
-) -> Result<(), CallFault> {
-    let mut copy = S::copy_state(alloc, state)?;
-    take::<S>(alloc, out, &mut copy, words)
-}
-
-/// The endpoint has empty tables.
-fn clear<S: Shown>(alloc: Global, service: &mut Service<S>) -> Result<(), CallFault> {
-    *service = empty(alloc);
-    Ok(())
-}
-
-/// A call of the endpoint's store is to fail.
-fn arm<S: Shown>(service: &mut Service<S>, calls: &str, word: &str) -> Result<(), CallFault> {
-    service.arm(natural(calls)?, leaves(word)?);
-    Ok(())
-}
-
-/// The answer to a line, of a state and an endpoint.
-fn answer<S: Shown>(
-    alloc: Global,
-    out: &mut String,
-    state: &mut S::State,
-    service: &mut Service<S>,
-    words: &[&str],
-) -> Result<(), CallFault> {
-    match words {
-        ["opening"] => open::<S>(alloc, state),
-        ["is", words @ ..] => set::<S>(alloc, state, words),
-        ["take", words @ ..] => take::<S>(alloc, out, state, words),
-        ["try", words @ ..] => take_copy::<S>(alloc, out, state, words),
-        ["new"] => clear(alloc, service),
-        ["arm", calls, word] => arm(service, calls, word),
-        _ => call(service, alloc, out, words),
-    }
+    both: Both,
+    connection: Connection,
 }
 
 impl Session {
-    /// A stock and an account that took nothing in, and empty tables.
+    /// All as it is at first.
     pub fn new(alloc: Global) -> Session {
         Session {
-            stock: Stock::new(alloc),
-            warehouse: empty(alloc),
-            account: Account::new(alloc),
-            billing: empty(alloc),
+            both: Both::new(alloc),
+            connection: Connection::new(alloc),
         }
     }
 
-    /// The answer to a line, of the service that it begins with.
-    fn answer_words(
+    /// Appends the answer to a line.
+    fn push_answer(
         &mut self,
         alloc: Global,
         out: &mut String,
-        words: &[&str],
+        line: &str,
     ) -> Result<(), CallFault> {
-        match words {
-            ["stock", words @ ..] => {
-                answer::<Stocks>(alloc, out, &mut self.stock, &mut self.warehouse, words)
-            }
-            ["account", words @ ..] => {
-                answer::<Accounts>(alloc, out, &mut self.account, &mut self.billing, words)
-            }
-            _ => Err(LineFault::Unknown.into()),
+        match first_word(line).0 {
+            "stock" | "account" => self.both.answer(alloc, out, line),
+            _ => self.connection.answer(alloc, out, line),
         }
     }
 }
@@ -119,9 +44,8 @@ impl Script for Session {
     type Fault = CallFault;
 
     fn answer(&mut self, alloc: Global, line: &str) -> Result<String, CallFault> {
-        let words: Vec<&str> = line.split_whitespace().collect(alloc)?;
         let mut out = String::new(alloc);
-        self.answer_words(alloc, &mut out, words.as_slice())?;
+        self.push_answer(alloc, &mut out, line)?;
         Ok(or_done(alloc, out)?)
     }
 

@@ -5,7 +5,7 @@ use Rattle.base.specs.Entity.{Entity}
 use Rattle.envelope.specs.declared.message.Message.TheVariants.{Confirm}
 use Rattle.activities.specs.Reaction.{reply}
 use Rattle.activities.specs.declared.outs.Out.{Out}
-use Rattle.test_relays.specs.Counting.{confirms}
+use Rattle.test_services.specs.Counting.{confirms}
 
 -- one more was sent
 pub one_more : (xs ys zs : List Out) (k : ℕ) (receiver : Entity) → ys ≡ xs ++ confirms receiver k

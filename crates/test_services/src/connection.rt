@@ -1,22 +1,20 @@
-//! What stands between two lines, and whom a line asks.
+//! A service of counting orders, a client, and the relay between them.
 
+use crate::events::{fault_named, push_drained, push_event, push_sent, push_taken};
 use crate::fault::CallFault;
 use crate::service::{Service, call_service, new_service};
-use crate::show::{fault_named, push_drained, push_event, push_sent, push_taken};
 use base::limits::MAX_BODY;
 use reception::{drain, take_frame};
 use relay::Relay;
 use std::alloc::Global;
-use std::io;
-use std::io::Write;
 use stomp_client::ClientSession;
 use stomp_frame::{Decoder, Frame};
-use test_script::{LineFault, Script, first_word, or_done, read_octets, size};
+use test_script::{LineFault, first_word, read_octets, size};
 use text::push_octets;
 
 /// A service, a client's session, and the relay between them.
 #[derive(Drop)]
-pub struct Session {
+pub struct Connection {
     service: Service,
     client: ClientSession<u64>,
     relay: Relay,
@@ -38,10 +36,10 @@ fn read_frame(alloc: Global, text: &str) -> Result<Frame<MAX_BODY>, CallFault> {
     next_frame(&mut decoder, &octets)
 }
 
-impl Session {
+impl Connection {
     /// A service that did nothing, and a client that wrote nothing.
-    pub fn new(alloc: Global) -> Session {
-        Session {
+    pub fn new(alloc: Global) -> Connection {
+        Connection {
             service: new_service(alloc),
             client: ClientSession::new(alloc),
             relay: Relay::new(alloc),
@@ -90,12 +88,7 @@ impl Session {
     }
 
     /// Appends the answer to a line, or nothing where the call gives nothing.
-    fn answer_line(
-        &mut self,
-        alloc: Global,
-        out: &mut String,
-        line: &str,
-    ) -> Result<(), CallFault> {
+    pub fn answer(&mut self, alloc: Global, out: &mut String, line: &str) -> Result<(), CallFault> {
         let (word, rest) = first_word(line);
         match word {
             "connect" => self.connect(alloc),
@@ -110,21 +103,5 @@ impl Session {
             "fault" => Err(fault_named(rest)),
             _ => call_service(&mut self.service, alloc, out, word, rest),
         }
-    }
-}
-
-impl Script for Session {
-    type Answer = String;
-
-    type Fault = CallFault;
-
-    fn answer(&mut self, alloc: Global, line: &str) -> Result<String, CallFault> {
-        let mut out = String::new(alloc);
-        self.answer_line(alloc, &mut out, line)?;
-        Ok(or_done(alloc, out)?)
-    }
-
-    fn show<W: Write>(&self, answer: String, out: &mut W) -> io::Result<()> {
-        out.write_all(answer.as_bytes())
     }
 }

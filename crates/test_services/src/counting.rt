@@ -3,7 +3,7 @@
 ghost use Rattle.std.specs.Prelude.{◌≡◌, ◌++◌, OnOk, OnErr};
 ghost use Rattle.envelope.specs.declared.message.Message.TheVariants.{Confirm};
 ghost use Rattle.activities.specs.Reaction.{reply};
-ghost use Rattle.test_relays.specs.Counting.{counting_reactions, confirms};
+ghost use Rattle.test_services.specs.Counting.{counting_reactions, confirms};
 
 use activities::{Handler, HandlerFault, Input, Outs};
 use base::{Entity, Kind};
@@ -49,7 +49,7 @@ fn send_one(alloc: Global, receiver: &Entity, outs: &mut Outs) -> Result<(), All
 impl Handler for Counting {
     ghost use Rattle.std.specs.Prelude.{false};
     ghost use Rattle.base.specs.declared.entity.Kind.TheVariants.{Order};
-    ghost use Rattle.test_relays.specs.Counting.{never_none};
+    ghost use Rattle.test_services.specs.Counting.{never_none};
 
     type State = u64;
 

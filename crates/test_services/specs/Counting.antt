@@ -4,7 +4,7 @@ use Rattle.base.specs.Entity.{Entity}
 use Rattle.envelope.specs.declared.message.Message.TheVariants.{Confirm}
 use Rattle.activities.specs.Reaction.{Reactions, reply}
 use Rattle.activities.specs.declared.outs.Out.{Out}
-use Rattle.test_relays.specs.declared.counting.Sending.{Sending}
+use Rattle.test_services.specs.declared.counting.Sending.{Sending}
 
 -- so many messages to a receiver
 abbrev pub confirms : Entity → ℕ → List Out
