@@ -1,4 +1,5 @@
-//! The examples of the pages of the libraries of services, run: what they tell each other, do with it, and keep.
+//! The examples of the pages of the libraries that need neither a schedule nor SQL, run: links, frames, sessions, a
+//! broker, a client, and what services tell each other, do with it, and keep.
 #![tactic(auto)]
 
 mod examples;
@@ -11,12 +12,18 @@ use billing::Accounts;
 use endpoint::Endpoint;
 use envelope::{Letter, Message};
 use examples::{
-    a_command_is_taken_in, a_connected_client_subscribes, a_free_room_is_promised,
-    a_letter_comes_again, a_mark_is_one_change, a_mark_is_read, a_settle_is_sent,
-    an_order_is_refused, first_state_of, lawful_journals_stay_lawful, no_mark_is_taken_back,
-    nothing_goes_out_before_the_broker_answers, nothing_is_held_at_first, order_of_one,
-    services_without_orders_agree, so_much_is_on_hand, so_much_is_the_limit,
-    tables_hold_nothing_at_first, what_comes_early_waits,
+    a_broker_answers_connect, a_client_asks_to_connect, a_command_is_taken_in,
+    a_connected_client_subscribes, a_frame_before_connect_is_refused, a_frame_is_read_from_pieces,
+    a_frame_that_was_put_back_is_the_next, a_free_room_is_promised, a_letter_comes_again,
+    a_line_is_read_again, a_mark_is_one_change, a_mark_is_read, a_message_is_accepted,
+    a_receipt_is_closed_once, a_server_is_asked_to_end, a_settle_is_sent,
+    a_transaction_keeps_its_actions, an_entity_is_named_again, an_idle_destination_is_closed,
+    an_order_is_refused, answers_reach_back_in_mode_client, first_state_of,
+    lawful_journals_stay_lawful, no_mark_is_taken_back, nothing_goes_out_before_the_broker_answers,
+    nothing_is_held_at_first, order_of_one, printed_octets_are_read, services_without_orders_agree,
+    so_much_is_on_hand, so_much_is_the_limit, tables_hold_nothing_at_first,
+    three_parts_are_one_text, what_a_client_reads_was_sent, what_comes_early_waits,
+    what_wants_an_ack_stays_until_it_comes, what_was_put_is_taken, words_that_are_no_text_are_told,
 };
 use hotel::{RoomCommand, Rooms};
 use hotel_day::a_day_at_the_hotel;
@@ -27,7 +34,7 @@ use purchasing::Orders;
 use std::alloc::Global;
 use std::error::Error;
 use std::fmt::Debug;
-use trade::{Items, OrderCommand};
+use trade::OrderCommand;
 use warehouse::Stocks;
 
 /// One more than a limit can be.
@@ -60,6 +67,41 @@ fn pair(alloc: Global) -> Result<Pair> {
 fn is_refused(alloc: Global) -> bool {
     let mut outs = Outs::new(alloc);
     first_state_of::<Orders>(alloc, OrderCommand::CancelOrder, &mut outs).is_err()
+}
+
+/// What is told, and the frames that carry it.
+fn print_frames(rt: &impl Print, alloc: Global) -> Result<()> {
+    tell(rt, "base", an_entity_is_named_again(alloc))?;
+    tell(rt, "text", a_line_is_read_again(alloc))?;
+    tell(rt, "stomp_wire", what_was_put_is_taken(alloc))?;
+    tell(rt, "test_script", printed_octets_are_read(alloc))?;
+    tell(rt, "streams", three_parts_are_one_text(alloc))?;
+    tell(rt, "command_line", words_that_are_no_text_are_told(alloc))?;
+    tell(rt, "stomp_frame", a_frame_is_read_from_pieces(alloc))
+}
+
+/// What a broker makes of frames.
+fn print_broker(rt: &impl Print, alloc: Global) -> Result<()> {
+    show(
+        rt,
+        "stomp_session",
+        &a_frame_before_connect_is_refused(alloc),
+    )?;
+    show(rt, "broker_book", &answers_reach_back_in_mode_client())?;
+    tell(rt, "broker_index", an_idle_destination_is_closed(alloc))?;
+    tell(rt, "broker_queues", a_message_is_accepted(alloc))?;
+    tell(rt, "broker_tx", a_transaction_keeps_its_actions(alloc))?;
+    tell(rt, "broker_core", a_broker_answers_connect(alloc))?;
+    show(rt, "broker_server", &a_server_is_asked_to_end())
+}
+
+/// What a client makes of them, and what holds of both sides.
+fn print_client(rt: &impl Print, alloc: Global) -> Result<()> {
+    what_wants_an_ack_stays_until_it_comes();
+    what_a_client_reads_was_sent();
+    tell(rt, "receipts", a_receipt_is_closed_once(alloc))?;
+    tell(rt, "stomp_client", a_client_asks_to_connect(alloc))?;
+    tell(rt, "channel", a_frame_that_was_put_back_is_the_next(alloc))
 }
 
 /// What services tell each other, what they do with it, and what holds of all of them.
@@ -115,18 +157,28 @@ fn room_pair(alloc: Global) -> Result<Pair> {
     Ok(Pair { from, to })
 }
 
-/// Purchasing, where an order of that room was placed and cancelled.
+/// A command that asks for that room.
+fn ask_for_room(alloc: Global) -> Result<OrderCommand> {
+    let seven = Key::read(alloc, "seven")?;
+    let account = Key::read(alloc, "ann")?;
+    Ok(order_of_one(alloc, seven, 2, account, 500)?)
+}
+
+/// An order of that room is placed and cancelled.
+fn place_and_cancel(
+    alloc: Global,
+    purchasing: &mut Endpoint<Orders, PlainKeep<Orders>>,
+) -> Result<()> {
+    let order = Entity::read(alloc, "order/o1")?;
+    purchasing.commit(alloc, 0, &order, ask_for_room(alloc)?)?;
+    purchasing.commit(alloc, 0, &order, OrderCommand::CancelOrder)?;
+    Ok(())
+}
+
+/// Purchasing, where that was done.
 fn cancelled(alloc: Global) -> Result<Endpoint<Orders, PlainKeep<Orders>>> {
     let mut purchasing: Endpoint<Orders, PlainKeep<Orders>> = Endpoint::new(PlainKeep::new(alloc));
-    let order = Entity::read(alloc, "order/o1")?;
-    let seven = Key::read(alloc, "seven")?;
-    let command = OrderCommand::Place {
-        lines: Items::of_one(alloc, seven, 2)?,
-        account: Key::read(alloc, "ann")?,
-        amount: 500,
-    };
-    purchasing.commit(alloc, 0, &order, command)?;
-    purchasing.commit(alloc, 0, &order, OrderCommand::CancelOrder)?;
+    place_and_cancel(alloc, &mut purchasing)?;
     Ok(purchasing)
 }
 
@@ -137,17 +189,18 @@ fn open_hotel(alloc: Global) -> Endpoint<Rooms, Faulty<PlainKeep<Rooms>>> {
 
 /// The deliveries around a failure of the store, which leaves the letter taken in.
 fn around_a_failure(alloc: Global) -> Result<Vec<Delivery<OrderCommand, RoomCommand>>> {
-    let mut deliveries = Vec::new(alloc);
-    deliveries.push(Delivery::Left(Event::Send(4)))?;
-    deliveries.push(Delivery::Right(Event::Take(2)))?;
-    deliveries.push(Delivery::Right(Event::Take(2)))?;
-    deliveries.push(Delivery::Right(Event::Reopen))?;
-    deliveries.push(Delivery::Right(Event::Take(2)))?;
-    deliveries.push(Delivery::Right(Event::Tell(room_pair(alloc)?)))?;
-    deliveries.push(Delivery::Left(Event::Take(0)))?;
-    deliveries.push(Delivery::Right(Event::Send(1)))?;
-    deliveries.push(Delivery::Left(Event::Take(1)))?;
-    Ok(deliveries)
+    let pair = room_pair(alloc)?;
+    Ok(vec![in alloc;
+        Delivery::Left(Event::Send(4)),
+        Delivery::Right(Event::Take(2)),
+        Delivery::Right(Event::Take(2)),
+        Delivery::Right(Event::Reopen),
+        Delivery::Right(Event::Take(2)),
+        Delivery::Right(Event::Tell(pair)),
+        Delivery::Left(Event::Take(0)),
+        Delivery::Right(Event::Send(1)),
+        Delivery::Left(Event::Take(1)),
+    ]?)
 }
 
 /// What is answered to these deliveries, over a network where nothing was sent yet.
@@ -185,10 +238,10 @@ where
 
 /// A store fails as a letter is taken in.
 fn a_store_fails(alloc: Global) -> Result<Vec<Outcome>> {
+    let deliveries = around_a_failure(alloc)?;
     let mut purchasing = cancelled(alloc)?;
     let mut partner = open_hotel(alloc);
     partner.arm(4, Leaves::New);
-    let deliveries = around_a_failure(alloc)?;
     carry_out(alloc, &mut purchasing, &mut partner, &deliveries)
 }
 
@@ -240,6 +293,9 @@ fn print_services(rt: &impl Print, alloc: Global) -> Result<()> {
 }
 
 fn main(rt: HostRuntime) -> Result<()> {
+    print_frames(&rt, rt.alloc())?;
+    print_broker(&rt, rt.alloc())?;
+    print_client(&rt, rt.alloc())?;
     print_reactions(&rt, rt.alloc())?;
     print_tables(&rt, rt.alloc())?;
     print_exchanges(&rt, rt.alloc())?;
