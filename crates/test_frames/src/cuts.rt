@@ -57,6 +57,14 @@ fn difference(
     Ok(Some(steps_text(alloc, &found)?))
 }
 
+/// Where a text is cut that makes a difference, and that difference.
+fn cut_text(alloc: Global, cut: usize, found: Option<String>) -> Result<Option<String>, CallFault> {
+    match found {
+        Some(found) => Ok(Some(format!(in alloc; "cut at {cut}: {found}")?)),
+        None => Ok(None),
+    }
+}
+
 /// What is given of a text: octet by octet, in one piece, and in two that are cut behind each `every`-th octet and
 /// before the last one. Where a cut makes a difference, the first that does is told.
 fn decode(alloc: Global, every: usize, word: &str) -> Result<String, CallFault> {
@@ -65,27 +73,43 @@ fn decode(alloc: Global, every: usize, word: &str) -> Result<String, CallFault> 
     decode_cut(alloc, &steps, &text, every)
 }
 
-/// The same, of a text that gives these steps octet by octet.
+/// The first cut that makes a difference to a text that gives these steps octet by octet.
+fn first_difference(
+    alloc: Global,
+    steps: &[Step],
+    text: &[u8],
+    every: usize,
+) -> Result<Option<String>, CallFault> {
+    for cut in 0..=text.len() {
+        if cut.is_multiple_of(every) || cut.saturating_add(1) >= text.len() {
+            let found = cut_text(alloc, cut, difference(alloc, steps, text, cut)?)?;
+            if found.is_some() {
+                return Ok(found);
+            }
+        }
+    }
+    Ok(None)
+}
+
+/// That difference, or else the steps.
 fn decode_cut(
     alloc: Global,
     steps: &[Step],
     text: &[u8],
     every: usize,
 ) -> Result<String, CallFault> {
-    for cut in 0..=text.len() {
-        if cut.is_multiple_of(every) || cut.saturating_add(1) >= text.len() {
-            if let Some(found) = difference(alloc, steps, text, cut)? {
-                return Ok(format!(in alloc; "cut at {cut}: {found}")?);
-            }
-        }
+    match first_difference(alloc, steps, text, every)? {
+        Some(found) => Ok(found),
+        None => Ok(steps_text(alloc, steps)?),
     }
-    Ok(steps_text(alloc, steps)?)
 }
 
 /// The same by words: `N TEXT`.
-fn decode_every(alloc: Global, every: &str, word: &str) -> Result<String, CallFault> {
-    let every = size(every)?;
-    decode(alloc, every, word)
+fn decode_every(alloc: Global, words: &[&str]) -> Result<String, CallFault> {
+    let [every, word] = words else {
+        return Err(LineFault::Unknown.into());
+    };
+    decode(alloc, size(every)?, word)
 }
 
 /// What a decoder gives of some pieces.
@@ -97,8 +121,12 @@ fn round(alloc: Global, reading: &mut Reading, words: &[&str]) -> Result<String,
     Ok(steps_text(alloc, &steps)?)
 }
 
-/// One decoder is fed the same pieces again and again: what it gives each time, or the first time that is otherwise.
-fn rounds(alloc: Global, count: &str, words: &[&str]) -> Result<String, CallFault> {
+/// One decoder is fed the same pieces again and again, by `N PIECE ..`: what it gives each time, or the first time that is
+/// otherwise.
+fn rounds(alloc: Global, words: &[&str]) -> Result<String, CallFault> {
+    let [count, words @ ..] = words else {
+        return Err(LineFault::Unknown.into());
+    };
     let count = size(count)?;
     let mut reading = Reading::new(alloc);
     go_round(alloc, &mut reading, count, words)
@@ -121,12 +149,20 @@ fn go_round(
     Ok(first)
 }
 
+/// The answer to a line that begins with `decode` and this word.
+fn decode_by(alloc: Global, first: &str, words: &[&str]) -> Result<String, CallFault> {
+    match first {
+        "rounds" => rounds(alloc, words),
+        "every" => decode_every(alloc, words),
+        _ => Err(LineFault::Unknown.into()),
+    }
+}
+
 /// The answer to a line that begins with `decode`.
 pub fn answer_decode(alloc: Global, words: &[&str]) -> Result<String, CallFault> {
     match words {
+        [] => Err(LineFault::Unknown.into()),
         [word] => decode(alloc, 1, word),
-        ["every", every, word] => decode_every(alloc, every, word),
-        ["rounds", count, words @ ..] => rounds(alloc, count, words),
-        _ => Err(LineFault::Unknown.into()),
+        [first, words @ ..] => decode_by(alloc, first, words),
     }
 }

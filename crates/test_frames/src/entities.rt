@@ -164,18 +164,20 @@ fn compare_numbers(alloc: Global, one: &str, other: &str) -> Result<String, Call
     Ok(compared(alloc, &one, &other)?)
 }
 
-/// What a number is as a number of a letter.
-fn number_read(alloc: Global, word: &str) -> Result<String, CallFault> {
-    let value = natural(word)?;
+/// What a number is as a number of a letter; `first` is the first one.
+fn one_number(alloc: Global, word: &str) -> Result<String, CallFault> {
+    let value = match word {
+        "first" => Number::FIRST.get(),
+        _ => natural(word)?,
+    };
     number_text(alloc, value)
 }
 
 /// The answer to a line that begins with `number`.
 pub fn answer_number(alloc: Global, words: &[&str]) -> Result<String, CallFault> {
     match words {
-        ["first"] => number_text(alloc, Number::FIRST.get()),
+        [word] => one_number(alloc, word),
         ["compare", one, other] => compare_numbers(alloc, one, other),
-        [word] => number_read(alloc, word),
         _ => Err(LineFault::Unknown.into()),
     }
 }

@@ -48,19 +48,36 @@ pub fn refused_text(alloc: Global, refused: &RefusedParts) -> Result<String, All
     format!(in alloc; "{}; {parts}", refused.fault)
 }
 
+/// Appends octets, and a space.
+fn push_word(text: &mut String, octets: &[u8]) -> Result<(), AllocError> {
+    push_octets(text, octets)?;
+    text.push(' ')
+}
+
+/// Appends a header's name and its value, each out of a copy that is taken apart.
+fn push_copies(alloc: Global, text: &mut String, header: &Header) -> Result<(), AllocError> {
+    push_word(text, header.copy(alloc)?.into_name().as_bytes())?;
+    push_word(text, header.copy(alloc)?.into_value().as_bytes())
+}
+
+/// Appends a header's name and its value, and each again out of a copy.
+fn push_header(alloc: Global, text: &mut String, header: &Header) -> Result<(), AllocError> {
+    push_word(text, header.name().as_bytes())?;
+    push_word(text, header.value().as_bytes())?;
+    push_copies(alloc, text, header)
+}
+
+/// Appends both parts of a header in one text, and how long its name is.
+fn push_parts(text: &mut String, header: Header) -> Result<(), AllocError> {
+    let (both, len) = header.into_parts();
+    push_octets(text, both.as_bytes())?;
+    write!(text, " {len}")
+}
+
 /// A header: its name and its value, each again out of a copy that was taken apart, and both in one text.
 pub fn header_text(alloc: Global, header: Header) -> Result<String, AllocError> {
     let mut text = String::new(alloc);
-    push_octets(&mut text, header.name().as_bytes())?;
-    text.push(' ')?;
-    push_octets(&mut text, header.value().as_bytes())?;
-    text.push(' ')?;
-    push_octets(&mut text, header.copy(alloc)?.into_name().as_bytes())?;
-    text.push(' ')?;
-    push_octets(&mut text, header.copy(alloc)?.into_value().as_bytes())?;
-    let (both, len) = header.into_parts();
-    text.push(' ')?;
-    push_octets(&mut text, both.as_bytes())?;
-    write!(text, " {len}")?;
+    push_header(alloc, &mut text, &header)?;
+    push_parts(&mut text, header)?;
     Ok(text)
 }

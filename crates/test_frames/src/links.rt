@@ -99,16 +99,24 @@ pub fn answer_link(
     Ok(format!(in alloc; "{answer}; {reader}; {writer}; {}", link.failures())?)
 }
 
-/// Octets are written into a file by a link and read back by it: what went out, what came at each of so many takes, and
-/// the failures.
-fn over_file(rt: &HostRuntime, octets: &[u8], times: usize) -> Result<String, CallFault> {
-    let alloc = rt.alloc();
-    let writer = fs::create(rt, PATH)?;
-    let mut link = StreamLink::new(fs::open(rt, PATH)?, writer);
-    let out = gone_text(alloc, pump(&mut link, octets))?;
-    let came = take_many(alloc, &mut link, times, usize::MAX)?;
+/// Octets are written by a link and read back by it: what went out, what came at each of so many takes, and the failures.
+fn there_and_back<L: Link>(
+    alloc: Global,
+    link: &mut L,
+    octets: &[u8],
+    times: usize,
+) -> Result<String, CallFault> {
+    let out = gone_text(alloc, pump(link, octets))?;
+    let came = take_many(alloc, link, times, usize::MAX)?;
     let failures = link.failures();
     Ok(format!(in alloc; "{out}; {came}; {failures}")?)
+}
+
+/// The same of a link over a file.
+fn over_file(rt: &HostRuntime, octets: &[u8], times: usize) -> Result<String, CallFault> {
+    let writer = fs::create(rt, PATH)?;
+    let mut link = StreamLink::new(fs::open(rt, PATH)?, writer);
+    there_and_back(rt.alloc(), &mut link, octets, times)
 }
 
 /// The answer to a line of a file. The file is gone then.

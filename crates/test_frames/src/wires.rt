@@ -130,15 +130,28 @@ fn handed_over(alloc: Global, wire: &mut MemoryWire, most: &str) -> Result<Strin
     count_text(alloc, wire.near.carry_to(&mut wire.far, most))
 }
 
+/// What a line asks of a wire, in one of the ways that begin so.
+fn ask_further(
+    alloc: Global,
+    wire: &mut MemoryWire,
+    first: &str,
+    words: &[&str],
+) -> Result<String, CallFault> {
+    match first {
+        "near" => ask_end(alloc, &mut wire.near, words),
+        "far" => ask_end(alloc, &mut wire.far, words),
+        "travel" => travel_by(alloc, wire, words),
+        _ => Err(LineFault::Unknown.into()),
+    }
+}
+
 /// What a line asks of a wire.
 fn ask(alloc: Global, wire: &mut MemoryWire, words: &[&str]) -> Result<String, CallFault> {
     match words {
-        ["near", words @ ..] => ask_end(alloc, &mut wire.near, words),
-        ["far", words @ ..] => ask_end(alloc, &mut wire.far, words),
         ["carry", word, most] => carried(alloc, wire, word, most),
         ["hand-over", most] => handed_over(alloc, wire, most),
-        ["travel", words @ ..] => travel_by(alloc, wire, words),
-        _ => Err(LineFault::Unknown.into()),
+        [first, words @ ..] => ask_further(alloc, wire, first, words),
+        [] => Err(LineFault::Unknown.into()),
     }
 }
 
