@@ -42,6 +42,13 @@ where
     pub taken: Vec<Taken>,
 }
 
+/// A client that asks to be connected.
+fn connecting(alloc: Global) -> anyhow::Result<ClientSession<u64>> {
+    let mut client = ClientSession::new(alloc);
+    client.connect()?;
+    Ok(client)
+}
+
 /// Connects a socket whose calls don't wait for ever.
 fn open<R: Net<Stream = TcpStream>>(rt: &R, address: SocketAddr) -> io::Result<TcpStream> {
     let stream = TcpStream::connect(rt, address)?;
@@ -63,9 +70,8 @@ where
         endpoint: Endpoint<H, K>,
         address: SocketAddr,
     ) -> anyhow::Result<Self> {
+        let client = connecting(alloc)?;
         let stream = open(rt, address)?;
-        let mut client = ClientSession::new(alloc);
-        client.connect()?;
         Ok(Connected {
             alloc,
             endpoint,

@@ -64,6 +64,20 @@ fn talk(hotel: &mut Hotel, purchasing: &mut Purchasing) -> anyhow::Result<()> {
     Ok(())
 }
 
+/// Prints what the hotel's tables hold of an order and its room.
+fn show_hotel(
+    rt: &impl Print,
+    alloc: Global,
+    hotel: &mut Hotel,
+    asked: &Pair,
+) -> anyhow::Result<()> {
+    let room = hotel.endpoint.view(alloc, &asked.to)?;
+    let is_promised = matches!(room, Some(hotel::Room::Promised(_)));
+    println!(rt; "hotel: the room is promised: {is_promised}")?;
+    println!(rt; "hotel: handled {}", hotel.endpoint.handled(alloc, asked)?)?;
+    Ok(())
+}
+
 /// Prints what the tables hold of an order and its room.
 fn show_tables(
     rt: &impl Print,
@@ -71,20 +85,20 @@ fn show_tables(
     hotel: &mut Hotel,
     purchasing: &mut Purchasing,
 ) -> anyhow::Result<()> {
-    let from = Entity::read(alloc, "order/o1")?;
-    let to = Entity::read(alloc, "stock/seven")?;
-    let room = hotel.endpoint.view(alloc, &to)?;
-    let is_promised = matches!(room, Some(hotel::Room::Promised(_)));
-    println!(rt; "hotel: the room is promised: {is_promised}")?;
-    let asked = Pair { from, to };
-    println!(rt; "hotel: handled {}", hotel.endpoint.handled(alloc, &asked)?)?;
-    println!(rt;
-        "purchasing: settled {}",
-        purchasing.endpoint.settled(alloc, &asked)?
-    )?;
+    let asked = order_and_room(alloc)?;
+    show_hotel(rt, alloc, hotel, &asked)?;
+    let settled = purchasing.endpoint.settled(alloc, &asked)?;
+    println!(rt; "purchasing: settled {settled}")?;
     let waits = hotel.endpoint.unsettled(alloc, &None, usize::MAX)?.len();
     println!(rt; "hotel: letters in the outbox: {waits}")?;
     Ok(())
+}
+
+/// The pair of an order and the room that it asks for.
+fn order_and_room(alloc: Global) -> anyhow::Result<Pair> {
+    let from = Entity::read(alloc, "order/o1")?;
+    let to = Entity::read(alloc, "stock/seven")?;
+    Ok(Pair { from, to })
 }
 
 /// The order that asks for a room for one.
@@ -99,22 +113,51 @@ fn place(alloc: Global) -> anyhow::Result<OrderCommand> {
 }
 
 /// An order asks for a room.
+fn commit_order(
+    rt: &impl Print,
+    alloc: Global,
+    orders: &mut Endpoint<Orders, PlainKeep<Orders>>,
+) -> anyhow::Result<()> {
+    let order = Entity::read(alloc, "order/o1")?;
+    let committed = orders.commit(alloc, 0, &order, place(alloc)?)?;
+    println!(rt; "purchasing: {committed:?}")?;
+    Ok(())
+}
+
+/// A purchasing where that was done, connected.
+fn connect_purchasing<R: Print + Net<Stream = TcpStream>>(
+    rt: &R,
+    alloc: Global,
+    address: SocketAddr,
+) -> anyhow::Result<Purchasing> {
+    let mut orders = Endpoint::new(PlainKeep::new(alloc));
+    commit_order(rt, alloc, &mut orders)?;
+    Connected::new(rt, alloc, orders, address)
+}
+
+/// Both talk, and what came to them is printed, and what their tables hold.
+fn meet(
+    rt: &impl Print,
+    alloc: Global,
+    hotel: &mut Hotel,
+    purchasing: &mut Purchasing,
+) -> anyhow::Result<()> {
+    talk(hotel, purchasing)?;
+    show(rt, "hotel", hotel)?;
+    show(rt, "purchasing", purchasing)?;
+    show_tables(rt, alloc, hotel, purchasing)
+}
+
+/// An order asks for a room, and a hotel is there.
 fn spend_a_day<R: Print + Net<Stream = TcpStream>>(
     rt: &R,
     alloc: Global,
     address: SocketAddr,
 ) -> anyhow::Result<()> {
+    let mut purchasing = connect_purchasing(rt, alloc, address)?;
     let rooms = Endpoint::new(PlainKeep::new(alloc));
-    let mut orders: Endpoint<Orders, PlainKeep<Orders>> = Endpoint::new(PlainKeep::new(alloc));
-    let order = Entity::read(alloc, "order/o1")?;
-    let committed = orders.commit(alloc, 0, &order, place(alloc)?)?;
-    println!(rt; "purchasing: {committed:?}")?;
     let mut hotel: Hotel = Connected::new(rt, alloc, rooms, address)?;
-    let mut purchasing: Purchasing = Connected::new(rt, alloc, orders, address)?;
-    talk(&mut hotel, &mut purchasing)?;
-    show(rt, "hotel", &hotel)?;
-    show(rt, "purchasing", &purchasing)?;
-    show_tables(rt, alloc, &mut hotel, &mut purchasing)
+    meet(rt, alloc, &mut hotel, &mut purchasing)
 }
 
 fn main(rt: HostRuntime) -> anyhow::Result<()> {
