@@ -161,6 +161,9 @@ WORDS = [
     ("slice_get", "The item at this place, counted from 0, where there is one."),
     ("Contains", "The list has this item."),
     ("AllByRecursion", "It holds of each item of the list."),
+    ("All", "It holds of each item of the list."),
+    ("flat_map", "The lists that the function makes of each item, one behind another."),
+    ("vec_len", "How many items a `Vec` has."),
     ("IsStrictlySortedBy", "Each item is greater than the one before it, in this order."),
     ("min", "The smaller of two numbers."),
     ("max", "The greater of two numbers."),
@@ -543,4 +546,19 @@ BROKER = {
     ],
 }
 
-PAGES = [CORE, STORE, SERVICE, EVENTS, MAIL, JOURNALS, PROGRAM, FILES, BROKER]
+THREADS = {
+    "file": "docs/THEOREM-THREADS.md",
+    "title": "What threads are promised",
+    "said": ["What threads that share marks are promised, whoever comes first. Each call holds of any calls that other threads make"
+             " meanwhile. A seat's lists, of what it raised and read, exist in proofs alone."],
+    "signs": True,
+    "sections": [
+        ("A mark never falls, and comes to the greatest number raised",
+         ["`open` gives the seats, with empty lists. A call takes its seat and gives it back, so that nobody else adds to its lists. `close`"
+          " takes all seats, and so all that was ever raised and read. None of these calls takes the handle for waiting: each returns,"
+          " whatever other threads do."],
+         [("marks", "marks", f"Marks::{it}") for it in ("open", "raise", "read", "close")] + [("marks", "closed", "Closed::mark")]),
+    ],
+}
+
+PAGES = [CORE, STORE, SERVICE, EVENTS, MAIL, JOURNALS, PROGRAM, FILES, BROKER, THREADS]

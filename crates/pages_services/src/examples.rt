@@ -33,6 +33,7 @@ use laws_broker::{each_message_was_sent, no_message_is_lost};
 use laws_journals::stays_authentic;
 use laws_network::{Delivery, Event, Network, Outcome, exchange};
 use laws_stores::a_deed_keeps_the_laws;
+use marks::Marks;
 use outbox::settle;
 use purchasing::Orders;
 use receipts::{ReceiptFault, Receipts};
@@ -192,6 +193,15 @@ pub fn a_frame_that_was_put_back_is_the_next(alloc: Global) -> Result<bool, Fram
         return Ok(false);
     };
     Ok(again.get("receipt-id") == Some("1"))
+}
+
+pub fn a_mark_is_the_greatest_number_raised(alloc: Global) -> Result<bool, AllocError> {
+    let (marks, mut seats) = Marks::open(alloc, 1, 2)?;
+    marks.raise(&mut seats[0], 0, 5);
+    marks.raise(&mut seats[1], 0, 3);
+    let read = marks.read(&mut seats[1], 0);
+    let closed = marks.close(seats);
+    Ok(read >= 3 && closed.mark(0) == 5)
 }
 
 pub fn a_settle_is_sent(alloc: Global, pair: Pair) -> Result<bool, EnvelopeFault> {

@@ -1,0 +1,90 @@
+//! What stands between two lines.
+
+use crate::fault::CallFault;
+use crate::opened::Opened;
+use std::alloc::Global;
+use std::thread::Threads;
+use test_script::{LineFault, natural, or_done, size};
+
+/// The marks that are open, if any are.
+#[derive(Drop)]
+pub struct Session {
+    opened: Option<Opened>,
+}
+
+impl Session {
+    /// Nothing is open.
+    pub fn new() -> Session {
+        Session { opened: None }
+    }
+
+    /// The marks that are open.
+    fn opened(&mut self) -> Result<&mut Opened, CallFault> {
+        match &mut self.opened {
+            Some(opened) => Ok(opened),
+            None => Err(CallFault::NotOpen),
+        }
+    }
+
+    /// Marks of 0 are open, in place of those that were.
+    fn open(&mut self, alloc: Global, places: &str, seats: &str) -> Result<(), CallFault> {
+        self.opened = Some(Opened::new(alloc, size(places)?, size(seats)?)?);
+        Ok(())
+    }
+
+    /// The marks are closed.
+    fn close(&mut self, out: &mut String) -> Result<(), CallFault> {
+        match self.opened.take() {
+            Some(opened) => opened.close(out),
+            None => Err(CallFault::NotOpen),
+        }
+    }
+
+    /// What a line of these words answers, which is appended.
+    fn answer_words<R: Threads + Sync>(
+        &mut self,
+        rt: &R,
+        alloc: Global,
+        out: &mut String,
+        words: &[&str],
+    ) -> Result<(), CallFault> {
+        match words {
+            ["open", places, seats] => self.open(alloc, places, seats),
+            ["raise", seat, place, number] => {
+                self.opened()?
+                    .raise(size(seat)?, size(place)?, natural(number)?)
+            }
+            ["read", seat, place] => {
+                let read = self.opened()?.read(size(seat)?, size(place)?)?;
+                Ok(write!(out, "{read}")?)
+            }
+            ["all", place, from] => {
+                self.opened()?
+                    .raise_by_all(rt, size(place)?, natural(from)?)
+            }
+            ["climb", place, from, times] => {
+                let (place, from, times) = (size(place)?, natural(from)?, natural(times)?);
+                let is_rising = self.opened()?.climb_by_all(rt, place, from, times)?;
+                Ok(out.push_str(if is_rising { "rising" } else { "falling" })?)
+            }
+            ["close"] => self.close(out),
+            _ => Err(LineFault::Unknown.into()),
+        }
+    }
+
+    /// What a line answers.
+    ///
+    /// # Errors
+    /// Why it has no answer, in place of which the text of the fault is printed.
+    pub fn answer<R: Threads + Sync>(
+        &mut self,
+        rt: &R,
+        alloc: Global,
+        line: &str,
+    ) -> Result<String, CallFault> {
+        let words: Vec<&str> = line.split_whitespace().collect(alloc)?;
+        let mut out = String::new(alloc);
+        self.answer_words(rt, alloc, &mut out, words.as_slice())?;
+        Ok(or_done(alloc, out)?)
+    }
+}
