@@ -473,14 +473,15 @@ PROGRAM = {
     "behind": ["docs/THEOREM.md", "docs/THEOREM-STORE.md", "docs/THEOREM-SERVICE.md", "docs/THEOREM-EVENTS.md", "docs/THEOREM-MAIL.md"],
     "sections": [
         ("A schedule is run as its text says",
-         ["The program's one public call, and the run of a text that it ends in: what is printed are the lines of the outcomes of its"
-          " events (`IsRunOf`). They were made one after another, and each did what its outcome says (`HasRun`). Where the run had a good"
-          " start and in the end no file is in doubt, it has a good end: the tables match the journals, the partners of each order agree,"
+         ["What the words of the command line come to, the run over the stores that they ask for, and the run of a text: what is printed"
+          " are the lines of the outcomes of its events (`IsRunOf`). They were made one after another, and each did what its outcome says"
+          " (`HasRun`). Where the run had a good start and in the end no file is in doubt, it has a good end: the tables match the journals, the partners of each order agree,"
           " and the commands that stand in the journals are those that were told (`IsGoodEnd`). Over tables in memory nothing is asked:"
           " the end is always good (`a_run_in_memory_ends_well`). Over stores that are found to have good tables, as those in files that an"
           " earlier run left, the end is good too, and what it leaves another run may begin with (`a_run_goes_on`);"
           " [THEOREM-FILES.md](THEOREM-FILES.md) has it over files."],
-         [("programs", "words", "run_schedule"), ("programs", "schedule", "run_text"), ("programs", "specs/Ends", "IsRunOf"),
+         [("programs", "words", "ask"), ("programs", "words", "run_over"), ("programs", "schedule", "run_text"),
+          ("programs", "specs/Ends", "IsRunOf"),
           *[("programs", "specs/Runs", it) for it in ("HasRun", "IsGoodStart", "IsGoodEnd")],
           ("programs", "laws", "a_run_in_memory_ends_well"), ("programs", "laws", "a_run_goes_on")], True),
         ("What the services stand on",
@@ -491,7 +492,7 @@ PROGRAM = {
           ("programs", "specs/GoodTables", "GoesOn")]),
         ("How a text is read, and how a run ends", ["The rest of what the program's call says: which events a text has, which lines tell"
                                                     " outcomes and faults, and what the words of the command line come to."],
-         [("programs", "words", "run_schedule"), ("schedule_text", "specs/Events", "events_of"),
+         [("programs", "words", "ask"), ("schedule_text", "specs/Events", "events_of"),
           ("schedule_text", "specs/Outcomes", "outcome_lines")]),
         ("What shows print", ["The lines that tell what the store of a service holds, between two worlds, before and after."],
          OF_SHOWS[:-1]),
@@ -513,8 +514,11 @@ FILES = {
         ("A run over files goes on",
          ["Where three files hold good tables, as a run with a good end leaves them whenever it's stopped, a run over them begins with these"
           " tables and has a good end (`GoesOn`), while the files give back what was written to them (`AreClean`). `O`, `S` and `A` stand"
-          " for what the files hold when they are opened, which no code can know: the law is proved whatever that is."],
-         [("schedule_stores", "laws", "a_run_over_files_goes_on"), ("schedule_stores", "laws", "a_run_in_sql_ends_well")], True),
+          " for what the files hold when they are opened, which no code can know: the law is proved whatever that is. `run_over_files` is"
+          " what `outbox-schedule` calls for a folder: its schedule is read, run over the three files and told, as on the page of the program"
+          " (`IsStatusOf`)."],
+         [("schedule_stores", "laws", "a_run_over_files_goes_on"), ("schedule_stores", "running", "run_over_files"),
+          ("schedule_stores", "laws", "a_run_in_sql_ends_well")], True),
         ("What is opened",
          ["The stores of a folder, and one service's file."],
          [("keep_sqlite", "specs/Found", "IsFoundIn")]),

@@ -1,34 +1,65 @@
 //! Runs a schedule, read from standard input, and prints the outcome of each line.
 #![tactic(auto)]
 
-use programs::{PlainStores, RunFault, run_schedule, tell_bad_words, tell_fault};
-use std::io::{BufReader, BufWriter, ErrorKind, Write};
+use programs::{Kept, PlainStores, RunFault, ask, run_over, tell_bad_words, tell_fault};
+use schedule_stores::{FileStores, SqliteStores, run_over_files};
+use sqlite::Unknown;
+use std::io::{BufReader, BufWriter, ErrorKind};
 use std::process::ExitCode;
 use std::{env, io};
 
+// Each kind of stores has a function of its own: together they are too much for the check of one.
+
+/// Runs the schedule over tables in ordered maps. The answer is the status.
+fn run_in_maps(rt: HostRuntime) -> io::Result<u8> {
+    let mut input = BufReader::new(rt.alloc(), rt.reader())?;
+    let mut out = BufWriter::new(rt.alloc(), io::writer(&rt))?;
+    let mut err = rt.stderr();
+    Ok(run_over(rt.alloc(), PlainStores, &mut input, &mut out, &mut err))
+}
+
+/// The same over tables of SQL in memory.
+fn run_in_sql(rt: HostRuntime) -> io::Result<u8> {
+    let mut input = BufReader::new(rt.alloc(), rt.reader())?;
+    let mut out = BufWriter::new(rt.alloc(), io::writer(&rt))?;
+    let mut err = rt.stderr();
+    Ok(run_over(rt.alloc(), SqliteStores, &mut input, &mut out, &mut err))
+}
+
+/// The same over the files of a folder. What they hold before isn't known here.
+fn run_in_files(rt: HostRuntime, folder: &str) -> io::Result<u8> {
+    let mut input = BufReader::new(rt.alloc(), rt.reader())?;
+    let mut out = BufWriter::new(rt.alloc(), io::writer(&rt))?;
+    let mut err = rt.stderr();
+    match FileStores::new(rt, folder, (Unknown, Unknown, Unknown)) {
+        Ok(stores) => Ok(run_over_files(rt.alloc(), stores, &mut input, &mut out, &mut err)),
+        Err(_) => tell_fault(&mut err, RunFault::Memory),
+    }
+}
+
 /// Runs the program over the words of its command line and the standard streams. The answer is the status. Words that
 /// aren't UTF-8 are `InvalidData`, which nothing else here is.
-fn run<E: Write>(rt: &HostRuntime, err: &mut E) -> io::Result<u8> {
-    let words: Vec<String> = env::args(rt)?.collect(rt.alloc())?;
-    let mut input = BufReader::new(rt.alloc(), rt.reader())?;
-    let mut out = BufWriter::new(rt.alloc(), io::writer(rt))?;
-    Ok(run_schedule(
+fn run(rt: HostRuntime) -> io::Result<u8> {
+    let words: Vec<String> = env::args(&rt)?.collect(rt.alloc())?;
+    match ask(
         rt.alloc(),
-        PlainStores,
         words.as_slice(),
-        &mut input,
-        &mut out,
-        err,
-    ))
+        &mut rt.stdout(),
+        &mut rt.stderr(),
+    ) {
+        Ok(Kept::Plain) => run_in_maps(rt),
+        Ok(Kept::Sqlite) => run_in_sql(rt),
+        Ok(Kept::Files(folder)) => run_in_files(rt, folder),
+        Err(status) => Ok(status),
+    }
 }
 
 fn main(rt: HostRuntime) -> io::Result<ExitCode> {
-    let mut err = rt.stderr();
-    let status = match run(&rt, &mut err) {
+    let status = match run(rt) {
         Err(error) if error.kind() == ErrorKind::OutOfMemory => {
-            tell_fault(&mut err, RunFault::Memory)?
+            tell_fault(&mut rt.stderr(), RunFault::Memory)?
         }
-        Err(error) if error.kind() == ErrorKind::InvalidData => tell_bad_words(&mut err)?,
+        Err(error) if error.kind() == ErrorKind::InvalidData => tell_bad_words(&mut rt.stderr())?,
         answer => answer?,
     };
     Ok(ExitCode::from(status))

@@ -4,7 +4,7 @@ use Rattle.std.proofs.Math.Logic.{∥∥₁_map}
 use Rattle.keep.specs.Seen.{Seen}
 use Rattle.schedule_text.specs.declared.event.Event.{Event}
 use Rattle.schedule_text.specs.declared.outcome.Outcome.{Outcome}
-use Rattle.laws_stores.specs.Sight.{AllTables, OrderTables, StockTables, AccountTables}
+use Rattle.laws_stores.specs.Sight.{AllTables, Sight, OrderTables, StockTables, AccountTables}
 use Rattle.schedule_runner.specs.Good.{StaysGood, Agrees}
 use Rattle.schedule_runner.specs.Passing.{Passed}
 use Rattle.schedule_runner.specs.Paths.{IsPath, Makes}
@@ -13,7 +13,12 @@ use Rattle.schedule_runner.specs.Sight.{StaysClean, StaysMatching}
 use Rattle.schedule_runner.specs.Told.{Told}
 use Rattle.schedule_runner.specs.declared.world.World.{World}
 use Rattle.schedule_runner.proofs.Righting.{opened_good}
+use Rattle.programs.specs.Opened.{AreNew, AreOpened, AreLeftBy}
 use Rattle.programs.specs.Runs.{IsBeginning, HasRun}
+
+-- a stop of stores that were opened leaves what it may leave of them
+pub opened_so : (s : Sight) → AreNew s → AreOpened (AreLeftBy s) s
+opened_so s new = record { new = new; found = λ clean t may. (clean, may) }
 
 -- what is appended to nothing is all
 pub all_appended : {E : Type 0} (Made : List Event → List Outcome → Type 0) (events : List Event)
@@ -51,3 +56,43 @@ module _ {KO KS KA : Type 0} (orders : KO → Seen OrderTables) (stocks : KS →
           told = λ t may. ∥∥₁_map (told now start.matching t may) (λ led. (led.before, led.was, led.leads));
         };
   }
+
+-- what is known of the tables that are found may be said otherwise
+module _ {KO KS KA : Type 0} (orders : KO → Seen OrderTables) (stocks : KS → Seen StockTables)
+    (accounts : KA → Seen AccountTables) (Found More : AllTables → Type 0) (leads : (t : AllTables) → Found t → More t)
+  where
+    begins_as : (world : World KO KS KA) → IsBeginning orders stocks accounts Found world
+        → IsBeginning orders stocks accounts More world
+    begins_as world began = record {
+      stores = record { new = began.stores.new; found = λ clean t may. leads t (began.stores.found clean t may) };
+      purchasing = began.purchasing;
+      warehouse = began.warehouse;
+      billing = began.billing;
+      mail = began.mail;
+    }
+
+    pub run_as : (events : List Event) (outcomes : List Outcome) → HasRun orders stocks accounts Found events outcomes
+        → HasRun orders stocks accounts More events outcomes
+    run_as events outcomes run = record {
+      first = run.first;
+      last = run.last;
+      began = begins_as run.first run.began;
+      passed = run.passed;
+      clean = run.clean;
+      ended = run.ended;
+    }
+
+module _ {KO KS KA : Type 0} (orders : KO → Seen OrderTables) (stocks : KS → Seen StockTables)
+    (accounts : KA → Seen AccountTables) (Found : AllTables → Type 0) where
+  -- a world over stores that were opened begins with what is found in them
+  pub begins_found : (s : Sight) (world : World KO KS KA) → AreOpened Found s
+      → IsBeginning orders stocks accounts (AreLeftBy s) world
+      → IsBeginning orders stocks accounts Found world
+  begins_found s world opened =
+      begins_as orders stocks accounts (AreLeftBy s) Found (λ t left. opened.found left.0 t left.1) world
+
+  pub run_found : (s : Sight) → AreOpened Found s → (events : List Event) (outcomes : List Outcome)
+      → HasRun orders stocks accounts (AreLeftBy s) events outcomes
+      → HasRun orders stocks accounts Found events outcomes
+  run_found s opened =
+      run_as orders stocks accounts (AreLeftBy s) Found (λ t left. opened.found left.0 t left.1)

@@ -1,16 +1,19 @@
 -- Examples: how a run of a text ends, in what its writers hold then and in its status, and what the words of the
 -- command line come to.
-use Rattle.std.proofs.Common.{◌≡◌, List, [], ◌∷◌, ◌++◌, ℕ, true, false, refl, sym, subst, ◌∙◌, ap, inl, inr, get_or}
+use Rattle.std.proofs.Common.{◌≡◌, ◌≢◌, List, [], ◌∷◌, ◌++◌, ℕ, true, false, refl, sym, subst, ◌∙◌, ap, ap₂, inl, inr, get_or}
 use Rattle.std.proofs.Common.{arith}
-use Rattle.std.specs.Prelude.{codes, Some, None, Result, Ok, Err, IsOk}
+use Rattle.std.specs.Prelude.{codes, Some, None, Result, Ok, Err, IsOk, unwrap_or, map}
 use Rattle.std.specs.Fmt.{digits}
+use Rattle.std.specs.Global.{Vec}
 use Rattle.std.specs.Str.{is_utf8, chars}
 use Rattle.base.specs.Entity.{order_of}
 use Rattle.trade.specs.declared.commands.OrderCommand.TheVariants.{CancelOrder}
 use Rattle.activities.specs.declared.handler.Refusal.TheVariants.{NotOpen}
-use Rattle.clap.specs.Faults.{walk_fault, defaults_fault}
-use Rattle.clap.specs.Words.{Kinds, fault_of}
-use Rattle.clap.specs.declared.error.kind.ErrorKind.TheVariants.{DisplayHelp, DisplayVersion, UnknownArgument}
+use Rattle.clap.proofs.OnLiterals.{clap_on_literals}
+use Rattle.std.specs.Borrow.{Bor}
+use Rattle.clap.specs.Simple.{matches_of}
+use Rattle.clap.specs.Words.{Text, fault_of}
+use Rattle.clap.specs.declared.error.kind.ErrorKind.TheVariants.{DisplayHelp, DisplayVersion, InvalidValue, UnknownArgument}
 use Rattle.schedule_text.specs.declared.event.Event.{Event}
 use Rattle.schedule_text.specs.declared.event.Event.TheVariants.{Order}
 use Rattle.schedule_text.specs.declared.outcome.Outcome.TheVariants.{NotDone}
@@ -21,9 +24,12 @@ use Rattle.programs.specs.declared.fault.RunFault.TheVariants.{BadEvent, Memory,
 use Rattle.programs.specs.declared.fault.StoresFault.{StoresFault}
 use Rattle.programs.specs.declared.fault.StoresFault.TheVariants.{Purchasing, Warehouse, Billing}
 use Rattle.programs.specs.StoresFaults.{keep_fault_words}
-use Rattle.programs.specs.Ends.{Writers, lines_of, IsRunOf, IsUnread, IsRunFrom, IsEndOf, IsUntold, fault_line}
+use Rattle.programs.specs.Ends.{Writers, lines_of, AreTold, IsReadFrom, IsRunOf, IsUnread, IsRunFrom, IsEndOf, IsUntold}
+use Rattle.programs.specs.Ends.{fault_line}
 use Rattle.schedule_text.specs.declared.outcome.Outcome.{Outcome}
-use Rattle.programs.specs.Usage.{command_line, Streams, IsStatusOf, IsUsage, IsCutUsage, IsWordAnswer, IsAnswered}
+use Rattle.programs.specs.Asked.{AreKeeps, IsAskedFor, command_line}
+use Rattle.programs.specs.declared.kept.Kept.TheVariants.{Plain, Sqlite, Files}
+use Rattle.programs.specs.Usage.{IsAsked, IsStatusOf, IsUsage, IsCutUsage, IsWordAnswer}
 use Rattle.streams.specs.Written.{AppendsPart}
 
 -- a schedule of one line, which cancels an order that wasn't placed
@@ -72,6 +78,20 @@ a_beginning_is_written = (
       let first : 114 ≡ 117 = ap (λ text. get_or text 0 0) whole in omega arith,
 )
 
+-- outcomes are told, or a beginning of them; where an event wasn't made that is told as well
+outcomes_are_told : (AreTold true (NotDone NotOpen ∷ []) (Some []) (Some refused) (Ok tt))
+    × (AreTold false (NotDone NotOpen ∷ []) (Some []) (Some refused) (Err Memory))
+    × (AreTold true (NotDone NotOpen ∷ []) (Some []) (Some (codes "refu")) (Err Device))
+    × (AreTold false (NotDone NotOpen ∷ []) (Some []) (Some refused) (Ok tt) → ⊥)
+    × (AreTold true (NotDone NotOpen ∷ []) (Some []) (Some refused) (Err (BadEvent 1)) → ⊥)
+outcomes_are_told = (
+  sym refusal_is_told,
+  sym refusal_is_told,
+  subst (λ t. AppendsPart (Some []) (Some (codes "refu")) t) (sym refusal_is_told) a_beginning_is_written.0,
+  λ h. h,
+  λ h. h,
+)
+
 -- ---- whatever a run is, and for whatever faults stores fail
 module _ (Run : List Event → List Outcome → Type 0) (Fails : StoresFault → Type 0) where
   -- where the second line is faulty the first isn't run either
@@ -104,20 +124,85 @@ nothing_is_read : (IsUnread (Some refused) (Some refused) (Err Memory))
     × (IsUnread (Some []) (Some []) (Ok tt) → ⊥)
 nothing_is_read = (refl, refl, λ h. absurd (cc), λ h. h, λ h. h)
 
+-- the events of what the reader had left are read, or its faulty line is told; nothing is known where memory was refused
+schedules_are_read : (events : Vec Event) → events.items ≡ cancel ∷ []
+    → (IsReadFrom (Some cancels) (Ok events))
+    × (IsReadFrom (Some faulty) (Err (BadEvent 2)))
+    × (IsReadFrom (Some cancels) (Err (BadEvent 2)) → ⊥)
+    × (IsReadFrom (Some cancels) (Err Memory))
+schedules_are_read events is = (
+  (cancels, refl, line_is_read ∙ ap (λ es. Ok es) (sym is)),
+  (faulty, refl, second_line_is_faulty),
+  λ h. let answer = sym line_is_read ∙ ap events_of (sym h.1) ∙ h.2 in absurd (cc),
+  tt,
+)
+
 -- what the writers hold
 abbrev hold : List ℕ → List ℕ → Writers
 hold out err = record { out = Some out; err = Some err }
 
 -- ---- the words of the command line
 
--- the name alone has nothing at fault, `--help` asks for help and `--version` for the version, and there is no other
--- option
-words_have_faults : (fault_of command_line (codes "outbox-schedule" ∷ []) ≡ [])
-    × (fault_of command_line (codes "outbox-schedule" ∷ codes "--help" ∷ []) ≡ DisplayHelp ∷ [])
-    × (fault_of command_line (codes "outbox-schedule" ∷ codes "--version" ∷ []) ≡ DisplayVersion ∷ [])
-    × (fault_of command_line (codes "outbox-schedule" ∷ codes "--all" ∷ []) ≡ UnknownArgument ∷ [])
-unfolding walk_fault defaults_fault
-words_have_faults = (refl, refl, refl, refl)
+-- the program's name, and these words
+abbrev behind : List (List ℕ) → List (List ℕ)
+behind words = codes "outbox-schedule" ∷ words
+
+-- two references to these words
+two_words : (l : List (Bor Text)) → map (λ name. name.now) l ≡ codes "plain" ∷ codes "sqlite" ∷ []
+    → (a : Bor Text) × (b : Bor Text) × (l ≡ record a { now = codes "plain" } ∷ record b { now = codes "sqlite" } ∷ [])
+two_words [] h = absurd (cc)
+two_words (a ∷ []) h = absurd (cc)
+two_words (a ∷ b ∷ []) h = (
+  a,
+  b,
+  ap₂ (λ x y. record a { now = x } ∷ record b { now = y } ∷ []) (ap (λ l. get_or l 0 []) h) (ap (λ l. get_or l 1 []) h),
+)
+two_words (a ∷ b ∷ c ∷ rest) h = absurd (cc)
+
+-- the program's name alone has nothing at fault, nor has a word that may stand behind `--keep`; another has
+words_are_taken : (keeps : Bor (List (Bor Text))) → AreKeeps keeps
+    → (fault_of (command_line keeps) (behind []) ≡ [])
+    × (fault_of (command_line keeps) (behind (codes "--keep" ∷ codes "sqlite" ∷ codes "--dir" ∷ codes "d" ∷ [])) ≡ [])
+    × (fault_of (command_line keeps) (behind (codes "--keep" ∷ codes "all" ∷ [])) ≡ InvalidValue ∷ [])
+unfolding clap_on_literals
+words_are_taken keeps are =
+    let is = (two_words keeps.now are).2 in (
+      subst (λ l. fault_of (command_line (record keeps { now = l })) (behind []) ≡ []) (sym is) refl,
+      subst (λ l. fault_of (command_line (record keeps { now = l }))
+          (behind (codes "--keep" ∷ codes "sqlite" ∷ codes "--dir" ∷ codes "d" ∷ [])) ≡ []) (sym is) refl,
+      subst (λ l. fault_of (command_line (record keeps { now = l })) (behind (codes "--keep" ∷ codes "all" ∷ []))
+          ≡ InvalidValue ∷ []) (sym is) refl,
+    )
+
+-- whatever refers to them
+module _ (keeps : Bor (List (Bor Text))) where
+  -- `--help` asks for help and `--version` for the version, and there is no other option but `--keep` and `--dir`
+  words_have_faults : (fault_of (command_line keeps) (behind (codes "--help" ∷ [])) ≡ DisplayHelp ∷ [])
+      × (fault_of (command_line keeps) (behind (codes "--version" ∷ [])) ≡ DisplayVersion ∷ [])
+      × (fault_of (command_line keeps) (behind (codes "--all" ∷ [])) ≡ UnknownArgument ∷ [])
+  unfolding clap_on_literals
+  words_have_faults = (refl, refl, refl)
+
+  -- a word that begins otherwise isn't `sqlite`
+  not_sqlite : (word : List ℕ) → get_or word 0 0 ≢ 115 → Some word ≡ Some (codes "sqlite") → ⊥
+  not_sqlite word other same = other (ap (λ o. get_or (unwrap_or o []) 0 0) same)
+
+  -- no words ask for ordered maps, `--keep sqlite` for SQL in memory, and with `--dir` for files; that alone asks for none
+  words_ask : (folder : Bor Text) → folder.now ≡ codes "d"
+      → IsAskedFor (matches_of (command_line keeps) (behind [])) Plain
+      × IsAskedFor (matches_of (command_line keeps) (behind (codes "--keep" ∷ codes "sqlite" ∷ []))) Sqlite
+      × IsAskedFor (matches_of (command_line keeps) (behind (codes "--keep=sqlite" ∷ codes "--dir" ∷ codes "d" ∷ [])))
+      (Files folder)
+      × IsAskedFor (matches_of (command_line keeps) (behind (codes "--dir" ∷ codes "d" ∷ []))) Plain
+      × (IsAskedFor (matches_of (command_line keeps) (behind (codes "--keep" ∷ codes "sqlite" ∷ []))) Plain → ⊥)
+  unfolding clap_on_literals
+  words_ask folder is = (
+    not_sqlite (codes "plain") (omega arith),
+    (refl, refl),
+    (refl, ap (λ t. Some t) (sym is)),
+    not_sqlite (codes "plain") (omega arith),
+    λ h. h refl,
+  )
 
 -- help and the version have status 0, and `err` is as it was; a fault of usage has status 2, and `out` is as it was
 help_is_told : (IsUsage DisplayHelp (hold [] []) (hold (codes "Runs\n") []) 0)
@@ -157,14 +242,6 @@ words_are_answered = (
   inr (refl, refl, record { part = fault_line Memory; rest = []; whole = refl; appended = refl }),
   λ h. elim h [ inl told ↦ told.1 | inr memory ↦ let status = memory.0 in absurd (cc) ],
 )
-
--- what is left to be read, and what the writers hold
-abbrev streams : List ℕ → Writers → Streams
-streams input writers = record { input = Some input; writers = writers }
-
--- the faults of these words behind the program's name
-abbrev faults_of : List (List ℕ) → Kinds
-faults_of words = fault_of command_line (codes "outbox-schedule" ∷ words)
 
 -- ---- a run of one line whose outcome is that refusal
 module _ (Run : List Event → List Outcome → Type 0) (Fails : StoresFault → Type 0)
@@ -258,18 +335,14 @@ module _ (Run : List Event → List Outcome → Type 0) (Fails : StoresFault →
       no_usage (inl (inr fault)) = let status = fault.0 in absurd (cc)
       no_usage (inr part) = let status = part.0 in absurd (cc)
 
-  -- with the name alone the schedule is run; with `--help` or `--version` it isn't, and the input is as it was
-  only_a_run_reads : IsAnswered Run Fails (faults_of []) (streams cancels (hold [] [])) (streams [] (hold refused [])) 0
-      × IsAnswered Run Fails (faults_of (codes "--help" ∷ [])) (streams cancels (hold [] []))
-      (streams cancels (hold (codes "Runs\n") [])) 0
-      × IsAnswered Run Fails (faults_of (codes "--version" ∷ [])) (streams cancels (hold [] []))
-      (streams cancels (hold (codes "outbox-schedule 0.1.0\n") [])) 0
-      × (IsAnswered Run Fails (faults_of (codes "--help" ∷ [])) (streams cancels (hold [] []))
-      (streams [] (hold (codes "Runs\n") [])) 0 → ⊥)
-  unfolding walk_fault defaults_fault
-  only_a_run_reads = (
-    inl (refl, an_end_is_told_in_part.2),
-    inr (refl, words_are_answered.0),
-    inr (refl, inl (DisplayVersion, inl refl, inl (help_is_told.2))),
-    λ h. elim h [ inl run ↦ let none = run.0 in absurd (cc) | inr told ↦ let kept = told.0 in absurd (cc) ],
+-- ---- what words come to
+module _ (keeps : Bor (List (Bor Text))) (are : AreKeeps keeps) where
+  -- `--keep sqlite` asks for SQL in memory, and nothing is told; `--help` is told, and nothing is asked for
+  words_come_to : (IsAsked (behind (codes "--keep" ∷ codes "sqlite" ∷ codes "--dir" ∷ codes "d" ∷ [])) (hold [] [])
+      (hold [] (codes "e")) (Ok Sqlite) → ⊥)
+      × (IsAsked (behind (codes "--help" ∷ [])) (hold [] []) (hold (codes "Runs\n") []) (Err 0))
+  unfolding clap_on_literals
+  words_come_to = (
+    λ h. let same = h.asks.2 in let kept = ap (λ (w : Writers). w.err) same in absurd (cc),
+    record { keeps = keeps; are = are; asks = tt; tells = (words_are_answered.0, λ no. absurd (cc)) },
   )

@@ -1,21 +1,32 @@
 -- How a schedule ends.
-use Rattle.std.proofs.Common.{◌≡◌, ◌⊎◌, ℕ, List, length, take, Option, Result, Ok, Err, inl, inr, refl, sym, subst, ◌∙◌}
-use Rattle.std.specs.Prelude.{IfSome, IfOk, OnErr, MatchResult}
+use Rattle.std.proofs.Common.{◌≡◌, ◌⊎◌, ℕ, Bool, true, false, List, length, take, Option, Result, Ok, Err, inl, inr}
+use Rattle.std.proofs.Common.{refl, sym, ap, subst, ◌∙◌}
+use Rattle.std.proofs.Math.Seq.{take-length}
+use Rattle.std.specs.Prelude.{if◌then◌else◌, IfSome, IfOk, IsOk, OnErr, MatchResult}
 use Rattle.std.specs.Global.{Vec}
 use Rattle.std.specs.Io.KnownBytes.{Appends}
 use Rattle.schedule_text.specs.declared.event.Event.{Event}
 use Rattle.schedule_text.specs.declared.outcome.Outcome.{Outcome}
 use Rattle.schedule_text.specs.declared.fault.ScheduleFault.{ScheduleFault}
 use Rattle.schedule_text.specs.declared.fault.ScheduleFault.TheVariants as read
+use Rattle.std.specs.Borrow.{Bor}
+use Rattle.clap.specs.Words.{HasKind, IsAmong, Kinds, Text, fault_of, kind_of}
+use Rattle.clap.specs.declared.error.Error as clap
+use Rattle.clap.specs.declared.error.kind.ErrorKind.{ErrorKind}
+use Rattle.clap.specs.declared.error.kind.ErrorKind.TheVariants.{OutOfMemory}
+use Rattle.programs.specs.Asked.{AreKeeps, IsReadAs, command_line}
+use Rattle.programs.specs.declared.kept.Kept.{Kept}
+use Rattle.command_line.specs.Usage.{is_request, status_of}
 use Rattle.programs.specs.declared.fault.RunFault.{RunFault}
-use Rattle.programs.specs.declared.fault.RunFault.TheVariants.{Memory, Device}
+use Rattle.programs.specs.declared.fault.RunFault.TheVariants.{BadEvent, Memory, Device, Unopened}
 use Rattle.programs.specs.declared.fault.StoresFault.{StoresFault}
 use Rattle.programs.specs.RunFaults.{run_fault_of}
 use Rattle.schedule_text.specs.Events.{events_of}
 use Rattle.schedule_text.specs.Faults.{IsRead}
-use Rattle.programs.specs.Ends.{fault_line, lines_of, IsRunOf, IsRunFrom}
+use Rattle.programs.specs.Ends.{Writers, fault_line, AreTold, IsReadFrom, IsRunOf, IsRunFrom, IsEndOf, IsUntold}
 use Rattle.streams.specs.Written.{AppendsPart}
-use Rattle.programs.specs.Usage.{IsStatusOf}
+use Rattle.streams.proofs.Writes.{part_whole}
+use Rattle.programs.specs.Usage.{IsAsked, IsStatusOf, IsRefused, IsUsage, IsCutUsage, IsWordAnswer}
 use Rattle.std.specs.declared.io.Error.{Error}
 
 module _ (Run : List Event → List Outcome → Type 0) (Fails : StoresFault → Type 0) where
@@ -25,13 +36,28 @@ module _ (Run : List Event → List Outcome → Type 0) (Fails : StoresFault →
   unread text out (read.BadEvent number) told = (told, refl)
   unread text out read.Memory told = inl refl
 
-  -- memory was refused behind some of the events, and their outcomes are written
-  pub ran_part : (text : List ℕ) (events : Vec Event) (outcomes : List Outcome) (out out' : Option (List ℕ))
-      → IsRead (events_of text) (Ok events) → Run (take (length outcomes) events.items) outcomes
-      → Appends out out' (lines_of outcomes)
-      → IsRunOf Run Fails text out out' (Err Memory)
-  ran_part text events outcomes out out' read begun writes =
-      inr (outcomes, record { events = events.items; read = read; ran = begun }, writes)
+  -- the outcomes of events that were read are told
+  pub run_told : (text : List ℕ) (events : List Event) (outcomes : List Outcome) (whole : Bool)
+      (out out' : Option (List ℕ)) (r : Result Unit RunFault)
+      → events_of text ≡ Ok events → Run (take (length outcomes) events) outcomes
+      → (whole ≡ true → length outcomes ≡ length events) → AreTold whole outcomes out out' r
+      → IsRunOf Run Fails text out out' r
+  run_told text events outcomes true out out' (Ok tt) read begun all told =
+      let ran = subst (λ es. Run es outcomes) (take-length events)
+      (subst (λ n. Run (take n events) outcomes) (all refl) begun) in
+      (outcomes, record { events = events; read = read; ran = ran }, told)
+  run_told text events outcomes false out out' (Err Memory) read begun all told =
+      inr (outcomes, record { events = events; read = read; ran = begun }, told)
+  run_told text events outcomes true out out' (Err Device) read begun all told =
+      (outcomes, record { events = events; read = read; ran = begun }, told)
+  run_told text events outcomes false out out' (Err Device) read begun all told =
+      (outcomes, record { events = events; read = read; ran = begun }, told)
+  run_told text events outcomes false out out' (Ok tt) read begun all told = elim told [ ]
+  run_told text events outcomes true out out' (Err Memory) read begun all told = elim told [ ]
+  run_told text events outcomes true out out' (Err (BadEvent number)) read begun all told = elim told [ ]
+  run_told text events outcomes false out out' (Err (BadEvent number)) read begun all told = elim told [ ]
+  run_told text events outcomes true out out' (Err (Unopened fault)) read begun all told = elim told [ ]
+  run_told text events outcomes false out out' (Err (Unopened fault)) read begun all told = elim told [ ]
 
   -- a run of the text that was read is one of what the reader had left
   pub from_text : (input : Option (List ℕ)) (text : List ℕ) (out out' : Option (List ℕ)) (r : Result Unit RunFault)
@@ -46,12 +72,99 @@ module _ (Run : List Event → List Outcome → Type 0) (Fails : StoresFault →
   from_nothing input out fault (inr is) =
       subst (λ (f : RunFault). IsRunFrom Run Fails input out out (Err f)) (sym is) (inr refl)
 
-  -- the status where nothing was run for want of memory
-  pub memory_status : (input out err err' : Option (List ℕ)) (r : Result ℕ Error) (status : ℕ)
-      → MatchResult r (λ s. status ≡ s) (λ _. status ≡ 1)
-      → IfOk r (λ s. (s ≡ 1) × Appends err err' (fault_line Memory))
-      → OnErr r (AppendsPart err err' (fault_line Memory))
-      → IsStatusOf Run Fails input (record { out = out; err = err }) (record { out = out; err = err' }) status
-  memory_status input out err err' (Ok s) status is told untold =
-      inl (inr (is ∙ told.0, Memory, inr refl, told.1))
-  memory_status input out err err' (Err e) status is told untold = inr (is, (Memory, inr refl, untold))
+  -- the status of a run that ended, or whose fault couldn't be told
+  pub run_status : (input : Option (List ℕ)) (old new : Writers) (r : Result ℕ Error) (status : ℕ)
+      → MatchResult r (λ s. status ≡ s) (λ _. status ≡ 1) → IfOk r (λ s. IsEndOf Run Fails input old new s)
+      → OnErr r (IsUntold Run Fails input old new)
+      → IsStatusOf Run Fails input old new status
+  run_status input old new (Ok s) status is ended untold =
+      inl (subst (λ n. IsEndOf Run Fails input old new n) (sym is) ended)
+  run_status input old new (Err e) status is ended untold = inr (is, untold)
+
+  -- the status where a fault is told
+  pub told_status : (input : Option (List ℕ)) (old new : Writers) (fault : RunFault) (r : Result ℕ Error) (status : ℕ)
+      → MatchResult r (λ s. status ≡ s) (λ _. status ≡ 1) → IsRunFrom Run Fails input old.out new.out (Err fault)
+      → IfOk r (λ s. (s ≡ 1) × Appends old.err new.err (fault_line fault))
+      → OnErr r (AppendsPart old.err new.err (fault_line fault))
+      → IsStatusOf Run Fails input old new status
+  told_status input old new fault (Ok s) status is ran told untold = inl (inr (is ∙ told.0, fault, ran, told.1))
+  told_status input old new fault (Err e) status is ran told untold = inr (is, (fault, ran, untold))
+
+  -- the outcomes of what the reader had left are told
+  pub from_events : (input : Option (List ℕ)) (events : Vec Event) (outcomes : List Outcome) (whole : Bool)
+      (out out' : Option (List ℕ)) (r : Result Unit RunFault)
+      → IsReadFrom input (Ok events) → Run (take (length outcomes) events.items) outcomes
+      → (whole ≡ true → length outcomes ≡ length events.items) → AreTold whole outcomes out out' r
+      → IsRunFrom Run Fails input out out' r
+  from_events input events outcomes whole out out' r read begun all told =
+      inl (read.0, read.1, run_told read.0 events.items outcomes whole out out' r read.2 begun all told)
+
+  -- no events were read
+  pub from_no_events : (input out : Option (List ℕ)) (fault : RunFault) → IsReadFrom input (Err fault)
+      → IsRunFrom Run Fails input out out (Err fault)
+  from_no_events input out (BadEvent number) read = inl (read.0, read.1, (read.2, refl))
+  from_no_events input out Memory read = inr refl
+  from_no_events input out Device read = inr refl
+  from_no_events input out (Unopened fault) read = elim read [ ]
+
+  -- a store couldn't be opened for the events that were read
+  pub from_unopened : (input : Option (List ℕ)) (events : Vec Event) (out : Option (List ℕ)) (fault : StoresFault)
+      → IsReadFrom input (Ok events) → Fails fault → IsRunFrom Run Fails input out out (Err (Unopened fault))
+  from_unopened input events out fault read fails =
+      inl (read.0, read.1, (subst (λ (r : Result (List Event) ℕ). IsOk r) (sym read.2) refl, fails, refl))
+
+-- memory was refused over the words
+pub refused_status : (old new : Writers) (r : Result ℕ Error) (status : ℕ)
+    → MatchResult r (λ s. status ≡ s) (λ _. status ≡ 1) → new.out ≡ old.out
+    → IfOk r (λ s. (s ≡ 1) × Appends old.err new.err (fault_line Memory))
+    → OnErr r (AppendsPart old.err new.err (fault_line Memory))
+    → IsRefused old new status
+refused_status old new (Ok s) status is same told untold =
+    (is ∙ told.0, same, part_whole old.err new.err (fault_line Memory) told.1)
+refused_status old new (Err e) status is same told untold = (is, same, untold)
+
+-- what `clap` says of the words is told
+pub words_status : (kinds : Kinds) (kind : ErrorKind) (old new : Writers) (r : Result ℕ Error) (status : ℕ)
+    → IsAmong kind kinds → MatchResult r (λ s. status ≡ s) (λ _. status ≡ 1) → IfOk r (λ s. s ≡ status_of kind)
+    → (is_request kind ≡ true → new.err ≡ old.err) → (is_request kind ≡ false → new.out ≡ old.out)
+    → IsWordAnswer kinds old new status
+words_status kinds kind old new r status among is told request fault = inl (kind, among, go (is_request kind) refl r is told)
+  where
+    go : (b : Bool) → is_request kind ≡ b → (r : Result ℕ Error) → MatchResult r (λ s. status ≡ s) (λ _. status ≡ 1)
+        → IfOk r (λ s. s ≡ status_of kind)
+        → IsUsage kind old new status ⊎ ((status ≡ 1) × IsCutUsage kind old new)
+    go true asked (Ok s) is told =
+        inl (inl (asked, is ∙ told ∙ ap (λ b. if b then 0 else 2) asked, request asked))
+    go false asked (Ok s) is told =
+        inl (inr (asked, is ∙ told ∙ ap (λ b. if b then 0 else 2) asked, fault asked))
+    go true asked (Err e) is told = inr (is, inl (asked, request asked))
+    go false asked (Err e) is told = inr (is, inr (asked, fault asked))
+
+-- ---- what the words come to
+module _ (keeps : Bor (List (Bor Text))) (are : AreKeeps keeps) (said : List Text) (old new : Writers) where
+  pub asked : (kept : Kept) → IsReadAs keeps said (Ok kept) → new ≡ old → IsAsked said old new (Ok kept)
+  asked kept read same =
+      record { keeps = keeps; are = are; asks = (read.fails, read.asked, same); tells = tt }
+
+  pub refused : (e : clap.Error) → IsReadAs keeps said (Err e) → (status : ℕ) → IsRefused old new status
+      → IsAsked said old new (Err status)
+  refused e read status memory =
+      record { keeps = keeps; are = are; asks = tt; tells = (inr memory, λ _. memory) }
+
+  pub told : (e : clap.Error) → IsReadAs keeps said (Err e) → (kind_of e ≡ OutOfMemory → ⊥) → (status : ℕ)
+      → (r : Result ℕ Error) → MatchResult r (λ s. status ≡ s) (λ _. status ≡ 1)
+      → IfOk r (λ s. s ≡ status_of (kind_of e))
+      → (is_request (kind_of e) ≡ true → new.err ≡ old.err) → (is_request (kind_of e) ≡ false → new.out ≡ old.out)
+      → IsAsked said old new (Err status)
+  told e read no_refusal status r is say request fault = record {
+    keeps = keeps;
+    are = are;
+    asks = tt;
+    tells = (among read.fails, λ takes. absurd (no_refusal (read.taken takes)));
+  }
+    where
+      among : HasKind (fault_of (command_line keeps) said) e
+          → IsWordAnswer (fault_of (command_line keeps) said) old new status
+      among (inl refused) = absurd (no_refusal refused)
+      among (inr kind) =
+          words_status (fault_of (command_line keeps) said) (kind_of e) old new r status kind is say request fault

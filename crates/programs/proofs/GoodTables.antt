@@ -72,7 +72,7 @@ module _ {KO KS KA : Type 0} (orders : KO → Seen OrderTables) (stocks : KS →
         → (now : AllTables) × MayLeave (sight orders stocks accounts run.first) now
     opened_stays Found events outcomes run clean =
         let s = sight orders stocks accounts run.first in
-        let opened = run.began.stores in
+        let opened = run.began.stores.new in
         let o = sound_through orders run.first.purchasing.endpoint (order_sound run.first.purchasing.endpoint.keep) in
         let k = sound_through stocks run.first.warehouse.endpoint (stock_sound run.first.warehouse.endpoint.keep) in
         let a = sound_through accounts run.first.billing.endpoint (account_sound run.first.billing.endpoint.keep) in (

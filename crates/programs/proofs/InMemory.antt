@@ -39,9 +39,11 @@ pub opened_empty : (o : PlainKeep Orders (Option OrderState) OrderCommand)
     → tables_of o ≡ empty → tables_of s ≡ empty → tables_of a ≡ empty
     → AreOpened (λ t. t ≡ all_empty) (record { purchasing = plain o; warehouse = plain s; billing = plain a })
 opened_empty o s a one two three = record {
-  purchasing = record { usable = refl; failures = refl; armed = refl };
-  warehouse = record { usable = refl; failures = refl; armed = refl };
-  billing = record { usable = refl; failures = refl; armed = refl };
+  new = record {
+    purchasing = record { usable = refl; failures = refl; armed = refl };
+    warehouse = record { usable = refl; failures = refl; armed = refl };
+    billing = record { usable = refl; failures = refl; armed = refl };
+  };
   found = λ clean t may. joined t all_empty (may.purchasing ∙ one) (may.warehouse ∙ two) (may.billing ∙ three);
 }
 

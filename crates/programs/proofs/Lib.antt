@@ -2,5 +2,6 @@ pub mod Beginnings
 pub mod GoodTables
 pub mod InMemory
 pub mod Endings
+pub mod Matches
 pub mod Examples
 pub mod EndExamples

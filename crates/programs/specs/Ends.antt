@@ -1,6 +1,7 @@
 -- How a whole schedule ends.
-use Rattle.std.specs.Prelude.{◌≡◌, ◌⊎◌, ℕ, List, ◌++◌, length, take, codes, decimal, Option, Result, Ok, Err, IfSome}
+use Rattle.std.specs.Prelude.{◌≡◌, ◌⊎◌, ℕ, Bool, true, false, List, ◌++◌, length, take, codes, decimal, Option, Result, Ok, Err, IfSome, ⊤}
 use Rattle.std.specs.Prelude.{IsOk}
+use Rattle.std.specs.Global.{Vec}
 use Rattle.std.specs.List.{flat_map}
 use Rattle.std.specs.Io.KnownBytes.{Appends}
 use Rattle.schedule_text.specs.declared.event.Event.{Event}
@@ -34,6 +35,25 @@ abbrev pub IsUnread : Option (List ℕ) → Option (List ℕ) → Result Unit Ru
 IsUnread old new (Err Memory) = new ≡ old
 IsUnread old new (Err Device) = new ≡ old
 IsUnread old new _ = ⊥
+
+-- What reading a schedule answers: the events of the text that the reader had left, where that is known; or the number
+-- of its first faulty line; or nothing was read, for want of memory or since the reader failed.
+abbrev pub IsReadFrom : Option (List ℕ) → Result (Vec Event) RunFault → Type 0
+IsReadFrom input (Ok events) =
+    (text : List ℕ) × IfSome input (λ xs. text ≡ xs) × (events_of text ≡ Ok events.items)
+IsReadFrom input (Err (BadEvent number)) =
+    (text : List ℕ) × IfSome input (λ xs. text ≡ xs) × (events_of text ≡ Err number)
+IsReadFrom input (Err Memory) = ⊤
+IsReadFrom input (Err Device) = ⊤
+IsReadFrom input (Err (Unopened fault)) = ⊥
+
+-- What telling outcomes answers, over the known octets of the writer before it and after it, where all events were made,
+-- or memory was refused before one of them: all is written; or the writer failed, and took a beginning.
+abbrev pub AreTold : Bool → List Outcome → Option (List ℕ) → Option (List ℕ) → Result Unit RunFault → Type 0
+AreTold true outcomes old new (Ok _) = Appends old new (lines_of outcomes)
+AreTold false outcomes old new (Err Memory) = Appends old new (lines_of outcomes)
+AreTold whole outcomes old new (Err Device) = AppendsPart old new (lines_of outcomes)
+AreTold whole outcomes old new _ = ⊥
 
 -- `Run` says that events were made, with these outcomes
 module _ (Run : List Event → List Outcome → Type 0) where

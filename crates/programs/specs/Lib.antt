@@ -6,4 +6,5 @@ pub mod GoodTables
 pub mod InMemory
 pub mod Written
 pub mod Ends
+pub mod Asked
 pub mod Usage

@@ -17,6 +17,7 @@
 #![tactic(auto)]
 
 mod fault;
+mod kept;
 mod laws;
 mod running;
 mod schedule;
@@ -25,8 +26,9 @@ mod words;
 mod writing;
 
 pub use fault::{RunFault, StoresFault};
+pub use kept::Kept;
 pub use laws::{a_run_goes_on, a_run_in_memory_ends_well};
-pub use running::open_world;
-pub use schedule::{run_input, run_text, tell_fault};
+pub use running::{Made, make_events, open_world};
+pub use schedule::{read_events, run_input, run_text, tell_fault, write_made};
 pub use stores::{PlainStores, Stores};
-pub use words::{run_schedule, tell_bad_words};
+pub use words::{ask, run_over, tell_bad_words};

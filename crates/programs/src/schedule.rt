@@ -2,19 +2,34 @@
 
 ghost use Rattle.std.specs.Prelude.{◌≡◌, ◌⊎◌, OnOk, OnErr, IfOk, MatchResult, IfSome};
 ghost use Rattle.std.specs.Io.KnownBytes.{Appends};
-ghost use Rattle.programs.specs.Ends.{fault_line, IsRunOf, IsRunFrom, IsEndOf, IsUntold};
+ghost use Rattle.programs.specs.Ends.{fault_line, AreTold, IsReadFrom, IsRunOf, IsRunFrom, IsEndOf, IsUntold};
 ghost use Rattle.programs.specs.Runs.{HasRun};
 ghost use Rattle.streams.specs.Written.{AppendsPart};
 
 use crate::fault::RunFault;
-use crate::running::{open_world, run_events};
+use crate::running::{Made, make_events};
 use crate::stores::Stores;
 use crate::writing::{write_numbered, write_outcomes};
-use schedule_text::read_schedule;
+use schedule_text::{Event, read_schedule};
 use std::alloc::Global;
 use std::io;
 use std::io::{ErrorKind, Read, Write};
 use streams::{write_octets, write_three};
+
+/// Writes the outcomes of events.
+///
+/// # Errors
+/// `Memory` where not all of the events were made: what was is told. `Device` where `out` failed: it took a beginning of
+/// what is told.
+pub fn write_made<W: Write>(out: &mut W, made: &Made) -> Result<(), RunFault>
+    ensures { AreTold made.now.is_whole made.now.outcomes.items (W.contents out.old) (W.contents out.new) result }
+{
+    match write_outcomes(out, made.outcomes.as_slice()) {
+        Ok(()) if made.is_whole => Ok(()),
+        Ok(()) => Err(RunFault::Memory),
+        Err(_) => Err(RunFault::Device),
+    }
+}
 
 /// Reads a schedule from its text and runs it over these stores: nothing is opened or run before the whole of it is
 /// read, and the outcomes are written at the end.
@@ -33,16 +48,9 @@ pub fn run_text<S: Stores, W: Write>(
         (W.contents out.old) (W.contents out.new) result }
 {
     let events = read_schedule(alloc, text)?;
-    let world = open_world(alloc, stores)?;
-    let mut outcomes = Vec::new(alloc);
-    let ran = run_events::<S>(world, events.as_slice(), &mut outcomes);
-    match write_outcomes(out, outcomes.as_slice()) {
-        Ok(()) => match ran {
-            Ok(()) => Ok(()),
-            Err(_) => Err(RunFault::Memory),
-        },
-        Err(_) => Err(RunFault::Device),
-    }
+    let keeps = stores.open(alloc)?;
+    let made = make_events(alloc, keeps, events);
+    write_made(out, &made)
 }
 
 /// All that a reader gives.
@@ -56,6 +64,18 @@ fn read_all<R: Read>(alloc: Global, input: &mut R) -> Result<Vec<u8>, RunFault>
         Err(error) if error.kind() == ErrorKind::OutOfMemory => Err(RunFault::Memory),
         Err(_) => Err(RunFault::Device),
     }
+}
+
+/// Reads a schedule from `input`, for [`make_events`](crate::make_events).
+///
+/// # Errors
+/// `BadEvent` with the number of the first faulty line; `Memory` where the text or its events couldn't be held; `Device`
+/// where `input` failed.
+pub fn read_events<R: Read>(alloc: Global, input: &mut R) -> Result<Vec<Event>, RunFault>
+    ensures { IsReadFrom (R.remaining input.old) result }
+{
+    let text = read_all(alloc, input)?;
+    Ok(read_schedule(alloc, text.as_slice())?)
 }
 
 /// Writes why a schedule ended before its end.

@@ -2,7 +2,7 @@
 
 ghost use Rattle.std.specs.Prelude.{◌≡◌, IfOk, IfErr};
 ghost use Rattle.laws_stores.specs.Sight.{AllTables, all_empty};
-ghost use Rattle.programs.specs.Opened.{AreOpened};
+ghost use Rattle.programs.specs.Opened.{AreOpened, shown};
 
 use crate::fault::StoresFault;
 use billing::{Account, Accounts};
@@ -16,7 +16,7 @@ use warehouse::{Stock, Stocks};
 /// Where purchasing, warehouse and billing have their tables: in memory, or in files that may have some already.
 pub trait Stores: Drop {
     ghost use Rattle.laws_stores.specs.Sight.{AllTables};
-    ghost use Rattle.programs.specs.Opened.{AreOpened};
+    ghost use Rattle.programs.specs.Opened.{AreOpened, shown};
     ghost use Rattle.programs.specs.declared.fault.StoresFault.{StoresFault};
     ghost use Rattle.std.specs.Prelude.{IfOk, IfErr};
 
@@ -41,11 +41,8 @@ pub trait Stores: Drop {
         self,
         alloc: Global,
     ) -> Result<(Self::Orders, Self::Stocks, Self::Accounts), StoresFault>
-        ensures opened { IfOk result (λ keeps. AreOpened found (record {
-          purchasing = Self.Orders.seen keeps.0;
-          warehouse = Self.Stocks.seen keeps.1;
-          billing = Self.Accounts.seen keeps.2;
-        })) }
+        ensures opened { IfOk result (λ keeps. AreOpened found
+            (shown Self.Orders.seen Self.Stocks.seen Self.Accounts.seen keeps)) }
         ensures unopened { IfErr result fails };
 }
 

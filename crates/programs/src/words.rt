@@ -1,26 +1,31 @@
 //! The words of the command lines.
 
-ghost use Rattle.std.specs.Prelude.{◌≡◌, true, map, IfOk, IfErr, OnErr, MatchResult};
+ghost use Rattle.std.specs.Prelude.{◌≡◌, map, IfOk, OnErr, MatchResult};
 ghost use Rattle.std.specs.Io.KnownBytes.{Appends};
-ghost use Rattle.clap.specs.Words.{FailsBy, fault_of, kind_of, takes};
+ghost use Rattle.clap.specs.Words.{app_of, found_of, rows_of};
 ghost use Rattle.command_line.specs.Usage.{bad_words_text};
+ghost use Rattle.programs.specs.Asked.{command_line, IsAskedFor, IsReadAs};
 ghost use Rattle.programs.specs.Runs.{HasRun};
-ghost use Rattle.programs.specs.Usage.{command_line, IsStatusOf, IsAnswered};
+ghost use Rattle.programs.specs.Usage.{IsAsked, IsStatusOf};
 ghost use Rattle.streams.specs.Written.{AppendsPart};
 
 use crate::fault::RunFault;
+use crate::kept::Kept;
 use crate::schedule::{run_input, tell_fault};
 use crate::stores::Stores;
 use clap::error::ErrorKind;
-use clap::{Command, Error};
+use clap::{Arg, ArgAction, ArgMatches, Command, Error};
 use command_line::tell_words;
-use std::alloc::Global;
+use std::alloc::{AllocError, Global};
 use std::convert::AsStr;
 use std::io;
 use std::io::{Read, Write};
 
 /// How the program is called.
-const USAGE: &str = "outbox-schedule < SCHEDULE";
+const USAGE: &str = "outbox-schedule [--keep plain|sqlite] [--dir PATH] < SCHEDULE";
+
+/// What may stand behind `--keep`.
+const KEEPS: &[&str] = &["plain", "sqlite"];
 
 /// What `--version` tells behind the program's name.
 const VERSION: &str = "0.1.0";
@@ -58,7 +63,8 @@ Lines of a schedule:
 
 SERVICE is purchasing, warehouse or billing, CONN is 0 or 1, SEAT is 0 to 15. A key has 1 to 64
 octets, with \\s for a space, \\n for LF, \\r for CR and \\\\ for a backslash. Empty lines and lines that
-begin with # are passed over. The services begin with empty tables, which end with the run.
+begin with # are passed over. The services begin with empty tables, which end with the run; with
+`--keep sqlite --dir PATH` they begin with those that an earlier run left there.
 
 What a line is answered, where nothing is shown:
   committed POS, handled POS             taken in, at this position of the journal
@@ -83,26 +89,65 @@ What a line is answered, where nothing is shown:
 Exit status:
   0  each line was run, whether it was refused or not
   1  `line N: bad event`: line N is the first that is none of the above, and nothing was run;
+     `fault N NAME: SERVICE`: its file can't be opened, and nothing was run: 1 Failed, 2 Memory,
+     3 WrongFile, which is none of this service, or of another version;
      `fault 81 Memory`: the schedule or its outcomes couldn't be held, and what was run is told;
      `fault 2 Device`: a stream failed
   2  the words of the command line are at fault";
 
-/// Reads the words of the command line, the program's name first; there are no options but `--help` and
-/// `--version`.
-fn read_words<T: AsStr>(alloc: Global, words: &[T]) -> Result<(), Error>
-    ensures takes { IfErr result (λ e. takes command_line (map T.text words.now) ≡ true
-        → kind_of e ≡ ErrorKind.OutOfMemory) }
-    ensures fails { FailsBy (fault_of command_line (map T.text words.now)) result }
+/// The command line, as `clap` has it, where `--keep` takes one of these words.
+fn make_command<'a>(alloc: Global, keeps: &'a [&'a str]) -> Result<Command<'a>, AllocError>
+    ensures { IfOk result (λ command. app_of command ≡ command_line keeps.entry) }
 {
+    let keep = Arg::new(alloc, "keep")
+        .long("keep")
+        .action(ArgAction::Set)
+        .value_name("STORE")
+        .default_value("plain")
+        .help("Where the tables are kept: in ordered maps, or in SQL")
+        .value_parser(keeps);
+    let dir = Arg::new(alloc, "dir")
+        .long("dir")
+        .action(ArgAction::Set)
+        .value_name("PATH")
+        .help("With `--keep sqlite`: in this folder, in three files that SQLite reads");
     let command = Command::new(alloc, "outbox-schedule")
         .version(VERSION)
         .about(
             "Runs a schedule of events over three services and a broker, and prints the outcome of each line.",
         )
         .override_usage(USAGE)
-        .after_help(LINES);
+        .after_help(LINES)
+        .arg(keep)?
+        .arg(dir)?;
+    Ok(command)
+}
+
+/// Which stores the words ask for, whose matches these are.
+fn kept_by<'a>(matches: &ArgMatches<'a>) -> Kept<'a>
+    ensures { IsAskedFor (rows_of (found_of matches.now)) result }
+{
+    match matches.get_str("keep") {
+        Some(name) if name == "sqlite" => match matches.get_str("dir") {
+            Some(folder) => Kept::Files(folder),
+            None => Kept::Sqlite,
+        },
+        _ => Kept::Plain,
+    }
+}
+
+/// Reads the words of the command line, the program's name first: which stores they ask for, where `--keep` takes one
+/// of these words.
+fn read_words<'a, T: AsStr>(
+    alloc: Global,
+    words: &'a [T],
+    keeps: &'a [&'a str],
+) -> Result<Kept<'a>, Error>
+    ensures { IsReadAs keeps.entry (map T.text words.now) result }
+{
+    let command: Command<'a> = make_command(alloc, keeps)?;
     match command.try_get_matches_from(words) {
-        Ok(_) => Ok(()),
+        Ok(matches) => Ok(kept_by(&matches)),
         Err(error) => Err(error),
     }
 }
@@ -126,43 +171,42 @@ fn status_of(answer: io::Result<u8>) -> u8
     answer.unwrap_or(1)
 }
 
-/// The program `outbox-schedule`: reads the words of its command line, the program's name first, and a schedule from
-/// `input`, runs it over these stores, and writes the outcome of each line to `out`.
+/// Reads the words of the command line of `outbox-schedule`, the program's name first: which stores they ask for.
 ///
-/// The answer is the status: 0, 2 for a fault of usage, which is told on `err` as `clap` words it, and 1 for another
-/// fault, which is told on `err` too. With words that the command line takes it ends as `run_input` says, or with 1
-/// where memory was refused over the words or `err` failed. With others nothing is run: `input` isn't read. Help and
-/// the version are told on `out`, with status 0.
-pub fn run_schedule<S: Stores, T: AsStr, R: Read, W: Write, E: Write>(
+/// # Errors
+/// The status, where they ask for no run: help and the version were told on `out`, 0; a fault of usage on `err`, as
+/// `clap` words it, 2; or want of memory, 1. It's 1 too where the stream failed on which it was told.
+pub fn ask<'a, T: AsStr, W: Write, E: Write>(
+    alloc: Global,
+    words: &'a [T],
+    out: &mut W,
+    err: &mut E,
+) -> Result<Kept<'a>, u8>
+    ensures { IsAsked (map T.text words.now) (record { out = W.contents out.old; err = E.contents err.old })
+        (record { out = W.contents out.new; err = E.contents err.new }) result }
+{
+    let error = match read_words(alloc, words, KEEPS) {
+        Ok(kept) => return Ok(kept),
+        Err(error) => error,
+    };
+    if error.kind() == ErrorKind::OutOfMemory {
+        return Err(status_of(tell_fault(err, RunFault::Memory)));
+    }
+    Err(status_of(tell_words(out, err, &error)))
+}
+
+/// Reads a schedule from `input`, runs it over these stores, and writes the outcome of each line to `out`. A fault is
+/// told on `err`. The answer is the status: 0 where all lines were run, else 1.
+pub fn run_over<S: Stores, R: Read, W: Write, E: Write>(
     alloc: Global,
     stores: S,
-    words: &[T],
     input: &mut R,
     out: &mut W,
     err: &mut E,
 ) -> u8
-    ensures taken { takes command_line (map T.text words.now) ≡ true
-        → IsStatusOf (HasRun S.Orders.seen S.Stocks.seen S.Accounts.seen S.found) S.fails (R.remaining input.old)
+    ensures { IsStatusOf (HasRun S.Orders.seen S.Stocks.seen S.Accounts.seen S.found) S.fails (R.remaining input.old)
         (record { out = W.contents out.old; err = E.contents err.old })
         (record { out = W.contents out.new; err = E.contents err.new }) result }
-    ensures answered { IsAnswered (HasRun S.Orders.seen S.Stocks.seen S.Accounts.seen S.found) S.fails
-        (fault_of command_line (map T.text words.now))
-        (record {
-          input = R.remaining input.old;
-          writers =
-              record { out = W.contents out.old; err = E.contents err.old };
-        })
-        (record {
-          input = R.remaining input.new;
-          writers =
-              record { out = W.contents out.new; err = E.contents err.new };
-        }) result }
 {
-    let Err(error) = read_words(alloc, words) else {
-        return status_of(run_input(alloc, stores, input, out, err));
-    };
-    if error.kind() == ErrorKind::OutOfMemory {
-        return status_of(tell_fault(err, RunFault::Memory));
-    }
-    status_of(tell_words(out, err, &error))
+    status_of(run_input(alloc, stores, input, out, err))
 }

@@ -70,18 +70,12 @@ pub all_opened : (P : OrderTables → Type 0) (Q : StockTables → Type 0) (R : 
     → ((t : AllTables) → P t.purchasing → Q t.warehouse → R t.billing → Found t) → (s : Sight)
     → IsOpenedWith P s.purchasing → IsOpenedWith Q s.warehouse → IsOpenedWith R s.billing → AreOpened Found s
 all_opened P Q R Found all s one two three = record {
-  purchasing = one.opened;
-  warehouse = two.opened;
-  billing = three.opened;
+  new = record { purchasing = one.opened; warehouse = two.opened; billing = three.opened };
   found = λ clean t may. all t
       (subst P (sym (one.sound.only_now clean.0 one.opened.usable t.purchasing may.purchasing)) (one.found clean.0))
       (subst Q (sym (two.sound.only_now clean.1 two.opened.usable t.warehouse may.warehouse)) (two.found clean.1))
       (subst R (sym (three.sound.only_now clean.2 three.opened.usable t.billing may.billing)) (three.found clean.2));
 }
-
-pub files_found : (p w b : Image) (t : AllTables) → IsFoundIn orders p t.purchasing → IsFoundIn stocks w t.warehouse
-    → IsFoundIn accounts b t.billing → AreFoundIn p w b t
-files_found p w b t one two three = record { orders = one; stocks = two; accounts = three }
 
 pub nothing_found : (t : AllTables) → t.purchasing ≡ empty → t.warehouse ≡ empty → t.billing ≡ empty → t ≡ all_empty
 nothing_found t one two three = joined t all_empty one two three

@@ -2,7 +2,7 @@
 use Rattle.sqlite.specs.Files.{HoldsDatabase}
 use Rattle.sqlite_trees.specs.Tree.{Trees}
 use Rattle.sqlite_wal.specs.Recovery.{Image}
-use Rattle.std.specs.Prelude.{◌≡◌}
+use Rattle.std.specs.Prelude.{◌≡◌, List, length, take, true}
 use Rattle.keep.specs.Seen.{Seen, IsSound}
 use Rattle.keep.specs.Tables.{Tables}
 use Rattle.keep.specs.declared.fault.KeepFault.{KeepFault}
@@ -11,8 +11,12 @@ use Rattle.keep_sqlite.specs.Filing.{Filing}
 use Rattle.keep_sqlite.specs.Found.{AreIn, IsFoundIn}
 use Rattle.keep_sqlite.specs.Orders.{orders}
 use Rattle.keep_sqlite.specs.Stocks.{stocks}
-use Rattle.laws_stores.specs.Sight.{AllTables}
-use Rattle.programs.specs.Opened.{IsOpened}
+use Rattle.laws_stores.specs.Sight.{AllTables, OrderTables, StockTables, AccountTables}
+use Rattle.schedule_text.specs.declared.event.Event.{Event}
+use Rattle.schedule_text.specs.declared.outcome.Outcome.{Outcome}
+use Rattle.programs.specs.Opened.{AreLeftBy, IsOpened, shown}
+use Rattle.programs.specs.Runs.{HasRun}
+use Rattle.programs.specs.declared.running.Made.{Made}
 use Rattle.programs.specs.declared.fault.StoresFault.{StoresFault}
 use Rattle.programs.specs.declared.fault.StoresFault.TheVariants.{Purchasing, Warehouse, Billing}
 
@@ -27,6 +31,20 @@ pub record IsOpenedWith {T : Type 0} (Has : T → Type 0) (s : Seen T) : Type 0 
   pub opened : IsOpened s
   pub sound : IsSound s
   pub found : s.doubt ≡ 0 → Has s.tables
+
+-- tables that a stop may leave of a store that isn't in doubt
+abbrev pub IsLeftBy : {T : Type 0} → Seen T → T → Type 0
+IsLeftBy s t = (s.doubt ≡ 0) × s.may_leave t
+
+-- events were made, all or the first of them
+pub record AreMade (Run : List Event → List Outcome → Type 0) (events : List Event) (made : Made) : Type 0 where
+  pub begun : Run (take (length made.outcomes.items) events) made.outcomes.items
+  pub all : made.is_whole ≡ true → length made.outcomes.items ≡ length events
+
+-- what happened over three stores that were opened, of which it's known what a stop may leave of them
+abbrev pub RunsOver : {KO KS KA : Type 0} → (KO → Seen OrderTables) → (KS → Seen StockTables) → (KA → Seen AccountTables)
+    → KO × KS × KA → List Event → List Outcome → Type 0
+RunsOver order stock account keeps = HasRun order stock account (AreLeftBy (shown order stock account keeps))
 
 -- these images are found to hold these tables
 pub record AreFoundIn (purchasing warehouse billing : Image) (t : AllTables) : Type 0 where

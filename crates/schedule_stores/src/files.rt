@@ -1,17 +1,23 @@
 //! Tables of SQL in the files of a folder.
 
-ghost use Rattle.std.specs.Prelude.{◌≡◌, IfOk, ⊤};
+ghost use Rattle.std.specs.Prelude.{◌≡◌, IfOk};
 ghost use Rattle.sqlite.specs.WalFiles.{image_at};
+ghost use Rattle.keep_sqlite.specs.Accounts.{accounts};
 ghost use Rattle.keep_sqlite.specs.Found.{IsFoundIn};
-ghost use Rattle.schedule_stores.specs.Files.{AreFoundIn, IsOpenedWith};
+ghost use Rattle.keep_sqlite.specs.Orders.{orders};
+ghost use Rattle.keep_sqlite.specs.Stocks.{stocks};
+ghost use Rattle.programs.specs.Opened.{AreNew, shown};
+ghost use Rattle.programs.specs.Runs.{HasRun};
+ghost use Rattle.schedule_stores.specs.Files.{AreFoundIn, AreMade, IsOpenedWith, RunsOver};
 
 use crate::memory::is_sound;
 use billing::Accounts;
 use keep::{Keep, KeepFault};
-use keep_files::FileKeep;
+use keep_files::{FileKeep, Reopenable};
 use keep_sqlite::Filed;
-use programs::{Stores, StoresFault};
+use programs::{Made, StoresFault, make_events};
 use purchasing::Orders;
+use schedule_text::Event;
 use sqlite::{FileFrom, FileStore, Start};
 use std::alloc::{AllocError, Global};
 use warehouse::Stocks;
@@ -75,44 +81,135 @@ fn open_file<H: Filed, D: Start>(
     }
 }
 
-impl<O: Start, S: Start, A: Start> Stores for FileStores<O, S, A> {
-    ghost use Rattle.std.specs.Prelude.{⊤};
-    ghost use Rattle.sqlite.specs.WalFiles.{image_at};
-    ghost use Rattle.schedule_stores.specs.Files.{AreFoundIn};
+// A call whose types are three files of the operating system goes over the limits of its check. So each of the calls that
+// follow has one such file more than the one before it.
 
-    type Orders = InFile<Orders, O>;
+/// Makes events over files that were opened, whatever they are.
+fn make_over<P, W, B>(
+    alloc: Global,
+    keeps: (
+        FileKeep<Orders, P>,
+        FileKeep<Stocks, W>,
+        FileKeep<Accounts, B>,
+    ),
+    events: Vec<Event>,
+) -> Made
+where
+    P: Reopenable + Drop,
+    W: Reopenable + Drop,
+    B: Reopenable + Drop,
+    requires opened { AreNew (shown ⟦<FileKeep<Orders, P> as Keep>⟧.seen ⟦<FileKeep<Stocks, W> as Keep>⟧.seen
+        ⟦<FileKeep<Accounts, B> as Keep>⟧.seen keeps) }
+    ensures { AreMade (RunsOver ⟦<FileKeep<Orders, P> as Keep>⟧.seen ⟦<FileKeep<Stocks, W> as Keep>⟧.seen
+        ⟦<FileKeep<Accounts, B> as Keep>⟧.seen keeps) events.items result }
+{
+    make_events(alloc, keeps, events)
+}
 
-    type Stocks = InFile<Stocks, S>;
+/// The same where billing's is a file of the operating system.
+fn make_over_billing<P, W, A: Start>(
+    alloc: Global,
+    keeps: (
+        FileKeep<Orders, P>,
+        FileKeep<Stocks, W>,
+        InFile<Accounts, A>,
+    ),
+    events: Vec<Event>,
+) -> Made
+where
+    P: Reopenable + Drop,
+    W: Reopenable + Drop,
+    requires opened { AreNew (shown ⟦<FileKeep<Orders, P> as Keep>⟧.seen ⟦<FileKeep<Stocks, W> as Keep>⟧.seen
+        ⟦<FileKeep<Accounts, FileStore<FileFrom<A>>> as Keep>⟧.seen keeps) }
+    ensures { AreMade (RunsOver ⟦<FileKeep<Orders, P> as Keep>⟧.seen ⟦<FileKeep<Stocks, W> as Keep>⟧.seen
+        ⟦<FileKeep<Accounts, FileStore<FileFrom<A>>> as Keep>⟧.seen keeps) events.items result }
+{
+    make_over(alloc, keeps, events)
+}
 
-    type Accounts = InFile<Accounts, A>;
+/// The same where warehouse's is too.
+fn make_over_warehouse<P, S: Start, A: Start>(
+    alloc: Global,
+    keeps: (FileKeep<Orders, P>, InFile<Stocks, S>, InFile<Accounts, A>),
+    events: Vec<Event>,
+) -> Made
+where
+    P: Reopenable + Drop,
+    requires opened { AreNew (shown ⟦<FileKeep<Orders, P> as Keep>⟧.seen
+        ⟦<FileKeep<Stocks, FileStore<FileFrom<S>>> as Keep>⟧.seen
+        ⟦<FileKeep<Accounts, FileStore<FileFrom<A>>> as Keep>⟧.seen keeps) }
+    ensures { AreMade (RunsOver ⟦<FileKeep<Orders, P> as Keep>⟧.seen
+        ⟦<FileKeep<Stocks, FileStore<FileFrom<S>>> as Keep>⟧.seen
+        ⟦<FileKeep<Accounts, FileStore<FileFrom<A>>> as Keep>⟧.seen keeps) events.items result }
+{
+    make_over_billing(alloc, keeps, events)
+}
 
-    ghost found = { AreFoundIn (image_at O.Start) (image_at S.Start) (image_at A.Start) };
+/// The same where all three are.
+fn make_over_opened<O: Start, S: Start, A: Start>(
+    alloc: Global,
+    keeps: (InFile<Orders, O>, InFile<Stocks, S>, InFile<Accounts, A>),
+    events: Vec<Event>,
+) -> Made
+    requires opened { AreNew (shown ⟦<FileKeep<Orders, FileStore<FileFrom<O>>> as Keep>⟧.seen
+        ⟦<FileKeep<Stocks, FileStore<FileFrom<S>>> as Keep>⟧.seen
+        ⟦<FileKeep<Accounts, FileStore<FileFrom<A>>> as Keep>⟧.seen keeps) }
+    ensures { AreMade (RunsOver ⟦<FileKeep<Orders, FileStore<FileFrom<O>>> as Keep>⟧.seen
+        ⟦<FileKeep<Stocks, FileStore<FileFrom<S>>> as Keep>⟧.seen
+        ⟦<FileKeep<Accounts, FileStore<FileFrom<A>>> as Keep>⟧.seen keeps) events.items result }
+{
+    make_over_warehouse(alloc, keeps, events)
+}
 
-    ghost fails = { λ _. ⊤ };
+/// Opens the files, purchasing's first.
+fn open_files<O: Start, S: Start, A: Start>(
+    stores: FileStores<O, S, A>,
+) -> Result<(InFile<Orders, O>, InFile<Stocks, S>, InFile<Accounts, A>), StoresFault>
+    ensures purchasing { IfOk result (λ keeps. IsOpenedWith (IsFoundIn orders (image_at O.Start))
+        (⟦<FileKeep<Orders, FileStore<FileFrom<O>>> as Keep>⟧.seen keeps.0)) }
+    ensures warehouse { IfOk result (λ keeps. IsOpenedWith (IsFoundIn stocks (image_at S.Start))
+        (⟦<FileKeep<Stocks, FileStore<FileFrom<S>>> as Keep>⟧.seen keeps.1)) }
+    ensures billing { IfOk result (λ keeps. IsOpenedWith (IsFoundIn accounts (image_at A.Start))
+        (⟦<FileKeep<Accounts, FileStore<FileFrom<A>>> as Keep>⟧.seen keeps.2)) }
+{
+    let FileStores {
+        rt,
+        folder,
+        orders,
+        stocks,
+        accounts,
+    } = stores;
+    let orders = match open_file(&rt, folder.as_str(), "purchasing.db", orders) {
+        Ok(keep) => keep,
+        Err(fault) => return Err(StoresFault::Purchasing(fault)),
+    };
+    let stocks = match open_file(&rt, folder.as_str(), "warehouse.db", stocks) {
+        Ok(keep) => keep,
+        Err(fault) => return Err(StoresFault::Warehouse(fault)),
+    };
+    let accounts = match open_file(&rt, folder.as_str(), "billing.db", accounts) {
+        Ok(keep) => keep,
+        Err(fault) => return Err(StoresFault::Billing(fault)),
+    };
+    Ok((orders, stocks, accounts))
+}
 
-    fn open(
-        self,
-        _alloc: Global,
-    ) -> Result<(InFile<Orders, O>, InFile<Stocks, S>, InFile<Accounts, A>), StoresFault> {
-        let FileStores {
-            rt,
-            folder,
-            orders,
-            stocks,
-            accounts,
-        } = self;
-        let orders = match open_file(&rt, folder.as_str(), "purchasing.db", orders) {
-            Ok(keep) => keep,
-            Err(fault) => return Err(StoresFault::Purchasing(fault)),
-        };
-        let stocks = match open_file(&rt, folder.as_str(), "warehouse.db", stocks) {
-            Ok(keep) => keep,
-            Err(fault) => return Err(StoresFault::Warehouse(fault)),
-        };
-        let accounts = match open_file(&rt, folder.as_str(), "billing.db", accounts) {
-            Ok(keep) => keep,
-            Err(fault) => return Err(StoresFault::Billing(fault)),
-        };
-        Ok((orders, stocks, accounts))
+/// Opens the files and makes the events of a schedule over what they hold.
+///
+/// # Errors
+/// Where a file can't be opened: nothing was made.
+pub(crate) fn make_over_files<O: Start, S: Start, A: Start>(
+    alloc: Global,
+    stores: FileStores<O, S, A>,
+    events: Vec<Event>,
+) -> Result<Made, StoresFault>
+    ensures { IfOk result (AreMade (HasRun ⟦<FileKeep<Orders, FileStore<FileFrom<O>>> as Keep>⟧.seen
+        ⟦<FileKeep<Stocks, FileStore<FileFrom<S>>> as Keep>⟧.seen
+        ⟦<FileKeep<Accounts, FileStore<FileFrom<A>>> as Keep>⟧.seen
+        (AreFoundIn (image_at O.Start) (image_at S.Start) (image_at A.Start))) events.items) }
+{
+    match open_files(stores) {
+        Ok(keeps) => Ok(make_over_opened(alloc, keeps, events)),
+        Err(fault) => Err(fault),
     }
 }

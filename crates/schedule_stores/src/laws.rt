@@ -9,9 +9,8 @@ ghost use Rattle.schedule_text.specs.declared.outcome.Outcome.{Outcome};
 ghost use Rattle.schedule_runner.specs.Sight.{sight};
 ghost use Rattle.programs.specs.GoodTables.{AreGood, GoesOn};
 ghost use Rattle.programs.specs.Runs.{HasRun};
-ghost use Rattle.schedule_stores.specs.Files.{AreHeldIn};
+ghost use Rattle.schedule_stores.specs.Files.{AreFoundIn, AreHeldIn};
 
-use crate::files::FileStores;
 use crate::memory::SqliteStores;
 use billing::Accounts;
 use keep::Keep;
@@ -47,7 +46,7 @@ pub fn a_run_over_files_goes_on<O: Start, S: Start, A: Start>()
         (run : HasRun ⟦<FileKeep<Orders, FileStore<FileFrom<O>>> as Keep>⟧.seen
         ⟦<FileKeep<Stocks, FileStore<FileFrom<S>>> as Keep>⟧.seen
         ⟦<FileKeep<Accounts, FileStore<FileFrom<A>>> as Keep>⟧.seen
-        ⟦<FileStores<O, S, A> as Stores>⟧.found events outcomes)
+        (AreFoundIn (image_at O.Start) (image_at S.Start) (image_at A.Start)) events outcomes)
         → AreClean (sight ⟦<FileKeep<Orders, FileStore<FileFrom<O>>> as Keep>⟧.seen
         ⟦<FileKeep<Stocks, FileStore<FileFrom<S>>> as Keep>⟧.seen
         ⟦<FileKeep<Accounts, FileStore<FileFrom<A>>> as Keep>⟧.seen run.last)

@@ -19,7 +19,9 @@
 mod files;
 mod laws;
 mod memory;
+mod running;
 
 pub use files::FileStores;
 pub use laws::{a_run_in_sql_ends_well, a_run_over_files_goes_on};
 pub use memory::SqliteStores;
+pub use running::run_over_files;

@@ -16,14 +16,15 @@
 //! - `out takes N`, `err takes N`: it takes so many octets in all, and fails then;
 //! - `out takes-at-once N`, `err takes-at-once N`: at most N octets a write;
 //! - `out is-interrupted`, `err is-interrupted`: its first write is;
-//! - `unopened SERVICE N`: the store of this service can't be opened, for the fault of this number.
+//! - `unopened SERVICE N`: the store of this service can't be opened, for the fault of this number, neither in ordered
+//!   maps nor in a folder's files, for which those in maps stand.
 //!
 //! Calls:
 //! - `read`: `read_schedule` over it;
 //! - `run WORD..`: `run_schedule` with these words behind the program's name; `measure WORD..`: the same, and only
 //!   sizes are printed;
-//! - `run-each FIRST LAST`: `run` with each of these numbers in its place: what the first told, the lines of each other
-//!   that differ from it, with its number and theirs, and how many runs there were;
+//! - `run-each FIRST LAST WORD..`: `run WORD..` with each of these numbers in its place: what the first told, the lines
+//!   of each other that differ from it, with its number and theirs, and how many runs there were;
 //! - `run-text`, `run-input`: these calls;
 //! - `tell N`, `tell device`, `tell not-utf8`: a faulty line, a failed stream, or words that aren't text are told.
 //!

@@ -4,8 +4,9 @@ use crate::devices::{Limits, Sink, Source};
 use crate::fault::CallFault;
 use crate::stores::TestStores;
 use programs::{
-    RunFault, StoresFault, run_input, run_schedule, run_text, tell_bad_words, tell_fault,
+    Kept, RunFault, StoresFault, ask, run_input, run_over, run_text, tell_bad_words, tell_fault,
 };
+use schedule_stores::SqliteStores;
 use schedule_text::{ScheduleFault, read_schedule};
 use std::alloc::Global;
 use std::fmt::Write;
@@ -171,6 +172,11 @@ fn fault(word: &str) -> Result<RunFault, LineFault> {
     }
 }
 
+/// The status of a run over tables of SQL in memory.
+fn run_in_sql(alloc: Global, input: &mut Source<'_>, out: &mut Sink, err: &mut Sink) -> u8 {
+    run_over(alloc, SqliteStores, input, out, err)
+}
+
 /// What a whole run comes to by the words of its command line.
 fn run(
     alloc: Global,
@@ -181,7 +187,12 @@ fn run(
     err: &mut Sink,
 ) -> Result<End, CallFault> {
     let words: Vec<&str> = line.split_whitespace().collect(alloc)?;
-    Ok(End::Status(run_schedule(alloc, stores, words.as_slice(), input, out, err)))
+    let status = match ask(alloc, words.as_slice(), out, err) {
+        Ok(Kept::Sqlite) => run_in_sql(alloc, input, out, err),
+        Ok(Kept::Plain | Kept::Files(_)) => run_over(alloc, stores, input, out, err),
+        Err(status) => status,
+    };
+    Ok(End::Status(status))
 }
 
 /// What the call comes to that a line names, over these stores and devices.
@@ -274,15 +285,16 @@ fn numbered(
     Ok(whole)
 }
 
-/// What a run with a number at a place told.
+/// What a run by a line told, with a number at a place.
 fn told_with(
     alloc: Global,
     devices: Devices,
     counted: (&[u8], usize),
     number: usize,
+    line: &str,
 ) -> Result<String, CallFault> {
     let schedule = numbered(alloc, counted, number)?;
-    let told = call(alloc, devices, schedule.as_slice(), "run")?;
+    let told = call(alloc, devices, schedule.as_slice(), line)?;
     let mut text = String::new(alloc);
     told.push_text(&mut text)?;
     Ok(text)
@@ -310,8 +322,8 @@ fn push_differences(
     Ok(())
 }
 
-/// Appends what `run` tells with each number at a place of the schedule, `FIRST LAST`: the first whole, of each other
-/// the lines that differ from it; then how many runs there were.
+/// Appends what `run` tells with each number at a place of the schedule, `FIRST LAST WORD..`, by these words behind the
+/// program's name: the first whole, of each other the lines that differ from it; then how many runs there were.
 pub fn push_each(
     alloc: Global,
     out: &mut String,
@@ -319,13 +331,15 @@ pub fn push_each(
     counted: (&[u8], usize),
     numbers: &str,
 ) -> Result<(), CallFault> {
-    let (first, last) = first_word(numbers);
+    let (first, rest) = first_word(numbers);
+    let (last, words) = first_word(rest);
     let (first, last) = (size(first)?, size(last)?);
-    let told = told_with(alloc, devices, counted, first)?;
+    let line = format!(in alloc; "run {words}")?;
+    let told = told_with(alloc, devices, counted, first, line.as_str())?;
     out.push_str(told.as_str())?;
     let mut runs: usize = 1;
     for number in first.saturating_add(1)..last.saturating_add(1) {
-        let other = told_with(alloc, devices, counted, number)?;
+        let other = told_with(alloc, devices, counted, number, line.as_str())?;
         push_differences(out, number, told.as_str(), other.as_str())?;
         runs = runs.saturating_add(1);
     }

@@ -5,7 +5,7 @@ use programs::{PlainStores, Stores, StoresFault};
 use std::alloc::Global;
 use test_script::{LineFault, first_word};
 
-/// Tables in memory, and why they can't be opened.
+/// Tables in memory, and why they can't be opened. They stand for those in files too, whatever the folder.
 #[derive(Clone, Copy)]
 pub struct TestStores {
     /// The fault, where they can't be.

@@ -1,10 +1,7 @@
-use Rattle.std.proofs.Common.{List, length, subst, take}
 use Rattle.std.proofs.lemmas.Result.{err_from_is_err_and}
-use Rattle.std.specs.Io.KnownBytes.{Appends}
-use Rattle.schedule_text.specs.declared.event.Event.{Event}
-use Rattle.schedule_text.specs.declared.outcome.Outcome.{Outcome}
-use Rattle.programs.proofs.Endings.{unread, ran_part}
-use Rattle.programs.specs.Ends.{lines_of}
+use Rattle.programs.proofs.Beginnings.{run_found}
+use Rattle.programs.proofs.Endings.{run_told, unread}
+use Rattle.programs.specs.Opened.{shown}
 use Rattle.programs.specs.Runs.{HasRun}
 use Rattle.programs.proofs.schedule.run_text.Goals as goal
 
@@ -16,13 +13,17 @@ returns-in_err-events g c =
     c.in_err-events.field-0.0
     c.in_err-events.ensures)
 
-pub returns-in-Ok : goal.returns-in-Ok
-returns-in-Ok g c =
-    let run = HasRun g.S.Orders.Keep.seen g.S.Stocks.Keep.seen g.S.Accounts.Keep.seen g.S.Stores.found in
-    let outcomes = c.run_events-ran.new.outcomes.items in
-    let old = g.W.Write.contents c.args.out.now in
-    let new = g.W.Write.contents c.write_outcomes.new.out in
-    ran_part run g.S.Stores.fails c.args.text.now c.in_ok-events.events outcomes old new c.in_ok-events.ensures
-    (subst (λ (es : List Event). run (take (length outcomes) es) outcomes) c.as_slice.ensures.value
-    c.in-Err-ran.ensures.begun)
-    (subst (λ (os : List Outcome). Appends old new (lines_of os)) c.as_slice-2.ensures.value c.in-Ok.ensures.ok)
+pub returns : goal.returns
+returns g c =
+    let orders = g.S.Orders.Keep.seen in
+    let stocks = g.S.Stocks.Keep.seen in
+    let accounts = g.S.Accounts.Keep.seen in
+    let found = g.S.Stores.found in
+    let run = HasRun orders stocks accounts found in
+    let events = c.in_ok-events.events.items in
+    let made = c.make_events-made.result in
+    let begun = run_found orders stocks accounts found (shown orders stocks accounts c.in_ok-keeps.keeps)
+    c.in_ok-keeps.ensures.opened _ _ c.make_events-made.ensures.begun in
+    run_told run g.S.Stores.fails c.args.text.now events made.outcomes.items made.is_whole
+    (g.W.Write.contents c.args.out.now) (g.W.Write.contents c.write_made.new.out) c.write_made.result
+    c.in_ok-events.ensures begun c.make_events-made.ensures.all c.write_made.ensures

@@ -1,38 +1,39 @@
--- texts for help leave what is taken as it was
-use Rattle.std.proofs.Common.{◌≡◌, true, [], sym, subst, ap, ◌∙◌, refl}
+use Rattle.std.proofs.Common.{◌≡◌, true, [], inl, sym, subst, refl}
 use Rattle.std.specs.Prelude.{map}
-use Rattle.clap.specs.Words.{App, HasKind, fault_of, is_simple_and_free, takes}
-use Rattle.clap.specs.Simple.{app_of_fields}
-use Rattle.command_line.specs.Usage.{with_version}
-use Rattle.programs.specs.Usage.{command_line}
+use Rattle.clap.specs.Simple.{matches_of, is_simple}
+use Rattle.clap.specs.Words.{App, HasKind, fault_of, found_of, is_simple_and_free, rows_of, takes}
+use Rattle.std.proofs.lemmas.Result.{err_from_is_err_and}
+use Rattle.programs.specs.Asked.{IsAskedFor, IsReadAs}
 use Rattle.programs.proofs.words.read_words.Goals as goal
 
--- the command is one of those whose faults are known
-is_known : is_simple_and_free command_line ≡ true
-is_known = refl
+pub returns-in_err-command : goal.returns-in_err-command
+returns-in_err-command g c =
+    let words = map g.T.AsStr.text c.args.words.now in
+    let p = err_from_is_err_and c.from_residual.result c.from_residual.ensures.1 in
+    subst (IsReadAs c.args.keeps words) (sym p.1) (record { taken = λ _. p.2; fails = inl p.2; asked = tt })
 
-pub returns-clause-takes : goal.returns-clause-takes
-returns-clause-takes g c = λ taken.
-    let shape = ap app_of_fields c.after_help-command.ensures ∙ ap app_of_fields c.override_usage.ensures
-    ∙ ap app_of_fields c.about.ensures
-    ∙ ap app_of_fields c.version.ensures in
-    c.in-Err.ensures.passes (subst (λ (app : App). takes app (map g.T.AsStr.text c.args.words.now) ≡ true)
-    (sym (shape ∙ ap with_version c.new.ensures.app)) taken)
+pub returns-in-Ok : goal.returns-in-Ok
+returns-in-Ok g c =
+    let words = map g.T.AsStr.text c.args.words.now in
+    let same = c.in_ok-command.ensures in
+    let given = c.in-Ok.ensures in
+    record {
+      taken = tt;
+      fails = subst (λ (app : App). fault_of app words ≡ []) same
+          (given.kinds (subst (λ (app : App). is_simple_and_free app ≡ true) (sym same) refl));
+      asked = subst (λ rows. IsAskedFor rows c.kept_by.result)
+          ((subst (λ (app : App). is_simple app ≡ true → rows_of (found_of c.in-Ok.matches) ≡ matches_of app words) same
+          (λ simple. (given.matches simple).0)) refl) c.kept_by.ensures;
+    }
 
-pub returns-clause-fails : goal.returns-clause-fails
-returns-clause-fails g c =
-    let shape = ap app_of_fields c.after_help-command.ensures ∙ ap app_of_fields c.override_usage.ensures
-    ∙ ap app_of_fields c.about.ensures
-    ∙ ap app_of_fields c.version.ensures in
-    let same = shape ∙ ap with_version c.new.ensures.app in
-    subst (λ (app : App). HasKind (fault_of app (map g.T.AsStr.text c.args.words.now)) c.in-Err.error) same
-    (c.in-Err.ensures.kinds (subst (λ (app : App). is_simple_and_free app ≡ true) (sym same) is_known))
-
-pub returns-in-Ok-clause-fails : goal.returns-in-Ok-clause-fails
-returns-in-Ok-clause-fails g c =
-    let shape = ap app_of_fields c.after_help-command.ensures ∙ ap app_of_fields c.override_usage.ensures
-    ∙ ap app_of_fields c.about.ensures
-    ∙ ap app_of_fields c.version.ensures in
-    let same = shape ∙ ap with_version c.new.ensures.app in
-    subst (λ (app : App). fault_of app (map g.T.AsStr.text c.args.words.now) ≡ []) same
-    (c.in-Ok.ensures.kinds (subst (λ (app : App). is_simple_and_free app ≡ true) (sym same) is_known))
+pub returns-in-Err : goal.returns-in-Err
+returns-in-Err g c =
+    let words = map g.T.AsStr.text c.args.words.now in
+    let same = c.in_ok-command.ensures in
+    let given = c.in-Err.ensures in
+    record {
+      taken = λ taken. given.passes (subst (λ (app : App). takes app words ≡ true) (sym same) taken);
+      fails = subst (λ (app : App). HasKind (fault_of app words) c.in-Err.error) same
+          (given.kinds (subst (λ (app : App). is_simple_and_free app ≡ true) (sym same) refl));
+      asked = tt;
+    }

@@ -1,0 +1,61 @@
+//! Whole runs over the files of a folder.
+
+ghost use Rattle.std.specs.Prelude.{⊤};
+ghost use Rattle.sqlite.specs.WalFiles.{image_at};
+ghost use Rattle.programs.specs.Ends.{IsRunFrom};
+ghost use Rattle.programs.specs.Runs.{HasRun};
+ghost use Rattle.programs.specs.Usage.{IsStatusOf};
+ghost use Rattle.schedule_stores.specs.Files.{AreFoundIn};
+
+use crate::files::{FileStores, make_over_files};
+use billing::Accounts;
+use keep::Keep;
+use keep_files::FileKeep;
+use programs::{
+    Made, RunFault, Stores, StoresFault, make_events, read_events, tell_fault, write_made,
+};
+use purchasing::Orders;
+use sqlite::{FileFrom, FileStore, Start};
+use std::alloc::Global;
+use std::io::{Read, Write};
+use warehouse::Stocks;
+
+/// Reads a schedule from `input` and runs it over files.
+fn read_and_run<O: Start, S: Start, A: Start, R: Read, W: Write>(
+    alloc: Global,
+    stores: FileStores<O, S, A>,
+    input: &mut R,
+    out: &mut W,
+) -> Result<(), RunFault>
+    ensures { IsRunFrom (HasRun ⟦<FileKeep<Orders, FileStore<FileFrom<O>>> as Keep>⟧.seen
+        ⟦<FileKeep<Stocks, FileStore<FileFrom<S>>> as Keep>⟧.seen
+        ⟦<FileKeep<Accounts, FileStore<FileFrom<A>>> as Keep>⟧.seen
+        (AreFoundIn (image_at O.Start) (image_at S.Start) (image_at A.Start))) (λ _. ⊤) (R.remaining input.old)
+        (W.contents out.old) (W.contents out.new) result }
+{
+    let events = read_events(alloc, input)?;
+    let made = make_over_files(alloc, stores, events)?;
+    write_made(out, &made)
+}
+
+/// Reads a schedule from `input`, runs it over files, and writes the outcome of each line to `out`. A fault is told on
+/// `err`. The answer is the status: 0 where all lines were run, else 1. It's what `programs::run_over` does, for files.
+pub fn run_over_files<O: Start, S: Start, A: Start, R: Read, W: Write, E: Write>(
+    alloc: Global,
+    stores: FileStores<O, S, A>,
+    input: &mut R,
+    out: &mut W,
+    err: &mut E,
+) -> u8
+    ensures { IsStatusOf (HasRun ⟦<FileKeep<Orders, FileStore<FileFrom<O>>> as Keep>⟧.seen
+        ⟦<FileKeep<Stocks, FileStore<FileFrom<S>>> as Keep>⟧.seen
+        ⟦<FileKeep<Accounts, FileStore<FileFrom<A>>> as Keep>⟧.seen
+        (AreFoundIn (image_at O.Start) (image_at S.Start) (image_at A.Start))) (λ _. ⊤) (R.remaining input.old)
+        (record { out = W.contents out.old; err = E.contents err.old })
+        (record { out = W.contents out.new; err = E.contents err.new }) result }
+{
+    match read_and_run(alloc, stores, input, out) {
+        Ok(()) => 0,
+        Err(fault) => tell_fault(err, fault).unwrap_or(1),
+    }
+}
