@@ -529,6 +529,44 @@ FILES = {
     ],
 }
 
+THREADS = {
+    "file": "docs/THEOREM-THREADS.md",
+    "title": "Many threads over one service",
+    "said": ["What is promised to threads that use one service in turn, with any handler and any store. It stands behind"
+             " [THEOREM-SERVICE.md](THEOREM-SERVICE.md): what is defined there, and on the pages before it, isn't printed again."],
+    "behind": ["docs/THEOREM.md", "docs/THEOREM-STORE.md", "docs/THEOREM-SERVICE.md", "docs/THEOREM-EVENTS.md"],
+    "sections": [
+        ("Each answer is one thread's",
+         ["A seat, the Hand and the Scout are tokens, each of which one thread has at a time. What a token has *seen* is the service as it"
+          " gave it back last behind an answer that tells of the journal; its *list* is what the journal has of it. `IsOneThreads` says of"
+          " a call: there is a legal journal that begins with the one that the token has seen and has exactly its list (`Continues`),"
+          " and the answer is what one thread gets there. It asks that the token is good, as new ones of good tables are"
+          " (`tokens_stay_good`), and that no file is in doubt."],
+         [("shared_endpoint", "laws", it) for it in ("commits_are_one_threads", "views_are_one_threads", "lengths_are_one_threads",
+                                                     "ingests_are_one_threads", "drains_are_one_threads", "settles_are_one_threads",
+                                                     "handled_is_the_lists", "unsettled_are_above_marks", "tokens_stay_good")], True),
+        ("Failures are counted, and for good",
+         ["That the store failed, or had failed before, is told only where a failure was counted; and behind it the token gets nothing"
+          " else."],
+         [("shared_endpoint", "laws", it) for it in ("failures_are_counted", "failures_are_for_good")], True),
+        ("In the end it is one history",
+         ["Once all tokens are back, `close` gives the service: its journal begins with each that a token has seen, and consists of the"
+          " tokens' lists and of no other rows."],
+         [("shared_endpoint", "laws", "closes_to_one_history"), ("shared_endpoint", "shared", "Shared::close")], True),
+        ("The calls", ["What each call does, in one word of what its token knows before and after it (`Turns`): at some service, later than"
+                       " all that the token knew, it did what the call of [THEOREM-SERVICE.md](THEOREM-SERVICE.md) does."],
+         [("shared_endpoint", "shared", "Shared::open")]
+         + [("shared_endpoint", "calls", f"Shared::{it}") for it in ("commit", "view", "length", "ingest", "drain_held", "settle",
+                                                                     "handled", "unsettled")]),
+        ("A mark never falls, and comes to the greatest number raised",
+         ["Numbers that threads share with no lock, each at its place. `open` gives seats of its own, with empty lists of what each raised"
+          " and read, which exist in proofs alone. A call takes its seat and gives it back, so that nobody else adds to its lists. `close`"
+          " takes all seats, and so all that was ever raised and read. None of these calls takes the handle for waiting: each returns,"
+          " whatever other threads do."],
+         [("marks", "marks", f"Marks::{it}") for it in ("open", "raise", "read", "close")] + [("marks", "closed", "Closed::mark")]),
+    ],
+}
+
 BROKER = {
     "file": "docs/THEOREM-BROKER.md",
     "title": "The broker's theorem",
@@ -550,19 +588,4 @@ BROKER = {
     ],
 }
 
-THREADS = {
-    "file": "docs/THEOREM-THREADS.md",
-    "title": "What threads are promised",
-    "said": ["What threads that share marks are promised, whoever comes first. Each call holds of any calls that other threads make"
-             " meanwhile. A seat's lists, of what it raised and read, exist in proofs alone."],
-    "signs": True,
-    "sections": [
-        ("A mark never falls, and comes to the greatest number raised",
-         ["`open` gives the seats, with empty lists. A call takes its seat and gives it back, so that nobody else adds to its lists. `close`"
-          " takes all seats, and so all that was ever raised and read. None of these calls takes the handle for waiting: each returns,"
-          " whatever other threads do."],
-         [("marks", "marks", f"Marks::{it}") for it in ("open", "raise", "read", "close")] + [("marks", "closed", "Closed::mark")]),
-    ],
-}
-
-PAGES = [CORE, STORE, SERVICE, EVENTS, MAIL, JOURNALS, PROGRAM, FILES, BROKER, THREADS]
+PAGES = [CORE, STORE, SERVICE, EVENTS, MAIL, JOURNALS, PROGRAM, FILES, THREADS, BROKER]

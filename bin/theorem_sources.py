@@ -276,7 +276,7 @@ class Source:
         body = self.lines[at + len(head):end]
         uses = imports_of(uses_in("\n".join(it for it in body if indent_of(it) == 4)), self.file)
         model = re.match(r"impl(?:<.*?>)? Model for (\w+)", whole)
-        of = re.search(r" for (\w+)", whole) or re.match(r"impl(?:<[^>]*>)? (\w+)", whole)
+        of = re.search(r" for (\w+)", whole) or re.match(r"impl(?:<(?:[^<>]|<[^<>]*>)*>)? (\w+)", whole)
         if model:
             said = [it for it in body if re.match(r"\s+ghost (Value|view) =", it)]
             name = model.group(1)

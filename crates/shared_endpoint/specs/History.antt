@@ -1,0 +1,140 @@
+-- What a token knows of a service, and what others' calls leave of that as it is.
+use Rattle.std.specs.Prelude.{◌≡◌, ◌⊎◌, ℕ, ◌≤◌, Bool, true, false, List, [], ◌∷◌, Option, Some, None, Result, Ok, Err}
+use Rattle.std.specs.Prelude.{if◌then◌else◌, ⊤}
+use Rattle.base.specs.declared.limits.TheConstants.{HELD_WINDOW}
+use Rattle.base.specs.declared.pair.Pair.{Pair}
+use Rattle.activities.specs.Numbered.{IsPrefixOf}
+use Rattle.activities.specs.Service.{Service}
+use Rattle.keep.specs.Law.{MoreFailures, IsServed, HasFailed, IsRefusedUnusable}
+use Rattle.keep.specs.Seen.{Seen}
+use Rattle.keep.specs.Tables.{Tables}
+use Rattle.endpoint.specs.declared.fault.EndFault.{EndFault}
+use Rattle.endpoint.specs.declared.fault.EndFault.TheVariants.{StoreFailed, Memory, Unusable}
+use Rattle.endpoint.specs.Calls.{StillMatches}
+use Rattle.endpoint.specs.Deeds.{Kept, kept, Deed, Nothing, TakesIn, Holds, Settles, Comes}
+use Rattle.endpoint.specs.Matches.{AllMatch}
+use Rattle.told_lock.specs.declared.view.Told.{Told}
+use Rattle.told_lock.specs.declared.view.Known.{Known}
+use Rattle.told_lock.specs.Rule.{MaySee, MayStay, saw, counted}
+use Rattle.shared_endpoint.specs.Token.{hand_number, is_of, rows_of}
+
+-- ---- answers
+
+-- the fault of an answer, if it is one
+abbrev pub fault_in : {R : Type 0} → Result R EndFault → Option EndFault
+fault_in (Ok r) = None
+fault_in (Err fault) = Some fault
+
+-- An answer tells of the journal, and the token has then seen it; only where the store failed, had failed before, or
+-- memory was refused, it doesn't.
+abbrev pub tells : Option EndFault → Bool
+tells (Some StoreFailed) = false
+tells (Some Memory) = false
+tells (Some Unusable) = false
+tells _ = true
+
+-- ---- what of one endpoint holds of another
+
+-- What the token of this number knows of `x` still holds of `y`: the journal has gone on, with no row of the token's;
+-- no settled mark is lower; and for the Hand no mark and no held letter is another.
+pub record Stands {C : Type 0} (n : ℕ) (x y : Kept C) : Type 0 where
+  pub begins : IsPrefixOf x.journal y.journal
+  pub rows : rows_of n 1 y.journal ≡ rows_of n 1 x.journal
+  pub marks : (p : Pair) → x.settled p ≤ y.settled p
+  pub held : n ≡ hand_number → (y.settled ≡ x.settled) × (y.held ≡ x.held)
+
+-- deeds of the token of this number: a seat takes in commands, the Hand does all else
+abbrev pub IsDeedOf : {C : Type 0} → ℕ → Deed C → Type 0
+IsDeedOf n Nothing = ⊤
+IsDeedOf n (TakesIn row) = is_of n row.input ≡ true
+IsDeedOf n (Holds l) = n ≡ hand_number
+IsDeedOf n (Settles p k) = n ≡ hand_number
+
+-- what a token knows that gave this back: it has seen it, or what it has seen stays
+abbrev pub given : {E : Type 0} → Bool → E → Told E → Told E
+given true e t = saw e t
+given false e t = counted e t
+
+module _ {E S C : Type 0} (seen : E → Seen (Tables S C)) where
+  -- One endpoint later than another: doubt and failures never fall; one that failed stays as it is; and where it
+  -- failed meanwhile, a failure was counted.
+  pub record IsLater (a b : E) : Type 0 where
+    pub doubt : (seen a).doubt ≤ (seen b).doubt
+    pub failures : (seen a).failures ≤ (seen b).failures
+    pub dead : (seen a).usable ≡ false → b ≡ a
+    pub fell : (seen a).usable ≡ true → (seen b).usable ≡ false → MoreFailures (seen a).failures (seen b).failures
+
+  -- how a call used the endpoint, by the fault that it answered: it failed there, had failed before, or was served
+  abbrev pub IsUsed : (d e : E) → Option EndFault → Type 0
+  IsUsed d e (Some StoreFailed) = HasFailed seen d e
+  IsUsed d e (Some Unusable) = IsRefusedUnusable seen d e
+  IsUsed d e _ = IsServed seen d e
+
+  module _ (service : Service S C) where
+    -- What a token knew of one endpoint still holds of the other: it's usable where that was; and while no file is in
+    -- doubt its tables match their journal where that one's did, and what the token knew of them stands.
+    pub record Since (n : ℕ) (a b : E) : Type 0 where
+      pub usable : (seen a).usable ≡ true → (seen b).usable ≡ true
+      pub doubt : (seen a).doubt ≤ (seen b).doubt
+      pub clean : (seen b).doubt ≡ 0 → AllMatch service (seen a).may_leave
+          → AllMatch service (seen b).may_leave × Stands n (kept (seen a).tables) (kept (seen b).tables)
+
+    -- an endpoint that failed: a stop leaves what it was, but for one deed at most
+    pub record Broke (good e : E) : Type 0 where
+      pub was : (seen good).usable ≡ true
+      pub now : (seen e).usable ≡ false
+      pub doubt : (seen good).doubt ≤ (seen e).doubt
+      pub clean : (seen e).doubt ≡ 0 → AllMatch service (seen good).may_leave
+          → AllMatch service (seen e).may_leave
+          × Comes HELD_WINDOW service (λ x d. ⊤) (seen good).may_leave (seen e).may_leave
+
+    -- the endpoint is the good one, or that which failed
+    abbrev pub EndsAs : E → E → Type 0
+    EndsAs good e = (e ≡ good) ⊎ Broke good e
+
+    -- ---- one call
+
+    -- A token's call at the endpoint `taken`, that ended so: what the token knew, by its number, and what it knows
+    -- then.
+    pub record Passes (n : ℕ) (v w : Told E) (taken : E) (fault : Option EndFault) : Type 0 where
+      -- the endpoint is later than what the token gave back last, and than what it found
+      pub later : IsLater v.last taken
+      pub found : IsLater v.found taken
+      -- where it's usable, all that the token has seen holds of it
+      pub since : (seen taken).usable ≡ true → Since n v.seen taken
+      -- the call used it so; and its tables match their journal again
+      pub used : IsUsed taken w.last fault
+      pub next : IsLater taken w.last
+      pub matches : StillMatches seen taken w.last service
+      -- the token gave it back, and has seen it where the answer tells of the journal
+      pub seen_is : w.seen ≡ (if tells fault then w.last else v.seen)
+      pub found_is : w.found ≡ v.found
+      pub number : w.number ≡ n
+
+    -- A token's call: at some endpoint that passed it did what it does for one thread.
+    pub record Turn (n : ℕ) (v w : Told E) (Call : E → E → Type 0) (fault : Option EndFault) : Type 0 where
+      pub taken : E
+      pub passes : Passes n v w taken fault
+      pub call : Call taken w.last
+
+    -- the same of what two keys know: each stands for this one token
+    abbrev pub Turns : ℕ → (v w : List (Told E)) → (E → E → Type 0) → Option EndFault → Type 0
+    Turns n (v ∷ []) (w ∷ []) Call fault = Turn n v w Call fault
+    Turns n _ _ Call fault = ⊥
+
+    -- ---- between taking and giving back
+
+    -- one call of a token: its deed is the token's, and none where it was served and its answer doesn't tell
+    pub record Steps (n : ℕ) (d e : E) (fault : Option EndFault) : Type 0 where
+      pub doubt : (seen d).doubt ≤ (seen e).doubt
+      pub used : IsUsed d e fault
+      pub deeds : (seen e).doubt ≡ 0 → AllMatch service (seen d).may_leave
+          → Comes HELD_WINDOW service
+          (λ x deed. IsDeedOf n deed × (tells fault ≡ false → (seen e).usable ≡ true → deed ≡ Nothing))
+          (seen d).may_leave (seen e).may_leave
+      pub matches : StillMatches seen d e service
+
+    -- the endpoint may be given back
+    abbrev pub Gives : Known E → E → Bool → Type 0
+    Gives v e told = (told ≡ true → MaySee Since IsLater EndsAs v e)
+        × (told ≡ false → MayStay Since IsLater EndsAs v e)

@@ -1,0 +1,106 @@
+-- What contracts read of a shared endpoint and of its tokens.
+use Rattle.std.specs.Prelude.{◌≡◌, ◌⊎◌, ℕ, suc, ◌<◌, List, [], ◌∷◌, ◌++◌, length, All, slice_index_or, true, Some}
+use Rattle.crossbeam_channel.specs.Claims.{Pass}
+use Rattle.base.specs.declared.limits.TheConstants.{SEATS}
+use Rattle.activities.specs.Service.{Service}
+use Rattle.keep.specs.Seen.{Seen}
+use Rattle.keep.specs.Tables.{Tables}
+use Rattle.told_lock.specs.declared.lock.Lock.{Lock}
+use Rattle.told_lock.specs.declared.view.Stage.TheVariants.{Open}
+use Rattle.told_lock.specs.declared.view.Told.{Told}
+use Rattle.told_lock.specs.declared.view.Known.{Known}
+use Rattle.told_lock.specs.Keys.{knows, IsKeyOf}
+use Rattle.told_lock.specs.Rule.{Every, IsTold, new_told}
+use Rattle.shared_endpoint.specs.declared.shared.Shared.{Shared}
+use Rattle.shared_endpoint.specs.declared.tokens.Seat.{Seat}
+use Rattle.shared_endpoint.specs.declared.tokens.Hand.{Hand}
+use Rattle.shared_endpoint.specs.declared.tokens.Scout.{Scout}
+use Rattle.shared_endpoint.specs.Token.{number_of, the_hand, the_scout}
+use Rattle.shared_endpoint.specs.History.{IsLater, Since, EndsAs}
+
+module _ {E : Type 0} where
+  -- the tokens that a key stands for, by what they know
+  abbrev pub told : Pass E (Known E) → List (Told E)
+  told key = (knows key).own
+
+  -- the key of one token, with this number, that holds nothing
+  pub record IsToken {L : Type 0} (lock : Lock E L) (n : ℕ) (key : Pass E (Known E)) : Type 0 where
+    pub at : IsKeyOf lock key
+    pub stage : (knows key).stage ≡ Open
+    pub one : Told E
+    pub own : told key ≡ one ∷ []
+    pub number : one.number ≡ n
+
+  -- the key that makes tokens, and makes the n-th next; it holds this endpoint
+  abbrev pub maker : ℕ → E → Known E
+  maker n e = record { stage = Open; own = []; has = Some e; good = Some e; chief = true; next = n }
+
+  -- a new token: all that it knows is this endpoint
+  abbrev pub IsNew : ℕ → E → Pass E (Known E) → Type 0
+  IsNew n e key = told key ≡ new_told n e ∷ []
+
+module _ {H E S C : Type 0} where
+  -- a seat's number, 0 to 15, and what it knows
+  abbrev pub seat_number : Seat H E S C → ℕ
+  seat_number seat = seat.number
+
+  abbrev pub told_seat : Seat H E S C → List (Told E)
+  told_seat seat = told seat.key
+
+  -- what the Hand and the Scout know
+  abbrev pub told_hand : Hand H E S C → List (Told E)
+  told_hand hand = told hand.key
+
+  abbrev pub told_scout : Scout H E S C → List (Told E)
+  told_scout scout = told scout.key
+
+  -- what several seats know
+  abbrev pub told_seats : List (Seat H E S C) → List (Told E)
+  told_seats [] = []
+  told_seats (seat ∷ seats) = told_seat seat ++ told_seats seats
+
+  -- they are tokens of this service
+  abbrev pub IsSeatOf : Shared H E S C → Seat H E S C → Type 0
+  IsSeatOf shared seat = IsToken shared.lock seat.number seat.key × (seat.number < SEATS)
+
+  abbrev pub IsHandOf : Shared H E S C → Hand H E S C → Type 0
+  IsHandOf shared hand = IsToken shared.lock (number_of the_hand) hand.key
+
+  abbrev pub IsScoutOf : Shared H E S C → Scout H E S C → Type 0
+  IsScoutOf shared scout = IsToken shared.lock (number_of the_scout) scout.key
+
+  -- the seats of this service, 0 to 15, in order
+  abbrev pub AreSeatsOf : Shared H E S C → List (Seat H E S C) → Type 0
+  AreSeatsOf shared seats = (length seats ≡ SEATS)
+      × ((i : ℕ) (d : Seat H E S C) → i < length seats
+      → IsSeatOf shared (slice_index_or seats i d) × (seat_number (slice_index_or seats i d) ≡ i))
+
+  -- they know this endpoint and no more
+  abbrev pub IsNewSeat : E → Seat H E S C → Type 0
+  IsNewSeat e seat = IsNew seat.number e seat.key
+
+  abbrev pub AreNewSeats : E → List (Seat H E S C) → Type 0
+  AreNewSeats e seats = All (IsNewSeat e) seats
+
+  abbrev pub IsNewHand : E → Hand H E S C → Type 0
+  IsNewHand e hand = IsNew (number_of the_hand) e hand.key
+
+  abbrev pub IsNewScout : E → Scout H E S C → Type 0
+  IsNewScout e scout = IsNew (number_of the_scout) e scout.key
+
+-- ---- the end
+
+-- P holds of one of these
+abbrev pub Any : {X : Type 0} → (X → Type 0) → List X → Type 0
+Any P [] = ⊥
+Any P (x ∷ xs) = P x ⊎ Any P xs
+
+-- What is so of an endpoint that comes out of the lock with these tokens: all are there, up to the Scout's number.
+-- There is an endpoint that was good to the end, of which all holds that any token has seen; and the one that comes out
+-- is that, or what became of it where its store failed, and is later than all that tokens gave back.
+pub record Closes {E S C : Type 0} (seen : E → Seen (Tables S C)) (service : Service S C) (tokens : List (Told E))
+    (e : E) : Type 0 where
+  pub all : (n : ℕ) → n < suc (number_of the_scout) → Any (λ t. t.number ≡ n) tokens
+  pub good : E
+  pub ends : EndsAs seen service good e
+  pub told : Every (IsTold (Since seen service) (IsLater seen) (EndsAs seen service) e good) tokens

@@ -1,0 +1,221 @@
+//! The calls of the tokens: each takes the endpoint, does what it does for one thread, and gives it back.
+
+ghost use Rattle.std.specs.Prelude.{◌≡◌, length};
+ghost use Rattle.base.specs.declared.limits.TheConstants.{HELD_WINDOW};
+ghost use Rattle.activities.specs.declared.input.Input.TheVariants.{FromSeat};
+ghost use Rattle.keep.specs.Law.{Reads};
+ghost use Rattle.keep.specs.Listing.{AreFirst};
+ghost use Rattle.endpoint.specs.Arrivals.{IngestMay, DrainMay, SettleMay};
+ghost use Rattle.endpoint.specs.Calls.{Commits, DoesDeed, OfLetter, OfHeldLetter, OfSettle, Views, Counts};
+ghost use Rattle.endpoint.specs.Faults.{end_of};
+ghost use Rattle.shared_endpoint.specs.Token.{hand_number, scout_number};
+ghost use Rattle.shared_endpoint.specs.History.{fault_in, Turns};
+
+use crate::shared::{Shared, tells};
+use crate::tokens::{Hand, Scout, Seat};
+use activities::Handler;
+use base::{Entity, Pair};
+use endpoint::{Committed, EndFault, Ingested};
+use envelope::Letter;
+use keep::{Keep, Place};
+use std::alloc::Global;
+use std::sync::Wait;
+
+impl<H, K> Shared<H, K>
+where
+    H: Handler,
+    K: Keep<State = H::State, Command = H::Command> + Drop,
+{
+    ghost use Rattle.shared_endpoint.specs.Keys.{IsSeatOf, IsHandOf, IsScoutOf, seat_number};
+    ghost use Rattle.shared_endpoint.specs.Keys.{told_seat, told_hand, told_scout};
+
+    /// Takes in a command of this seat, as `Endpoint::commit` does for one thread: the row that it adds is the last of
+    /// the journal then.
+    ///
+    /// # Errors
+    /// Those of `Endpoint::commit`. Behind `StoreFailed` each call of any token that comes to the service answers
+    /// `Unusable`, until `close` has given it out and it was opened again.
+    pub fn commit<R: Wait>(
+        &self,
+        rt: &R,
+        alloc: Global,
+        seat: &mut Seat<H, K>,
+        entity: &Entity,
+        command: H::Command,
+    ) -> Result<Committed, EndFault>
+        requires seat { IsSeatOf self.now seat.old }
+        ensures seat { IsSeatOf self.now seat.new × (seat_number seat.new ≡ seat_number seat.old) }
+        ensures turn { Turns K.seen H.service (seat_number seat.old) (told_seat seat.old) (told_seat seat.new)
+            (λ d e. Commits K.seen d e H.service
+            (record { entity = entity.now; input = FromSeat (seat_number seat.old) command }) result)
+            (fault_in result) }
+    {
+        let mut endpoint = self.lock.take(rt, &mut seat.key);
+        let committed = endpoint.commit(alloc, seat.number, entity, command);
+        let told = tells(&committed);
+        self.give(rt, &mut seat.key, endpoint, told);
+        committed
+    }
+
+    /// The row of an entity, with all that this seat has done so far and has seen of others: `Endpoint::view`.
+    ///
+    /// # Errors
+    /// Those of `Endpoint::view`.
+    pub fn view<R: Wait>(
+        &self,
+        rt: &R,
+        alloc: Global,
+        seat: &mut Seat<H, K>,
+        entity: &Entity,
+    ) -> Result<Option<H::State>, EndFault>
+        requires seat { IsSeatOf self.now seat.old }
+        ensures seat { IsSeatOf self.now seat.new × (seat_number seat.new ≡ seat_number seat.old) }
+        ensures turn { Turns K.seen H.service (seat_number seat.old) (told_seat seat.old) (told_seat seat.new)
+            (λ d e. Views K.seen d e H.service.kind entity.now result) (fault_in result) }
+    {
+        let mut endpoint = self.lock.take(rt, &mut seat.key);
+        let row = endpoint.view(alloc, entity);
+        let told = tells(&row);
+        self.give(rt, &mut seat.key, endpoint, told);
+        row
+    }
+
+    /// How many rows the journal has: `Endpoint::length`.
+    ///
+    /// # Errors
+    /// `Unusable`, and no other.
+    pub fn length<R: Wait>(&self, rt: &R, seat: &mut Seat<H, K>) -> Result<u64, EndFault>
+        requires seat { IsSeatOf self.now seat.old }
+        ensures seat { IsSeatOf self.now seat.new × (seat_number seat.new ≡ seat_number seat.old) }
+        ensures turn { Turns K.seen H.service (seat_number seat.old) (told_seat seat.old) (told_seat seat.new)
+            (λ d e. (e ≡ d) × Counts K.seen d (λ t. length t.journal) result) (fault_in result) }
+    {
+        let endpoint = self.lock.take(rt, &mut seat.key);
+        let length = endpoint.length();
+        let told = tells(&length);
+        self.give(rt, &mut seat.key, endpoint, told);
+        length
+    }
+
+    /// Takes in a letter, as `Endpoint::ingest` does for one thread.
+    ///
+    /// # Errors
+    /// Those of `Endpoint::ingest`.
+    pub fn ingest<R: Wait>(
+        &self,
+        rt: &R,
+        alloc: Global,
+        hand: &mut Hand<H, K>,
+        letter: &Letter,
+    ) -> Result<Ingested, EndFault>
+        requires hand { IsHandOf self.now hand.old }
+        ensures hand { IsHandOf self.now hand.new }
+        ensures turn { Turns K.seen H.service hand_number (told_hand hand.old) (told_hand hand.new)
+            (λ d e. DoesDeed K.seen d e HELD_WINDOW H.service OfLetter letter.now.pair.to
+            (IngestMay H.service letter.now) result) (fault_in result) }
+    {
+        let mut endpoint = self.lock.take(rt, &mut hand.key);
+        let ingested = endpoint.ingest(alloc, letter);
+        let told = tells(&ingested);
+        self.give(rt, &mut hand.key, endpoint, told);
+        ingested
+    }
+
+    /// Handles the next letter of a pair where it is held, and tells its number: `Endpoint::drain_held`.
+    ///
+    /// # Errors
+    /// Those of `Endpoint::drain_held`.
+    pub fn drain_held<R: Wait>(
+        &self,
+        rt: &R,
+        alloc: Global,
+        hand: &mut Hand<H, K>,
+        pair: &Pair,
+    ) -> Result<Option<u64>, EndFault>
+        requires hand { IsHandOf self.now hand.old }
+        ensures hand { IsHandOf self.now hand.new }
+        ensures turn { Turns K.seen H.service hand_number (told_hand hand.old) (told_hand hand.new)
+            (λ d e. DoesDeed K.seen d e HELD_WINDOW H.service OfHeldLetter pair.now.to (DrainMay H.service pair.now)
+            result) (fault_in result) }
+    {
+        let mut endpoint = self.lock.take(rt, &mut hand.key);
+        let drained = endpoint.drain_held(alloc, pair);
+        let told = tells(&drained);
+        self.give(rt, &mut hand.key, endpoint, told);
+        drained
+    }
+
+    /// Marks what was sent on a pair as settled, up to a number, and tells the mark: `Endpoint::settle`.
+    ///
+    /// # Errors
+    /// Those of `Endpoint::settle`.
+    pub fn settle<R: Wait>(
+        &self,
+        rt: &R,
+        alloc: Global,
+        hand: &mut Hand<H, K>,
+        pair: &Pair,
+        number: u64,
+    ) -> Result<u64, EndFault>
+        requires hand { IsHandOf self.now hand.old }
+        ensures hand { IsHandOf self.now hand.new }
+        ensures turn { Turns K.seen H.service hand_number (told_hand hand.old) (told_hand hand.new)
+            (λ d e. DoesDeed K.seen d e HELD_WINDOW H.service OfSettle pair.now.from
+            (SettleMay H.service pair.now number) result) (fault_in result) }
+    {
+        let mut endpoint = self.lock.take(rt, &mut hand.key);
+        let mark = endpoint.settle(alloc, pair, number);
+        let told = tells(&mark);
+        self.give(rt, &mut hand.key, endpoint, told);
+        mark
+    }
+
+    /// How many letters of a pair were handled here: `Endpoint::handled`.
+    ///
+    /// # Errors
+    /// Those of `Endpoint::handled`.
+    pub fn handled<R: Wait>(
+        &self,
+        rt: &R,
+        alloc: Global,
+        hand: &mut Hand<H, K>,
+        pair: &Pair,
+    ) -> Result<u64, EndFault>
+        requires hand { IsHandOf self.now hand.old }
+        ensures hand { IsHandOf self.now hand.new }
+        ensures turn { Turns K.seen H.service hand_number (told_hand hand.old) (told_hand hand.new)
+            (λ d e. Reads K.seen d e (λ t n. n ≡ t.handled pair.now) (end_of result)) (fault_in result) }
+    {
+        let mut endpoint = self.lock.take(rt, &mut hand.key);
+        let count = endpoint.handled(alloc, pair);
+        let told = tells(&count);
+        self.give(rt, &mut hand.key, endpoint, told);
+        count
+    }
+
+    /// The first `limit` letters after a place that were sent and aren't settled, or all of them where they are fewer:
+    /// `Endpoint::unsettled`.
+    ///
+    /// # Errors
+    /// Those of `Endpoint::unsettled`.
+    pub fn unsettled<R: Wait>(
+        &self,
+        rt: &R,
+        alloc: Global,
+        scout: &mut Scout<H, K>,
+        after: &Option<Place>,
+        limit: usize,
+    ) -> Result<Vec<Letter>, EndFault>
+        requires scout { IsScoutOf self.now scout.old }
+        ensures scout { IsScoutOf self.now scout.new }
+        ensures turn { Turns K.seen H.service scout_number (told_scout scout.old) (told_scout scout.new)
+            (λ d e. Reads K.seen d e (λ t letters. AreFirst t.unsettled after.now limit letters.items) (end_of result))
+            (fault_in result) }
+    {
+        let mut endpoint = self.lock.take(rt, &mut scout.key);
+        let letters = endpoint.unsettled(alloc, after, limit);
+        let told = tells(&letters);
+        self.give(rt, &mut scout.key, endpoint, told);
+        letters
+    }
+}

@@ -1,0 +1,111 @@
+//! What the calls tell: each law is the contract of a function with nothing to do.
+
+ghost use Rattle.shared_endpoint.specs.Promises.{CommitsAreOneThreads, ViewsAreOneThreads, LengthsAreOneThreads};
+ghost use Rattle.shared_endpoint.specs.Promises.{IngestsAreOneThreads, DrainsAreOneThreads, SettlesAreOneThreads};
+ghost use Rattle.shared_endpoint.specs.Promises.{HandledIsTheLists, UnsettledAreAboveMarks, ClosesToOneHistory};
+ghost use Rattle.shared_endpoint.specs.Promises.{FailuresAreCounted, FailuresAreForGood, TokensStayGood};
+
+use activities::Handler;
+use keep::Keep;
+
+/// A seat's commit is answered as one thread is at a journal that begins with the one that the seat has seen and has
+/// exactly its list; `Committed` adds the row to both.
+pub fn commits_are_one_threads<H, K>()
+where
+    H: Handler,
+    K: Keep<State = H::State, Command = H::Command> + Drop,
+    ensures { CommitsAreOneThreads K.seen H.service }
+{}
+
+/// A view gives the entity's row at such a journal, which the seat has then seen.
+pub fn views_are_one_threads<H, K>()
+where
+    H: Handler,
+    K: Keep<State = H::State, Command = H::Command> + Drop,
+    ensures { ViewsAreOneThreads K.seen H.service }
+{}
+
+/// A length is that of such a journal.
+pub fn lengths_are_one_threads<H, K>()
+where
+    H: Handler,
+    K: Keep<State = H::State, Command = H::Command> + Drop,
+    ensures { LengthsAreOneThreads K.seen H.service }
+{}
+
+/// A letter is answered by its number and by how many of its pair were handled, over such a journal and the Hand's own
+/// held letters.
+pub fn ingests_are_one_threads<H, K>()
+where
+    H: Handler,
+    K: Keep<State = H::State, Command = H::Command> + Drop,
+    ensures { IngestsAreOneThreads K.seen H.service }
+{}
+
+/// A held letter is handled where it is the next of its pair, over the same.
+pub fn drains_are_one_threads<H, K>()
+where
+    H: Handler,
+    K: Keep<State = H::State, Command = H::Command> + Drop,
+    ensures { DrainsAreOneThreads K.seen H.service }
+{}
+
+/// A settle is answered by what such a journal sends, and raises the Hand's own mark.
+pub fn settles_are_one_threads<H, K>()
+where
+    H: Handler,
+    K: Keep<State = H::State, Command = H::Command> + Drop,
+    ensures { SettlesAreOneThreads K.seen H.service }
+{}
+
+/// The letters of a pair that were handled are those of the Hand's list.
+pub fn handled_is_the_lists<H, K>()
+where
+    H: Handler,
+    K: Keep<State = H::State, Command = H::Command> + Drop,
+    ensures { HandledIsTheLists K.seen H.service }
+{}
+
+/// The Scout gets what such a journal sends above some marks, none of which is below one that it has seen: each letter
+/// that is asked for, and no other.
+pub fn unsettled_are_above_marks<H, K>()
+where
+    H: Handler,
+    K: Keep<State = H::State, Command = H::Command> + Drop,
+    ensures { UnsettledAreAboveMarks K.seen H.service }
+{}
+
+/// `StoreFailed` and `Unusable` are answered only where a failure was counted since the lock was opened, or the
+/// endpoint wasn't usable then.
+pub fn failures_are_counted<H, K>()
+where
+    H: Handler,
+    K: Keep<State = H::State, Command = H::Command> + Drop,
+    ensures { FailuresAreCounted K.seen H.service }
+{}
+
+/// Behind either of them all that the token gets is `Unusable`.
+pub fn failures_are_for_good<H, K>()
+where
+    H: Handler,
+    K: Keep<State = H::State, Command = H::Command> + Drop,
+    ensures { FailuresAreForGood K.seen H.service }
+{}
+
+/// A token that was made of good tables stays good: so the other laws hold of all its calls.
+pub fn tokens_stay_good<H, K>()
+where
+    H: Handler,
+    K: Keep<State = H::State, Command = H::Command> + Drop,
+    ensures { TokensStayGood K.seen H.service }
+{}
+
+/// What `close` gives is one history: its journal begins with each that a token has seen, consists of the tokens' lists
+/// and of no other rows, and its marks and held letters are the Hand's; where the store failed, with one deed more at
+/// most.
+pub fn closes_to_one_history<H, K>()
+where
+    H: Handler,
+    K: Keep<State = H::State, Command = H::Command> + Drop,
+    ensures { ClosesToOneHistory K.seen H.service }
+{}

@@ -1,0 +1,39 @@
+//! One service that many threads use in turn.
+//!
+//! Commands come from sixteen seats, letters and settles through the Hand, and the Scout reads what is to be sent: each
+//! is a token that one thread has at a time. Each answer is what one thread would get at its place of one journal, which
+//! begins with all that the token has seen and has exactly what it did itself; and `close` gives one history of all.
+//!
+//! ```rust
+//! pub fn the_scout_reads_the_outbox<R: Wait>(
+//!     rt: &R,
+//!     alloc: Global,
+//!     endpoint: Alone,
+//! ) -> Option<usize> {
+//!     let Ok(opened) = Shared::open(rt, alloc, endpoint) else {
+//!         return None;
+//!     };
+//!     let shared = opened.0;
+//!     let mut scout = opened.3;
+//!     let letters = shared.unsettled(rt, alloc, &mut scout, &None, 10).ok()?;
+//!     Some(letters.len())
+//! }
+//! ```
+//!
+//! Over empty tables the answer is 0. A call waits until the service is free; that it ever is, or who comes first, isn't
+//! promised. Tokens go back in the order in which `open` gave them.
+#![tactic(auto)]
+
+mod calls;
+mod laws;
+mod lore;
+mod shared;
+mod tokens;
+
+pub use laws::{
+    closes_to_one_history, commits_are_one_threads, drains_are_one_threads, failures_are_counted,
+    failures_are_for_good, handled_is_the_lists, ingests_are_one_threads, lengths_are_one_threads,
+    settles_are_one_threads, tokens_stay_good, unsettled_are_above_marks, views_are_one_threads,
+};
+pub use shared::Shared;
+pub use tokens::{Hand, Scout, Seat};

@@ -1,0 +1,207 @@
+//! The endpoint under its lock: it's put there with its tokens, and comes out with all of them.
+
+ghost use Rattle.std.specs.Prelude.{◌≡◌, ◌<◌, ◌++◌, suc, map, Some, All, IfOk, IfErr};
+ghost use Rattle.base.specs.declared.limits.TheConstants.{SEATS};
+ghost use Rattle.told_lock.specs.Keys.{knows, IsKeyOf};
+ghost use Rattle.told_lock.specs.Rule.{Every, without};
+ghost use Rattle.told_lock.specs.declared.view.Stage.TheVariants.{Open};
+ghost use Rattle.shared_endpoint.specs.Token.{hand_number, scout_number};
+ghost use Rattle.shared_endpoint.specs.History.{fault_in, tells, given, Gives};
+
+use crate::lore::EndpointLore;
+use crate::tokens::{Hand, Scout, Seat};
+use activities::Handler;
+use base::limits::SEATS;
+use endpoint::{EndFault, Endpoint};
+use keep::Keep;
+use std::alloc::Global;
+use std::sync::Wait;
+use told_lock::{Key, Lock};
+
+/// An endpoint that many threads use in turn.
+#[derive(Drop)]
+pub struct Shared<H, K>
+where
+    H: Handler,
+    K: Keep<State = H::State, Command = H::Command> + Drop,
+{
+    pub(crate) lock: Lock<Endpoint<H, K>, EndpointLore<H, K>>,
+}
+
+/// Whether an answer tells of the journal: all do but those that the store failed, that it had failed before, or that
+/// memory was refused.
+pub(crate) fn tells<T>(answer: &Result<T, EndFault>) -> bool
+    ensures { result ≡ tells (fault_in answer.now) }
+{
+    match answer {
+        Ok(_) => true,
+        Err(EndFault::StoreFailed | EndFault::Memory | EndFault::Unusable) => false,
+        Err(
+            EndFault::NotMine
+            | EndFault::Business(_)
+            | EndFault::TooEarly
+            | EndFault::NumberLimit
+            | EndFault::NotSent,
+        ) => true,
+    }
+}
+
+impl<H, K> Shared<H, K>
+where
+    H: Handler,
+    K: Keep<State = H::State, Command = H::Command> + Drop,
+{
+    ghost use Rattle.shared_endpoint.specs.Keys.{maker, IsToken, IsNew, IsSeatOf, IsHandOf, IsScoutOf, AreSeatsOf};
+    ghost use Rattle.shared_endpoint.specs.Keys.{IsNewSeat, AreNewSeats, IsNewHand, IsNewScout, seat_number};
+    ghost use Rattle.shared_endpoint.specs.Keys.{told_seats, told_hand, told_scout, Closes};
+
+    /// Gives the endpoint back: as seen, where the answer tells of the journal.
+    pub(crate) fn give<R: Wait>(
+        &self,
+        rt: &R,
+        key: &mut Key<Endpoint<H, K>>,
+        endpoint: Endpoint<H, K>,
+        told: bool,
+    )
+        requires key { IsKeyOf self.now.lock key.old }
+        requires may { Gives K.seen H.service (knows key.old) endpoint told }
+        ensures key { IsKeyOf self.now.lock key.new }
+        ensures gave { knows key.new ≡ without (map (given told endpoint) (knows key.old).own) (knows key.old) }
+    {
+        if told {
+            self.lock.give_seen(rt, key, endpoint);
+        } else {
+            self.lock.give_unseen(rt, key, endpoint);
+        }
+    }
+
+    /// Makes the token of this number, which is the next.
+    fn token(
+        &self,
+        key: &mut Key<Endpoint<H, K>>,
+        _endpoint: &Endpoint<H, K>,
+        _number: u8,
+    ) -> Key<Endpoint<H, K>>
+        requires key { IsKeyOf self.now.lock key.old }
+        requires maker { knows key.old ≡ maker _number _endpoint.now }
+        ensures key { IsKeyOf self.now.lock key.new }
+        ensures maker { knows key.new ≡ maker (suc _number) _endpoint.now }
+        ensures token { IsToken self.now.lock _number result × IsNew _number _endpoint.now result }
+    {
+        self.lock.token(key)
+    }
+
+    /// Makes the seat of this number, which is the next.
+    fn seat(
+        &self,
+        key: &mut Key<Endpoint<H, K>>,
+        endpoint: &Endpoint<H, K>,
+        number: u8,
+    ) -> Seat<H, K>
+        requires key { IsKeyOf self.now.lock key.old }
+        requires maker { knows key.old ≡ maker number endpoint.now }
+        requires below { number < SEATS }
+        ensures key { IsKeyOf self.now.lock key.new }
+        ensures maker { knows key.new ≡ maker (suc number) endpoint.now }
+        ensures seat { IsSeatOf self.now result × IsNewSeat endpoint.now result }
+        ensures number { seat_number result ≡ number }
+    {
+        Seat {
+            number,
+            key: self.token(key, endpoint, number),
+        }
+    }
+
+    /// Makes all sixteen.
+    fn seats(&self, key: &mut Key<Endpoint<H, K>>, endpoint: &Endpoint<H, K>) -> [Seat<H, K>; 16]
+        requires key { IsKeyOf self.now.lock key.old }
+        requires maker { knows key.old ≡ maker 0 endpoint.now }
+        ensures key { IsKeyOf self.now.lock key.new }
+        ensures maker { knows key.new ≡ maker hand_number endpoint.now }
+        ensures seats { AreSeatsOf self.now result × AreNewSeats endpoint.now result }
+    {
+        [
+            self.seat(key, endpoint, 0),
+            self.seat(key, endpoint, 1),
+            self.seat(key, endpoint, 2),
+            self.seat(key, endpoint, 3),
+            self.seat(key, endpoint, 4),
+            self.seat(key, endpoint, 5),
+            self.seat(key, endpoint, 6),
+            self.seat(key, endpoint, 7),
+            self.seat(key, endpoint, 8),
+            self.seat(key, endpoint, 9),
+            self.seat(key, endpoint, 10),
+            self.seat(key, endpoint, 11),
+            self.seat(key, endpoint, 12),
+            self.seat(key, endpoint, 13),
+            self.seat(key, endpoint, 14),
+            self.seat(key, endpoint, 15),
+        ]
+    }
+
+    /// Puts an endpoint under a lock, and makes its tokens: the seats 0 to 15, the Hand and the Scout, each of which
+    /// has seen this endpoint. It may be any, usable or not. For want of memory it comes back.
+    pub fn open<R: Wait>(
+        rt: &R,
+        alloc: Global,
+        endpoint: Endpoint<H, K>,
+    ) -> Result<(Shared<H, K>, [Seat<H, K>; 16], Hand<H, K>, Scout<H, K>), Endpoint<H, K>>
+        ensures seats { IfOk result (λ r. AreSeatsOf r.0 r.1 × AreNewSeats endpoint r.1) }
+        ensures hand { IfOk result (λ r. IsHandOf r.0 r.2 × IsNewHand endpoint r.2) }
+        ensures scout { IfOk result (λ r. IsScoutOf r.0 r.3 × IsNewScout endpoint r.3) }
+        ensures err { IfErr result (λ e. e ≡ endpoint) }
+    {
+        match Lock::<Endpoint<H, K>, EndpointLore<H, K>>::open(rt, alloc, endpoint) {
+            Err(endpoint) => Err(endpoint),
+            Ok((lock, mut key, endpoint)) => {
+                let shared = Shared { lock };
+                let seats = shared.seats(&mut key, &endpoint);
+                let hand = shared.token(&mut key, &endpoint, 16);
+                let scout = shared.token(&mut key, &endpoint, 17);
+                shared.lock.give_unseen(rt, &mut key, endpoint);
+                Ok((shared, seats, Hand { key: hand }, Scout { key: scout }))
+            }
+        }
+    }
+
+    /// Takes all seats in.
+    fn all_in(&self, key: &mut Key<Endpoint<H, K>>, seats: [Seat<H, K>; 16])
+        requires key { IsKeyOf self.now.lock key.old }
+        requires seats { Every (λ s. IsKeyOf self.now.lock s.key) seats }
+        requires holds { ((knows key.old).stage ≡ Open) × ((e : K) × ((knows key.old).has ≡ Some e)) }
+        ensures key { IsKeyOf self.now.lock key.new }
+        ensures holds { ((knows key.new).stage ≡ Open) × ((knows key.new).has ≡ (knows key.old).has) }
+        ensures own { (knows key.new).own ≡ (knows key.old).own ++ told_seats seats }
+    {
+        for seat in seats {
+            let Seat {
+                number: _,
+                key: other,
+            } = seat;
+            self.lock.take_in(key, other);
+        }
+    }
+
+    /// The endpoint, once all tokens are back: the seats in their order.
+    pub fn close<R: Wait>(
+        self,
+        rt: &R,
+        seats: [Seat<H, K>; 16],
+        hand: Hand<H, K>,
+        scout: Scout<H, K>,
+    ) -> Endpoint<H, K>
+        requires seats { AreSeatsOf self seats }
+        requires hand { IsHandOf self hand }
+        requires scout { IsScoutOf self scout }
+        ensures { Closes K.seen H.service ((told_scout scout ++ told_hand hand) ++ told_seats seats) result }
+    {
+        let Scout { mut key } = scout;
+        let Hand { key: other } = hand;
+        let endpoint = self.lock.take(rt, &mut key);
+        self.lock.take_in(&mut key, other);
+        self.all_in(&mut key, seats);
+        self.lock.compare(&mut key);
+        endpoint
+    }
+}

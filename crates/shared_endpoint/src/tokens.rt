@@ -1,0 +1,37 @@
+//! Those who may use the endpoint.
+
+use activities::Handler;
+use endpoint::Endpoint;
+use keep::Keep;
+use told_lock::Key;
+
+/// One of the sixteen from whom commands come.
+#[derive(Drop)]
+pub struct Seat<H, K>
+where
+    H: Handler,
+    K: Keep<State = H::State, Command = H::Command> + Drop,
+{
+    pub(crate) number: u8,
+    pub(crate) key: Key<Endpoint<H, K>>,
+}
+
+/// The one through whom letters and settles come.
+#[derive(Drop)]
+pub struct Hand<H, K>
+where
+    H: Handler,
+    K: Keep<State = H::State, Command = H::Command> + Drop,
+{
+    pub(crate) key: Key<Endpoint<H, K>>,
+}
+
+/// The one who reads what is to be sent.
+#[derive(Drop)]
+pub struct Scout<H, K>
+where
+    H: Handler,
+    K: Keep<State = H::State, Command = H::Command> + Drop,
+{
+    pub(crate) key: Key<Endpoint<H, K>>,
+}

@@ -1,0 +1,40 @@
+//! Reads lines that name runs of many threads over one service, and prints what came of each.
+//!
+//! A comment, which begins with `#`, and an empty line are printed as they are. Each other line has one answer: what
+//! the run came to, or the text of its fault. So the answer to a line of `stdin` stands at the same line of `stdout`,
+//! and it's the same whatever the threads' order is. Where a growth is refused, the program ends there with status 3.
+//!
+//! - `run SEATS COUNT LETTERS READS`: over empty tables so many seats, each in a thread of its own, take in COUNT
+//!   commands each and look after each at what is there; meanwhile the Hand takes in so many letters, and the Scout
+//!   reads the outbox so often;
+//! - `fail CALL LEAVES SEATS COUNT`: the same seats, which don't look, over a store whose CALL-th call fails and leaves
+//!   `old` or `new` tables; then the store is opened again, and takes in one command more.
+//! - `pages`: the examples of the libraries' pages.
+//!
+//! The k-th command of a seat receives k into a stock of its own. What is counted:
+//! - `committed`, `viewed`: commands that were taken in, and views that showed all that the seat had received so far;
+//! - `handled`, `read`: letters that were the next of their pair, and reads that gave letters from the first on;
+//! - `failed`, `unusable`: commands that the store failed, and that came behind one;
+//! - `rows`, `ordered`: of the journal behind the end, all rows, and those that are the next of their seat or pair.
+#![tactic(auto)]
+
+mod examples;
+mod fault;
+mod lines;
+mod tally;
+mod threads;
+
+use crate::lines::answer_input;
+use std::io;
+use std::io::ErrorKind;
+use std::process::ExitCode;
+
+/// The status of a program that was refused a growth.
+const NO_MEMORY: u8 = 3;
+
+fn main(rt: HostRuntime) -> io::Result<ExitCode> {
+    match answer_input(&rt) {
+        Err(error) if error.kind() == ErrorKind::OutOfMemory => Ok(ExitCode::from(NO_MEMORY)),
+        answered => answered.map(|()| ExitCode::SUCCESS),
+    }
+}
