@@ -2,6 +2,7 @@
 
 use crate::disarmed::read_disarmed;
 use crate::fault::CallFault;
+use crate::files::{Failing, FileSession};
 use crate::session::Session;
 use crate::store::Empty;
 use keep::KeepFault;
@@ -12,7 +13,7 @@ use sqlite::MemStore;
 use std::alloc::Global;
 use std::io;
 use std::io::Write;
-use test_script::{Fault, Script};
+use test_script::{Fault, Script, first_word};
 
 /// Makes tables in memory.
 struct Plain;
@@ -52,11 +53,12 @@ fn agreed(alloc: Global, in_memory: String, in_sql: &str) -> Result<String, Call
     Ok(format!(in alloc; "in memory: {in_memory}; in SQL: {in_sql}")?)
 }
 
-/// A session over tables in memory, and one over tables in SQL.
+/// A session over tables in memory, one over tables in SQL, and one over files that fail.
 #[derive(Drop)]
 pub struct Both {
     plain: Session<Plain>,
     sql: Session<InSql>,
+    files: FileSession,
 }
 
 impl Both {
@@ -68,6 +70,7 @@ impl Both {
         Ok(Both {
             plain: Session::new(alloc)?,
             sql: Session::new(alloc)?,
+            files: FileSession::new(alloc),
         })
     }
 
@@ -93,9 +96,11 @@ impl Script for Both {
     type Fault = CallFault;
 
     fn answer(&mut self, alloc: Global, line: &str) -> Result<String, CallFault> {
-        match line.strip_prefix("plain ") {
-            Some(line) => self.answer_plain(alloc, line),
-            None => self.answer_both(alloc, line),
+        let (word, rest) = first_word(line);
+        match word {
+            "plain" => self.answer_plain(alloc, rest),
+            "file" => self.files.answer::<Failing>(alloc, rest),
+            _ => self.answer_both(alloc, line),
         }
     }
 

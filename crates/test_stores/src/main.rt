@@ -34,6 +34,28 @@
 //!   arrives; the next letter is handled where it is held; letters are settled; the first pair that can be drained;
 //! - `arm`, `disarm`, `usable`, `reopen`, `sent`, `settled`, `handled`, `outbox`, `journal` and `length` as of a store.
 //!
+//! Files that fail, by `file LINE`, where LINE is
+//! - `new`: a database file and its log, both empty, without tables;
+//! - `copy-at N`: from now on the log is copied into the database file once it has N frames; at first it is 1000;
+//! - `entity ENTITY`, `pair PAIR`: from now on tables are compared by this row too, or by the three marks of this pair
+//!   and what is held of its numbers 1 to 4. They are always compared by the outbox, the pair that can be drained first,
+//!   the journal and its length;
+//! - `change CHANGE`: a change of the next transaction is noted;
+//! - `open`, `apply`: the files are opened, and get tables where there are none; a transaction makes the noted changes;
+//! - `tables`: what tables are compared by;
+//! - `END CALL FILE`: runs. FILE, `log` or `db`, is on a disk that passes k calls on and fails from then on; the other
+//!   file's doesn't fail. There is a run for each k from the first one on, until a run leaves a call of them.
+//!   CALL is `schema`: empty files are opened and get tables; `open`: the files are opened; `apply`: they are opened, and
+//!   a transaction makes the noted changes; or `reopen`: the same, and where it failed the store is opened again on the
+//!   disk that fails still. The first k is 0, and for the last two that with which files can be opened.
+//!   END is what is left of the files then: `fail`, all that was written; `stop`, what a power cut leaves, where both lose
+//!   what wasn't synced; `stop-log` or `stop-db`, where this file alone does; `tear`, where each second sector of both
+//!   does.
+//!   The files that a run leaves are opened again. The answer tells how many runs there were, how many calls answered
+//!   `Failed`, and how many files had the old tables, and how many the new ones. Old files take the call once more, and
+//!   have to have the new tables then. Other tables and another answer are told behind that, with their k. So of a call
+//!   that asks a file n times there are n + 2 runs, and n of them fail.
+//!
 //! `fault store N` and `fault endpoint N` give the text of the fault of this number.
 //!
 //! In these lines
@@ -55,6 +77,7 @@ mod endpoints;
 mod failing;
 mod fault;
 mod fault_texts;
+mod files;
 mod handler;
 mod reads;
 mod session;
