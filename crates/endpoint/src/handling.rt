@@ -1,6 +1,6 @@
 //! How an input is taken in: one transaction for the journal's row, the entity's row and what the entity sends.
 
-ghost use Rattle.std.specs.Prelude.{◌≡◌, ◌+◌, ◌*◌, ◌^◌, ◌≤◌, ◌<◌, ◌++◌, [], ◌∷◌, true, length, OnOk};
+ghost use Rattle.std.specs.Prelude.{◌≡◌, ◌+◌, ◌<◌, ◌++◌, [], ◌∷◌, true, length, OnOk};
 ghost use Rattle.activities.specs.Rows.{row_for, state_for};
 ghost use Rattle.keep.specs.Law.{Reads, Writes};
 ghost use Rattle.keep.specs.Tables.{changed, ArePlaced};

@@ -7,7 +7,6 @@ ghost use Rattle.base.specs.Order.{entity_cmp};
 ghost use Rattle.std.specs.declared.cmp.Ordering.TheVariants.{Less};
 ghost use Rattle.relay.specs.Parts.News.{IsFrom, IsFirstFrom, IsClear};
 
-use crate::marks::find;
 use activities::JournalRow;
 use base::{Entity, Number, Pair};
 use keep::Place;

@@ -147,7 +147,7 @@ impl Relay {
         }
     }
 
-    /// StaysOrJumps the cursor over what was sent: up to a place all was but letters that these rows' entities sent.
+    /// Moves the cursor over what was sent: up to a place all was but letters that these rows' entities sent.
     fn pass_over<C>(&mut self, news: &[JournalRow<C>], reach: &Option<Place>)
         ensures skips { (messages : Messages) → SentBut news.now (marks_of self.old) messages reach.now
             → Skips (marks_of self.old) messages self.old.behind self.new.behind }
@@ -259,7 +259,7 @@ impl Relay {
         Ok((sent, true))
     }
 
-    /// StaysOrJumps the cursor behind those of these rows that stand before the first one that is due.
+    /// Moves the cursor behind those of these rows that stand before the first one that is due.
     fn go_behind_sent(&mut self, mut rows: Vec<Letter>)
         ensures sent { (messages : Messages) (page : ℕ) → AreFirst messages self.old.behind page rows.items
             → AllSent (marks_of self.old) messages self.old.behind
@@ -272,7 +272,7 @@ impl Relay {
         self.go_behind(rows);
     }
 
-    /// StaysOrJumps the cursor behind these rows, which were sent; of the last one's pair all up to its mark was.
+    /// Moves the cursor behind these rows, which were sent; of the last one's pair all up to its mark was.
     fn go_behind(&mut self, mut rows: Vec<Letter>)
         ensures behind { StaysOrJumps (marks_of self.old) (place_behind self.old.behind rows.items) self.new.behind }
         ensures marks { self.new.marks ≡ self.old.marks }

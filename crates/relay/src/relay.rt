@@ -1,6 +1,6 @@
 //! What was sent of each pair on a connection.
 
-ghost use Rattle.std.specs.Prelude.{◌≡◌, ◌≢◌, ℕ, false, OnOk, OnErr, IfErr, IfSome, Ok, ⊤, []};
+ghost use Rattle.std.specs.Prelude.{◌≡◌, ℕ, false, OnOk, OnErr, IfErr, IfSome, Ok, ⊤, []};
 ghost use Rattle.std.specs.Prelude.{◌∷◌};
 ghost use Rattle.base.specs.declared.pair.Pair.{Pair};
 ghost use Rattle.keep.specs.Law.{Reads};
