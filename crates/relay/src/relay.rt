@@ -49,6 +49,13 @@ impl Relay {
         }
     }
 
+    /// The last number that was sent of a pair on this connection, and 0 where nothing was.
+    pub fn sent(&self, pair: &Pair) -> u64
+        ensures { result ≡ marks_of self.now pair.now }
+    {
+        find(&self.marks, pair)
+    }
+
     /// Makes all rows of the outbox due again, as on a connection on which nothing was sent. It takes no memory.
     #[tactic(auto, using(crate::proofs::Knowing::knows_start))]
     pub fn forget(&mut self)
