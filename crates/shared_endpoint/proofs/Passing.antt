@@ -18,24 +18,27 @@ use Rattle.shared_endpoint.proofs.Steps.{gives, turns}
 
 module _ {E S C : Type 0} (seen : E → Seen (Tables S C)) (service : Service S C) (sound : (e : E) → IsSound (seen e))
   where
-    -- what a call owes and tells of a token of this lock, by what the code knows of the answer
-    pub token_gives : {L : Type 0} (lock : Lock E L) (n : ℕ) (p : Pass E (Known E)) (w : Known E) (d e : E)
+    -- what a call owes and tells of a token of this lock, by what the code knows of the answer: c, what the box had that
+    -- was taken, was asked
+    pub token_gives : {L : Type 0} (lock : Lock E L) (n : ℕ) (p : Pass E (Known E)) (w : Known E) (d c e : E)
         (b : Bool)
         (fault : Option EndFault)
-        → IsToken lock n p → Took (Since seen service) (IsLater seen) (EndsAs seen service) (knows p) d w
-        → b ≡ tells fault → Steps seen service n d e fault → Gives seen service w e b
-    token_gives lock n p w d e b fault t took is s = subst (Gives seen service w e) (sym is)
-        (gives seen service sound n (knows p) w d e t.one fault took t.own t.number s)
+        → IsToken lock n p → Took (Since seen service) (IsLater seen) (EndsAs seen service) (knows p) d w → c ≡ d
+        → b ≡ tells fault → Steps seen service n c e fault → Gives seen service w e b
+    token_gives lock n p w d c e b fault t took same is s = subst (Gives seen service w e) (sym is)
+        (gives seen service sound n (knows p) w d e t.one fault took t.own t.number
+        (subst (λ x. Steps seen service n x e fault) same s))
 
-    pub token_turns : {L : Type 0} (lock : Lock E L) (n : ℕ) (p p' : Pass E (Known E)) (w : Known E) (d e : E)
+    pub token_turns : {L : Type 0} (lock : Lock E L) (n : ℕ) (p p' : Pass E (Known E)) (w : Known E) (d c e : E)
         (b : Bool)
         (fault : Option EndFault) (Call : E → E → Type 0)
-        → IsToken lock n p → Took (Since seen service) (IsLater seen) (EndsAs seen service) (knows p) d w
-        → b ≡ tells fault → Steps seen service n d e fault → Call d e
+        → IsToken lock n p → Took (Since seen service) (IsLater seen) (EndsAs seen service) (knows p) d w → c ≡ d
+        → b ≡ tells fault → Steps seen service n c e fault → Call c e
         → knows p' ≡ without (map (given b e) w.own) w → Turns seen service n (told p) (told p') Call fault
-    token_turns lock n p p' w d e b fault Call t took is s call gave =
-        turns seen service sound n (knows p) w (knows p') d e t.one fault Call took t.own t.number s call
-        (gave ∙ ap (λ c. without (map (given c e) w.own) w) is)
+    token_turns lock n p p' w d c e b fault Call t took same is s call gave =
+        turns seen service sound n (knows p) w (knows p') d e t.one fault Call took t.own t.number
+        (subst (λ x. Steps seen service n x e fault) same s) (subst (λ x. Call x e) same call)
+        (gave ∙ ap (λ it. without (map (given it e) w.own) w) is)
 
     pub token_stays : {L : Type 0} (lock : Lock E L) (n : ℕ) (p p' : Pass E (Known E)) (w : Known E) (d e : E)
         (b : Bool)

@@ -50,10 +50,10 @@ where
             (record { entity = entity.now; input = FromSeat (seat_number seat.old) command }) result)
             (fault_in result) }
     {
-        let mut endpoint = self.lock.take(rt, &mut seat.key);
-        let committed = endpoint.commit(alloc, seat.number, entity, command);
+        let mut boxed = self.lock.take(rt, &mut seat.key);
+        let committed = boxed.endpoint.commit(alloc, seat.number, entity, command);
         let told = tells(&committed);
-        self.give(rt, &mut seat.key, endpoint, told);
+        self.give(rt, &mut seat.key, boxed, told);
         committed
     }
 
@@ -73,10 +73,10 @@ where
         ensures turn { Turns K.seen H.service (seat_number seat.old) (told_seat seat.old) (told_seat seat.new)
             (λ d e. Views K.seen d e H.service.kind entity.now result) (fault_in result) }
     {
-        let mut endpoint = self.lock.take(rt, &mut seat.key);
-        let row = endpoint.view(alloc, entity);
+        let mut boxed = self.lock.take(rt, &mut seat.key);
+        let row = boxed.endpoint.view(alloc, entity);
         let told = tells(&row);
-        self.give(rt, &mut seat.key, endpoint, told);
+        self.give(rt, &mut seat.key, boxed, told);
         row
     }
 
@@ -90,10 +90,10 @@ where
         ensures turn { Turns K.seen H.service (seat_number seat.old) (told_seat seat.old) (told_seat seat.new)
             (λ d e. (e ≡ d) × Counts K.seen d (λ t. length t.journal) result) (fault_in result) }
     {
-        let endpoint = self.lock.take(rt, &mut seat.key);
-        let length = endpoint.length();
+        let boxed = self.lock.take(rt, &mut seat.key);
+        let length = boxed.endpoint.length();
         let told = tells(&length);
-        self.give(rt, &mut seat.key, endpoint, told);
+        self.give(rt, &mut seat.key, boxed, told);
         length
     }
 
@@ -114,10 +114,10 @@ where
             (λ d e. DoesDeed K.seen d e HELD_WINDOW H.service OfLetter letter.now.pair.to
             (IngestMay H.service letter.now) result) (fault_in result) }
     {
-        let mut endpoint = self.lock.take(rt, &mut hand.key);
-        let ingested = endpoint.ingest(alloc, letter);
+        let mut boxed = self.lock.take(rt, &mut hand.key);
+        let ingested = boxed.endpoint.ingest(alloc, letter);
         let told = tells(&ingested);
-        self.give(rt, &mut hand.key, endpoint, told);
+        self.give(rt, &mut hand.key, boxed, told);
         ingested
     }
 
@@ -138,10 +138,10 @@ where
             (λ d e. DoesDeed K.seen d e HELD_WINDOW H.service OfHeldLetter pair.now.to (DrainMay H.service pair.now)
             result) (fault_in result) }
     {
-        let mut endpoint = self.lock.take(rt, &mut hand.key);
-        let drained = endpoint.drain_held(alloc, pair);
+        let mut boxed = self.lock.take(rt, &mut hand.key);
+        let drained = boxed.endpoint.drain_held(alloc, pair);
         let told = tells(&drained);
-        self.give(rt, &mut hand.key, endpoint, told);
+        self.give(rt, &mut hand.key, boxed, told);
         drained
     }
 
@@ -163,10 +163,10 @@ where
             (λ d e. DoesDeed K.seen d e HELD_WINDOW H.service OfSettle pair.now.from
             (SettleMay H.service pair.now number) result) (fault_in result) }
     {
-        let mut endpoint = self.lock.take(rt, &mut hand.key);
-        let mark = endpoint.settle(alloc, pair, number);
+        let mut boxed = self.lock.take(rt, &mut hand.key);
+        let mark = boxed.endpoint.settle(alloc, pair, number);
         let told = tells(&mark);
-        self.give(rt, &mut hand.key, endpoint, told);
+        self.give(rt, &mut hand.key, boxed, told);
         mark
     }
 
@@ -186,10 +186,10 @@ where
         ensures turn { Turns K.seen H.service hand_number (told_hand hand.old) (told_hand hand.new)
             (λ d e. Reads K.seen d e (λ t n. n ≡ t.handled pair.now) (end_of result)) (fault_in result) }
     {
-        let mut endpoint = self.lock.take(rt, &mut hand.key);
-        let count = endpoint.handled(alloc, pair);
+        let mut boxed = self.lock.take(rt, &mut hand.key);
+        let count = boxed.endpoint.handled(alloc, pair);
         let told = tells(&count);
-        self.give(rt, &mut hand.key, endpoint, told);
+        self.give(rt, &mut hand.key, boxed, told);
         count
     }
 
@@ -212,10 +212,10 @@ where
             (λ d e. Reads K.seen d e (λ t letters. AreFirst t.unsettled after.now limit letters.items) (end_of result))
             (fault_in result) }
     {
-        let mut endpoint = self.lock.take(rt, &mut scout.key);
-        let letters = endpoint.unsettled(alloc, after, limit);
+        let mut boxed = self.lock.take(rt, &mut scout.key);
+        let letters = boxed.endpoint.unsettled(alloc, after, limit);
         let told = tells(&letters);
-        self.give(rt, &mut scout.key, endpoint, told);
+        self.give(rt, &mut scout.key, boxed, told);
         letters
     }
 }

@@ -24,6 +24,7 @@
 //! promised. Tokens go back in the order in which `open` gave them.
 #![tactic(auto)]
 
+mod boxed;
 mod calls;
 mod laws;
 mod lore;

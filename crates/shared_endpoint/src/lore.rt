@@ -1,7 +1,7 @@
 //! What is told of an endpoint that others use meanwhile.
 
+use crate::boxed::Boxed;
 use activities::Handler;
-use endpoint::Endpoint;
 use keep::Keep;
 use std::marker::PhantomData;
 use told_lock::Lore;
@@ -11,7 +11,7 @@ pub struct EndpointLore<H, K> {
     of: PhantomData<(H, K)>,
 }
 
-impl<H, K> Lore<Endpoint<H, K>> for EndpointLore<H, K>
+impl<H, K> Lore<Boxed<H, K>> for EndpointLore<H, K>
 where
     H: Handler,
     K: Keep<State = H::State, Command = H::Command> + Drop,

@@ -1,13 +1,14 @@
 //! The endpoint under its lock: it's put there with its tokens, and comes out with all of them.
 
-ghost use Rattle.std.specs.Prelude.{◌≡◌, ◌<◌, ◌++◌, suc, map, Some, All, IfOk, IfErr};
+ghost use Rattle.std.specs.Prelude.{◌≡◌, ◌<◌, ◌++◌, suc, map, Some, IfOk, IfErr};
 ghost use Rattle.base.specs.declared.limits.TheConstants.{SEATS};
 ghost use Rattle.told_lock.specs.Keys.{knows, IsKeyOf};
 ghost use Rattle.told_lock.specs.Rule.{Every, without};
 ghost use Rattle.told_lock.specs.declared.view.Stage.TheVariants.{Open};
-ghost use Rattle.shared_endpoint.specs.Token.{hand_number, scout_number};
+ghost use Rattle.shared_endpoint.specs.Token.{hand_number};
 ghost use Rattle.shared_endpoint.specs.History.{fault_in, tells, given, Gives};
 
+use crate::boxed::Boxed;
 use crate::lore::EndpointLore;
 use crate::tokens::{Hand, Scout, Seat};
 use activities::Handler;
@@ -25,7 +26,7 @@ where
     H: Handler,
     K: Keep<State = H::State, Command = H::Command> + Drop,
 {
-    pub(crate) lock: Lock<Endpoint<H, K>, EndpointLore<H, K>>,
+    pub(crate) lock: Lock<Boxed<H, K>, EndpointLore<H, K>>,
 }
 
 /// Whether an answer tells of the journal: all do but those that the store failed, that it had failed before, or that
@@ -59,8 +60,8 @@ where
     pub(crate) fn give<R: Wait>(
         &self,
         rt: &R,
-        key: &mut Key<Endpoint<H, K>>,
-        endpoint: Endpoint<H, K>,
+        key: &mut Key<Boxed<H, K>>,
+        endpoint: Boxed<H, K>,
         told: bool,
     )
         requires key { IsKeyOf self.now.lock key.old }
@@ -78,10 +79,10 @@ where
     /// Makes the token of this number, which is the next.
     fn token(
         &self,
-        key: &mut Key<Endpoint<H, K>>,
-        _endpoint: &Endpoint<H, K>,
+        key: &mut Key<Boxed<H, K>>,
+        _endpoint: &Boxed<H, K>,
         _number: u8,
-    ) -> Key<Endpoint<H, K>>
+    ) -> Key<Boxed<H, K>>
         requires key { IsKeyOf self.now.lock key.old }
         requires maker { knows key.old ≡ maker _number _endpoint.now }
         ensures key { IsKeyOf self.now.lock key.new }
@@ -92,12 +93,7 @@ where
     }
 
     /// Makes the seat of this number, which is the next.
-    fn seat(
-        &self,
-        key: &mut Key<Endpoint<H, K>>,
-        endpoint: &Endpoint<H, K>,
-        number: u8,
-    ) -> Seat<H, K>
+    fn seat(&self, key: &mut Key<Boxed<H, K>>, endpoint: &Boxed<H, K>, number: u8) -> Seat<H, K>
         requires key { IsKeyOf self.now.lock key.old }
         requires maker { knows key.old ≡ maker number endpoint.now }
         requires below { number < SEATS }
@@ -113,7 +109,7 @@ where
     }
 
     /// Makes all sixteen.
-    fn seats(&self, key: &mut Key<Endpoint<H, K>>, endpoint: &Endpoint<H, K>) -> [Seat<H, K>; 16]
+    fn seats(&self, key: &mut Key<Boxed<H, K>>, endpoint: &Boxed<H, K>) -> [Seat<H, K>; 16]
         requires key { IsKeyOf self.now.lock key.old }
         requires maker { knows key.old ≡ maker 0 endpoint.now }
         ensures key { IsKeyOf self.now.lock key.new }
@@ -152,21 +148,22 @@ where
         ensures scout { IfOk result (λ r. IsScoutOf r.0 r.3 × IsNewScout endpoint r.3) }
         ensures err { IfErr result (λ e. e ≡ endpoint) }
     {
-        match Lock::<Endpoint<H, K>, EndpointLore<H, K>>::open(rt, alloc, endpoint) {
-            Err(endpoint) => Err(endpoint),
-            Ok((lock, mut key, endpoint)) => {
+        let boxed = Boxed::new(alloc, endpoint)?;
+        match Lock::<Boxed<H, K>, EndpointLore<H, K>>::open(rt, alloc, boxed) {
+            Err(boxed) => Err(boxed.into_inner()),
+            Ok((lock, mut key, boxed)) => {
                 let shared = Shared { lock };
-                let seats = shared.seats(&mut key, &endpoint);
-                let hand = shared.token(&mut key, &endpoint, 16);
-                let scout = shared.token(&mut key, &endpoint, 17);
-                shared.lock.give_unseen(rt, &mut key, endpoint);
+                let seats = shared.seats(&mut key, &boxed);
+                let hand = shared.token(&mut key, &boxed, 16);
+                let scout = shared.token(&mut key, &boxed, 17);
+                shared.lock.give_unseen(rt, &mut key, boxed);
                 Ok((shared, seats, Hand { key: hand }, Scout { key: scout }))
             }
         }
     }
 
     /// Takes all seats in.
-    fn all_in(&self, key: &mut Key<Endpoint<H, K>>, seats: [Seat<H, K>; 16])
+    fn all_in(&self, key: &mut Key<Boxed<H, K>>, seats: [Seat<H, K>; 16])
         requires key { IsKeyOf self.now.lock key.old }
         requires seats { Every (λ s. IsKeyOf self.now.lock s.key) seats }
         requires holds { ((knows key.old).stage ≡ Open) × ((e : K) × ((knows key.old).has ≡ Some e)) }
@@ -198,10 +195,10 @@ where
     {
         let Scout { mut key } = scout;
         let Hand { key: other } = hand;
-        let endpoint = self.lock.take(rt, &mut key);
+        let boxed = self.lock.take(rt, &mut key);
         self.lock.take_in(&mut key, other);
         self.all_in(&mut key, seats);
         self.lock.compare(&mut key);
-        endpoint
+        boxed.into_inner()
     }
 }

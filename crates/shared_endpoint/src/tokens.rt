@@ -1,7 +1,7 @@
 //! Those who may use the endpoint.
 
+use crate::boxed::Boxed;
 use activities::Handler;
-use endpoint::Endpoint;
 use keep::Keep;
 use told_lock::Key;
 
@@ -13,7 +13,7 @@ where
     K: Keep<State = H::State, Command = H::Command> + Drop,
 {
     pub(crate) number: u8,
-    pub(crate) key: Key<Endpoint<H, K>>,
+    pub(crate) key: Key<Boxed<H, K>>,
 }
 
 /// The one through whom letters and settles come.
@@ -23,7 +23,7 @@ where
     H: Handler,
     K: Keep<State = H::State, Command = H::Command> + Drop,
 {
-    pub(crate) key: Key<Endpoint<H, K>>,
+    pub(crate) key: Key<Boxed<H, K>>,
 }
 
 /// The one who reads what is to be sent.
@@ -33,5 +33,5 @@ where
     H: Handler,
     K: Keep<State = H::State, Command = H::Command> + Drop,
 {
-    pub(crate) key: Key<Endpoint<H, K>>,
+    pub(crate) key: Key<Boxed<H, K>>,
 }

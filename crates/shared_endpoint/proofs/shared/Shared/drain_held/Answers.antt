@@ -1,3 +1,4 @@
+use Rattle.std.proofs.Common.{◌∙◌}
 use Rattle.endpoint.specs.Calls.{OfHeldLetter}
 use Rattle.shared_endpoint.specs.Token.{hand_number}
 use Rattle.shared_endpoint.proofs.Passing.{token_gives, token_turns, token_stays}
@@ -8,9 +9,10 @@ pub give-requires-clause-may : goal.give-requires-clause-may
 give-requires-clause-may g c =
     let k = g.K.Keep in
     let h = g.H.Handler in
+    let same = c.deref_mut.ensures.value ∙ c.boxed.view_is in
     token_gives k.seen h.service g.met.K.Keep.sound c.args.self.now.lock
-    hand_number c.args.hand.now.key _ _ _ _ _
-    c.requires.hand c.take-endpoint.ensures.took c.tells-told.ensures
+    hand_number c.args.hand.now.key _ _ _ _ _ _
+    c.requires.hand c.take-boxed.ensures.took same c.tells-told.ensures
     (drain_steps k.seen h.service _ _ c.args.pair.now OfHeldLetter c.args.pair.now.to
     c.drain_held-drained.result c.drain_held-drained.ensures.drain c.drain_held-drained.ensures.comes
     c.drain_held-drained.ensures.matches)
@@ -21,15 +23,16 @@ returns-clause-hand g c =
     let h = g.H.Handler in
     token_stays k.seen h.service g.met.K.Keep.sound c.args.self.now.lock
     hand_number c.args.hand.now.key c.give.new.key _ _ _ _
-    c.requires.hand c.take-endpoint.ensures.took c.give.ensures.key c.give.ensures.gave
+    c.requires.hand c.take-boxed.ensures.took c.give.ensures.key c.give.ensures.gave
 
 pub returns-clause-turn : goal.returns-clause-turn
 returns-clause-turn g c =
     let k = g.K.Keep in
     let h = g.H.Handler in
+    let same = c.deref_mut.ensures.value ∙ c.boxed.view_is in
     token_turns k.seen h.service g.met.K.Keep.sound c.args.self.now.lock
-    hand_number c.args.hand.now.key c.give.new.key _ _ _ _ _
-    _ c.requires.hand c.take-endpoint.ensures.took c.tells-told.ensures
+    hand_number c.args.hand.now.key c.give.new.key _ _ _ _ _ _
+    _ c.requires.hand c.take-boxed.ensures.took same c.tells-told.ensures
     (drain_steps k.seen h.service _ _ c.args.pair.now OfHeldLetter c.args.pair.now.to
     c.drain_held-drained.result c.drain_held-drained.ensures.drain c.drain_held-drained.ensures.comes
     c.drain_held-drained.ensures.matches)

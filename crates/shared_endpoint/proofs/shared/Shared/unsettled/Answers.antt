@@ -1,3 +1,4 @@
+use Rattle.std.proofs.Common.{◌∙◌}
 use Rattle.shared_endpoint.specs.Token.{scout_number}
 use Rattle.shared_endpoint.proofs.Passing.{token_gives, token_turns, token_stays}
 use Rattle.shared_endpoint.proofs.Stepping.{read_steps}
@@ -7,9 +8,10 @@ pub give-requires-clause-may : goal.give-requires-clause-may
 give-requires-clause-may g c =
     let k = g.K.Keep in
     let h = g.H.Handler in
+    let same = c.deref_mut.ensures.value ∙ c.boxed.view_is in
     token_gives k.seen h.service g.met.K.Keep.sound c.args.self.now.lock
-    scout_number c.args.scout.now.key _ _ _ _ _
-    c.requires.scout c.take-endpoint.ensures.took c.tells-told.ensures
+    scout_number c.args.scout.now.key _ _ _ _ _ _
+    c.requires.scout c.take-boxed.ensures.took same c.tells-told.ensures
     (read_steps k.seen h.service _ _ scout_number _ _ c.unsettled-letters.ensures.read.doubt
     c.unsettled-letters.ensures.read.call c.unsettled-letters.ensures.stays)
 
@@ -19,15 +21,16 @@ returns-clause-scout g c =
     let h = g.H.Handler in
     token_stays k.seen h.service g.met.K.Keep.sound c.args.self.now.lock
     scout_number c.args.scout.now.key c.give.new.key _ _ _ _
-    c.requires.scout c.take-endpoint.ensures.took c.give.ensures.key c.give.ensures.gave
+    c.requires.scout c.take-boxed.ensures.took c.give.ensures.key c.give.ensures.gave
 
 pub returns-clause-turn : goal.returns-clause-turn
 returns-clause-turn g c =
     let k = g.K.Keep in
     let h = g.H.Handler in
+    let same = c.deref_mut.ensures.value ∙ c.boxed.view_is in
     token_turns k.seen h.service g.met.K.Keep.sound c.args.self.now.lock
-    scout_number c.args.scout.now.key c.give.new.key _ _ _ _ _
-    _ c.requires.scout c.take-endpoint.ensures.took c.tells-told.ensures
+    scout_number c.args.scout.now.key c.give.new.key _ _ _ _ _ _
+    _ c.requires.scout c.take-boxed.ensures.took same c.tells-told.ensures
     (read_steps k.seen h.service _ _ scout_number _ _ c.unsettled-letters.ensures.read.doubt
     c.unsettled-letters.ensures.read.call c.unsettled-letters.ensures.stays)
     c.unsettled-letters.ensures.read c.give.ensures.gave

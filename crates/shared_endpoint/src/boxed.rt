@@ -1,0 +1,57 @@
+//! The endpoint as the lock carries it.
+
+ghost use Rattle.std.specs.Prelude.{◌≡◌, IfOk, IfErr};
+
+use activities::Handler;
+use endpoint::Endpoint;
+use keep::Keep;
+use std::alloc::Global;
+use std::marker::Model;
+
+/// An endpoint on the heap, so that the lock carries a pointer to it. Contracts see the endpoint.
+#[derive(Drop)]
+pub struct Boxed<H, K>
+where
+    H: Handler,
+    K: Keep<State = H::State, Command = H::Command> + Drop,
+{
+    pub(crate) endpoint: Box<Endpoint<H, K>>,
+}
+
+impl<H, K> Model for Boxed<H, K>
+where
+    H: Handler,
+    K: Keep<State = H::State, Command = H::Command> + Drop,
+{
+    ghost Value = { K };
+
+    ghost view = { λ b. b.endpoint.value };
+}
+
+impl<H, K> Boxed<H, K>
+where
+    H: Handler,
+    K: Keep<State = H::State, Command = H::Command> + Drop,
+{
+    /// Puts an endpoint on the heap. For want of memory it comes back.
+    pub(crate) fn new(
+        alloc: Global,
+        endpoint: Endpoint<H, K>,
+    ) -> Result<Boxed<H, K>, Endpoint<H, K>>
+        ensures ok { IfOk result (λ b. b ≡ endpoint) }
+        ensures err { IfErr result (λ e. e ≡ endpoint) }
+    {
+        match Box::new(alloc, endpoint) {
+            Ok(endpoint) => Ok(Boxed { endpoint }),
+            Err(failed) => Err(failed.value),
+        }
+    }
+
+    /// The endpoint.
+    pub(crate) fn into_inner(self) -> Endpoint<H, K>
+        ensures { result ≡ self }
+    {
+        let Boxed { endpoint } = self;
+        Box::into_inner(endpoint)
+    }
+}
