@@ -554,10 +554,12 @@ THREADS = {
           " tokens' lists and of no other rows."],
          [("shared_endpoint", "laws", "closes_to_one_history"), ("shared_endpoint", "shared", "Shared::close")], True),
         ("The calls", ["What each call does, in one word of what its token knows before and after it (`Turns`): at some service, later than"
-                       " all that the token knew, it did what the call of [THEOREM-SERVICE.md](THEOREM-SERVICE.md) does."],
+                       " all that the token knew, it did what the call of [THEOREM-SERVICE.md](THEOREM-SERVICE.md) does. And what"
+                       " the token raised the mark of the journal's length to (`raised_after`), which the Scout reads by `mark`."],
          [("shared_endpoint", "shared", "Shared::open")]
          + [("shared_endpoint", "calls", f"Shared::{it}") for it in ("commit", "view", "length", "ingest", "drain_held", "settle",
-                                                                     "handled", "unsettled")]),
+                                                                     "handled", "unsettled")]
+         + [("shared_endpoint", "mark", "Shared::mark")]),
         ("A mark never falls, and comes to the greatest number raised",
          ["Numbers that threads share with no lock, each at its place. `open` gives seats of its own, with empty lists of what each raised"
           " and read, which exist in proofs alone. A call takes its seat and gives it back, so that nobody else adds to its lists. `close`"

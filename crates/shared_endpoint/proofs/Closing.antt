@@ -90,9 +90,9 @@ module _ {H E S C : Type 0} where
       has_number n n (slice_index_or seats n d).key is.0.0.one is.0.0.own (is.0.0.number ∙ is.1) refl)))
       (λ rest. any_left P (told_scout scout ++ told_hand hand) (told_seats seats) (⊎_elim
       (λ e. any_right P (told_scout scout) (told_hand hand)
-      (has_number n hand_number hand.key is_hand.one is_hand.own is_hand.number (sym e)))
+      (has_number n hand_number hand.key is_hand.0.one is_hand.0.own is_hand.0.number (sym e)))
       (λ e. any_left P (told_scout scout) (told_hand hand)
-      (has_number n scout_number scout.key is_scout.one is_scout.own is_scout.number (sym e)))
+      (has_number n scout_number scout.key is_scout.0.one is_scout.0.own is_scout.0.number (sym e)))
       rest))
       (which n below)
     where

@@ -5,6 +5,10 @@ use Rattle.base.specs.declared.limits.TheConstants.{SEATS}
 use Rattle.activities.specs.Service.{Service}
 use Rattle.keep.specs.Seen.{Seen}
 use Rattle.keep.specs.Tables.{Tables}
+use Rattle.marks.specs.declared.rule.Entry.{Entry}
+use Rattle.marks.specs.declared.marks.MarkSeat.{MarkSeat}
+use Rattle.marks.specs.Seats.{raised_by, read_by}
+use Rattle.marks.specs.Seats as mark_seats
 use Rattle.told_lock.specs.declared.lock.Lock.{Lock}
 use Rattle.told_lock.specs.declared.view.Stage.TheVariants.{Open}
 use Rattle.told_lock.specs.declared.view.Told.{Told}
@@ -54,20 +58,38 @@ module _ {H E S C : Type 0} where
   abbrev pub told_scout : Scout H E S C → List (Told E)
   told_scout scout = told scout.key
 
+  -- the lengths to which a seat and the Hand have raised the mark, and those that the Scout has read of it, in order
+  abbrev pub marks_raised : Seat H E S C → List Entry
+  marks_raised seat = raised_by seat.mark
+
+  abbrev pub hand_raised : Hand H E S C → List Entry
+  hand_raised hand = raised_by hand.mark
+
+  abbrev pub marks_read : Scout H E S C → List Entry
+  marks_read scout = read_by scout.mark
+
   -- what several seats know
   abbrev pub told_seats : List (Seat H E S C) → List (Told E)
   told_seats [] = []
   told_seats (seat ∷ seats) = told_seat seat ++ told_seats seats
 
+  -- the right to raise and read this service's mark
+  abbrev pub IsMarkOf : Shared H E S C → MarkSeat → Type 0
+  IsMarkOf shared mark = mark_seats.IsSeatOf shared.marks mark
+
+  -- that has neither raised nor read it
+  abbrev pub IsNewMarkOf : Shared H E S C → MarkSeat → Type 0
+  IsNewMarkOf shared mark = IsMarkOf shared mark × (raised_by mark ≡ []) × (read_by mark ≡ [])
+
   -- they are tokens of this service
   abbrev pub IsSeatOf : Shared H E S C → Seat H E S C → Type 0
-  IsSeatOf shared seat = IsToken shared.lock seat.number seat.key × (seat.number < SEATS)
+  IsSeatOf shared seat = IsToken shared.lock seat.number seat.key × (seat.number < SEATS) × IsMarkOf shared seat.mark
 
   abbrev pub IsHandOf : Shared H E S C → Hand H E S C → Type 0
-  IsHandOf shared hand = IsToken shared.lock (number_of the_hand) hand.key
+  IsHandOf shared hand = IsToken shared.lock (number_of the_hand) hand.key × IsMarkOf shared hand.mark
 
   abbrev pub IsScoutOf : Shared H E S C → Scout H E S C → Type 0
-  IsScoutOf shared scout = IsToken shared.lock (number_of the_scout) scout.key
+  IsScoutOf shared scout = IsToken shared.lock (number_of the_scout) scout.key × IsMarkOf shared scout.mark
 
   -- the seats of this service, 0 to 15, in order
   abbrev pub AreSeatsOf : Shared H E S C → List (Seat H E S C) → Type 0
@@ -75,18 +97,18 @@ module _ {H E S C : Type 0} where
       × ((i : ℕ) (d : Seat H E S C) → i < length seats
       → IsSeatOf shared (slice_index_or seats i d) × (seat_number (slice_index_or seats i d) ≡ i))
 
-  -- they know this endpoint and no more
+  -- they know this endpoint and no more, and have neither raised nor read the mark
   abbrev pub IsNewSeat : E → Seat H E S C → Type 0
-  IsNewSeat e seat = IsNew seat.number e seat.key
+  IsNewSeat e seat = IsNew seat.number e seat.key × (marks_raised seat ≡ [])
 
   abbrev pub AreNewSeats : E → List (Seat H E S C) → Type 0
   AreNewSeats e seats = All (IsNewSeat e) seats
 
   abbrev pub IsNewHand : E → Hand H E S C → Type 0
-  IsNewHand e hand = IsNew (number_of the_hand) e hand.key
+  IsNewHand e hand = IsNew (number_of the_hand) e hand.key × (hand_raised hand ≡ [])
 
   abbrev pub IsNewScout : E → Scout H E S C → Type 0
-  IsNewScout e scout = IsNew (number_of the_scout) e scout.key
+  IsNewScout e scout = IsNew (number_of the_scout) e scout.key × (marks_read scout ≡ [])
 
 -- ---- the end
 

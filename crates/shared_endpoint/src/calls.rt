@@ -1,6 +1,6 @@
 //! The calls of the tokens: each takes the endpoint, does what it does for one thread, and gives it back.
 
-ghost use Rattle.std.specs.Prelude.{◌≡◌, length};
+ghost use Rattle.std.specs.Prelude.{◌≡◌, ℕ, length, Option};
 ghost use Rattle.base.specs.declared.limits.TheConstants.{HELD_WINDOW};
 ghost use Rattle.activities.specs.declared.input.Input.TheVariants.{FromSeat};
 ghost use Rattle.keep.specs.Law.{Reads};
@@ -8,9 +8,12 @@ ghost use Rattle.keep.specs.Listing.{AreFirst};
 ghost use Rattle.endpoint.specs.Arrivals.{IngestMay, DrainMay, SettleMay};
 ghost use Rattle.endpoint.specs.Calls.{Commits, DoesDeed, OfLetter, OfHeldLetter, OfSettle, Views, Counts};
 ghost use Rattle.endpoint.specs.Faults.{end_of};
+ghost use Rattle.told_lock.specs.Rule.{Every};
+ghost use Rattle.shared_endpoint.specs.Mark.{raised_after, row_committed, row_handled, AreRowsDrained};
 ghost use Rattle.shared_endpoint.specs.Token.{hand_number, scout_number};
 ghost use Rattle.shared_endpoint.specs.History.{fault_in, Turns};
 
+use crate::mark::{row_committed, row_handled};
 use crate::shared::{Shared, tells};
 use crate::tokens::{Hand, Scout, Seat};
 use activities::Handler;
@@ -27,7 +30,7 @@ where
     K: Keep<State = H::State, Command = H::Command> + Drop,
 {
     ghost use Rattle.shared_endpoint.specs.Keys.{IsSeatOf, IsHandOf, IsScoutOf, seat_number};
-    ghost use Rattle.shared_endpoint.specs.Keys.{told_seat, told_hand, told_scout};
+    ghost use Rattle.shared_endpoint.specs.Keys.{told_seat, told_hand, told_scout, marks_raised, hand_raised, marks_read};
 
     /// Takes in a command of this seat, as `Endpoint::commit` does for one thread: the row that it adds is the last of
     /// the journal then.
@@ -49,11 +52,13 @@ where
             (λ d e. Commits K.seen d e H.service
             (record { entity = entity.now; input = FromSeat (seat_number seat.old) command }) result)
             (fault_in result) }
+        ensures raised { marks_raised seat.new ≡ raised_after (marks_raised seat.old) (row_committed result) }
     {
         let mut boxed = self.lock.take(rt, &mut seat.key);
         let committed = boxed.endpoint.commit(alloc, seat.number, entity, command);
         let told = tells(&committed);
         self.give(rt, &mut seat.key, boxed, told);
+        self.raise(&mut seat.mark, row_committed(&committed));
         committed
     }
 
@@ -70,6 +75,7 @@ where
     ) -> Result<Option<H::State>, EndFault>
         requires seat { IsSeatOf self.now seat.old }
         ensures seat { IsSeatOf self.now seat.new × (seat_number seat.new ≡ seat_number seat.old) }
+        ensures raised { marks_raised seat.new ≡ marks_raised seat.old }
         ensures turn { Turns K.seen H.service (seat_number seat.old) (told_seat seat.old) (told_seat seat.new)
             (λ d e. Views K.seen d e H.service.kind entity.now result) (fault_in result) }
     {
@@ -87,6 +93,7 @@ where
     pub fn length<R: Wait>(&self, rt: &R, seat: &mut Seat<H, K>) -> Result<u64, EndFault>
         requires seat { IsSeatOf self.now seat.old }
         ensures seat { IsSeatOf self.now seat.new × (seat_number seat.new ≡ seat_number seat.old) }
+        ensures raised { marks_raised seat.new ≡ marks_raised seat.old }
         ensures turn { Turns K.seen H.service (seat_number seat.old) (told_seat seat.old) (told_seat seat.new)
             (λ d e. (e ≡ d) × Counts K.seen d (λ t. length t.journal) result) (fault_in result) }
     {
@@ -113,11 +120,13 @@ where
         ensures turn { Turns K.seen H.service hand_number (told_hand hand.old) (told_hand hand.new)
             (λ d e. DoesDeed K.seen d e HELD_WINDOW H.service OfLetter letter.now.pair.to
             (IngestMay H.service letter.now) result) (fault_in result) }
+        ensures raised { hand_raised hand.new ≡ raised_after (hand_raised hand.old) (row_handled result) }
     {
         let mut boxed = self.lock.take(rt, &mut hand.key);
         let ingested = boxed.endpoint.ingest(alloc, letter);
         let told = tells(&ingested);
         self.give(rt, &mut hand.key, boxed, told);
+        self.raise(&mut hand.mark, row_handled(&ingested));
         ingested
     }
 
@@ -137,11 +146,15 @@ where
         ensures turn { Turns K.seen H.service hand_number (told_hand hand.old) (told_hand hand.new)
             (λ d e. DoesDeed K.seen d e HELD_WINDOW H.service OfHeldLetter pair.now.to (DrainMay H.service pair.now)
             result) (fault_in result) }
+        ensures raised { Every (λ t. (rows : Option ℕ) × AreRowsDrained K.seen t.last result rows
+            × (hand_raised hand.new ≡ raised_after (hand_raised hand.old) rows)) (told_hand hand.new) }
     {
         let mut boxed = self.lock.take(rt, &mut hand.key);
         let drained = boxed.endpoint.drain_held(alloc, pair);
+        let rows = boxed.rows_drained(&drained);
         let told = tells(&drained);
         self.give(rt, &mut hand.key, boxed, told);
+        self.raise(&mut hand.mark, rows);
         drained
     }
 
@@ -159,6 +172,7 @@ where
     ) -> Result<u64, EndFault>
         requires hand { IsHandOf self.now hand.old }
         ensures hand { IsHandOf self.now hand.new }
+        ensures raised { hand_raised hand.new ≡ hand_raised hand.old }
         ensures turn { Turns K.seen H.service hand_number (told_hand hand.old) (told_hand hand.new)
             (λ d e. DoesDeed K.seen d e HELD_WINDOW H.service OfSettle pair.now.from
             (SettleMay H.service pair.now number) result) (fault_in result) }
@@ -183,6 +197,7 @@ where
     ) -> Result<u64, EndFault>
         requires hand { IsHandOf self.now hand.old }
         ensures hand { IsHandOf self.now hand.new }
+        ensures raised { hand_raised hand.new ≡ hand_raised hand.old }
         ensures turn { Turns K.seen H.service hand_number (told_hand hand.old) (told_hand hand.new)
             (λ d e. Reads K.seen d e (λ t n. n ≡ t.handled pair.now) (end_of result)) (fault_in result) }
     {
@@ -207,7 +222,7 @@ where
         limit: usize,
     ) -> Result<Vec<Letter>, EndFault>
         requires scout { IsScoutOf self.now scout.old }
-        ensures scout { IsScoutOf self.now scout.new }
+        ensures scout { IsScoutOf self.now scout.new × (marks_read scout.new ≡ marks_read scout.old) }
         ensures turn { Turns K.seen H.service scout_number (told_scout scout.old) (told_scout scout.new)
             (λ d e. Reads K.seen d e (λ t letters. AreFirst t.unsettled after.now limit letters.items) (end_of result))
             (fault_in result) }

@@ -3,6 +3,7 @@
 //! Commands come from sixteen seats, letters and settles through the Hand, and the Scout reads what is to be sent: each
 //! is a token that one thread has at a time. Each answer is what one thread would get at its place of one journal, which
 //! begins with all that the token has seen and has exactly what it did itself; and `close` gives one history of all.
+//! Calls that add a row raise a mark to the length of the journal, which the Scout reads without the lock.
 //!
 //! ```rust
 //! pub fn the_scout_reads_the_outbox<R: Wait>(
@@ -20,14 +21,15 @@
 //! }
 //! ```
 //!
-//! Over empty tables the answer is 0. A call waits until the service is free; that it ever is, or who comes first, isn't
-//! promised. Tokens go back in the order in which `open` gave them.
+//! Over empty tables the answer is 0. A call but `mark` waits until the service is free; that it ever is, or who comes
+//! first, isn't promised. Tokens go back in the order in which `open` gave them.
 #![tactic(auto)]
 
 mod boxed;
 mod calls;
 mod laws;
 mod lore;
+mod mark;
 mod shared;
 mod tokens;
 

@@ -1,20 +1,25 @@
 //! The endpoint under its lock: it's put there with its tokens, and comes out with all of them.
 
-ghost use Rattle.std.specs.Prelude.{◌≡◌, ◌<◌, ◌++◌, suc, map, Some, IfOk, IfErr};
+ghost use Rattle.std.specs.Prelude.{◌≡◌, ◌+◌, ◌<◌, ◌++◌, [], suc, map, vec_len, Some, IfOk, IfErr};
+ghost use Rattle.std.specs.List.{All};
 ghost use Rattle.base.specs.declared.limits.TheConstants.{SEATS};
+ghost use Rattle.marks.specs.Seats.{places_of};
 ghost use Rattle.told_lock.specs.Keys.{knows, IsKeyOf};
 ghost use Rattle.told_lock.specs.Rule.{Every, without};
 ghost use Rattle.told_lock.specs.declared.view.Stage.TheVariants.{Open};
+ghost use Rattle.shared_endpoint.specs.declared.mark.TheConstants.{TOKENS};
 ghost use Rattle.shared_endpoint.specs.Token.{hand_number};
 ghost use Rattle.shared_endpoint.specs.History.{fault_in, tells, given, Gives};
 
 use crate::boxed::Boxed;
 use crate::lore::EndpointLore;
+use crate::mark::TOKENS;
 use crate::tokens::{Hand, Scout, Seat};
 use activities::Handler;
 use base::limits::SEATS;
 use endpoint::{EndFault, Endpoint};
 use keep::Keep;
+use marks::{MarkSeat, Marks};
 use std::alloc::Global;
 use std::sync::Wait;
 use told_lock::{Key, Lock};
@@ -27,6 +32,8 @@ where
     K: Keep<State = H::State, Command = H::Command> + Drop,
 {
     pub(crate) lock: Lock<Boxed<H, K>, EndpointLore<H, K>>,
+    pub(crate) marks: Marks,
+    ghost one_place: { places_of marks ≡ 1 },
 }
 
 /// Whether an answer tells of the journal: all do but those that the store failed, that it had failed before, or that
@@ -53,7 +60,7 @@ where
     K: Keep<State = H::State, Command = H::Command> + Drop,
 {
     ghost use Rattle.shared_endpoint.specs.Keys.{maker, IsToken, IsNew, IsSeatOf, IsHandOf, IsScoutOf, AreSeatsOf};
-    ghost use Rattle.shared_endpoint.specs.Keys.{IsNewSeat, AreNewSeats, IsNewHand, IsNewScout, seat_number};
+    ghost use Rattle.shared_endpoint.specs.Keys.{IsNewSeat, AreNewSeats, IsNewHand, IsNewScout, seat_number, IsNewMarkOf};
     ghost use Rattle.shared_endpoint.specs.Keys.{told_seats, told_hand, told_scout, Closes};
 
     /// Gives the endpoint back: as seen, where the answer tells of the journal.
@@ -92,47 +99,80 @@ where
         self.lock.token(key)
     }
 
+    /// The last of the rights to raise and read the mark, which is the next token's.
+    fn mark_of(&self, marks: &mut Vec<MarkSeat>, _number: u8) -> MarkSeat
+        requires left { vec_len marks.old + _number ≡ TOKENS }
+        requires below { _number < TOKENS }
+        requires each { All (IsNewMarkOf self.now) marks.old.items }
+        ensures left { vec_len marks.new + suc _number ≡ TOKENS }
+        ensures each { All (IsNewMarkOf self.now) marks.new.items }
+        ensures mark { IsNewMarkOf self.now result }
+    {
+        let Some(mark) = marks.pop() else {
+            unreachable!()
+        };
+        mark
+    }
+
     /// Makes the seat of this number, which is the next.
-    fn seat(&self, key: &mut Key<Boxed<H, K>>, endpoint: &Boxed<H, K>, number: u8) -> Seat<H, K>
+    fn seat(
+        &self,
+        key: &mut Key<Boxed<H, K>>,
+        endpoint: &Boxed<H, K>,
+        marks: &mut Vec<MarkSeat>,
+        number: u8,
+    ) -> Seat<H, K>
         requires key { IsKeyOf self.now.lock key.old }
         requires maker { knows key.old ≡ maker number endpoint.now }
         requires below { number < SEATS }
+        requires left { vec_len marks.old + number ≡ TOKENS }
+        requires each { All (IsNewMarkOf self.now) marks.old.items }
         ensures key { IsKeyOf self.now.lock key.new }
         ensures maker { knows key.new ≡ maker (suc number) endpoint.now }
+        ensures left { vec_len marks.new + suc number ≡ TOKENS }
+        ensures each { All (IsNewMarkOf self.now) marks.new.items }
         ensures seat { IsSeatOf self.now result × IsNewSeat endpoint.now result }
         ensures number { seat_number result ≡ number }
     {
-        Seat {
-            number,
-            key: self.token(key, endpoint, number),
-        }
+        let key = self.token(key, endpoint, number);
+        let mark = self.mark_of(marks, number);
+        Seat { number, key, mark }
     }
 
     /// Makes all sixteen.
-    fn seats(&self, key: &mut Key<Boxed<H, K>>, endpoint: &Boxed<H, K>) -> [Seat<H, K>; 16]
+    fn seats(
+        &self,
+        key: &mut Key<Boxed<H, K>>,
+        endpoint: &Boxed<H, K>,
+        marks: &mut Vec<MarkSeat>,
+    ) -> [Seat<H, K>; 16]
         requires key { IsKeyOf self.now.lock key.old }
         requires maker { knows key.old ≡ maker 0 endpoint.now }
+        requires left { vec_len marks.old + 0 ≡ TOKENS }
+        requires each { All (IsNewMarkOf self.now) marks.old.items }
         ensures key { IsKeyOf self.now.lock key.new }
         ensures maker { knows key.new ≡ maker hand_number endpoint.now }
+        ensures left { vec_len marks.new + hand_number ≡ TOKENS }
+        ensures each { All (IsNewMarkOf self.now) marks.new.items }
         ensures seats { AreSeatsOf self.now result × AreNewSeats endpoint.now result }
     {
         [
-            self.seat(key, endpoint, 0),
-            self.seat(key, endpoint, 1),
-            self.seat(key, endpoint, 2),
-            self.seat(key, endpoint, 3),
-            self.seat(key, endpoint, 4),
-            self.seat(key, endpoint, 5),
-            self.seat(key, endpoint, 6),
-            self.seat(key, endpoint, 7),
-            self.seat(key, endpoint, 8),
-            self.seat(key, endpoint, 9),
-            self.seat(key, endpoint, 10),
-            self.seat(key, endpoint, 11),
-            self.seat(key, endpoint, 12),
-            self.seat(key, endpoint, 13),
-            self.seat(key, endpoint, 14),
-            self.seat(key, endpoint, 15),
+            self.seat(key, endpoint, marks, 0),
+            self.seat(key, endpoint, marks, 1),
+            self.seat(key, endpoint, marks, 2),
+            self.seat(key, endpoint, marks, 3),
+            self.seat(key, endpoint, marks, 4),
+            self.seat(key, endpoint, marks, 5),
+            self.seat(key, endpoint, marks, 6),
+            self.seat(key, endpoint, marks, 7),
+            self.seat(key, endpoint, marks, 8),
+            self.seat(key, endpoint, marks, 9),
+            self.seat(key, endpoint, marks, 10),
+            self.seat(key, endpoint, marks, 11),
+            self.seat(key, endpoint, marks, 12),
+            self.seat(key, endpoint, marks, 13),
+            self.seat(key, endpoint, marks, 14),
+            self.seat(key, endpoint, marks, 15),
         ]
     }
 
@@ -148,16 +188,27 @@ where
         ensures scout { IfOk result (λ r. IsScoutOf r.0 r.3 × IsNewScout endpoint r.3) }
         ensures err { IfErr result (λ e. e ≡ endpoint) }
     {
+        let Ok((marks, mut list)) = Marks::open(alloc, 1, TOKENS) else {
+            return Err(endpoint);
+        };
         let boxed = Boxed::new(alloc, endpoint)?;
         match Lock::<Boxed<H, K>, EndpointLore<H, K>>::open(rt, alloc, boxed) {
             Err(boxed) => Err(boxed.into_inner()),
             Ok((lock, mut key, boxed)) => {
-                let shared = Shared { lock };
-                let seats = shared.seats(&mut key, &boxed);
+                let shared = Shared { lock, marks };
+                let seats = shared.seats(&mut key, &boxed, &mut list);
                 let hand = shared.token(&mut key, &boxed, 16);
                 let scout = shared.token(&mut key, &boxed, 17);
                 shared.lock.give_unseen(rt, &mut key, boxed);
-                Ok((shared, seats, Hand { key: hand }, Scout { key: scout }))
+                let hand = Hand {
+                    key: hand,
+                    mark: shared.mark_of(&mut list, 16),
+                };
+                let scout = Scout {
+                    key: scout,
+                    mark: shared.mark_of(&mut list, 17),
+                };
+                Ok((shared, seats, hand, scout))
             }
         }
     }
@@ -175,6 +226,7 @@ where
             let Seat {
                 number: _,
                 key: other,
+                mark: _,
             } = seat;
             self.lock.take_in(key, other);
         }
@@ -193,8 +245,11 @@ where
         requires scout { IsScoutOf self scout }
         ensures { Closes K.seen H.service ((told_scout scout ++ told_hand hand) ++ told_seats seats) result }
     {
-        let Scout { mut key } = scout;
-        let Hand { key: other } = hand;
+        let Scout { mut key, mark: _ } = scout;
+        let Hand {
+            key: other,
+            mark: _,
+        } = hand;
         let boxed = self.lock.take(rt, &mut key);
         self.lock.take_in(&mut key, other);
         self.all_in(&mut key, seats);

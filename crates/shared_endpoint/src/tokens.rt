@@ -3,6 +3,7 @@
 use crate::boxed::Boxed;
 use activities::Handler;
 use keep::Keep;
+use marks::MarkSeat;
 use told_lock::Key;
 
 /// One of the sixteen from whom commands come.
@@ -14,6 +15,7 @@ where
 {
     pub(crate) number: u8,
     pub(crate) key: Key<Boxed<H, K>>,
+    pub(crate) mark: MarkSeat,
 }
 
 /// The one through whom letters and settles come.
@@ -24,6 +26,7 @@ where
     K: Keep<State = H::State, Command = H::Command> + Drop,
 {
     pub(crate) key: Key<Boxed<H, K>>,
+    pub(crate) mark: MarkSeat,
 }
 
 /// The one who reads what is to be sent.
@@ -34,4 +37,5 @@ where
     K: Keep<State = H::State, Command = H::Command> + Drop,
 {
     pub(crate) key: Key<Boxed<H, K>>,
+    pub(crate) mark: MarkSeat,
 }

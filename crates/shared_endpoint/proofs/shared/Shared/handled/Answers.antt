@@ -11,17 +11,19 @@ give-requires-clause-may g c =
     let same = c.deref_mut.ensures.value ∙ c.boxed.view_is in
     token_gives k.seen h.service g.met.K.Keep.sound c.args.self.now.lock
     hand_number c.args.hand.now.key _ _ _ _ _ _
-    c.requires.hand c.take-boxed.ensures.took same c.tells-told.ensures
+    c.requires.hand.0 c.take-boxed.ensures.took same c.tells-told.ensures
     (read_steps k.seen h.service _ _ hand_number _ _ c.handled-count.ensures.read.doubt
     c.handled-count.ensures.read.call c.handled-count.ensures.stays)
 
 pub returns-clause-hand : goal.returns-clause-hand
 returns-clause-hand g c =
     let k = g.K.Keep in
-    let h = g.H.Handler in
-    token_stays k.seen h.service g.met.K.Keep.sound c.args.self.now.lock
-    hand_number c.args.hand.now.key c.give.new.key _ _ _ _
-    c.requires.hand c.take-boxed.ensures.took c.give.ensures.key c.give.ensures.gave
+    let h = g.H.Handler in (
+      token_stays k.seen h.service g.met.K.Keep.sound c.args.self.now.lock
+          hand_number c.args.hand.now.key c.give.new.key _ _ _ _
+          c.requires.hand.0 c.take-boxed.ensures.took c.give.ensures.key c.give.ensures.gave,
+      c.requires.hand.1,
+    )
 
 pub returns-clause-turn : goal.returns-clause-turn
 returns-clause-turn g c =
@@ -30,7 +32,7 @@ returns-clause-turn g c =
     let same = c.deref_mut.ensures.value ∙ c.boxed.view_is in
     token_turns k.seen h.service g.met.K.Keep.sound c.args.self.now.lock
     hand_number c.args.hand.now.key c.give.new.key _ _ _ _ _ _
-    _ c.requires.hand c.take-boxed.ensures.took same c.tells-told.ensures
+    _ c.requires.hand.0 c.take-boxed.ensures.took same c.tells-told.ensures
     (read_steps k.seen h.service _ _ hand_number _ _ c.handled-count.ensures.read.doubt
     c.handled-count.ensures.read.call c.handled-count.ensures.stays)
     c.handled-count.ensures.read c.give.ensures.gave

@@ -12,7 +12,7 @@ give-requires-clause-may g c =
     let same = c.deref_mut.ensures.value ∙ c.boxed.view_is in
     token_gives k.seen h.service g.met.K.Keep.sound c.args.self.now.lock
     hand_number c.args.hand.now.key _ _ _ _ _ _
-    c.requires.hand c.take-boxed.ensures.took same c.tells-told.ensures
+    c.requires.hand.0 c.take-boxed.ensures.took same c.tells-told.ensures
     (ingest_steps k.seen h.service _ _ c.args.letter.now OfLetter c.args.letter.now.pair.to
     c.ingest-ingested.result c.ingest-ingested.ensures.ingest c.ingest-ingested.ensures.comes
     c.ingest-ingested.ensures.matches)
@@ -20,10 +20,12 @@ give-requires-clause-may g c =
 pub returns-clause-hand : goal.returns-clause-hand
 returns-clause-hand g c =
     let k = g.K.Keep in
-    let h = g.H.Handler in
-    token_stays k.seen h.service g.met.K.Keep.sound c.args.self.now.lock
-    hand_number c.args.hand.now.key c.give.new.key _ _ _ _
-    c.requires.hand c.take-boxed.ensures.took c.give.ensures.key c.give.ensures.gave
+    let h = g.H.Handler in (
+      token_stays k.seen h.service g.met.K.Keep.sound c.args.self.now.lock
+          hand_number c.args.hand.now.key c.give.new.key _ _ _ _
+          c.requires.hand.0 c.take-boxed.ensures.took c.give.ensures.key c.give.ensures.gave,
+      c.raise.ensures.mark,
+    )
 
 pub returns-clause-turn : goal.returns-clause-turn
 returns-clause-turn g c =
@@ -32,7 +34,7 @@ returns-clause-turn g c =
     let same = c.deref_mut.ensures.value ∙ c.boxed.view_is in
     token_turns k.seen h.service g.met.K.Keep.sound c.args.self.now.lock
     hand_number c.args.hand.now.key c.give.new.key _ _ _ _ _ _
-    _ c.requires.hand c.take-boxed.ensures.took same c.tells-told.ensures
+    _ c.requires.hand.0 c.take-boxed.ensures.took same c.tells-told.ensures
     (ingest_steps k.seen h.service _ _ c.args.letter.now OfLetter c.args.letter.now.pair.to
     c.ingest-ingested.result c.ingest-ingested.ensures.ingest c.ingest-ingested.ensures.comes
     c.ingest-ingested.ensures.matches)

@@ -1,4 +1,4 @@
-use Rattle.std.proofs.Common.{◌∙◌}
+use Rattle.std.proofs.Common.{refl, ◌∙◌}
 use Rattle.shared_endpoint.specs.Token.{scout_number}
 use Rattle.shared_endpoint.proofs.Passing.{token_gives, token_turns, token_stays}
 use Rattle.shared_endpoint.proofs.Stepping.{read_steps}
@@ -11,17 +11,22 @@ give-requires-clause-may g c =
     let same = c.deref_mut.ensures.value ∙ c.boxed.view_is in
     token_gives k.seen h.service g.met.K.Keep.sound c.args.self.now.lock
     scout_number c.args.scout.now.key _ _ _ _ _ _
-    c.requires.scout c.take-boxed.ensures.took same c.tells-told.ensures
+    c.requires.scout.0 c.take-boxed.ensures.took same c.tells-told.ensures
     (read_steps k.seen h.service _ _ scout_number _ _ c.unsettled-letters.ensures.read.doubt
     c.unsettled-letters.ensures.read.call c.unsettled-letters.ensures.stays)
 
 pub returns-clause-scout : goal.returns-clause-scout
 returns-clause-scout g c =
     let k = g.K.Keep in
-    let h = g.H.Handler in
-    token_stays k.seen h.service g.met.K.Keep.sound c.args.self.now.lock
-    scout_number c.args.scout.now.key c.give.new.key _ _ _ _
-    c.requires.scout c.take-boxed.ensures.took c.give.ensures.key c.give.ensures.gave
+    let h = g.H.Handler in (
+      (
+        token_stays k.seen h.service g.met.K.Keep.sound c.args.self.now.lock
+            scout_number c.args.scout.now.key c.give.new.key _ _ _ _
+            c.requires.scout.0 c.take-boxed.ensures.took c.give.ensures.key c.give.ensures.gave,
+        c.requires.scout.1,
+      ),
+      refl,
+    )
 
 pub returns-clause-turn : goal.returns-clause-turn
 returns-clause-turn g c =
@@ -30,7 +35,7 @@ returns-clause-turn g c =
     let same = c.deref_mut.ensures.value ∙ c.boxed.view_is in
     token_turns k.seen h.service g.met.K.Keep.sound c.args.self.now.lock
     scout_number c.args.scout.now.key c.give.new.key _ _ _ _ _ _
-    _ c.requires.scout c.take-boxed.ensures.took same c.tells-told.ensures
+    _ c.requires.scout.0 c.take-boxed.ensures.took same c.tells-told.ensures
     (read_steps k.seen h.service _ _ scout_number _ _ c.unsettled-letters.ensures.read.doubt
     c.unsettled-letters.ensures.read.call c.unsettled-letters.ensures.stays)
     c.unsettled-letters.ensures.read c.give.ensures.gave

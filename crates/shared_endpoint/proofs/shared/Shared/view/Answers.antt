@@ -23,6 +23,7 @@ returns-clause-seat g c =
             c.args.seat.now.number c.args.seat.now.key c.give.new.key _ _ _ _
             c.requires.seat.0 c.take-boxed.ensures.took c.give.ensures.key c.give.ensures.gave,
         c.requires.seat.1,
+        c.requires.seat.2,
       ),
       refl,
     )

@@ -1,0 +1,85 @@
+//! The mark of the journal's length, which calls raise and the Scout reads without the lock.
+
+ghost use Rattle.std.specs.Prelude.{◌≡◌, ◌≤◌, ◌∷◌, [], ◌++◌, true, IfOk};
+ghost use Rattle.marks.specs.Entries.{entry, greatest};
+ghost use Rattle.marks.specs.Seats.{raised_by};
+ghost use Rattle.shared_endpoint.specs.Mark.{raised_after, row_committed, row_handled, AreRowsDrained};
+
+use crate::boxed::Boxed;
+use crate::shared::Shared;
+use crate::tokens::Scout;
+use activities::Handler;
+use endpoint::{Committed, EndFault, Ingested};
+use keep::Keep;
+use marks::MarkSeat;
+
+/// How many tokens there are: the seats, the Hand and the Scout.
+pub(crate) const TOKENS: usize = 18;
+
+/// The position of the row that a commit added.
+pub(crate) fn row_committed(answer: &Result<Committed, EndFault>) -> Option<u64>
+    ensures { result ≡ row_committed answer.now }
+{
+    match answer {
+        Ok(committed) => Some(committed.pos),
+        Err(_) => None,
+    }
+}
+
+/// The position of the row that taking in a letter added.
+pub(crate) fn row_handled(answer: &Result<Ingested, EndFault>) -> Option<u64>
+    ensures { result ≡ row_handled answer.now }
+{
+    match answer {
+        Ok(Ingested::Handled(pos)) => Some(*pos),
+        Ok(Ingested::Repeated(_) | Ingested::Held) | Err(_) => None,
+    }
+}
+
+impl<H, K> Boxed<H, K>
+where
+    H: Handler,
+    K: Keep<State = H::State, Command = H::Command> + Drop,
+{
+    /// How many rows the journal has behind the taking in of a held letter, where one was taken in.
+    pub(crate) fn rows_drained(&self, answer: &Result<Option<u64>, EndFault>) -> Option<u64>
+        requires { IfOk answer.now (λ _. (K.seen self.now).usable ≡ true) }
+        ensures { AreRowsDrained K.seen self.now answer.now result }
+    {
+        match answer {
+            Ok(Some(_)) => self.endpoint.length().ok(),
+            Ok(None) | Err(_) => None,
+        }
+    }
+}
+
+impl<H, K> Shared<H, K>
+where
+    H: Handler,
+    K: Keep<State = H::State, Command = H::Command> + Drop,
+{
+    ghost use Rattle.shared_endpoint.specs.Keys.{IsScoutOf, IsMarkOf, told_scout, marks_read};
+
+    /// Raises the mark to so many rows, where there are any new ones.
+    pub(crate) fn raise(&self, mark: &mut MarkSeat, rows: Option<u64>)
+        requires mark { IsMarkOf self.now mark.old }
+        ensures mark { IsMarkOf self.now mark.new }
+        ensures raised { raised_by mark.new ≡ raised_after (raised_by mark.old) rows }
+    {
+        if let Some(rows) = rows {
+            self.marks.raise(mark, 0, rows);
+        }
+    }
+
+    /// The mark, which begins at 0, and which each call that adds a row raises to the length that the journal then has:
+    /// no less than what the Scout read before. It takes neither the lock nor memory, so that it waits for no thread;
+    /// how soon it shows a row isn't promised.
+    pub fn mark(&self, scout: &mut Scout<H, K>) -> u64
+        requires scout { IsScoutOf self.now scout.old }
+        ensures read_before { greatest 0 (marks_read scout.old) ≤ result }
+        ensures read { marks_read scout.new ≡ marks_read scout.old ++ entry 0 result ∷ [] }
+        ensures scout { IsScoutOf self.now scout.new × (told_scout scout.new ≡ told_scout scout.old) }
+    {
+        self.marks.read(&mut scout.mark, 0)
+    }
+}
