@@ -1,6 +1,7 @@
 //! The examples of the libraries' pages, and what they give.
 
 use crate::threads::Alone;
+use intake::{Intake, Taken};
 use shared_endpoint::Shared;
 use std::alloc::Global;
 use std::sync::Wait;
@@ -50,4 +51,14 @@ pub fn the_scout_reads_the_outbox<R: Wait>(
     let mut scout = opened.3;
     let letters = shared.unsettled(rt, alloc, &mut scout, &None, 10).ok()?;
     Some(letters.len())
+}
+
+pub fn what_a_reader_puts_is_taken<R: Wait>(rt: &R, alloc: Global) -> Option<(u64, Taken)> {
+    let Ok((mut zero, one, mut worker)) = Intake::open::<u64>(alloc) else {
+        return None;
+    };
+    let _first = zero.put(rt, 7);
+    let _second = zero.put(rt, 8);
+    let slip = worker.take(rt)?;
+    Some((slip.arrival, worker.close(zero, one)))
 }

@@ -1,6 +1,8 @@
 //! Lines, and what they answer.
 
-use crate::examples::{a_token_takes_the_value, the_scout_reads_the_outbox};
+use crate::examples::{
+    a_token_takes_the_value, the_scout_reads_the_outbox, what_a_reader_puts_is_taken,
+};
 use crate::fault::CallFault;
 use crate::tally::{Tally, counted};
 use crate::threads::{Alone, Work, ordered, stock, work_together};
@@ -93,7 +95,8 @@ fn fail<R: Wait + Threads + Sync>(
 fn show_pages<R: Wait>(rt: &R, alloc: Global, out: &mut String) -> Result<(), CallFault> {
     let value = a_token_takes_the_value(rt, alloc);
     let letters = the_scout_reads_the_outbox(rt, alloc, empty(alloc));
-    Ok(write!(out, "{value:?} {letters:?}")?)
+    let taken = what_a_reader_puts_is_taken(rt, alloc);
+    Ok(write!(out, "{value:?} {letters:?} {taken:?}")?)
 }
 
 /// What a line answers.

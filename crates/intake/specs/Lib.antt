@@ -1,0 +1,4 @@
+pub mod Counts
+pub mod Ends
+pub mod Passes
+pub mod Rule
