@@ -48,7 +48,7 @@ rows_of_own n pos (r ∷ rs) row mine = by_test (is_of n r.input) (rows_of_own n
     by_test false ih = ih ∙ ap (λ p. rows_of n (suc pos) rs ++ (p, row) ∷ []) (omega arith)
 
 -- a mark that is raised is no mark that is lower
-rises : (p q : Pair) (n : ℕ) (marks : Pair → ℕ) → marks q ≤ set_mark p (max (marks p) n) marks q
+pub rises : (p q : Pair) (n : ℕ) (marks : Pair → ℕ) → marks q ≤ set_mark p (max (marks p) n) marks q
 rises p q n marks = by_test (same_pair p q) (same_pair-Decides p q).0
   where
     bound : (a b n : ℕ) → a ≡ b → b ≤ max a n
