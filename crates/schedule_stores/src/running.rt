@@ -11,9 +11,7 @@ use crate::files::{FileStores, make_over_files};
 use billing::Accounts;
 use keep::Keep;
 use keep_files::FileKeep;
-use programs::{
-    Made, RunFault, Stores, StoresFault, make_events, read_events, tell_fault, write_made,
-};
+use programs::{RunFault, read_events, tell_fault, write_made};
 use purchasing::Orders;
 use sqlite::{FileFrom, FileStore, Start};
 use std::alloc::Global;

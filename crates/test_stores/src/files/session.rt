@@ -11,7 +11,6 @@ use base::Entity;
 use keep_files::Reopenable;
 use sqlite::Options;
 use std::alloc::Global;
-use std::fmt::Write;
 use test_script::{first_word, or_done, pair, size};
 
 /// The seed of all salts: runs are the same each time.

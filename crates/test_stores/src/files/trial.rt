@@ -6,7 +6,6 @@ use crate::files::contents::{Contents, left, sound};
 use crate::files::tables::{Asked, push_tables};
 use crate::files::words::{Call, End, Left};
 use crate::tables::{OrderChange, add_change};
-use keep::KeepFault;
 use keep_files::{FileKeep, Reopenable};
 use keep_sqlite::{SqliteKeep, opening_fault};
 use purchasing::Orders;
