@@ -39,7 +39,7 @@ pub fn empty_tables<E: Empty>(alloc: Global) -> Result<Faulty<E::Store>, KeepFau
 }
 
 /// Appends the answer to a read.
-fn read<K>(
+pub fn read<K>(
     store: &mut K,
     alloc: Global,
     out: &mut String,

@@ -80,14 +80,17 @@ impl FileSession {
     /// Tables are compared by a pair too: `FROM TO`.
     fn ask_pair(&mut self, alloc: Global, text: &str) -> Result<(), CallFault> {
         let (from, to) = first_word(text);
-        let pair = pair(alloc, from, to)?;
-        self.asked.pairs.push(pair).map_err(CallFault::from)
+        // It is read, so that a text that names no pair is told here.
+        pair(alloc, from, to)?;
+        self.asked.pairs.push(String::from_str(alloc, text)?)?;
+        Ok(())
     }
 
     /// Tables are compared by an entity's row too.
     fn ask_entity(&mut self, alloc: Global, text: &str) -> Result<(), CallFault> {
-        let entity = Entity::read(alloc, text)?;
-        self.asked.entities.push(entity).map_err(CallFault::from)
+        Entity::read(alloc, text)?;
+        self.asked.entities.push(String::from_str(alloc, text)?)?;
+        Ok(())
     }
 
     /// Runs, by `END CALL FILE`.
