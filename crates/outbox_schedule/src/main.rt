@@ -1,7 +1,7 @@
 //! Runs a schedule, read from standard input, and prints the outcome of each line.
 #![tactic(auto)]
 
-use programs::{Kept, PlainStores, RunFault, ask, run_over, tell_bad_words, tell_fault};
+use programs::{PlainStores, RunFault, StoreChoice, ask, run_over, tell_bad_words, tell_fault};
 use schedule_stores::{FileStores, SqliteStores, run_over_files};
 use sqlite::Unknown;
 use std::io::{BufReader, BufWriter, ErrorKind};
@@ -47,9 +47,9 @@ fn run(rt: HostRuntime) -> io::Result<u8> {
         &mut rt.stdout(),
         &mut rt.stderr(),
     ) {
-        Ok(Kept::Plain) => run_in_maps(rt),
-        Ok(Kept::Sqlite) => run_in_sql(rt),
-        Ok(Kept::Files(folder)) => run_in_files(rt, folder),
+        Ok(StoreChoice::Plain) => run_in_maps(rt),
+        Ok(StoreChoice::Sqlite) => run_in_sql(rt),
+        Ok(StoreChoice::Files(folder)) => run_in_files(rt, folder),
         Err(status) => Ok(status),
     }
 }

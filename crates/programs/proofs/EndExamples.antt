@@ -28,7 +28,7 @@ use Rattle.programs.specs.Ends.{Writers, lines_of, AreTold, IsReadFrom, IsRunOf,
 use Rattle.programs.specs.Ends.{fault_line}
 use Rattle.schedule_text.specs.declared.outcome.Outcome.{Outcome}
 use Rattle.programs.specs.Asked.{AreKeeps, IsAskedFor, command_line}
-use Rattle.programs.specs.declared.kept.Kept.TheVariants.{Plain, Sqlite, Files}
+use Rattle.programs.specs.declared.choice.StoreChoice.TheVariants.{Plain, Sqlite, Files}
 use Rattle.programs.specs.Usage.{IsAsked, IsStatusOf, IsUsage, IsCutUsage, IsWordAnswer}
 use Rattle.streams.specs.Written.{AppendsPart}
 

@@ -15,7 +15,7 @@ use Rattle.clap.specs.declared.error.Error as clap
 use Rattle.clap.specs.declared.error.kind.ErrorKind.{ErrorKind}
 use Rattle.clap.specs.declared.error.kind.ErrorKind.TheVariants.{OutOfMemory}
 use Rattle.programs.specs.Asked.{AreKeeps, IsReadAs, command_line}
-use Rattle.programs.specs.declared.kept.Kept.{Kept}
+use Rattle.programs.specs.declared.choice.StoreChoice.{StoreChoice}
 use Rattle.command_line.specs.Usage.{is_request, status_of}
 use Rattle.programs.specs.declared.fault.RunFault.{RunFault}
 use Rattle.programs.specs.declared.fault.RunFault.TheVariants.{BadEvent, Memory, Device, Unopened}
@@ -142,8 +142,8 @@ words_status kinds kind old new r status among is told request fault = inl (kind
 
 -- ---- what the words come to
 module _ (keeps : Bor (List (Bor Text))) (are : AreKeeps keeps) (said : List Text) (old new : Writers) where
-  pub asked : (kept : Kept) → IsReadAs keeps said (Ok kept) → new ≡ old → IsAsked said old new (Ok kept)
-  asked kept read same =
+  pub asked : (choice : StoreChoice) → IsReadAs keeps said (Ok choice) → new ≡ old → IsAsked said old new (Ok choice)
+  asked choice read same =
       record { keeps = keeps; are = are; asks = (read.fails, read.asked, same); tells = tt }
 
   pub refused : (e : clap.Error) → IsReadAs keeps said (Err e) → (status : ℕ) → IsRefused old new status

@@ -9,7 +9,7 @@ use Rattle.clap.specs.Matches.{first_value}
 use Rattle.clap.specs.Walk.{rows_of}
 use Rattle.clap.specs.Words.{Text, first_of}
 use Rattle.clap.specs.declared.parser.matches.Found.{Found}
-use Rattle.programs.specs.declared.kept.Kept.TheVariants.{Plain, Sqlite, Files}
+use Rattle.programs.specs.declared.choice.StoreChoice.TheVariants.{Plain, Sqlite, Files}
 use Rattle.programs.specs.Asked.{IsAskedFor}
 
 module _ (f : Found) (keep dir : Option (Bor Text))

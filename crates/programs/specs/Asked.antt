@@ -8,8 +8,8 @@ use Rattle.clap.specs.declared.builder.value_parser.ValueParser.TheVariants as p
 use Rattle.clap.specs.declared.error.Error.{Error}
 use Rattle.clap.specs.declared.error.kind.ErrorKind.TheVariants.{OutOfMemory}
 use Rattle.command_line.specs.Usage.{with_version}
-use Rattle.programs.specs.declared.kept.Kept.{Kept}
-use Rattle.programs.specs.declared.kept.Kept.TheVariants.{Plain, Sqlite, Files}
+use Rattle.programs.specs.declared.choice.StoreChoice.{StoreChoice}
+use Rattle.programs.specs.declared.choice.StoreChoice.TheVariants.{Plain, Sqlite, Files}
 
 -- the words that may stand behind `--keep`, by reference
 abbrev pub AreKeeps : Bor (List (Bor Text)) → Type 0
@@ -34,14 +34,14 @@ abbrev pub command_line : Bor (List (Bor Text)) → App
 command_line keeps = with_rule (with_rule (with_version (new_app (codes "outbox-schedule"))) (keep keeps)) dir
 
 -- The matches of the words ask for these stores: the folder isn't looked at with `plain`.
-abbrev pub IsAskedFor : List Row → Kept → Type 0
+abbrev pub IsAskedFor : List Row → StoreChoice → Type 0
 IsAskedFor rows Plain = first_of (codes "keep") rows ≡ Some (codes "sqlite") → ⊥
 IsAskedFor rows Sqlite = (first_of (codes "keep") rows ≡ Some (codes "sqlite")) × (first_of (codes "dir") rows ≡ None)
 IsAskedFor rows (Files folder) =
     (first_of (codes "keep") rows ≡ Some (codes "sqlite")) × (first_of (codes "dir") rows ≡ Some folder.now)
 
 -- what reading the words answers: the stores that they ask for, or a fault that they have, or that memory was refused
-pub record IsReadAs (keeps : Bor (List (Bor Text))) (words : List Text) (r : Result Kept Error) : Type 0 where
+pub record IsReadAs (keeps : Bor (List (Bor Text))) (words : List Text) (r : Result StoreChoice Error) : Type 0 where
   pub taken : IfErr r (λ e. takes (command_line keeps) words ≡ true → kind_of e ≡ OutOfMemory)
   pub fails : FailsBy (fault_of (command_line keeps) words) r
   pub asked : IfOk r (IsAskedFor (matches_of (command_line keeps) words))

@@ -8,7 +8,7 @@ use Rattle.command_line.specs.Usage.{is_request}
 use Rattle.schedule_text.specs.declared.event.Event.{Event}
 use Rattle.schedule_text.specs.declared.outcome.Outcome.{Outcome}
 use Rattle.programs.specs.Asked.{AreKeeps, IsAskedFor, command_line}
-use Rattle.programs.specs.declared.kept.Kept.{Kept}
+use Rattle.programs.specs.declared.choice.StoreChoice.{StoreChoice}
 use Rattle.programs.specs.declared.fault.RunFault.TheVariants.{Memory}
 use Rattle.programs.specs.declared.fault.StoresFault.{StoresFault}
 use Rattle.programs.specs.Ends.{Writers, IsEndOf, IsUntold, fault_line}
@@ -46,10 +46,10 @@ module _ (Run : List Event → List Outcome → Type 0) (Fails : StoresFault →
 
 -- what the words of a command line come to: the stores that they ask for, with nothing told; or help, the version, a fault
 -- of theirs or want of memory is told, and the status follows. Words that the command line takes have no fault.
-pub record IsAsked (words : List Text) (old new : Writers) (r : Result Kept ℕ) : Type 0 where
+pub record IsAsked (words : List Text) (old new : Writers) (r : Result StoreChoice ℕ) : Type 0 where
   pub keeps : Bor (List (Bor Text))
   pub are : AreKeeps keeps
-  pub asks : IfOk r (λ kept. (fault_of (command_line keeps) words ≡ [])
-      × IsAskedFor (matches_of (command_line keeps) words) kept × (new ≡ old))
+  pub asks : IfOk r (λ choice. (fault_of (command_line keeps) words ≡ [])
+      × IsAskedFor (matches_of (command_line keeps) words) choice × (new ≡ old))
   pub tells : IfErr r (λ status. IsWordAnswer (fault_of (command_line keeps) words) old new status
       × (takes (command_line keeps) words ≡ true → IsRefused old new status))

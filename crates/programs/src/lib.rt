@@ -16,8 +16,8 @@
 //! The answer is true.
 #![tactic(auto)]
 
+mod choice;
 mod fault;
-mod kept;
 mod laws;
 mod running;
 mod schedule;
@@ -25,8 +25,8 @@ mod stores;
 mod words;
 mod writing;
 
+pub use choice::StoreChoice;
 pub use fault::{RunFault, StoresFault};
-pub use kept::Kept;
 pub use laws::{a_run_goes_on, a_run_in_memory_ends_well};
 pub use running::{Made, make_events, open_world};
 pub use schedule::{read_events, run_input, run_text, tell_fault, write_made};

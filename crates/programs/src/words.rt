@@ -9,8 +9,8 @@ ghost use Rattle.programs.specs.Runs.{HasRun};
 ghost use Rattle.programs.specs.Usage.{IsAsked, IsStatusOf};
 ghost use Rattle.streams.specs.Written.{AppendsPart};
 
+use crate::choice::StoreChoice;
 use crate::fault::RunFault;
-use crate::kept::Kept;
 use crate::schedule::{run_input, tell_fault};
 use crate::stores::Stores;
 use clap::error::ErrorKind;
@@ -124,15 +124,15 @@ fn make_command<'a>(alloc: Global, keeps: &'a [&'a str]) -> Result<Command<'a>, 
 }
 
 /// Which stores the words ask for, whose matches these are.
-fn kept_by<'a>(matches: &ArgMatches<'a>) -> Kept<'a>
+fn chosen_by<'a>(matches: &ArgMatches<'a>) -> StoreChoice<'a>
     ensures { IsAskedFor (rows_of (found_of matches.now)) result }
 {
     match matches.get_str("keep") {
         Some(name) if name == "sqlite" => match matches.get_str("dir") {
-            Some(folder) => Kept::Files(folder),
-            None => Kept::Sqlite,
+            Some(folder) => StoreChoice::Files(folder),
+            None => StoreChoice::Sqlite,
         },
-        _ => Kept::Plain,
+        _ => StoreChoice::Plain,
     }
 }
 
@@ -142,12 +142,12 @@ fn read_words<'a, T: AsStr>(
     alloc: Global,
     words: &'a [T],
     keeps: &'a [&'a str],
-) -> Result<Kept<'a>, Error>
+) -> Result<StoreChoice<'a>, Error>
     ensures { IsReadAs keeps.entry (map T.text words.now) result }
 {
     let command: Command<'a> = make_command(alloc, keeps)?;
     match command.try_get_matches_from(words) {
-        Ok(matches) => Ok(kept_by(&matches)),
+        Ok(matches) => Ok(chosen_by(&matches)),
         Err(error) => Err(error),
     }
 }
@@ -181,12 +181,12 @@ pub fn ask<'a, T: AsStr, W: Write, E: Write>(
     words: &'a [T],
     out: &mut W,
     err: &mut E,
-) -> Result<Kept<'a>, u8>
+) -> Result<StoreChoice<'a>, u8>
     ensures { IsAsked (map T.text words.now) (record { out = W.contents out.old; err = E.contents err.old })
         (record { out = W.contents out.new; err = E.contents err.new }) result }
 {
     let error = match read_words(alloc, words, KEEPS) {
-        Ok(kept) => return Ok(kept),
+        Ok(choice) => return Ok(choice),
         Err(error) => error,
     };
     if error.kind() == ErrorKind::OutOfMemory {

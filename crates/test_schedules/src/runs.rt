@@ -4,7 +4,8 @@ use crate::devices::{Limits, Sink, Source};
 use crate::fault::CallFault;
 use crate::stores::TestStores;
 use programs::{
-    Kept, RunFault, StoresFault, ask, run_input, run_over, run_text, tell_bad_words, tell_fault,
+    RunFault, StoreChoice, StoresFault, ask, run_input, run_over, run_text, tell_bad_words,
+    tell_fault,
 };
 use schedule_stores::SqliteStores;
 use schedule_text::{ScheduleFault, read_schedule};
@@ -188,8 +189,8 @@ fn run(
 ) -> Result<End, CallFault> {
     let words: Vec<&str> = line.split_whitespace().collect(alloc)?;
     let status = match ask(alloc, words.as_slice(), out, err) {
-        Ok(Kept::Sqlite) => run_in_sql(alloc, input, out, err),
-        Ok(Kept::Plain | Kept::Files(_)) => run_over(alloc, stores, input, out, err),
+        Ok(StoreChoice::Sqlite) => run_in_sql(alloc, input, out, err),
+        Ok(StoreChoice::Plain | StoreChoice::Files(_)) => run_over(alloc, stores, input, out, err),
         Err(status) => status,
     };
     Ok(End::Status(status))

@@ -5,7 +5,7 @@ use Rattle.programs.proofs.Endings.{asked, refused, refused_status, told}
 use Rattle.programs.proofs.words.ask.Goals as goal
 
 pub returns-in-Ok : goal.returns-in-Ok
-returns-in-Ok g c = asked _ refl _ _ _ c.in-Ok.kept c.in-Ok.ensures refl
+returns-in-Ok g c = asked _ refl _ _ _ c.in-Ok.choice c.in-Ok.ensures refl
 
 pub returns-then-eq : goal.returns-then-eq
 returns-then-eq g c =

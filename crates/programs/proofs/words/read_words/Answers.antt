@@ -21,9 +21,9 @@ returns-in-Ok g c =
       taken = tt;
       fails = subst (λ (app : App). fault_of app words ≡ []) same
           (given.kinds (subst (λ (app : App). is_simple_and_free app ≡ true) (sym same) refl));
-      asked = subst (λ rows. IsAskedFor rows c.kept_by.result)
+      asked = subst (λ rows. IsAskedFor rows c.chosen_by.result)
           ((subst (λ (app : App). is_simple app ≡ true → rows_of (found_of c.in-Ok.matches) ≡ matches_of app words) same
-          (λ simple. (given.matches simple).0)) refl) c.kept_by.ensures;
+          (λ simple. (given.matches simple).0)) refl) c.chosen_by.ensures;
     }
 
 pub returns-in-Err : goal.returns-in-Err

@@ -1,7 +1,7 @@
 use Rattle.clap.specs.Words.{found_of}
 use Rattle.programs.proofs.Matches.{asks_for_files, asks_for_memory, other_name, no_name}
-use Rattle.programs.proofs.words.kept_by.Goals.{in_default-via-in-Some+else-eq, in_default-via-in_default}
-use Rattle.programs.proofs.words.kept_by.Goals as goal
+use Rattle.programs.proofs.words.chosen_by.Goals.{in_default-via-in-Some+else-eq, in_default-via-in_default}
+use Rattle.programs.proofs.words.chosen_by.Goals as goal
 
 pub returns-in-Some-get_str : goal.returns-in-Some-get_str
 returns-in-Some-get_str c =

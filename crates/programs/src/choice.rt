@@ -2,7 +2,7 @@
 
 /// Where the tables of a run are kept.
 #[derive(Clone, Copy, Debug, PartialEq, Eq)]
-pub enum Kept<'a> {
+pub enum StoreChoice<'a> {
     /// In memory, in ordered maps.
     Plain,
     /// In memory, in SQL.
