@@ -1,5 +1,5 @@
 -- What the clauses of the world's run say of a run in a world that was just opened.
-use Rattle.std.proofs.Common.{◌≡◌, List, [], ◌++◌, length, take, Result, sym, ap, subst, ◌∙◌}
+use Rattle.std.proofs.Common.{◌≡◌, List, [], ◌++◌, length, take, Result, Ok, Err, OnOk, sym, ap, subst, ◌∙◌}
 use Rattle.std.proofs.Math.Logic.{∥∥₁_map}
 use Rattle.keep.specs.Seen.{Seen}
 use Rattle.schedule_text.specs.declared.event.Event.{Event}
@@ -27,6 +27,14 @@ pub all_appended : {E : Type 0} (Made : List Event → List Outcome → Type 0) 
 all_appended Made events old new result none r =
     let same : r.outcomes ≡ new = sym (r.appended ∙ ap (λ os. os ++ r.outcomes) none) in
     subst (λ os. Made (take (length os) events) os) same r.made
+
+-- and where all events were made it has as many outcomes
+pub all_counted : {E : Type 0} (Made : List Event → List Outcome → Type 0) (events : List Event)
+    (old new : List Outcome)
+    (result : Result Unit E) → old ≡ [] → Ran Made events old new result → OnOk result (length new ≡ length events)
+all_counted Made events old new (Ok done) none r =
+    ap length (r.appended ∙ ap (λ os. os ++ r.outcomes) none) ∙ r.all
+all_counted Made events old new (Err e) none r = tt
 
 module _ {KO KS KA : Type 0} (orders : KO → Seen OrderTables) (stocks : KS → Seen StockTables)
     (accounts : KA → Seen AccountTables) (Found : AllTables → Type 0) where

@@ -1,8 +1,8 @@
 //! Events, made one by one in the world of three services over their stores.
 
-ghost use Rattle.std.specs.Prelude.{◌≡◌, true, length, take, IfOk, IfErr};
+ghost use Rattle.std.specs.Prelude.{IfOk, IfErr};
 ghost use Rattle.programs.specs.Opened.{AreNew, AreLeftBy, shown};
-ghost use Rattle.programs.specs.Runs.{IsBeginning, HasRun};
+ghost use Rattle.programs.specs.Runs.{AreMade, IsBeginning, HasRun};
 
 use crate::fault::StoresFault;
 use crate::stores::Stores;
@@ -64,9 +64,7 @@ where
     S: Keep<State = Stock, Command = StockCommand> + Drop,
     A: Keep<State = Account, Command = AccountCommand> + Drop,
     requires opened { AreNew (shown O.seen S.seen A.seen keeps) }
-    ensures begun { HasRun O.seen S.seen A.seen (AreLeftBy (shown O.seen S.seen A.seen keeps))
-        (take (length result.outcomes.items) events.items) result.outcomes.items }
-    ensures all { result.is_whole ≡ true → length result.outcomes.items ≡ length events.items }
+    ensures { AreMade (HasRun O.seen S.seen A.seen (AreLeftBy (shown O.seen S.seen A.seen keeps))) events.items result }
 {
     let mut world = make_world(alloc, keeps);
     let mut outcomes = Vec::new(alloc);

@@ -10,9 +10,9 @@ use Rattle.keep_sqlite.specs.Orders.{orders}
 use Rattle.keep_sqlite.specs.Stocks.{stocks}
 use Rattle.programs.proofs.Beginnings.{run_as}
 use Rattle.programs.specs.Opened.{AreLeftBy, shown}
-use Rattle.programs.specs.Runs.{HasRun}
+use Rattle.programs.specs.Runs.{AreMade, HasRun}
 use Rattle.programs.specs.declared.running.Made.{Made}
-use Rattle.schedule_stores.specs.Files.{AreFoundIn, AreMade, IsLeftBy, IsOpenedWith, RunsOver}
+use Rattle.schedule_stores.specs.Files.{AreFoundIn, IsLeftBy, IsOpenedWith, RunsOver}
 
 -- of a store that was opened with such tables a stop leaves no others
 found_left : {T : Type 0} (Has : T → Type 0) (s : Seen T) → IsOpenedWith Has s → (t : T) → IsLeftBy s t → Has t

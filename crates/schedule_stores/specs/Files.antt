@@ -2,7 +2,7 @@
 use Rattle.sqlite.specs.Files.{HoldsDatabase}
 use Rattle.sqlite_trees.specs.Tree.{Trees}
 use Rattle.sqlite_wal.specs.Recovery.{Image}
-use Rattle.std.specs.Prelude.{◌≡◌, List, length, take, true}
+use Rattle.std.specs.Prelude.{◌≡◌, List}
 use Rattle.keep.specs.Seen.{Seen, IsSound}
 use Rattle.keep.specs.Tables.{Tables}
 use Rattle.keep.specs.declared.fault.KeepFault.{KeepFault}
@@ -16,7 +16,6 @@ use Rattle.schedule_text.specs.declared.event.Event.{Event}
 use Rattle.schedule_text.specs.declared.outcome.Outcome.{Outcome}
 use Rattle.programs.specs.Opened.{AreLeftBy, IsOpened, shown}
 use Rattle.programs.specs.Runs.{HasRun}
-use Rattle.programs.specs.declared.running.Made.{Made}
 use Rattle.programs.specs.declared.fault.StoresFault.{StoresFault}
 use Rattle.programs.specs.declared.fault.StoresFault.TheVariants.{Purchasing, Warehouse, Billing}
 
@@ -35,11 +34,6 @@ pub record IsOpenedWith {T : Type 0} (Has : T → Type 0) (s : Seen T) : Type 0 
 -- tables that a stop may leave of a store that isn't in doubt
 abbrev pub IsLeftBy : {T : Type 0} → Seen T → T → Type 0
 IsLeftBy s t = (s.doubt ≡ 0) × s.may_leave t
-
--- events were made, all or the first of them
-pub record AreMade (Run : List Event → List Outcome → Type 0) (events : List Event) (made : Made) : Type 0 where
-  pub begun : Run (take (length made.outcomes.items) events) made.outcomes.items
-  pub all : made.is_whole ≡ true → length made.outcomes.items ≡ length events
 
 -- what happened over three stores that were opened, of which it's known what a stop may leave of them
 abbrev pub RunsOver : {KO KS KA : Type 0} → (KO → Seen OrderTables) → (KS → Seen StockTables) → (KA → Seen AccountTables)

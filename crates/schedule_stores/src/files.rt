@@ -7,8 +7,8 @@ ghost use Rattle.keep_sqlite.specs.Found.{IsFoundIn};
 ghost use Rattle.keep_sqlite.specs.Orders.{orders};
 ghost use Rattle.keep_sqlite.specs.Stocks.{stocks};
 ghost use Rattle.programs.specs.Opened.{AreNew, shown};
-ghost use Rattle.programs.specs.Runs.{HasRun};
-ghost use Rattle.schedule_stores.specs.Files.{AreFoundIn, AreMade, IsOpenedWith, RunsOver};
+ghost use Rattle.programs.specs.Runs.{AreMade, HasRun};
+ghost use Rattle.schedule_stores.specs.Files.{AreFoundIn, IsOpenedWith, RunsOver};
 
 use crate::memory::is_sound;
 use billing::Accounts;
