@@ -566,6 +566,16 @@ THREADS = {
           " takes all seats, and so all that was ever raised and read. None of these calls takes the handle for waiting: each returns,"
           " whatever other threads do."],
          [("marks", "marks", f"Marks::{it}") for it in ("open", "raise", "read", "close")] + [("marks", "closed", "Closed::mark")]),
+        ("What is put is taken, once each and in order",
+         ["The intake of a live service: two readers put what arrives, each at the end of its own list, and one worker takes it. Once the"
+          " readers have ended, `close` tells how many were taken of each: these are the first of its list, once each and in order."],
+         [("intake", "intake", "Intake::open"), ("intake", "intake", "IntakeReader::put"), ("intake", "intake", "IntakeWorker::take"),
+          ("intake", "intake", "IntakeWorker::close")]),
+        ("A live service leaves the tokens good",
+         ["Four threads over two connections: two read, one handles what came, one sends. Whatever they do, and in whatever order, the Hand"
+          " and the Scout come back as tokens of the same service, and what each has seen has grown (`GoesOn`). So all of this page still"
+          " holds of them, and of the commands that others gave meanwhile."],
+         [("service_workers", "service", "run_service")]),
     ],
 }
 

@@ -1,0 +1,3 @@
+pub mod Conns
+pub mod Tokens
+pub mod Turns

@@ -1,0 +1,249 @@
+//! The thread that gives what came to the endpoint, and writes what is answered.
+
+ghost use Rattle.shared_endpoint.specs.Keys.{IsHandOf, told_hand};
+ghost use Rattle.service_workers.specs.Tokens.{GoesOn};
+
+use crate::conn::Conn;
+use crate::gate::Resting;
+use crate::lines::{Lines, READERS};
+use crate::tokens::{drain_held, ingest, settle};
+use crate::{Arrival, Cut, Gate, Stop};
+use activities::Handler;
+use base::limits::{HELD_WINDOW, MAX_BODY};
+use base::{Kind, Pair};
+use endpoint::{EndFault, Ingested};
+use envelope::{Envelope, EnvelopeFault, Letter, from_message};
+use intake::IntakeWorker;
+use keep::Keep;
+use reception::{Prepared, ReceptionFault, Taken, prepare};
+use shared_endpoint::{Hand, Shared};
+use std::alloc::Global;
+use std::sync::Wait;
+use stomp_client::ClientFault;
+use stomp_frame::Frame;
+use stomp_wire::Link;
+
+/// What the endpoint answered to what a MESSAGE carries.
+#[derive(Drop)]
+enum Answer {
+    /// To a letter.
+    Letter(Result<Ingested, EndFault>),
+    /// To a settle.
+    Settle(Result<u64, EndFault>),
+    /// It wasn't asked: no envelope was read.
+    Unasked,
+}
+
+/// Handles the letters of a pair that are held and are the next, and tells the last one's number.
+fn drain<H, K, R: Wait>(
+    rt: &R,
+    alloc: Global,
+    shared: &Shared<H, K>,
+    hand: &mut Hand<H, K>,
+    pair: &Pair,
+) -> Option<u64>
+where
+    H: Handler,
+    K: Keep<State = H::State, Command = H::Command> + Drop,
+    requires hand { IsHandOf shared.now hand.old }
+    ensures hand { IsHandOf shared.now hand.new }
+    ensures goes_on { GoesOn K.seen H.service (told_hand hand.old) (told_hand hand.new) }
+{
+    let mut last = None;
+    for _ in 0..HELD_WINDOW {
+        match drain_held(rt, alloc, shared, hand, pair) {
+            Ok(Some(number)) => last = Some(number),
+            Ok(None) | Err(_) => break,
+        }
+    }
+    last
+}
+
+/// Takes a letter in. Where it was the next of its pair, those behind it that are held are handled too, and
+/// the answer is as if it had come again: how far its pair is handled.
+fn take_in<H, K, R: Wait>(
+    rt: &R,
+    alloc: Global,
+    shared: &Shared<H, K>,
+    hand: &mut Hand<H, K>,
+    letter: &Letter,
+) -> Result<Ingested, EndFault>
+where
+    H: Handler,
+    K: Keep<State = H::State, Command = H::Command> + Drop,
+    requires hand { IsHandOf shared.now hand.old }
+    ensures hand { IsHandOf shared.now hand.new }
+    ensures goes_on { GoesOn K.seen H.service (told_hand hand.old) (told_hand hand.new) }
+{
+    let answer = ingest(rt, alloc, shared, hand, letter);
+    if let Ok(Ingested::Handled(_)) = &answer {
+        if let Some(last) = drain(rt, alloc, shared, hand, &letter.pair) {
+            return Ok(Ingested::Repeated(last));
+        }
+    }
+    answer
+}
+
+/// Asks the endpoint for what a MESSAGE carries.
+fn ask<H, K, G: Gate<R>, R: Wait>(
+    rt: &R,
+    alloc: Global,
+    shared: &Shared<H, K>,
+    hand: &mut Hand<H, K>,
+    gate: &G,
+    message: &Frame<MAX_BODY>,
+) -> Answer
+where
+    H: Handler,
+    K: Keep<State = H::State, Command = H::Command> + Drop,
+    requires hand { IsHandOf shared.now hand.old }
+    ensures hand { IsHandOf shared.now hand.new }
+    ensures goes_on { GoesOn K.seen H.service (told_hand hand.old) (told_hand hand.new) }
+{
+    match from_message(alloc, message) {
+        Ok(Envelope::Letter(letter)) => {
+            let answer = take_in(rt, alloc, shared, hand, &letter);
+            gate.after_ingest(rt);
+            Answer::Letter(answer)
+        }
+        Ok(Envelope::Settle(pair, number)) => {
+            Answer::Settle(settle(rt, alloc, shared, hand, &pair, number))
+        }
+        Err(_) => Answer::Unasked,
+    }
+}
+
+/// What was prepared doesn't go with what the endpoint answered: the frame isn't the one that was asked for.
+const OTHER: ReceptionFault = ReceptionFault::Client(ClientFault::Unexpected);
+
+/// Writes what is answered to a MESSAGE.
+fn finish<L: Link + Drop>(
+    alloc: Global,
+    conn: &mut Conn<L>,
+    kind: Kind,
+    message: Frame<MAX_BODY>,
+    answer: Answer,
+) -> Result<Taken, ReceptionFault> {
+    let client = &mut conn.channel.client;
+    match prepare(alloc, client, kind, message) {
+        Ok(Prepared::Letter(letter)) => match answer {
+            Answer::Letter(answer) => match letter.finish(alloc, client, answer) {
+                Ok(taken) => Ok(taken),
+                Err(untaken) => Err(untaken.fault),
+            },
+            _ => Err(OTHER),
+        },
+        Ok(Prepared::Settle(settle)) => match answer {
+            Answer::Settle(answer) => settle.finish(client, answer),
+            _ => Err(OTHER),
+        },
+        Ok(Prepared::Done(taken)) => Ok(taken),
+        Err(untaken) => Err(untaken.fault),
+    }
+}
+
+/// Whether a connection goes on after a fault: the frame was answered. Where it wasn't, for want of memory or because
+/// the store failed, a new connection gets it again.
+fn goes_on(fault: ReceptionFault) -> bool {
+    match fault {
+        ReceptionFault::End(EndFault::StoreFailed | EndFault::Unusable) => false,
+        ReceptionFault::End(_) | ReceptionFault::Envelope(EnvelopeFault::BadEnvelope) => true,
+        ReceptionFault::Envelope(EnvelopeFault::Memory)
+        | ReceptionFault::Client(_)
+        | ReceptionFault::Frame(_) => false,
+    }
+}
+
+/// Writes what is answered to a MESSAGE, where its connection is still there.
+fn reply<L: Link + Drop, R: Wait>(
+    rt: &R,
+    alloc: Global,
+    kind: Kind,
+    lines: &Lines<L>,
+    arrival: Arrival,
+    answer: Answer,
+) -> Result<Option<Taken>, Cut> {
+    let Arrival { conn, message } = arrival;
+    match &mut *lines.slot(conn).lock(rt) {
+        Some(conn) => match finish(alloc, conn, kind, message, answer) {
+            Ok(taken) => match conn.write_much() {
+                Ok(()) => Ok(Some(taken)),
+                Err(cut) => Err(cut),
+            },
+            Err(fault) if goes_on(fault) => Ok(None),
+            Err(fault) => Err(Cut::Reception(fault)),
+        },
+        None => Ok(None),
+    }
+}
+
+/// Takes what arrived: the endpoint is asked, and its answer is written.
+fn take<H, K, L: Link + Drop, G: Gate<R>, R: Wait>(
+    rt: &R,
+    alloc: Global,
+    shared: &Shared<H, K>,
+    hand: &mut Hand<H, K>,
+    lines: &Lines<L>,
+    gate: &G,
+    arrival: Arrival,
+)
+where
+    H: Handler,
+    K: Keep<State = H::State, Command = H::Command> + Drop,
+    requires hand { IsHandOf shared.now hand.old }
+    ensures hand { IsHandOf shared.now hand.new }
+    ensures goes_on { GoesOn K.seen H.service (told_hand hand.old) (told_hand hand.new) }
+{
+    let number = arrival.conn;
+    let answer = ask(rt, alloc, shared, hand, gate, &arrival.message);
+    match reply(rt, alloc, H::kind(), lines, arrival, answer) {
+        Ok(Some(Taken::Settled(_))) => lines.settle(),
+        Ok(Some(Taken::Handled(_) | Taken::Repeated(_))) => gate.wake(rt, Resting::Relay),
+        Ok(_) => (),
+        Err(cut) => lines.cut(rt, gate, number, cut),
+    }
+}
+
+/// Writes all that waits, on both connections.
+fn flush<L: Link + Drop, G: Gate<R>, R: Wait>(rt: &R, lines: &Lines<L>, gate: &G) {
+    for number in [0, 1] {
+        if let Err(cut) = lines.write(rt, number) {
+            lines.cut(rt, gate, number, cut);
+        }
+    }
+}
+
+/// Takes what arrives, until the end is asked for, the readers are done, and nothing is left in the intake.
+pub(crate) fn work<H, K, L: Link + Drop, G: Gate<R>, R: Wait>(
+    rt: &R,
+    alloc: Global,
+    shared: &Shared<H, K>,
+    hand: &mut Hand<H, K>,
+    lines: &Lines<L>,
+    gate: &G,
+    stop: &Stop,
+    intake: &mut IntakeWorker<Arrival>,
+)
+where
+    H: Handler,
+    K: Keep<State = H::State, Command = H::Command> + Drop,
+    requires hand { IsHandOf shared.now hand.old }
+    ensures hand { IsHandOf shared.now hand.new }
+    ensures goes_on { GoesOn K.seen H.service (told_hand hand.old) (told_hand hand.new) }
+{
+    for _ in rt.forever() {
+        // Asked before the intake is: what a reader put before it was done is there then.
+        let is_last = stop.asked() && lines.done() >= READERS;
+        match intake.take(rt) {
+            Some(slip) => take(rt, alloc, shared, hand, lines, gate, slip.arrival),
+            None => {
+                flush(rt, lines, gate);
+                if is_last {
+                    break;
+                }
+                gate.rest(rt, Resting::Worker);
+            }
+        }
+    }
+    lines.end();
+}
