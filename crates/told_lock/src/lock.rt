@@ -1,6 +1,6 @@
 //! The lock, and its steps.
 
-ghost use Rattle.std.specs.Prelude.{◌≡◌, ◌∷◌, [], Some, IfOk, IfErr};
+ghost use Rattle.std.specs.Prelude.{◌≡◌, ◌∷◌, [], Some, IfOk, IfErr, MatchOption};
 ghost use Rattle.crossbeam_channel.specs.Ends.{sends_on, receives_on, ruled_capacity};
 ghost use Rattle.crossbeam_channel.specs.Fifo.{Pushes, Learns};
 ghost use Rattle.told_lock.specs.declared.view.Stage.TheVariants.{Open};
@@ -13,6 +13,10 @@ use crossbeam_channel::protocol::{Lesson, Outcome};
 use crossbeam_channel::{Pass, RuledReceiver, RuledSender, bounded_with};
 use std::alloc::Global;
 use std::sync::Wait;
+use std::thread;
+
+/// How often a thread asks for the value before it sleeps until it's given back.
+const TRIES: u32 = 64;
 
 /// What a token of the lock carries: it takes no memory, and contracts see what the token knows.
 pub type Key<T> = Pass<T, Known<T>>;
@@ -52,12 +56,33 @@ impl<T: Drop, L: Lore<T>> Lock<T, L> {
         ensures key { IsKeyOf self.now key.new }
         ensures took { Took L.since L.later L.ends (knows key.old) result (knows key.new) }
     {
+        if let Some(value) = self.try_take(rt, key) {
+            return value;
+        }
         for _ in rt.forever() {
             if let Ok(value) = self.from.recv_as::<Takes<T, L>, R>(rt, key) {
                 return value;
             }
         }
         unreachable!()
+    }
+
+    // Tries some times, and lets other threads run between: who sleeps at a channel has to be woken by a call of the system,
+    // which costs more than the calls for which a lock is taken.
+    fn try_take<R: Wait>(&self, rt: &R, key: &mut Key<T>) -> Option<T>
+        requires key { IsKeyOf self.now key.old }
+        requires open { (knows key.old).stage ≡ Open }
+        ensures key { IsKeyOf self.now key.new }
+        ensures took { MatchOption result (knows key.new ≡ knows key.old)
+            (λ x. Took L.since L.later L.ends (knows key.old) x (knows key.new)) }
+    {
+        for _ in 0..TRIES {
+            match self.from.try_recv_as::<Takes<T, L>, R>(rt, key) {
+                Ok(value) => return Some(value),
+                Err(_) => thread::yield_now(),
+            }
+        }
+        None
     }
 
     // Sends the value, by the step `M`.

@@ -10,6 +10,6 @@ pub recv_as-requires-clause-rule : goal.recv_as-requires-clause-rule
 recv_as-requires-clause-rule g c =
     let l = g.L.Lore in (
       takes l.since l.later l.ends l.since_same l.since_join l.later_same l.later_join l.ends_same _ _
-          (ap (λ v. v.stage) c.loop.invariant.3 ∙ c.requires.open),
+          (ap (λ v. v.stage) (c.loop.invariant.3 ∙ c.in_default.ensures.took) ∙ c.requires.open),
       λ items views _ _. tt,
     )
