@@ -544,7 +544,8 @@ THREADS = {
           " (`tokens_stay_good`), and that no file is in doubt."],
          [("shared_endpoint", "laws", it) for it in ("commits_are_one_threads", "views_are_one_threads", "lengths_are_one_threads",
                                                      "ingests_are_one_threads", "drains_are_one_threads", "settles_are_one_threads",
-                                                     "handled_is_the_lists", "unsettled_are_above_marks", "tokens_stay_good")], True),
+                                                     "handled_is_the_lists", "unsettled_are_above_marks", "journals_are_one_threads",
+                                                     "tokens_stay_good")], True),
         ("Failures are counted, and for good",
          ["That the store failed, or had failed before, is told only where a failure was counted; and behind it the token gets nothing"
           " else."],
@@ -558,7 +559,7 @@ THREADS = {
                        " the token raised the mark of the journal's length to (`raised_after`), which the Scout reads by `mark`."],
          [("shared_endpoint", "shared", "Shared::open")]
          + [("shared_endpoint", "calls", f"Shared::{it}") for it in ("commit", "view", "length", "ingest", "drain_held", "settle",
-                                                                     "handled", "unsettled")]
+                                                                     "handled", "unsettled", "journal")]
          + [("shared_endpoint", "mark", "Shared::mark")]),
         ("A mark never falls, and comes to the greatest number raised",
          ["Numbers that threads share with no lock, each at its place. `open` gives seats of its own, with empty lists of what each raised"

@@ -3,7 +3,7 @@ use Rattle.std.proofs.Common.{◌≡◌, ◌⊎◌, ℕ, suc, ◌+◌, Bool, tru
 use Rattle.std.proofs.Common.{length}
 use Rattle.std.proofs.Common.{Option, Some, None, Result, Ok, Err, ⊎_elim, refl, sym, ap, ◌∙◌, subst, arith}
 use Rattle.std.proofs.Common.{length-append}
-use Rattle.std.specs.Prelude.{if◌then◌else◌}
+use Rattle.std.specs.Prelude.{if◌then◌else◌, ◌-◌, take, drop}
 use Rattle.std.specs.Global.{Vec}
 use Rattle.base.specs.Entity.{Entity}
 use Rattle.base.specs.Order.{same_entity}
@@ -36,7 +36,7 @@ use Rattle.shared_endpoint.specs.Token.{hand_number, is_of, rows_of}
 use Rattle.shared_endpoint.specs.History.{IsDeedOf, IsUsed, fault_in, tells, Passes}
 use Rattle.shared_endpoint.specs.Lore.{zero_below, then_more}
 use Rattle.shared_endpoint.specs.Promises.{list_after, listed, CommitsAt, DoesAt, ViewsAt, HandledAt}
-use Rattle.shared_endpoint.specs.Promises.{UnsettledAt, LengthAt, IsGood, Continues, IsOneThreads}
+use Rattle.shared_endpoint.specs.Promises.{UnsettledAt, JournalAt, LengthAt, JournalsAreOneThreads, IsGood, Continues, IsOneThreads}
 use Rattle.shared_endpoint.specs.Promises.{CommitsAreOneThreads, ViewsAreOneThreads, IngestsAreOneThreads}
 use Rattle.shared_endpoint.specs.Promises.{DrainsAreOneThreads, SettlesAreOneThreads, HandledIsTheLists}
 use Rattle.shared_endpoint.specs.Promises.{UnsettledAreAboveMarks, LengthsAreOneThreads, FailuresAreCounted}
@@ -307,6 +307,25 @@ module _ {E S C : Type 0} (seen : E → Seen (Tables S C)) (service : Service S 
     pub unsettled : UnsettledAreAboveMarks seen service
     unsettled n after limit result = one_threads n _ result (UnsettledAt service after limit result)
         (unsettled_at after limit result)
+
+    journal_at : (from limit : ℕ) (result : Result (Vec (JournalRow C)) EndFault) (d e : E)
+        → Reads seen d e (λ t rows. rows.items ≡ take limit (drop (from - 1) t.journal)) (end_of result)
+        → tells (fault_in result) ≡ true → (seen d).doubt ≡ 0 → (seen e).doubt ≡ 0
+        → AllMatch service (seen d).may_leave → TablesMatchJournal service (seen d).tables
+        → JournalAt service from limit result (seen d).tables (seen e).tables
+    journal_at from limit (Ok rows) d e call told z0 z all m = call.clean z
+    journal_at from limit (Err StoreFailed) d e call told z0 z all m = untold told
+    journal_at from limit (Err Memory) d e call told z0 z all m = untold told
+    journal_at from limit (Err Unusable) d e call told z0 z all m = untold told
+    journal_at from limit (Err NotMine) d e call told z0 z all m = call.call.1
+    journal_at from limit (Err (Business r)) d e call told z0 z all m = call.call.1
+    journal_at from limit (Err TooEarly) d e call told z0 z all m = call.call.1
+    journal_at from limit (Err NumberLimit) d e call told z0 z all m = call.call.1
+    journal_at from limit (Err NotSent) d e call told z0 z all m = call.call.1
+
+    pub journals : JournalsAreOneThreads seen service
+    journals n from limit result = one_threads n _ result (JournalAt service from limit result)
+        (journal_at from limit result)
 
     length_at : (result : Result ℕ EndFault) (d e : E) → (e ≡ d) × Counts seen d (λ t. length t.journal) result
         → tells (fault_in result) ≡ true → (seen d).doubt ≡ 0 → (seen e).doubt ≡ 0

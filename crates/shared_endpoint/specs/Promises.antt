@@ -1,6 +1,6 @@
 -- What the calls tell of journals, lists, marks and failures: it all follows from `Turn` and `Closes`.
 use Rattle.std.specs.Prelude.{◌≡◌, ◌≢◌, ◌⊎◌, ℕ, suc, true, false, List, [], ◌∷◌, ◌++◌, length, map, Option}
-use Rattle.std.specs.Prelude.{Some, ◌≤◌}
+use Rattle.std.specs.Prelude.{Some, ◌≤◌, ◌-◌, take, drop}
 use Rattle.std.specs.Prelude.{Result, Ok, Err, ⊤}
 use Rattle.std.specs.Global.{Vec}
 use Rattle.base.specs.Entity.{Entity}
@@ -87,6 +87,11 @@ module _ {S C : Type 0} (service : Service S C) where
       × (u ≡ t)
   UnsettledAt after limit (Err _) t u = ⊥
 
+  -- the rows of the journal from a position on, as many as this or all of them
+  abbrev pub JournalAt : ℕ → ℕ → Result (Vec (JournalRow C)) EndFault → (t u : Tables S C) → Type 0
+  JournalAt from limit (Ok rows) t u = (rows.items ≡ take limit (drop (from - 1) t.journal)) × (u ≡ t)
+  JournalAt from limit (Err _) t u = ⊥
+
   -- how many rows the journal has
   abbrev pub LengthAt : Result ℕ EndFault → (t u : Tables S C) → Type 0
   LengthAt (Ok n) t u = (n ≡ length t.journal) × (u ≡ t)
@@ -153,6 +158,12 @@ module _ {E S C : Type 0} (seen : E → Seen (Tables S C)) (service : Service S 
       → IsOneThreads n
       (λ d e. Reads seen d e (λ t letters. AreFirst t.unsettled after limit letters.items) (end_of result)) result
       (UnsettledAt service after limit result)
+
+  abbrev pub JournalsAreOneThreads : Type 0
+  JournalsAreOneThreads = (n : ℕ) (from limit : ℕ) (result : Result (Vec (JournalRow C)) EndFault)
+      → IsOneThreads n
+      (λ d e. Reads seen d e (λ t rows. rows.items ≡ take limit (drop (from - 1) t.journal)) (end_of result)) result
+      (JournalAt service from limit result)
 
   abbrev pub LengthsAreOneThreads : Type 0
   LengthsAreOneThreads = (n : ℕ) (result : Result ℕ EndFault)

@@ -1,6 +1,6 @@
 //! The calls of the tokens: each takes the endpoint, does what it does for one thread, and gives it back.
 
-ghost use Rattle.std.specs.Prelude.{◌≡◌, ℕ, length, Option};
+ghost use Rattle.std.specs.Prelude.{◌≡◌, ◌-◌, ℕ, length, Option, take, drop};
 ghost use Rattle.base.specs.declared.limits.TheConstants.{HELD_WINDOW};
 ghost use Rattle.activities.specs.declared.input.Input.TheVariants.{FromSeat};
 ghost use Rattle.keep.specs.Law.{Reads};
@@ -16,7 +16,7 @@ ghost use Rattle.shared_endpoint.specs.History.{fault_in, Turns};
 use crate::mark::{row_committed, row_handled};
 use crate::shared::{Shared, tells};
 use crate::tokens::{Hand, Scout, Seat};
-use activities::Handler;
+use activities::{Handler, JournalRow};
 use base::{Entity, Pair};
 use endpoint::{Committed, EndFault, Ingested};
 use envelope::Letter;
@@ -232,5 +232,31 @@ where
         let told = tells(&letters);
         self.give(rt, &mut scout.key, boxed, told);
         letters
+    }
+
+    /// The first `limit` rows of the journal from a position on, or all of them where they are fewer:
+    /// `Endpoint::journal`.
+    ///
+    /// # Errors
+    /// Those of `Endpoint::journal`.
+    pub fn journal<R: Wait>(
+        &self,
+        rt: &R,
+        alloc: Global,
+        scout: &mut Scout<H, K>,
+        from: u64,
+        limit: usize,
+    ) -> Result<Vec<JournalRow<H::Command>>, EndFault>
+        requires scout { IsScoutOf self.now scout.old }
+        ensures scout { IsScoutOf self.now scout.new × (marks_read scout.new ≡ marks_read scout.old) }
+        ensures turn { Turns K.seen H.service scout_number (told_scout scout.old) (told_scout scout.new)
+            (λ d e. Reads K.seen d e (λ t rows. rows.items ≡ take limit (drop (from - 1) t.journal)) (end_of result))
+            (fault_in result) }
+    {
+        let mut boxed = self.lock.take(rt, &mut scout.key);
+        let rows = boxed.endpoint.journal(alloc, from, limit);
+        let told = tells(&rows);
+        self.give(rt, &mut scout.key, boxed, told);
+        rows
     }
 }

@@ -2,8 +2,8 @@
 
 ghost use Rattle.shared_endpoint.specs.Promises.{CommitsAreOneThreads, ViewsAreOneThreads, LengthsAreOneThreads};
 ghost use Rattle.shared_endpoint.specs.Promises.{IngestsAreOneThreads, DrainsAreOneThreads, SettlesAreOneThreads};
-ghost use Rattle.shared_endpoint.specs.Promises.{HandledIsTheLists, UnsettledAreAboveMarks, ClosesToOneHistory};
-ghost use Rattle.shared_endpoint.specs.Promises.{FailuresAreCounted, FailuresAreForGood, TokensStayGood};
+ghost use Rattle.shared_endpoint.specs.Promises.{HandledIsTheLists, UnsettledAreAboveMarks, JournalsAreOneThreads};
+ghost use Rattle.shared_endpoint.specs.Promises.{ClosesToOneHistory, FailuresAreCounted, FailuresAreForGood, TokensStayGood};
 
 use activities::Handler;
 use keep::Keep;
@@ -73,6 +73,14 @@ where
     H: Handler,
     K: Keep<State = H::State, Command = H::Command> + Drop,
     ensures { UnsettledAreAboveMarks K.seen H.service }
+{}
+
+/// The Scout gets rows of such a journal: those from a position on, as many as are asked for, or all of them.
+pub fn journals_are_one_threads<H, K>()
+where
+    H: Handler,
+    K: Keep<State = H::State, Command = H::Command> + Drop,
+    ensures { JournalsAreOneThreads K.seen H.service }
 {}
 
 /// `StoreFailed` and `Unusable` are answered only where a failure was counted since the lock was opened, or the
