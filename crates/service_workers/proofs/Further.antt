@@ -8,6 +8,7 @@ use Rattle.std.specs.Global.{Vec}
 use Rattle.base.specs.declared.pair.Pair.{Pair}
 use Rattle.envelope.specs.declared.message.Letter.{Letter}
 use Rattle.activities.specs.Service.{Service}
+use Rattle.activities.specs.declared.input.JournalRow.{JournalRow}
 use Rattle.keep.specs.Seen.{Seen}
 use Rattle.keep.specs.Tables.{Tables}
 use Rattle.keep.specs.declared.change.Place.{Place}
@@ -16,7 +17,7 @@ use Rattle.endpoint.specs.declared.fault.EndFault.{EndFault}
 use Rattle.told_lock.specs.declared.view.Told.{Told}
 use Rattle.shared_endpoint.specs.History.{fault_in, tells, Passes, Turn, Turns}
 use Rattle.shared_endpoint.proofs.Deeds.{rises}
-use Rattle.shared_endpoint.specs.Promises.{IsGood, IsOneThreads, DoesAt, UnsettledAt, TokensStayGood}
+use Rattle.shared_endpoint.specs.Promises.{IsGood, IsOneThreads, DoesAt, UnsettledAt, JournalAt, TokensStayGood}
 use Rattle.service_workers.specs.Tokens.{Grows, IsFurther, GoesOn}
 
 -- ---- tables that have grown
@@ -106,19 +107,44 @@ module _ {E S C : Type 0} (seen : E → Seen (Tables S C)) (service : Service S 
   deed_goes_on n Call result may vs ws stay law turns = by_tokens n Call (fault_in result) vs ws
       (by_answer n Call result (DoesAt service n may) (λ t u does. by_deed service t u does.deed does.did) law stay) turns
 
-  same_tables : (after : Option Place) (limit : ℕ) (result : Result (Vec Letter) EndFault) (t u : Tables S C)
-      → UnsettledAt service after limit result t u
-      → Grows t u
-  same_tables after limit (Ok letters) t u at = subst (λ (x : Tables S C). Grows t x) (sym at.1) (grows_same t)
-  same_tables after limit (Err fault) t u at = absurd at
+  -- a call that leaves the tables as they are
+  read_goes_on : {R : Type 0} (n : ℕ) (Call : E → E → Type 0) (result : Result R EndFault)
+      (Answer : Tables S C → Tables S C → Type 0) → ((t u : Tables S C) → Answer t u → u ≡ t) → (vs ws : List (Told E))
+      → TokensStayGood seen service
+      → IsOneThreads seen service n Call result Answer
+      → Turns seen service n vs ws Call (fault_in result)
+      → GoesOn seen service vs ws
+  read_goes_on n Call result Answer same vs ws stay law turns = by_tokens n Call (fault_in result) vs ws
+      (by_answer n Call result Answer
+      (λ t u at. subst (λ (x : Tables S C). Grows t x) (sym (same t u at)) (grows_same t)) law stay) turns
 
-  pub read_goes_on : (n : ℕ) (Call : E → E → Type 0) (after : Option Place) (limit : ℕ)
+  unsettled_stay : (after : Option Place) (limit : ℕ) (result : Result (Vec Letter) EndFault) (t u : Tables S C)
+      → UnsettledAt service after limit result t u
+      → u ≡ t
+  unsettled_stay after limit (Ok letters) t u at = at.1
+  unsettled_stay after limit (Err fault) t u at = absurd at
+
+  pub unsettled_goes_on : (n : ℕ) (Call : E → E → Type 0) (after : Option Place) (limit : ℕ)
       (result : Result (Vec Letter) EndFault) (vs ws : List (Told E)) → TokensStayGood seen service
       → IsOneThreads seen service n Call result (UnsettledAt service after limit result)
       → Turns seen service n vs ws Call (fault_in result)
       → GoesOn seen service vs ws
-  read_goes_on n Call after limit result vs ws stay law turns = by_tokens n Call (fault_in result) vs ws
-      (by_answer n Call result (UnsettledAt service after limit result) (same_tables after limit result) law stay) turns
+  unsettled_goes_on n Call after limit result = read_goes_on n Call result (UnsettledAt service after limit result)
+      (unsettled_stay after limit result)
+
+  journal_stays : (from limit : ℕ) (result : Result (Vec (JournalRow C)) EndFault) (t u : Tables S C)
+      → JournalAt service from limit result t u
+      → u ≡ t
+  journal_stays from limit (Ok rows) t u at = at.1
+  journal_stays from limit (Err fault) t u at = absurd at
+
+  pub journal_goes_on : (n : ℕ) (Call : E → E → Type 0) (from limit : ℕ)
+      (result : Result (Vec (JournalRow C)) EndFault) (vs ws : List (Told E)) → TokensStayGood seen service
+      → IsOneThreads seen service n Call result (JournalAt service from limit result)
+      → Turns seen service n vs ws Call (fault_in result)
+      → GoesOn seen service vs ws
+  journal_goes_on n Call from limit result = read_goes_on n Call result (JournalAt service from limit result)
+      (journal_stays from limit result)
 
   -- ---- several calls
 

@@ -167,7 +167,13 @@ impl<L: Link + Drop> Conn<L> {
             .relay
             .fill_rows(&mut self.channel.client, letters, limit)
         {
-            Ok(sent) => self.on_way = self.on_way.saturating_add(sent),
+            Ok(sent) => {
+                self.on_way = self.on_way.saturating_add(sent);
+                // It stopped at no limit: none of them is left.
+                if sent < limit && self.is_connected() {
+                    return Ok(letters.len());
+                }
+            }
             // Some were sent, and it isn't told how many: they are counted where the walk ends.
             Err(RelayFault::Client(ClientFault::Memory)) => (),
             Err(RelayFault::Envelope(EnvelopeFault::Memory)) => (),

@@ -27,7 +27,8 @@ pub trait Gate<R: Wait> {
 
     /// A thread has nothing to do, and goes on once this returns. It may sleep until it's woken or its socket is ready, and
     /// for a moment at least, so that others get on; but it has to return after some time in any case, as not all that it
-    /// may wait for wakes it: a window that opens, a connection that was cut, octets to be written, the end of others.
+    /// may wait for wakes it: a socket that takes octets again, room in the intake, commands of others, that the end is
+    /// asked for.
     fn rest(&self, rt: &R, who: Resting);
 
     /// There is something to do for a thread. It may be at rest, or not yet.

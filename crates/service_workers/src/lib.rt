@@ -35,6 +35,7 @@ mod conn;
 mod cut;
 mod gate;
 mod lines;
+mod news;
 mod reader;
 mod sender;
 mod service;

@@ -1,8 +1,8 @@
 //! The two connections of a service, and what its threads tell each other.
 
-use crate::{Conn, Cut, Gate};
+use crate::{Conn, Cut, Gate, Resting};
 use envelope::Letter;
-use std::sync::atomic::{AtomicU64, Ordering};
+use std::sync::atomic::{AtomicBool, AtomicU64, Ordering};
 use std::sync::{Mutex, Wait};
 use stomp_wire::Link;
 
@@ -14,6 +14,7 @@ pub(crate) struct Lines<L: Drop> {
     changes: AtomicU64,
     settles: AtomicU64,
     done: AtomicU64,
+    full: AtomicBool,
 }
 
 /// How many threads are done, once the readers are.
@@ -32,6 +33,7 @@ impl<L: Link + Drop> Lines<L> {
             changes: AtomicU64::new(0),
             settles: AtomicU64::new(0),
             done: AtomicU64::new(0),
+            full: AtomicBool::new(false),
         }
     }
 
@@ -55,14 +57,25 @@ impl<L: Link + Drop> Lines<L> {
         self.settles.fetch_add(1, Ordering::SeqCst);
     }
 
+    /// Whether the relay waits for one.
+    pub fn is_full(&self) -> bool {
+        self.full.load(Ordering::SeqCst)
+    }
+
+    /// The relay waits for a settle, or for none.
+    pub fn set_full(&self, is_full: bool) {
+        self.full.store(is_full, Ordering::SeqCst);
+    }
+
     /// How many were.
     pub fn settles(&self) -> u64 {
         self.settles.load(Ordering::SeqCst)
     }
 
-    /// A thread is done.
-    pub fn end(&self) {
+    /// A thread is done, for which this one may wait.
+    pub fn end<G: Gate<R>, R: Wait>(&self, rt: &R, gate: &G, next: Resting) {
         self.done.fetch_add(1, Ordering::SeqCst);
+        gate.wake(rt, next);
     }
 
     /// How many threads are: the readers first, and then the worker.
@@ -70,11 +83,12 @@ impl<L: Link + Drop> Lines<L> {
         self.done.load(Ordering::SeqCst)
     }
 
-    /// Ends a connection.
+    /// Ends a connection. The other one is sent on then.
     pub fn cut<G: Gate<R>, R: Wait>(&self, rt: &R, gate: &G, number: u8, cut: Cut) {
         *self.slot(number).lock(rt) = None;
         self.change();
         gate.cut(rt, number, cut);
+        gate.wake(rt, Resting::Relay);
     }
 
     /// Writes what waits on a connection, if it's there.
@@ -132,6 +146,7 @@ impl<L: Link + Drop> Lines<L> {
             changes: _,
             settles: _,
             done: _,
+            full: _,
         } = self;
         [zero.into_inner(), one.into_inner()]
     }

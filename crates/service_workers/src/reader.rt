@@ -15,6 +15,8 @@ use stomp_wire::Link;
 enum Turn {
     /// There may be more.
     Goes,
+    /// The same, and a MESSAGE was put into the intake.
+    Puts,
     /// There is nothing to do now.
     Rests(Resting),
     /// The connection is no more, and why, where it's cut by this thread.
@@ -55,19 +57,15 @@ fn find<L: Link + Drop, R: Wait>(
 }
 
 /// Puts a MESSAGE into the intake; where that's full, the connection keeps it.
-fn put<L: Link + Drop, G: Gate<R>, R: Wait>(
+fn put<L: Link + Drop, R: Wait>(
     rt: &R,
     lines: &Lines<L>,
-    gate: &G,
     intake: &mut IntakeReader<Arrival>,
     arrival: Arrival,
 ) -> Turn {
     let number = arrival.conn;
     match intake.put(rt, arrival) {
-        Ok(()) => {
-            gate.wake(rt, Resting::Worker);
-            Turn::Goes
-        }
+        Ok(()) => Turn::Puts,
         Err(Arrival { conn: _, message }) => {
             if let Some(conn) = &mut *lines.slot(number).lock(rt) {
                 conn.keep(message);
@@ -100,13 +98,34 @@ fn take<L: Link + Drop, G: Gate<R>, R: Wait>(
                 conn: number,
                 message,
             };
-            put(rt, lines, gate, intake, arrival)
+            put(rt, lines, intake, arrival)
         }
         Found::Over(cut) => Turn::Over(Some(cut)),
     }
 }
 
-/// Writes, reads, and takes the frames that came.
+/// Takes the frames that came: how that ended, and whether a MESSAGE was put into the intake.
+fn take_all<L: Link + Drop, G: Gate<R>, R: Wait>(
+    rt: &R,
+    alloc: Global,
+    kind: Kind,
+    lines: &Lines<L>,
+    gate: &G,
+    number: u8,
+    intake: &mut IntakeReader<Arrival>,
+) -> (Turn, bool) {
+    let mut has_put = false;
+    for _ in rt.forever() {
+        match take(rt, alloc, kind, lines, gate, number, intake) {
+            Turn::Goes => (),
+            Turn::Puts => has_put = true,
+            end => return (end, has_put),
+        }
+    }
+    unreachable!()
+}
+
+/// Writes, reads, and takes the frames that came. The worker is woken once for all of them.
 fn take_turn<L: Link + Drop, G: Gate<R>, R: Wait>(
     rt: &R,
     alloc: Global,
@@ -120,14 +139,14 @@ fn take_turn<L: Link + Drop, G: Gate<R>, R: Wait>(
         Ok(came) => came,
         Err(cut) => return Turn::Over(cut),
     };
-    for _ in rt.forever() {
-        match take(rt, alloc, kind, lines, gate, number, intake) {
-            Turn::Goes => (),
-            Turn::Rests(Resting::Reader(_)) if came => return Turn::Goes,
-            other => return other,
-        }
+    let (end, has_put) = take_all(rt, alloc, kind, lines, gate, number, intake);
+    if has_put {
+        gate.wake(rt, Resting::Worker);
     }
-    unreachable!()
+    match end {
+        Turn::Rests(Resting::Reader(_)) if came => Turn::Goes,
+        end => end,
+    }
 }
 
 /// Reads a connection until it's no more, or the end is asked for.
@@ -146,7 +165,7 @@ pub(crate) fn read<L: Link + Drop, G: Gate<R>, R: Wait>(
             break;
         }
         match take_turn(rt, alloc, kind, lines, gate, number, intake) {
-            Turn::Goes => (),
+            Turn::Goes | Turn::Puts => (),
             Turn::Rests(who) => gate.rest(rt, who),
             Turn::Over(cut) => {
                 if let Some(cut) = cut {
@@ -156,5 +175,5 @@ pub(crate) fn read<L: Link + Drop, G: Gate<R>, R: Wait>(
             }
         }
     }
-    lines.end();
+    lines.end(rt, gate, Resting::Worker);
 }

@@ -6,6 +6,7 @@ ghost use Rattle.service_workers.specs.Tokens.{GoesOn};
 use crate::conn::WINDOW;
 use crate::gate::Resting;
 use crate::lines::{Lines, READERS_AND_WORKER};
+use crate::news::read_news;
 use crate::tokens::{mark, unsettled};
 use crate::{Gate, Stop};
 use activities::Handler;
@@ -19,6 +20,9 @@ use stomp_wire::Link;
 /// How many letters are read at once.
 const PAGE: usize = 64;
 
+/// How many rests in vain behind news there are before the outbox is walked over.
+const RESTS: u32 = 16;
+
 /// What the relay has seen of others when it looked last, and what that look left.
 #[derive(Clone, Copy)]
 struct Looked {
@@ -26,6 +30,10 @@ struct Looked {
     changes: u64,
     settles: u64,
     left: Left,
+    /// The connection on which all was sent that these rows have sent, where it was.
+    whole: Option<u8>,
+    /// How often the relay has rested in vain since news were sent, where they were since the last walk.
+    vain: Option<u32>,
 }
 
 /// What a look at the outbox left.
@@ -47,7 +55,22 @@ impl Looked {
             changes: 0,
             settles: 0,
             left: Left::More,
+            whole: None,
+            vain: None,
         }
+    }
+
+    /// Counts a rest in vain, and answers whether the outbox is walked over for it: so nothing depends on news alone.
+    fn count_vain(&mut self) -> bool {
+        let Some(vain) = self.vain else {
+            return false;
+        };
+        if vain < RESTS {
+            self.vain = Some(vain.saturating_add(1));
+            return false;
+        }
+        self.whole = None;
+        true
     }
 
     /// Whether there may be something to send, where the journal has so many rows.
@@ -190,6 +213,77 @@ where
 }
 
 impl Looked {
+    /// Where all was sent by a walk on this connection, and no connection has changed since: sends what the new rows have
+    /// sent, and answers how many rows there are then. None where the outbox is to be walked over.
+    fn send_news<H, K, L: Link + Drop, G: Gate<R>, R: Wait>(
+        &self,
+        rt: &R,
+        alloc: Global,
+        shared: &Shared<H, K>,
+        scout: &mut Scout<H, K>,
+        lines: &Lines<L>,
+        gate: &G,
+        number: u8,
+        changes: u64,
+    ) -> Option<u64>
+    where
+        H: Handler,
+        K: Keep<State = H::State, Command = H::Command> + Drop,
+        requires scout { IsScoutOf shared.now scout.old }
+        ensures scout { IsScoutOf shared.now scout.new }
+        ensures goes_on { GoesOn K.seen H.service (told_scout scout.old) (told_scout scout.new) }
+    {
+        if self.whole != Some(number) || self.changes != changes {
+            return None;
+        }
+        let news = read_news(rt, alloc, shared, scout, self.rows)?;
+        if news.letters.is_empty() {
+            return Some(news.rows);
+        }
+        gate.before_send(rt);
+        match lines.send(rt, number, &news.letters) {
+            Ok(Some(sent)) if sent == news.letters.len() => Some(news.rows),
+            Ok(_) => None,
+            Err(cut) => {
+                lines.cut(rt, gate, number, cut);
+                None
+            }
+        }
+    }
+
+    /// Walks over the whole outbox, and answers whether the relay may go on at once.
+    fn walk<H, K, L: Link + Drop, G: Gate<R>, R: Wait>(
+        &mut self,
+        rt: &R,
+        alloc: Global,
+        shared: &Shared<H, K>,
+        scout: &mut Scout<H, K>,
+        lines: &Lines<L>,
+        gate: &G,
+        number: u8,
+    ) -> bool
+    where
+        H: Handler,
+        K: Keep<State = H::State, Command = H::Command> + Drop,
+        requires scout { IsScoutOf shared.now scout.old }
+        ensures scout { IsScoutOf shared.now scout.new }
+        ensures goes_on { GoesOn K.seen H.service (told_scout scout.old) (told_scout scout.new) }
+    {
+        self.whole = None;
+        self.vain = None;
+        let Some(left) = send_all(rt, alloc, shared, scout, lines, gate, number) else {
+            self.left = Left::More;
+            return false;
+        };
+        self.left = left;
+        if left == Left::Nothing {
+            self.whole = Some(number);
+        }
+        lines.set_full(left == Left::Full);
+        // Who makes rows wakes the relay: it rests, and looks once for all of them.
+        self.is_due(self.rows, lines)
+    }
+
     /// Looks at the outbox of a journal of so many rows, and answers whether the relay may go on at once.
     fn look<H, K, L: Link + Drop, G: Gate<R>, R: Wait>(
         &mut self,
@@ -208,6 +302,7 @@ impl Looked {
         ensures scout { IsScoutOf shared.now scout.new }
         ensures goes_on { GoesOn K.seen H.service (told_scout scout.old) (told_scout scout.new) }
     {
+        let before = *self;
         // What others do from here on is seen by the next look.
         self.rows = rows;
         self.changes = lines.changes();
@@ -216,15 +311,15 @@ impl Looked {
             self.left = Left::Nothing;
             return true;
         };
-        match send_all(rt, alloc, shared, scout, lines, gate, number) {
-            Some(left) => {
-                self.left = left;
-                true
+        let changes = self.changes;
+        match before.send_news(rt, alloc, shared, scout, lines, gate, number, changes) {
+            Some(rows) => {
+                self.rows = rows;
+                self.left = Left::Nothing;
+                self.vain = Some(0);
+                self.is_due(rows, lines)
             }
-            None => {
-                self.left = Left::More;
-                false
-            }
+            None => self.walk(rt, alloc, shared, scout, lines, gate, number),
         }
     }
 }
@@ -247,7 +342,7 @@ where
     ensures goes_on { GoesOn K.seen H.service (told_scout scout.old) (told_scout scout.new) }
 {
     let rows = mark(shared, scout);
-    if !looked.is_due(rows, lines) {
+    if !looked.is_due(rows, lines) && !looked.count_vain() {
         return false;
     }
     looked.look(rt, alloc, shared, scout, lines, gate, rows)

@@ -81,7 +81,8 @@ where
     scout
 }
 
-/// Takes what arrives, and sends what stands in the outbox.
+/// Takes what arrives, and sends what stands in the outbox. Where no thread can be made, the closure that is named last
+/// runs first: the relay, which waits for the worker's end, is named first.
 fn work_and_relay<H, K, L: Link + Drop + Send, G: Gate<R> + Sync, R: Threads + Wait + Sync>(
     rt: &R,
     alloc: Global,
@@ -105,11 +106,12 @@ where
     ensures hand_goes_on { GoesOn K.seen H.service (told_hand hand) (told_hand result.0) }
     ensures scout_goes_on { GoesOn K.seen H.service (told_scout scout) (told_scout result.1) }
 {
-    thread::join(
+    let (scout, hand) = thread::join(
         rt,
-        || work_with(rt, alloc, shared, hand, lines, gate, stop, intake),
         || relay_with(rt, alloc, shared, scout, lines, gate, stop),
-    )
+        || work_with(rt, alloc, shared, hand, lines, gate, stop, intake),
+    );
+    (hand, scout)
 }
 
 /// Runs all four threads over an intake.

@@ -3,14 +3,14 @@
 ghost use Rattle.shared_endpoint.specs.Keys.{IsHandOf, IsScoutOf, told_hand, told_scout};
 ghost use Rattle.service_workers.specs.Tokens.{GoesOn};
 
-use activities::Handler;
+use activities::{Handler, JournalRow};
 use base::Pair;
 use endpoint::{EndFault, Ingested};
 use envelope::Letter;
 use keep::{Keep, Place};
 use shared_endpoint::{
-    Hand, Scout, Shared, drains_are_one_threads, ingests_are_one_threads, settles_are_one_threads,
-    tokens_stay_good, unsettled_are_above_marks,
+    Hand, Scout, Shared, drains_are_one_threads, ingests_are_one_threads, journals_are_one_threads,
+    settles_are_one_threads, tokens_stay_good, unsettled_are_above_marks,
 };
 use std::alloc::Global;
 use std::sync::Wait;
@@ -95,6 +95,27 @@ where
     tokens_stay_good::<H, K>();
     unsettled_are_above_marks::<H, K>();
     shared.unsettled(rt, alloc, scout, after, limit)
+}
+
+/// The first rows of the journal from a position on.
+pub(crate) fn journal<H, K, R: Wait>(
+    rt: &R,
+    alloc: Global,
+    shared: &Shared<H, K>,
+    scout: &mut Scout<H, K>,
+    from: u64,
+    limit: usize,
+) -> Result<Vec<JournalRow<H::Command>>, EndFault>
+where
+    H: Handler,
+    K: Keep<State = H::State, Command = H::Command> + Drop,
+    requires scout { IsScoutOf shared.now scout.old }
+    ensures scout { IsScoutOf shared.now scout.new }
+    ensures goes_on { GoesOn K.seen H.service (told_scout scout.old) (told_scout scout.new) }
+{
+    tokens_stay_good::<H, K>();
+    journals_are_one_threads::<H, K>();
+    shared.journal(rt, alloc, scout, from, limit)
 }
 
 /// How many rows the journal has at least, without the lock.

@@ -162,22 +162,30 @@ fn reply<L: Link + Drop, R: Wait>(
     lines: &Lines<L>,
     arrival: Arrival,
     answer: Answer,
-) -> Result<Option<Taken>, Cut> {
+) -> Result<(), Cut> {
     let Arrival { conn, message } = arrival;
     match &mut *lines.slot(conn).lock(rt) {
         Some(conn) => match finish(alloc, conn, kind, message, answer) {
-            Ok(taken) => match conn.write_much() {
-                Ok(()) => Ok(Some(taken)),
-                Err(cut) => Err(cut),
-            },
-            Err(fault) if goes_on(fault) => Ok(None),
-            Err(fault) => Err(Cut::Reception(fault)),
+            Err(fault) if !goes_on(fault) => Err(Cut::Reception(fault)),
+            _ => conn.write_much(),
         },
-        None => Ok(None),
+        None => Ok(()),
     }
 }
 
-/// Takes what arrived: the endpoint is asked, and its answer is written.
+/// Whether there may be something to send, now that the endpoint has answered.
+fn may_send<L: Link + Drop>(lines: &Lines<L>, answer: &Answer) -> bool {
+    match answer {
+        Answer::Letter(Ok(Ingested::Handled(_) | Ingested::Repeated(_))) => true,
+        Answer::Settle(Ok(_)) => {
+            lines.settle();
+            lines.is_full()
+        }
+        _ => false,
+    }
+}
+
+/// Takes what arrived: the endpoint is asked, and its answer is written. Whether there may be something to send then.
 fn take<H, K, L: Link + Drop, G: Gate<R>, R: Wait>(
     rt: &R,
     alloc: Global,
@@ -186,7 +194,7 @@ fn take<H, K, L: Link + Drop, G: Gate<R>, R: Wait>(
     lines: &Lines<L>,
     gate: &G,
     arrival: Arrival,
-)
+) -> bool
 where
     H: Handler,
     K: Keep<State = H::State, Command = H::Command> + Drop,
@@ -196,12 +204,23 @@ where
 {
     let number = arrival.conn;
     let answer = ask(rt, alloc, shared, hand, gate, &arrival.message);
-    match reply(rt, alloc, H::kind(), lines, arrival, answer) {
-        Ok(Some(Taken::Settled(_))) => lines.settle(),
-        Ok(Some(Taken::Handled(_) | Taken::Repeated(_))) => gate.wake(rt, Resting::Relay),
-        Ok(_) => (),
-        Err(cut) => lines.cut(rt, gate, number, cut),
+    let may_send = may_send(lines, &answer);
+    if let Err(cut) = reply(rt, alloc, H::kind(), lines, arrival, answer) {
+        lines.cut(rt, gate, number, cut);
     }
+    may_send
+}
+
+/// How many arrivals behind which there may be something to send are taken at most before the relay is woken for them.
+const SOME: u32 = 32;
+
+/// Wakes the relay where so many were taken, and answers how many are left.
+fn wake_behind<G: Gate<R>, R: Wait>(rt: &R, gate: &G, least: u32, count: u32) -> u32 {
+    if count < least {
+        return count;
+    }
+    gate.wake(rt, Resting::Relay);
+    0
 }
 
 /// Writes all that waits, on both connections.
@@ -231,12 +250,18 @@ where
     ensures hand { IsHandOf shared.now hand.new }
     ensures goes_on { GoesOn K.seen H.service (told_hand hand.old) (told_hand hand.new) }
 {
+    let mut count = 0u32;
     for _ in rt.forever() {
         // Asked before the intake is: what a reader put before it was done is there then.
         let is_last = stop.asked() && lines.done() >= READERS;
         match intake.take(rt) {
-            Some(slip) => take(rt, alloc, shared, hand, lines, gate, slip.arrival),
+            Some(slip) => {
+                if take(rt, alloc, shared, hand, lines, gate, slip.arrival) {
+                    count = wake_behind(rt, gate, SOME, count.saturating_add(1));
+                }
+            }
             None => {
+                count = wake_behind(rt, gate, 1, count);
                 flush(rt, lines, gate);
                 if is_last {
                     break;
@@ -245,5 +270,5 @@ where
             }
         }
     }
-    lines.end();
+    lines.end(rt, gate, Resting::Relay);
 }
