@@ -1,9 +1,12 @@
 //! Lines, and what they answer.
 
+use crate::beside::tell_beside;
 use crate::examples::{
     a_token_takes_the_value, the_scout_reads_the_outbox, what_a_reader_puts_is_taken,
 };
 use crate::fault::CallFault;
+use crate::intake_lines::tell_intake;
+use crate::marking::tell_mark;
 use crate::tally::{Tally, counted};
 use crate::threads::{Alone, Work, ordered, stock, work_together};
 use endpoint::Endpoint;
@@ -11,19 +14,19 @@ use keep::{Faulty, Leaves};
 use keep_plain::PlainKeep;
 use std::alloc::Global;
 use std::io;
-use std::io::{ErrorKind, Write};
+use std::io::ErrorKind;
 use std::sync::Wait;
 use std::thread::Threads;
 use test_script::{Fault, LineFault, natural, size};
 use trade::StockCommand;
 
 /// A warehouse over empty tables.
-fn empty(alloc: Global) -> Alone {
+pub fn empty(alloc: Global) -> Alone {
     Endpoint::new(Faulty::new(PlainKeep::new(alloc)))
 }
 
 /// What stands in the journal behind the end.
-fn push_rows(alloc: Global, out: &mut String, endpoint: &mut Alone) -> Result<(), CallFault> {
+pub fn push_rows(alloc: Global, out: &mut String, endpoint: &mut Alone) -> Result<(), CallFault> {
     let rows = endpoint.journal(alloc, 1, usize::MAX)?;
     Ok(write!(out, " rows {} ordered {}", rows.len(), ordered(&rows))?)
 }
@@ -120,6 +123,9 @@ fn answer<R: Wait + Threads + Sync>(
             &mut out,
             [call, leaves, seats, commands],
         )?,
+        ["beside", words @ ..] => tell_beside(rt, alloc, &mut out, words)?,
+        ["mark", words @ ..] => tell_mark(rt, alloc, &mut out, words)?,
+        ["intake", words @ ..] => tell_intake(rt, alloc, &mut out, words)?,
         ["pages"] => show_pages(rt, alloc, &mut out)?,
         _ => return Err(LineFault::Unknown.into()),
     }

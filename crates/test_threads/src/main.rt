@@ -1,4 +1,4 @@
-//! Reads lines that name runs of many threads over one service, and prints what came of each.
+//! Reads lines that name runs of many threads over one service or an intake, and prints what came of each.
 //!
 //! A comment, which begins with `#`, and an empty line are printed as they are. Each other line has one answer: what
 //! the run came to, or the text of its fault. So the answer to a line of `stdin` stands at the same line of `stdout`,
@@ -8,19 +8,37 @@
 //!   commands each and look after each at what is there; meanwhile the Hand takes in so many letters, and the Scout
 //!   reads the outbox so often;
 //! - `fail CALL LEAVES SEATS COUNT`: the same seats, which don't look, over a store whose CALL-th call fails and leaves
-//!   `old` or `new` tables; then the store is opened again, and takes in one command more.
+//!   `old` or `new` tables; then the store is opened again, and takes in one command more;
+//! - `beside alone COUNT`, `beside mutex SEATS COUNT`: the commands of `run`, with looks, over the service alone, and under
+//!   the toolchain's lock;
+//! - `mark SEATS COUNT LETTERS`: the mark of the journal's length at first, behind such a run once its threads are joined,
+//!   and then, by one thread, behind a letter 2 of a pair, which is held, letter 1, the held one, and letter 1 again;
+//! - `intake threads ZERO ONE`: an intake's readers put ZERO and ONE arrivals, and its worker takes them all, each in a
+//!   thread of its own;
+//! - `intake alone COUNT TAKES`: one thread puts COUNT arrivals by each reader in turn, and takes so many times;
+//! - `intake gone COUNT`: the same, where the worker is gone;
 //! - `pages`: the examples of the libraries' pages.
 //!
 //! The k-th command of a seat receives k into a stock of its own. What is counted:
 //! - `committed`, `viewed`: commands that were taken in, and views that showed all that the seat had received so far;
-//! - `handled`, `read`: letters that were the next of their pair, and reads that gave letters from the first on;
+//! - `handled`, `read`: letters that were the next of their pair, and reads that gave letters from the first on, and the
+//!   row to which the mark was raised;
 //! - `failed`, `unusable`: commands that the store failed, and that came behind one;
 //! - `rows`, `ordered`: of the journal behind the end, all rows, and those that are the next of their seat or pair.
+//!
+//! The k-th arrival of a reader is k. What is counted:
+//! - `put`, `back`: arrivals that were put, and that came back as they were;
+//! - `ordered`, `none`: takes that gave the next arrival of a reader, and that gave nothing;
+//! - `taken`: of each reader, as `close` tells it.
 #![tactic(auto)]
 
+mod arrivals;
+mod beside;
 mod examples;
 mod fault;
+mod intake_lines;
 mod lines;
+mod marking;
 mod tally;
 mod threads;
 

@@ -27,14 +27,14 @@ pub type Tables = Faulty<PlainKeep<Stocks>>;
 pub type Alone = Endpoint<Stocks, Tables>;
 
 /// The same, shared.
-type Together = Shared<Stocks, Tables>;
+pub type Together = Shared<Stocks, Tables>;
 
 /// Its tokens.
 type OneSeat = Seat<Stocks, Tables>;
 
-type TheHand = Hand<Stocks, Tables>;
+pub type TheHand = Hand<Stocks, Tables>;
 
-type TheScout = Scout<Stocks, Tables>;
+pub type TheScout = Scout<Stocks, Tables>;
 
 /// How much a run is to do.
 #[derive(Clone, Copy)]
@@ -61,7 +61,7 @@ pub fn stock(alloc: Global, place: usize) -> Result<Entity, CallFault> {
 }
 
 /// Whether a view shows a stock with so much on hand.
-fn shows(row: Result<Option<Stock>, EndFault>, total: u64) -> bool {
+pub fn shows(row: Result<Option<Stock>, EndFault>, total: u64) -> bool {
     match row {
         Ok(Some(stock)) => stock.on_hand() == total,
         _ => false,
@@ -218,7 +218,7 @@ fn are_from_first(letters: &Vec<Letter>) -> bool {
     true
 }
 
-/// The Scout's thread: it reads the outbox from its begin on.
+/// The Scout's thread: it reads the outbox from its begin on, and the row of the journal to which the mark was raised.
 fn look<R: Wait>(
     rt: &R,
     alloc: Global,
@@ -231,8 +231,12 @@ fn look<R: Wait>(
     ensures scout { IsScoutOf shared.now scout.new }
 {
     for _ in 0..work.reads {
-        if let Ok(letters) = shared.unsettled(rt, alloc, scout, &None, 64) {
-            if are_from_first(&letters) {
+        let mark = shared.mark(scout);
+        let letters = shared.unsettled(rt, alloc, scout, &None, 64);
+        let rows = shared.journal(rt, alloc, scout, mark, 1);
+        if let (Ok(letters), Ok(rows)) = (letters, rows) {
+            let is_there = mark == 0 || !rows.is_empty();
+            if is_there && are_from_first(&letters) {
                 count(&tally.read);
             }
         }
@@ -272,7 +276,7 @@ fn take_and_look<R: Wait + Threads + Sync>(
 }
 
 /// All threads of a run.
-fn work_all<R: Wait + Threads + Sync>(
+pub fn work_all<R: Wait + Threads + Sync>(
     rt: &R,
     alloc: Global,
     shared: &Together,
