@@ -1,0 +1,36 @@
+//! Why a line has no answer.
+
+use base::EntityFault;
+use endpoint::EndFault;
+use std::alloc::AllocError;
+use test_script::{Fault, LineFault};
+use thiserror::Error;
+
+/// Why a line has no answer.
+#[derive(Debug, Drop, Error)]
+pub enum CallFault {
+    /// No line is so, or a word of it isn't one.
+    #[error(transparent)]
+    Line(#[from] LineFault),
+    /// A text names no entity.
+    #[error(transparent)]
+    Entity(#[from] EntityFault),
+    /// The endpoint's fault.
+    #[error(transparent)]
+    End(#[from] EndFault),
+    /// A growth was refused.
+    #[error("out of memory")]
+    Memory(#[from(alloc)] AllocError),
+}
+
+impl Fault for CallFault {
+    fn is_memory(&self) -> bool {
+        matches!(
+            self,
+            CallFault::Line(LineFault::Memory)
+                | CallFault::Memory(_)
+                | CallFault::Entity(EntityFault::Memory)
+                | CallFault::End(EndFault::Memory)
+        )
+    }
+}

@@ -1,0 +1,242 @@
+//! Three services and the broker, all in threads of their own.
+
+use crate::broker::{ServedBroker, Signals};
+use crate::fault::CallFault;
+use crate::live_service::{InMemory, LiveService, live_accounts, live_orders, live_stocks};
+use crate::plan::Plan;
+use crate::progress::Progress;
+use crate::quiet::Quiet;
+use crate::watch::{Meeting, Watch};
+use crate::wire::Wire;
+use activities::Handler;
+use billing::Accounts;
+use endpoint::Endpoint;
+use keep_plain::PlainKeep;
+use purchasing::Orders;
+use service_workers::Stop;
+use std::alloc::Global;
+use std::sync::Wait;
+use std::thread;
+use std::thread::Threads;
+use warehouse::Stocks;
+
+/// How often the services are run, at most.
+const RUNS: usize = 300;
+
+/// How many octets more a connection carries that is opened for the next run.
+const MORE: usize = 512;
+
+/// A service over tables in memory, alone.
+pub type Alone<H> = Endpoint<H, PlainKeep<H>>;
+
+/// Three services.
+#[derive(Drop)]
+pub struct Services<'a> {
+    pub buying: InMemory<'a, Orders>,
+    pub storing: InMemory<'a, Stocks>,
+    pub charging: InMemory<'a, Accounts>,
+}
+
+/// What runs leave.
+#[derive(Drop)]
+pub struct Left {
+    pub buying: Alone<Orders>,
+    pub storing: Alone<Stocks>,
+    pub charging: Alone<Accounts>,
+    /// Whether connections were cut.
+    pub is_cut: bool,
+}
+
+/// Asks for the end once more connections were cut than before the run, all is handled and nothing moves any more, or no
+/// turn is left.
+fn watch_over<R: Wait>(
+    rt: &R,
+    wires: &[Wire],
+    watches: &[Watch; 3],
+    before: u64,
+    signals: &Signals,
+    progress: &Progress,
+    stop: &Stop,
+) {
+    let mut quiet = Quiet::new(wires, signals);
+    for _ in rt.forever() {
+        let is_quiet = quiet.is_now(wires, signals);
+        if all_cuts(watches) > before || progress.is_handled() && is_quiet || progress.is_late() {
+            break;
+        }
+        progress.turn();
+        thread::yield_now();
+    }
+    stop.ask();
+}
+
+/// How often connections of the three were cut.
+fn all_cuts(watches: &[Watch; 3]) -> u64 {
+    let [first, second, third] = watches;
+    first
+        .cuts()
+        .saturating_add(second.cuts())
+        .saturating_add(third.cuts())
+}
+
+impl<'a> Services<'a> {
+    /// Opens the connections that aren't there.
+    fn connect<R: Wait>(&mut self, rt: &R, alloc: Global, octets: usize) -> Result<(), CallFault> {
+        self.buying.connect(rt, alloc, octets)?;
+        self.storing.connect(rt, alloc, octets)?;
+        self.charging.connect(rt, alloc, octets)
+    }
+
+    /// What they leave, where none of them is run by a thread.
+    fn into_left(self, is_cut: bool) -> Option<Left> {
+        let Services {
+            buying,
+            storing,
+            charging,
+        } = self;
+        let buying = buying.into_endpoint()?;
+        let storing = storing.into_endpoint()?;
+        let charging = charging.into_endpoint()?;
+        Some(Left {
+            buying,
+            storing,
+            charging,
+            is_cut,
+        })
+    }
+
+    /// Whether all that was sent is settled.
+    fn is_settled(&mut self, alloc: Global) -> bool {
+        self.buying.is_settled(alloc)
+            && self.storing.is_settled(alloc)
+            && self.charging.is_settled(alloc)
+    }
+
+    /// The services run until the end is asked for.
+    fn live<R: Wait + Threads + Sync>(
+        &mut self,
+        rt: &R,
+        alloc: Global,
+        progress: &Progress,
+        stop: &Stop,
+    ) {
+        let Services {
+            buying,
+            storing,
+            charging,
+        } = self;
+        thread::join_mut(
+            rt,
+            &mut || live_orders(rt, alloc, buying, progress, stop),
+            &mut || {
+                thread::join_mut(
+                    rt,
+                    &mut || live_stocks(rt, alloc, storing, progress, stop),
+                    &mut || live_accounts(rt, alloc, charging, progress, stop),
+                );
+            },
+        );
+    }
+
+    /// The same, with the broker, and with one who asks for the end.
+    fn run<R: Wait + Threads + Sync>(
+        &mut self,
+        rt: &R,
+        alloc: Global,
+        wires: &[Wire],
+        watches: &[Watch; 3],
+        served: &mut ServedBroker,
+        progress: &Progress,
+    ) {
+        let stop = Stop::new();
+        let signals = Signals::new();
+        // Asked before any thread of theirs begins, since they may cut at once.
+        let before = all_cuts(watches);
+        thread::join_mut(
+            rt,
+            &mut || {
+                thread::join_mut(
+                    rt,
+                    &mut || self.live(rt, alloc, progress, &stop),
+                    &mut || watch_over(rt, wires, watches, before, &signals, progress, &stop),
+                );
+                signals.close();
+            },
+            &mut || served.run(rt, wires, &signals),
+        );
+    }
+}
+
+/// A service over empty tables.
+fn empty<H: Handler>(alloc: Global) -> Alone<H> {
+    Endpoint::new(PlainKeep::new(alloc))
+}
+
+/// Runs the services again and again, until all is done: whether it is. A connection that was cut is opened again.
+fn run_all<'a, R: Wait + Threads + Sync>(
+    rt: &R,
+    alloc: Global,
+    services: &mut Services<'a>,
+    wires: &[Wire],
+    watches: &[Watch; 3],
+    progress: &Progress,
+) -> Result<bool, CallFault> {
+    let mut served = ServedBroker::new(alloc);
+    let mut octets = progress.plan.octets;
+    for _ in 0..RUNS {
+        services.connect(rt, alloc, octets)?;
+        services.run(rt, alloc, wires, watches, &mut served, progress);
+        if progress.is_handled() && services.is_settled(alloc) {
+            return Ok(true);
+        }
+        if progress.is_late() {
+            break;
+        }
+        octets = octets.saturating_add(MORE);
+    }
+    Ok(false)
+}
+
+/// What runs of these services leave; None where it's never done.
+fn run_to_end<'a, R: Wait + Threads + Sync>(
+    rt: &R,
+    alloc: Global,
+    mut services: Services<'a>,
+    wires: &[Wire],
+    watches: &[Watch; 3],
+    plan: Plan,
+) -> Result<Option<Left>, CallFault> {
+    let progress = Progress::new(plan);
+    if run_all(rt, alloc, &mut services, wires, watches, &progress)? {
+        Ok(services.into_left(all_cuts(watches) > 0))
+    } else {
+        Ok(None)
+    }
+}
+
+/// Does what a plan says; None where it's never done.
+pub fn run_plan<R: Wait + Threads + Sync>(
+    rt: &R,
+    alloc: Global,
+    plan: Plan,
+) -> Result<Option<Left>, CallFault> {
+    let wires = [
+        Wire::new(alloc),
+        Wire::new(alloc),
+        Wire::new(alloc),
+        Wire::new(alloc),
+        Wire::new(alloc),
+        Wire::new(alloc),
+    ];
+    let watches = [
+        Watch::new(&wires[0], &wires[1], Meeting::Nobody),
+        Watch::new(&wires[2], &wires[3], Meeting::Nobody),
+        Watch::new(&wires[4], &wires[5], Meeting::Nobody),
+    ];
+    let services = Services {
+        buying: LiveService::new(empty(alloc), &watches[0]),
+        storing: LiveService::new(empty(alloc), &watches[1]),
+        charging: LiveService::new(empty(alloc), &watches[2]),
+    };
+    run_to_end(rt, alloc, services, &wires, &watches, plan)
+}
