@@ -1,8 +1,10 @@
 -- What contracts read of a connection.
-use Rattle.std.specs.Prelude.{◌≡◌, ℕ, Ok}
+use Rattle.std.specs.Prelude.{◌≡◌, ℕ, Ok, Option, None}
 use Rattle.base.specs.declared.pair.Pair.{Pair}
-use Rattle.stomp_client.specs.Calls.{Connects}
-use Rattle.stomp_client.specs.Clients.{new_client}
+use Rattle.stomp_frame.specs.Frames.{Content}
+use Rattle.stomp_client.specs.Calls.{ConnectsBy}
+use Rattle.stomp_client.specs.Clients.{Client, new_client}
+use Rattle.stomp_client.specs.Frames.{connect_frame}
 use Rattle.relay.specs.Filling.{marks_of}
 use Rattle.service_workers.specs.declared.conn.Conn.{Conn}
 
@@ -14,8 +16,17 @@ link_of c = c.link
 abbrev pub sent_of : {L : Type 0} → Conn L → Pair → ℕ
 sent_of c p = marks_of c.relay p
 
--- over this link nothing but CONNECT was written, and nothing was sent
-pub record IsNewConn {L : Type 0} (link : L) (c : Conn L) : Type 0 where
+-- its client
+abbrev pub client_of : {L : Type 0} → Conn L → Client ℕ
+client_of c = c.channel.client.client
+
+-- over this link nothing but this CONNECT was written, nothing was sent, and it will ask for this prefetch
+pub record IsNewConnBy {L : Type 0} (connect : Content) (prefetch : Option ℕ) (link : L) (c : Conn L) : Type 0 where
   pub link_is : link_of c ≡ link
-  pub client : Connects new_client c.channel.client.client (Ok tt)
+  pub client : ConnectsBy connect new_client (client_of c) (Ok tt)
   pub sent : (p : Pair) → sent_of c p ≡ 0
+  pub prefetch_is : c.prefetch ≡ prefetch
+
+-- the same of CONNECT to the host `outbox`, with no prefetch
+abbrev pub IsNewConn : {L : Type 0} → L → Conn L → Type 0
+IsNewConn = IsNewConnBy connect_frame None

@@ -1,7 +1,9 @@
 //! A connection of a service with a broker.
 
 ghost use Rattle.std.specs.Prelude.{◌≡◌, None, IfOk, IfErr};
-ghost use Rattle.service_workers.specs.Conns.{IsNewConn, link_of};
+ghost use Rattle.stomp_frame.specs.declared.command.Command.TheVariants.{Connect};
+ghost use Rattle.stomp_client.specs.Calls.{DisconnectsWithReceipt};
+ghost use Rattle.service_workers.specs.Conns.{IsNewConn, IsNewConnBy, client_of, link_of};
 
 use crate::Cut;
 use crate::turns::{ReadFault, read_in, write_out};
@@ -12,15 +14,19 @@ use envelope::{EnvelopeFault, Letter};
 use reception::{Prepared, ReceptionFault, Taken, prepare};
 use relay::{Relay, RelayFault};
 use std::alloc::Global;
-use stomp_client::{ClientFault, Stage};
+use stomp_client::{ClientFault, Stage, connect_frame};
 use stomp_frame::{Command, Frame, FrameFault};
 use stomp_wire::{Link, LinkFault};
+use text::read_number;
 
 /// How many octets are read at once, at most.
 const READ: usize = 65_536;
 
 /// How many octets are written at once rather than when the worker rests.
 const MUCH: usize = 16_384;
+
+/// How many frames are thrown away at once, at most.
+const MANY: usize = 1024;
 
 /// How many letters may have been sent on a connection and not be settled: so many fit into their receiver's queue
 /// even where a connection that was cut left them there three times.
@@ -34,6 +40,10 @@ pub struct Conn<L: Drop> {
     relay: Relay,
     // How many of the letters that were sent aren't settled, or more.
     on_way: usize,
+    // How many messages the broker is asked to hand out at most that aren't answered, where it's asked for that.
+    prefetch: Option<u64>,
+    // Whether the SUBSCRIBE that asks for it is still to be written.
+    must_subscribe: bool,
 }
 
 /// What a reader finds.
@@ -51,19 +61,50 @@ pub(crate) enum Found {
     Over(Cut),
 }
 
+/// Whether a frame is the RECEIPT of this number.
+fn is_receipt(frame: &Frame<MAX_BODY>, receipt: u64) -> bool {
+    if frame.command() != Command::Receipt {
+        return false;
+    }
+    match frame.get("receipt-id") {
+        Some(told) => read_number(told) == Some(receipt),
+        None => false,
+    }
+}
+
 impl<L: Link + Drop> Conn<L> {
     /// A connection over a link, on which CONNECT waits to be written. For want of memory the link comes back.
     pub fn open(alloc: Global, link: L) -> Result<Conn<L>, L>
         ensures ok { IfOk result (IsNewConn link) }
         ensures err { IfErr result (λ back. back ≡ link) }
     {
+        match connect_frame(alloc) {
+            Ok(connect) => Conn::open_by(alloc, link, &connect, None),
+            Err(_) => Err(link),
+        }
+    }
+
+    /// The same with another CONNECT, as for another host of the broker, or with a login. Where a prefetch is given, the
+    /// broker is asked to hand out so many messages at most that aren't answered, when the connection subscribes.
+    pub fn open_by(
+        alloc: Global,
+        link: L,
+        connect: &Frame<MAX_BODY>,
+        prefetch: Option<u64>,
+    ) -> Result<Conn<L>, L>
+        requires { connect.now.command ≡ Connect }
+        ensures ok { IfOk result (IsNewConnBy connect.now prefetch link) }
+        ensures err { IfErr result (λ back. back ≡ link) }
+    {
         let mut channel = Channel::new(alloc);
-        match channel.client.connect() {
+        match channel.client.connect_by(connect) {
             Ok(()) => Ok(Conn {
                 link,
                 channel,
                 relay: Relay::new(alloc),
                 on_way: 0,
+                prefetch,
+                must_subscribe: false,
             }),
             Err(_) => Err(link),
         }
@@ -85,8 +126,40 @@ impl<L: Link + Drop> Conn<L> {
             channel: _,
             relay: _,
             on_way: _,
+            prefetch: _,
+            must_subscribe: _,
         } = self;
         link
+    }
+
+    /// Takes leave: behind all that waits to be written now waits DISCONNECT, whose receipt has the number that is
+    /// answered. `has_left` writes it. Nothing more can be sent, and what comes isn't taken.
+    ///
+    /// # Errors
+    /// Nothing has changed then: `NotConnected` before CONNECTED and `Closed` after the end of the session, else
+    /// `NumbersUsed` or `Memory`.
+    pub fn leave(&mut self) -> Result<u64, ClientFault>
+        ensures does { DisconnectsWithReceipt (client_of self.old) (client_of self.new) result }
+        ensures link { link_of self.new ≡ link_of self.old }
+    {
+        self.channel.client.disconnect_with_receipt()
+    }
+
+    /// Writes what waits, reads what came, and throws it away. Whether there is nothing more to wait for: the receipt of
+    /// this number came, or the connection has ended.
+    pub fn has_left(&mut self, alloc: Global, receipt: u64) -> bool {
+        if self.write().is_err() || self.read(alloc).is_err() {
+            return true;
+        }
+        for _ in 0..MANY {
+            match self.channel.next() {
+                Ok(Some(frame)) if is_receipt(&frame, receipt) => return true,
+                Ok(Some(_)) => (),
+                Ok(None) | Err(FrameFault::Memory) => return false,
+                Err(_) => return true,
+            }
+        }
+        false
     }
 
     /// Whether letters can be sent.
@@ -122,6 +195,9 @@ impl<L: Link + Drop> Conn<L> {
 
     /// The next frame that came: all but a MESSAGE are answered here.
     pub(crate) fn next(&mut self, alloc: Global, kind: Kind) -> Found {
+        if self.must_subscribe {
+            return self.subscribe(kind);
+        }
         match self.channel.next() {
             Ok(Some(frame)) => self.take(alloc, kind, frame),
             Ok(None) | Err(FrameFault::Memory) => Found::Nothing,
@@ -136,6 +212,9 @@ impl<L: Link + Drop> Conn<L> {
         if frame.command() == Command::Message && self.is_connected() {
             return Found::Message(frame);
         }
+        if frame.command() == Command::Connected && self.prefetch.is_some() {
+            return self.take_connected(kind, frame);
+        }
         match prepare(alloc, &mut self.channel.client, kind, frame) {
             Ok(Prepared::Done(Taken::Connected)) => Found::Connected,
             Ok(Prepared::Done(Taken::Error(text))) => Found::Over(Cut::Error(text)),
@@ -148,6 +227,30 @@ impl<L: Link + Drop> Conn<L> {
                 }
                 None => Found::Over(Cut::Reception(untaken.fault)),
             },
+        }
+    }
+
+    /// Takes a CONNECTED behind which a SUBSCRIBE with a prefetch is to be written.
+    fn take_connected(&mut self, kind: Kind, frame: Frame<MAX_BODY>) -> Found {
+        match self.channel.client.accept(frame) {
+            Ok(_) => {
+                self.must_subscribe = true;
+                self.subscribe(kind)
+            }
+            Err(fault) => Found::Over(Cut::Reception(ReceptionFault::Client(fault))),
+        }
+    }
+
+    /// Writes the SUBSCRIBE with a prefetch. For want of memory it stays to be written.
+    fn subscribe(&mut self, kind: Kind) -> Found {
+        let prefetch = self.prefetch.unwrap_or(1);
+        match self.channel.client.subscribe_with(kind.queue(), prefetch) {
+            Ok(()) => {
+                self.must_subscribe = false;
+                Found::Connected
+            }
+            Err(ClientFault::Memory) => Found::Nothing,
+            Err(fault) => Found::Over(Cut::Reception(ReceptionFault::Client(fault))),
         }
     }
 

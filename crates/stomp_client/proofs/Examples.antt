@@ -4,10 +4,12 @@ use Rattle.std.specs.Prelude.{replicate, Some, None, Ok, Err}
 use Rattle.std.specs.Fmt.{digits}
 use Rattle.base.specs.declared.limits.TheConstants.{MAX_BODY}
 use Rattle.stomp_frame.specs.declared.command.Command.TheVariants.{Send, Message, Begin, Ack, Nack}
+use Rattle.stomp_frame.specs.declared.fault.FrameFault.TheVariants.{BadLine, LineTooLong}
 use Rattle.stomp_frame.specs.Frames.{Content, frame, header, canonical, escape, line_of, IsFrame}
 use Rattle.stomp_client.specs.declared.fault.ClientFault.{ClientFault}
 use Rattle.stomp_client.specs.declared.fault.ClientFault.TheVariants.{Memory}
 use Rattle.stomp_client.specs.Frames.{IsShort, IsPlain, connect_frame, subscribe_frame, disconnect_frame}
+use Rattle.stomp_client.specs.Frames.{connect_frame_to, connect_refused, subscribe_frame_with}
 use Rattle.stomp_client.specs.Frames.{transaction_frame, in_transaction}
 use Rattle.stomp_client.specs.Frames.{answer_frame, with_receipt, text_or_empty}
 use Rattle.stomp_client.specs.Delivered.{is_whole, IsDelivered}
@@ -22,6 +24,28 @@ fixed_frames_are_spelled : (canonical connect_frame ≡ codes "CONNECT\naccept-v
     × (canonical disconnect_frame ≡ codes "DISCONNECT\n\n\0")
 unfolding canonical line_of escape
 fixed_frames_are_spelled = (refl, refl, refl)
+
+-- CONNECT to another host, with a login; to `outbox` without one it's the fixed frame
+connect_frames_are_spelled : (canonical (connect_frame_to (codes "/") (Some (codes "guest")) (Some (codes "a:b"))) ≡ codes
+    "CONNECT\naccept-version:1.2\nhost:/\nlogin:guest\npasscode:a:b\n\n\0")
+    × (connect_frame_to (codes "outbox") None None ≡ connect_frame)
+unfolding canonical line_of escape
+connect_frames_are_spelled = (refl, refl)
+
+-- CONNECT has no escapes: what would end a line isn't taken, and the first that isn't is told
+connect_has_no_escapes : (connect_refused (codes "/") (Some (codes "a\nb")) None ≡ Some BadLine)
+    × (connect_refused (codes "a\rb") None None ≡ Some BadLine)
+    × (connect_refused (codes "/") None (Some (replicate 1100 97)) ≡ Some LineTooLong)
+    × (connect_refused (codes "/") (Some (codes "a:b")) (Some []) ≡ None)
+unfolding line_of escape
+connect_has_no_escapes = (refl, refl, refl, refl)
+
+-- a limit to what is handed out stands behind the headers of the standard, and the number of a receipt alone
+options_are_spelled : (canonical (subscribe_frame_with (codes "/queue/a") 64) ≡ codes
+    "SUBSCRIBE\nid:0\ndestination:/queue/a\nack:client-individual\nactivemq.prefetchSize:64\nprefetch-count:64\n\n\0")
+    × (canonical (with_receipt 7 disconnect_frame) ≡ codes "DISCONNECT\nreceipt:7\n\n\0")
+unfolding canonical line_of escape digits
+options_are_spelled = (refl, refl)
 
 -- a transaction is named by its number
 transactions_are_named : canonical (transaction_frame Begin 12) ≡ codes "BEGIN\ntransaction:12\n\n\0"

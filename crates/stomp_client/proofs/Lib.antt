@@ -1,4 +1,5 @@
 pub mod Headers
+pub mod Making
 pub mod Writing
 pub mod Serving
 pub mod Examples

@@ -8,7 +8,7 @@ use Rattle.stomp_client.specs.declared.fault.ClientFault.TheVariants as fault
 use Rattle.stomp_client.specs.declared.session.Stage.{Stage}
 use Rattle.stomp_client.specs.declared.session.Stage.TheVariants.{Fresh, Connecting, Connected, Closed}
 use Rattle.stomp_client.specs.Frames.{connect_frame, disconnect_frame, transaction_frame, with_receipt}
-use Rattle.stomp_client.specs.Clients.{Client, written, connecting, receipted, begun, closing}
+use Rattle.stomp_client.specs.Clients.{Client, written, connecting_by, receipted, begun, closing}
 
 -- why nothing is written but CONNECT: before CONNECTED, and after the end
 abbrev pub unready : Stage → Option ClientFault
@@ -46,9 +46,13 @@ module _ {T : Type 0} where
   abbrev pub WritesFrame : Content → Client T → Client T → Result (Unit {0}) ClientFault → Type 0
   WritesFrame f old new r = WritesOrRefuses (unready old.stage) f (λ _ c. c ≡ written f old) old new r
 
-  -- CONNECT
+  -- this CONNECT
+  abbrev pub ConnectsBy : Content → Client T → Client T → Result (Unit {0}) ClientFault → Type 0
+  ConnectsBy f old new r = WritesOrRefuses (unconnectable old.stage) f (λ _ c. c ≡ connecting_by f old) old new r
+
+  -- CONNECT to the host `outbox`
   abbrev pub Connects : Client T → Client T → Result (Unit {0}) ClientFault → Type 0
-  Connects old new r = WritesOrRefuses (unconnectable old.stage) connect_frame (λ _ c. c ≡ connecting old) old new r
+  Connects = ConnectsBy connect_frame
 
   -- a SEND with the next receipt number, which is answered, opened for a tag
   abbrev pub SendsWithReceipt : Content → T → Client T → Client T → Result ℕ ClientFault → Type 0
@@ -66,3 +70,10 @@ module _ {T : Type 0} where
   abbrev pub Disconnects : Client T → Client T → Result (Unit {0}) ClientFault → Type 0
   Disconnects old new r =
       WritesOrRefuses (unready old.stage) disconnect_frame (λ _ c. c ≡ closing (written disconnect_frame old)) old new r
+
+  -- DISCONNECT with the next receipt number, which is answered, and the session is closed
+  abbrev pub DisconnectsWithReceipt : Client T → Client T → Result ℕ ClientFault → Type 0
+  DisconnectsWithReceipt old new r =
+      WritesOrRefuses (or_used old.receipts.last (unready old.stage))
+      (with_receipt (old.receipts.last + 1) disconnect_frame)
+      (λ n c. (n ≡ old.receipts.last + 1) × (c ≡ closing (written (with_receipt n disconnect_frame) old))) old new r

@@ -28,9 +28,13 @@ module _ {T : Type 0} where
   abbrev pub written : Content → Client T → Client T
   written f c = record c { out = c.out ++ canonical f }
 
-  -- CONNECT was written
+  -- this CONNECT was written
+  abbrev pub connecting_by : Content → Client T → Client T
+  connecting_by f c = record (written f c) { stage = Connecting }
+
+  -- CONNECT to the host `outbox` was written
   abbrev pub connecting : Client T → Client T
-  connecting c = record (written connect_frame c) { stage = Connecting }
+  connecting = connecting_by connect_frame
 
   -- a SEND was written with the next receipt number
   abbrev pub receipted : Content → T → Client T → Client T

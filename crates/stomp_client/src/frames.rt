@@ -1,12 +1,15 @@
 //! The frames that a client writes.
 
 ghost use Rattle.std.specs.Prelude.{◌≡◌, ◌<◌, None, true, false, length, codes, IfOk, OnOk, OnErr};
+ghost use Rattle.std.specs.Option.{option_copied};
 ghost use Rattle.std.specs.Fmt.{decimal};
 ghost use Rattle.stomp_frame.specs.Commands.{is_exempt};
 ghost use Rattle.stomp_frame.specs.Frames.{with_header, header};
 ghost use Rattle.stomp_frame.specs.Building.{header_refused};
-ghost use Rattle.stomp_client.specs.Frames.{connect_frame, subscribe_frame, transaction_frame, in_transaction};
-ghost use Rattle.stomp_client.specs.Frames.{answer_frame, IsShort};
+ghost use Rattle.stomp_client.specs.Frames.{connect_frame, connect_start, connect_frame_to, connect_refused, IsMadeUnless};
+ghost use Rattle.stomp_client.specs.Frames.{with_given, given_refused, with_login, login_refused};
+ghost use Rattle.stomp_client.specs.Frames.{subscribe_frame, subscribe_frame_with, transaction_frame, in_transaction};
+ghost use Rattle.stomp_client.specs.Frames.{answer_frame, disconnect_frame, with_receipt, IsShort};
 ghost use Rattle.stomp_client.specs.Delivered.{IsDelivered};
 ghost use Rattle.stomp_client.specs.Parts.Names.{is_name};
 
@@ -54,6 +57,75 @@ pub fn connect_frame(alloc: Global) -> Result<Frame<MAX_BODY>, AllocError>
     Ok(frame)
 }
 
+/// The frame with one more header, where a value is given.
+fn with_given(
+    frame: Frame<MAX_BODY>,
+    name: &str,
+    value: Option<&str>,
+) -> Result<Frame<MAX_BODY>, FrameFault>
+    ensures { IsMadeUnless (given_refused name.now (option_copied value.entry) frame)
+        (with_given name.now (option_copied value.entry) frame) result }
+{
+    let Some(value) = value else {
+        return Ok(frame);
+    };
+    let mut frame = frame;
+    match frame.push_header(name, value) {
+        Ok(()) => Ok(frame),
+        Err(fault) => Err(fault),
+    }
+}
+
+/// The frame with a login and a passcode, where they are given.
+#[tactic(auto, using(crate::proofs::Making::stops, crate::proofs::Making::goes_on))]
+fn with_login(
+    frame: Frame<MAX_BODY>,
+    login: Option<&str>,
+    passcode: Option<&str>,
+) -> Result<Frame<MAX_BODY>, FrameFault>
+    ensures { IsMadeUnless (login_refused (option_copied login.entry) (option_copied passcode.entry) frame)
+        (with_login (option_copied login.entry) (option_copied passcode.entry) frame) result }
+{
+    match with_given(frame, "login", login) {
+        Ok(frame) => with_given(frame, "passcode", passcode),
+        Err(fault) => Err(fault),
+    }
+}
+
+/// The frame by which a client connects, before it names a host.
+fn connect_start(alloc: Global) -> Result<Frame<MAX_BODY>, AllocError>
+    ensures { IfOk result (λ f. f ≡ connect_start) }
+{
+    let mut frame = Frame::new(alloc, Command::Connect);
+    push(&mut frame, "accept-version", "1.2")?;
+    Ok(frame)
+}
+
+/// CONNECT for version 1.2 and a host of the broker, with a login and a passcode where they are given.
+///
+/// # Errors
+/// `Memory` where a growth was refused, and else the first that applies to the host, the login and the passcode:
+/// - `BadLine` where a NUL, CR or LF is in it: CONNECT has no escapes;
+/// - `LineTooLong` where its line would have more than 1,024 octets.
+#[tactic(auto, using(crate::proofs::Making::stops, crate::proofs::Making::goes_on))]
+pub fn connect_frame_to(
+    alloc: Global,
+    host: &str,
+    login: Option<&str>,
+    passcode: Option<&str>,
+) -> Result<Frame<MAX_BODY>, FrameFault>
+    ensures { IsMadeUnless (connect_refused host.now (option_copied login.entry) (option_copied passcode.entry))
+        (connect_frame_to host.now (option_copied login.entry) (option_copied passcode.entry)) result }
+{
+    let Ok(frame) = connect_start(alloc) else {
+        return Err(FrameFault::Memory);
+    };
+    match with_given(frame, "host", Some(host)) {
+        Ok(frame) => with_login(frame, login, passcode),
+        Err(fault) => Err(fault),
+    }
+}
+
 /// SUBSCRIBE to a destination, under the id `0`. Each message is to be answered by itself.
 pub fn subscribe_frame(alloc: Global, destination: &str) -> Result<Frame<MAX_BODY>, AllocError>
     requires { IsShort destination.now }
@@ -64,6 +136,28 @@ pub fn subscribe_frame(alloc: Global, destination: &str) -> Result<Frame<MAX_BOD
     push(&mut frame, "destination", destination)?;
     push(&mut frame, "ack", "client-individual")?;
     Ok(frame)
+}
+
+/// The same, which asks the broker to hand out so many messages at most that aren't answered. The standard has no header
+/// for that: it has the names of ActiveMQ and of RabbitMQ, and others pass over it.
+pub fn subscribe_frame_with(
+    alloc: Global,
+    destination: &str,
+    prefetch: u64,
+) -> Result<Frame<MAX_BODY>, AllocError>
+    requires { IsShort destination.now }
+    ensures { IfOk result (λ f. f ≡ subscribe_frame_with destination.now prefetch) }
+{
+    let frame = subscribe_frame(alloc, destination)?;
+    let frame = with_number(frame, "activemq.prefetchSize", prefetch)?;
+    with_number(frame, "prefetch-count", prefetch)
+}
+
+/// DISCONNECT that asks for a receipt under this number.
+pub fn disconnect_frame_with(alloc: Global, receipt: u64) -> Result<Frame<MAX_BODY>, AllocError>
+    ensures { IfOk result (λ f. f ≡ with_receipt receipt disconnect_frame) }
+{
+    with_number(Frame::new(alloc, Command::Disconnect), "receipt", receipt)
 }
 
 /// BEGIN, COMMIT or ABORT of a transaction.

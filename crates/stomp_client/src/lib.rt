@@ -31,7 +31,10 @@ mod session;
 
 pub use event::ClientEvent;
 pub use fault::ClientFault;
-pub use frames::{answer_frame, connect_frame, in_transaction, subscribe_frame, transaction_frame};
+pub use frames::{
+    answer_frame, connect_frame, connect_frame_to, in_transaction, subscribe_frame,
+    subscribe_frame_with, transaction_frame,
+};
 pub use laws::{
     a_new_session_wrote_nothing, what_a_client_wrote_is_read, what_a_client_wrote_is_taken,
 };

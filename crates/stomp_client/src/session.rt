@@ -5,23 +5,25 @@ ghost use Rattle.std.specs.Prelude.{take};
 ghost use Rattle.std.specs.Prelude.{OnOk, OnErr, IsOk, IsOkUnless, IfOk, IfErr};
 ghost use Rattle.std.specs.String.{string_bytes};
 ghost use Rattle.base.specs.declared.limits.TheConstants.{MAX_BODY};
-ghost use Rattle.stomp_frame.specs.declared.command.Command.TheVariants.{Begin, Commit, Abort, Ack, Nack};
+ghost use Rattle.stomp_frame.specs.declared.command.Command.TheVariants.{Connect, Begin, Commit, Abort, Ack, Nack};
 ghost use Rattle.stomp_frame.specs.declared.command.Command.TheVariants.{Connected, Message, Receipt, Error};
 ghost use Rattle.stomp_frame.specs.Frames.{Content, IsFrame, value_of};
 ghost use Rattle.stomp_frame.specs.Streams.{AreFrames, canonical_texts};
 ghost use Rattle.stomp_client.specs.declared.fault.ClientFault.TheVariants.{Memory, Unexpected};
 ghost use Rattle.stomp_client.specs.Frames.{IsShort, IsPlain, connect_frame, subscribe_frame, disconnect_frame};
+ghost use Rattle.stomp_client.specs.Frames.{subscribe_frame_with};
 ghost use Rattle.stomp_client.specs.Frames.{transaction_frame};
 ghost use Rattle.stomp_client.specs.Frames.{in_transaction, answer_frame, with_receipt, text_or_empty};
 ghost use Rattle.stomp_client.specs.Delivered.{IsDelivered, is_whole};
 ghost use Rattle.stomp_client.specs.Clients.{new_client, written, counting, appended, without_first, closing};
 ghost use Rattle.stomp_client.specs.Written.{Wrote, Adds, AreWhole, frames_if};
-ghost use Rattle.stomp_client.specs.Calls.{unready, or_used, Refuses, WritesFrame, Connects, SendsWithReceipt, Begins};
-ghost use Rattle.stomp_client.specs.Calls.{Disconnects};
+ghost use Rattle.stomp_client.specs.Calls.{unready, unconnectable, or_used, Refuses, WritesFrame, Connects, ConnectsBy};
+ghost use Rattle.stomp_client.specs.Calls.{SendsWithReceipt, Begins, Disconnects, DisconnectsWithReceipt};
 ghost use Rattle.stomp_client.specs.Accepting.{Accepts, is_closed, receipt_number};
 
 use crate::frames::{
-    answer_frame, connect_frame, in_transaction, subscribe_frame, transaction_frame, with_number,
+    answer_frame, connect_frame, disconnect_frame_with, in_transaction, subscribe_frame,
+    subscribe_frame_with, transaction_frame, with_number,
 };
 use crate::{ClientEvent, ClientFault};
 use base::limits::MAX_BODY;
@@ -206,7 +208,20 @@ impl<T: Drop> ClientSession<T> {
         }
     }
 
-    /// Writes CONNECT.
+    /// Tells why no CONNECT may be written now.
+    fn may_connect(&self) -> Result<(), ClientFault>
+        ensures ok { OnOk result (unconnectable self.now.client.stage ≡ None) }
+        ensures err { IfErr result (λ fault. Refuses (unconnectable self.now.client.stage) self.now.client
+            self.now.client fault) }
+    {
+        match self.stage {
+            Stage::Fresh => Ok(()),
+            Stage::Closed => Err(ClientFault::Closed),
+            _ => Err(ClientFault::AlreadyConnected),
+        }
+    }
+
+    /// Writes CONNECT to the host `outbox`, with no login.
     ///
     /// # Errors
     /// `Closed` after the end of the session, else `AlreadyConnected` where CONNECT was written, else `Memory`. Nothing
@@ -215,13 +230,22 @@ impl<T: Drop> ClientSession<T> {
         ensures does { Connects self.old.client self.new.client result }
         ensures wrote { Adds (frames_if result (connect_frame ∷ [])) self.old.client.out self.new.client.out }
     {
-        match self.stage {
-            Stage::Fresh => (),
-            Stage::Closed => return Err(ClientFault::Closed),
-            _ => return Err(ClientFault::AlreadyConnected),
-        }
+        self.may_connect()?;
         let frame = connect_frame(self.alloc)?;
-        self.write(&frame)?;
+        self.connect_by(&frame)
+    }
+
+    /// Writes this CONNECT, as for another host, or with a login.
+    ///
+    /// # Errors
+    /// As those of `connect`.
+    pub fn connect_by(&mut self, frame: &Frame<MAX_BODY>) -> Result<(), ClientFault>
+        requires { frame.now.command ≡ Connect }
+        ensures does { ConnectsBy frame.now self.old.client self.new.client result }
+        ensures wrote { Adds (frames_if result (frame.now ∷ [])) self.old.client.out self.new.client.out }
+    {
+        self.may_connect()?;
+        self.write(frame)?;
         self.stage = Stage::Connecting;
         Ok(())
     }
@@ -239,6 +263,19 @@ impl<T: Drop> ClientSession<T> {
     {
         self.ready()?;
         let frame = subscribe_frame(self.alloc, destination)?;
+        self.write(&frame)?;
+        Ok(())
+    }
+
+    /// Writes SUBSCRIBE to a destination, and asks the broker to hand out so many messages at most that aren't answered.
+    pub fn subscribe_with(&mut self, destination: &str, prefetch: u64) -> Result<(), ClientFault>
+        requires { IsShort destination.now }
+        ensures does { WritesFrame (subscribe_frame_with destination.now prefetch) self.old.client self.new.client result }
+        ensures wrote { Adds (frames_if result (subscribe_frame_with destination.now prefetch ∷ [])) self.old.client.out
+            self.new.client.out }
+    {
+        self.ready()?;
+        let frame = subscribe_frame_with(self.alloc, destination, prefetch)?;
         self.write(&frame)?;
         Ok(())
     }
@@ -372,6 +409,24 @@ impl<T: Drop> ClientSession<T> {
         self.write(&frame)?;
         self.stage = Stage::Closed;
         Ok(())
+    }
+
+    /// Writes DISCONNECT with the next receipt number, which is answered, and closes the session: the server's RECEIPT,
+    /// behind which it closes the connection, isn't for `accept`.
+    ///
+    /// # Errors
+    /// Besides those of `subscribe`, and before `Memory`: `NumbersUsed` where the last number is 2^64 - 1.
+    pub fn disconnect_with_receipt(&mut self) -> Result<u64, ClientFault>
+        ensures does { DisconnectsWithReceipt self.old.client self.new.client result }
+        ensures wrote { Adds (frames_if result (with_receipt (self.old.client.receipts.last + 1) disconnect_frame ∷ []))
+            self.old.client.out self.new.client.out }
+    {
+        let last = self.receipts.last();
+        let number = self.next(last)?;
+        let frame = disconnect_frame_with(self.alloc, number)?;
+        self.write(&frame)?;
+        self.stage = Stage::Closed;
+        Ok(number)
     }
 
     /// What a server's frame tells. After an ERROR the session is closed. It takes no memory.
