@@ -1,5 +1,6 @@
 //! What lines answer.
 
+use crate::door::Door;
 use crate::fault::CallFault;
 use crate::meetings::meets;
 use crate::plan::{Plan, account, first_pair, order, stock};
@@ -8,6 +9,7 @@ use crate::watch::Meeting;
 use base::Entity;
 use schedule_shows::{Shown, show_marks, show_row};
 use std::alloc::Global;
+use std::net::SocketAddr;
 use std::sync::Wait;
 use std::thread::Threads;
 use test_script::{LineFault, natural, size};
@@ -100,10 +102,11 @@ fn push_plan<R: Wait + Threads + Sync>(
     rt: &R,
     alloc: Global,
     out: &mut String,
+    door: Door<'_>,
     plan: Plan,
     is_shown: bool,
 ) -> Result<(), CallFault> {
-    match run_plan(rt, alloc, plan)? {
+    match run_plan(rt, alloc, door, plan)? {
         Some(mut left) if is_shown => push_shows(alloc, out, &mut left),
         Some(mut left) => push_counts(alloc, out, &mut left, plan),
         None => Ok(out.push_str("waited in vain")?),
@@ -115,9 +118,10 @@ fn push_meeting<R: Wait + Threads + Sync>(
     rt: &R,
     alloc: Global,
     out: &mut String,
+    door: Door<'_>,
     meeting: Meeting,
 ) -> Result<(), CallFault> {
-    let text = if meets(rt, alloc, meeting)? {
+    let text = if meets(rt, alloc, door, meeting)? {
         "met"
     } else {
         "waited in vain"
@@ -131,43 +135,68 @@ fn plan_of(orders: &str, at_once: &str, octets: usize) -> Result<Plan, CallFault
         orders: natural(orders)?,
         at_once: natural(at_once)?,
         partners: 3,
+        rounds: 1,
         octets,
     })
 }
 
-/// What the words of a line answer.
-fn push_answer<R: Wait + Threads + Sync>(
+/// One order over TCP, gone over so often.
+fn push_over_tcp<R: Wait + Threads + Sync>(
     rt: &R,
     alloc: Global,
     out: &mut String,
+    door: Door<'_>,
+    rounds: u64,
+) -> Result<(), CallFault> {
+    let plan = Plan {
+        rounds,
+        ..Plan::one()
+    };
+    push_plan(rt, alloc, out, door, plan, true)
+}
+
+/// What the words of a line answer where the broker is on wires.
+fn push_on_wires<R: Wait + Threads + Sync>(
+    rt: &R,
+    alloc: Global,
+    out: &mut String,
+    door: Door<'_>,
     words: &[&str],
 ) -> Result<(), CallFault> {
     match words {
-        ["place"] => push_plan(rt, alloc, out, Plan::one(), true),
+        ["place"] => push_plan(rt, alloc, out, door, Plan::one(), true),
         ["many", orders, at_once] => {
             let plan = plan_of(orders, at_once, usize::MAX)?;
-            push_plan(rt, alloc, out, plan, false)
+            push_plan(rt, alloc, out, door, plan, false)
         }
         ["cut", orders, octets] => {
             let plan = plan_of(orders, "4", size(octets)?)?;
-            push_plan(rt, alloc, out, plan, false)
+            push_plan(rt, alloc, out, door, plan, false)
         }
-        ["meet", "alone"] => push_meeting(rt, alloc, out, Meeting::Alone),
-        ["meet", "sends"] => push_meeting(rt, alloc, out, Meeting::SendsForIngest),
-        ["meet", "ingest"] => push_meeting(rt, alloc, out, Meeting::IngestForSend),
-        ["meet", "reads"] => push_meeting(rt, alloc, out, Meeting::AllForReads),
+        ["meet", "alone"] => push_meeting(rt, alloc, out, door, Meeting::Alone),
+        ["meet", "sends"] => push_meeting(rt, alloc, out, door, Meeting::SendsForIngest),
+        ["meet", "ingest"] => push_meeting(rt, alloc, out, door, Meeting::IngestForSend),
+        ["meet", "reads"] => push_meeting(rt, alloc, out, door, Meeting::AllForReads),
         _ => Err(LineFault::Unknown.into()),
     }
 }
 
-/// What a line answers.
+/// What a line answers, where a broker is served at this place.
 pub fn answer<R: Wait + Threads + Sync>(
     rt: &R,
-    alloc: Global,
+    host: &HostRuntime,
+    place: SocketAddr,
     line: &str,
 ) -> Result<String, CallFault> {
+    let alloc = host.alloc();
     let words: Vec<&str> = line.split_whitespace().collect(alloc)?;
     let mut out = String::new(alloc);
-    push_answer(rt, alloc, &mut out, &words)?;
+    match words.as_slice() {
+        ["tcp", rounds] => {
+            let door = Door::at(host, place);
+            push_over_tcp(rt, alloc, &mut out, door, natural(rounds)?)?
+        }
+        others => push_on_wires(rt, alloc, &mut out, Door::shut(host), others)?,
+    }
     Ok(out)
 }

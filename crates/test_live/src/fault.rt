@@ -3,6 +3,8 @@
 use base::EntityFault;
 use endpoint::EndFault;
 use std::alloc::AllocError;
+use std::io;
+use std::io::ErrorKind;
 use test_script::{Fault, LineFault};
 use thiserror::Error;
 
@@ -18,6 +20,9 @@ pub enum CallFault {
     /// The endpoint's fault.
     #[error(transparent)]
     End(#[from] EndFault),
+    /// The system refused a socket.
+    #[error("no socket")]
+    Socket(#[from] io::Error),
     /// A growth was refused.
     #[error("out of memory")]
     Memory(#[from(alloc)] AllocError),
@@ -25,12 +30,13 @@ pub enum CallFault {
 
 impl Fault for CallFault {
     fn is_memory(&self) -> bool {
-        matches!(
-            self,
+        match self {
             CallFault::Line(LineFault::Memory)
-                | CallFault::Memory(_)
-                | CallFault::Entity(EntityFault::Memory)
-                | CallFault::End(EndFault::Memory)
-        )
+            | CallFault::Memory(_)
+            | CallFault::Entity(EntityFault::Memory)
+            | CallFault::End(EndFault::Memory) => true,
+            CallFault::Socket(error) => error.kind() == ErrorKind::OutOfMemory,
+            _ => false,
+        }
     }
 }

@@ -1,26 +1,50 @@
-//! The service's end of a wire.
+//! The service's end of a connection.
 
-ghost use Rattle.std.specs.Prelude.{◌≡◌, Err};
+ghost use Rattle.std.specs.Prelude.{◌≡◌, ◌≤◌, length, Err, IfSome};
 ghost use Rattle.stomp_wire.specs.Fault.{CountsFailure};
 
 use crate::wire::{ROOM, Wire};
-use stomp_wire::{Link, LinkFault};
+use std::net::TcpStream;
+use stomp_wire::{Link, LinkFault, StreamLink};
 
-/// The service's end of a wire. Of what comes and goes contracts see nothing.
+/// A socket, by two handles.
+pub type Socket = StreamLink<TcpStream, TcpStream>;
+
+/// The service's end of a wire, or of a socket in its place. Of what comes and goes contracts see nothing.
 #[derive(Drop)]
 pub struct QueueLink<'a> {
     wire: &'a Wire,
     other: Option<&'a Wire>,
+    socket: Option<Socket>,
     failures: u64,
 }
 
 impl<'a> QueueLink<'a> {
-    /// The end of a wire; its first take waits for the first one at the other, if one is given.
-    pub fn new(wire: &'a Wire, other: Option<&'a Wire>) -> QueueLink<'a> {
+    /// The end of a wire, or of a socket in its place. Its first take waits for the first one at the other, if one is
+    /// given.
+    pub fn new(wire: &'a Wire, other: Option<&'a Wire>, socket: Option<Socket>) -> QueueLink<'a> {
         QueueLink {
             wire,
             other,
+            socket,
             failures: 0,
+        }
+    }
+
+    /// Puts octets, and is told how many; None where the connection is no more.
+    fn put_out(&mut self, octets: &[u8]) -> Option<usize>
+        ensures count { IfSome result (λ n. n ≤ length octets.now) }
+        ensures same { self.new.failures ≡ self.old.failures }
+    {
+        let Some(socket) = &mut self.socket else {
+            return self.wire.put_up(octets);
+        };
+        match socket.put(octets) {
+            Ok(count) => {
+                self.wire.note_move(count);
+                Some(count)
+            }
+            Err(_) => None,
         }
     }
 
@@ -53,7 +77,7 @@ impl<'a> Link for QueueLink<'a> {
 
     /// Its one fault is `Cut`.
     fn put(&mut self, octets: &[u8]) -> Result<usize, LinkFault> {
-        match self.wire.put_up(octets) {
+        match self.put_out(octets) {
             Some(count) => Ok(count),
             None => self.fail(),
         }
@@ -64,6 +88,15 @@ impl<'a> Link for QueueLink<'a> {
         let room = most.min(ROOM);
         into.reserve(room)?;
         self.wire.note_take(self.other);
+        if let Some(socket) = &mut self.socket {
+            return match socket.take(into, room) {
+                Ok(count) => {
+                    self.wire.note_move(count);
+                    Ok(count)
+                }
+                Err(_) => self.fail(),
+            };
+        }
         let mut piece = [0u8; ROOM];
         match self.wire.take_down(&mut piece[..room]) {
             Some(count) => {

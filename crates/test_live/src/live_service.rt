@@ -5,6 +5,7 @@ ghost use Rattle.shared_endpoint.specs.Keys.{IsSeatOf, IsHandOf, IsScoutOf, AreS
 ghost use denote.Param.Send.{IsSend};
 
 use crate::commands::Commands;
+use crate::door::Door;
 use crate::fault::CallFault;
 use crate::link::QueueLink;
 use crate::progress::Progress;
@@ -54,12 +55,13 @@ fn connect<'a, R: Wait>(
     conn: &mut Option<Conn<QueueLink<'a>>>,
     watch: &'a Watch<'a>,
     number: u8,
+    door: Door<'_>,
     octets: usize,
 ) -> Result<(), CallFault> {
     if conn.is_some() {
         return Ok(());
     }
-    let link = QueueLink::new(watch.wire(number), watch.other(number));
+    let link = QueueLink::new(watch.wire(number), watch.other(number), door.enter()?);
     match Conn::open(alloc, link) {
         Ok(opened) => {
             watch.wire(number).open(rt, octets);
@@ -87,15 +89,17 @@ where
         }
     }
 
-    /// Opens those of the two connections that aren't there; each is cut behind so many octets.
+    /// Opens those of the two connections that aren't there: a socket by the door, or else a wire, which is cut behind so
+    /// many octets.
     pub fn connect<R: Wait>(
         &mut self,
         rt: &R,
         alloc: Global,
+        door: Door<'_>,
         octets: usize,
     ) -> Result<(), CallFault> {
-        connect(rt, alloc, &mut self.conns.zero, self.watch, 0, octets)?;
-        connect(rt, alloc, &mut self.conns.one, self.watch, 1, octets)
+        connect(rt, alloc, &mut self.conns.zero, self.watch, 0, door, octets)?;
+        connect(rt, alloc, &mut self.conns.one, self.watch, 1, door, octets)
     }
 
     /// Drops both connections.

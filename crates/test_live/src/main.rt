@@ -14,7 +14,10 @@
 //! - `meet WHO`: whether threads of a warehouse meet that has one letter to send, and one that waits for it at the broker:
 //!   `met` or `waited in vain`. With `sends` nothing is sent until a letter was taken in, with `ingest` the thread that
 //!   took one in goes on once something is sent, and with `reads` each connection is first read once both are, and both
-//!   threads go on once each is read again. With `alone` no letter waits for it: its own is sent once it's connected.
+//!   threads go on once each is read again. With `alone` no letter waits for it: its own is sent once it's connected;
+//! - `tcp TIMES`: the order of `place` over TCP, with a broker that is served in a thread, on a socket of 127.0.0.1. Each of
+//!   the six sockets is closed behind the first time, and opened for the next. The broker keeps what isn't taken, so that
+//!   there is one such line in a run.
 //!
 //! A thread of a warehouse waits for so many looks, 1,000,000 of them, and a run of orders for 5,000,000; then the answer
 //! is `waited in vain`. What is counted:
@@ -26,6 +29,7 @@ mod answers;
 mod broker;
 mod commands;
 mod counts;
+mod door;
 mod fault;
 mod lines;
 mod link;
@@ -39,15 +43,36 @@ mod watch;
 mod wire;
 
 use crate::lines::answer_input;
-use std::io;
+use base::limits::MAX_QUEUED;
+use broker_core::Broker;
+use broker_server::{Stop, serve};
+use mio::net::TcpListener;
 use std::io::ErrorKind;
+use std::net::{Ipv4Addr, SocketAddr};
 use std::process::ExitCode;
+use std::{io, thread};
 
 /// The status of a program that was refused a growth.
 const NO_MEMORY: u8 = 3;
 
 fn main(rt: HostRuntime) -> io::Result<ExitCode> {
-    match answer_input(&rt) {
+    let listener = TcpListener::bind(&rt, SocketAddr::from((Ipv4Addr::LOCALHOST, 0)))?;
+    let place = listener.local_addr()?;
+    let stop = Stop::new();
+    let (_served, answered) = thread::join(
+        &rt,
+        || {
+            let mut listener = listener;
+            let mut broker: Broker<MAX_QUEUED> = Broker::new(rt.alloc());
+            serve(&rt, rt.alloc(), &mut broker, &mut listener, &stop)
+        },
+        || {
+            let answered = answer_input(&rt, &rt, place);
+            stop.ask();
+            answered
+        },
+    );
+    match answered {
         Err(error) if error.kind() == ErrorKind::OutOfMemory => Ok(ExitCode::from(NO_MEMORY)),
         answered => answered.map(|()| ExitCode::SUCCESS),
     }

@@ -2,6 +2,7 @@
 //! to do meanwhile.
 
 use crate::broker::{ServedBroker, Signals};
+use crate::door::Door;
 use crate::fault::CallFault;
 use crate::live_service::{InMemory, LiveService, live_stocks};
 use crate::plan::{Plan, QUANTITY, order, stock};
@@ -83,10 +84,11 @@ fn run<'a, R: Wait + Threads + Sync>(
 }
 
 /// Whether two threads meet: a warehouse has an answer to send, and another order's request waits for it at the broker,
-/// unless it's alone.
+/// unless it's alone. There is no door.
 pub fn meets<R: Wait + Threads + Sync>(
     rt: &R,
     alloc: Global,
+    door: Door<'_>,
     meeting: Meeting,
 ) -> Result<bool, CallFault> {
     let wires = [Wire::new(alloc), Wire::new(alloc)];
@@ -97,7 +99,7 @@ pub fn meets<R: Wait + Threads + Sync>(
         served.send(alloc, &request(alloc, 2)?)?;
     }
     let progress = Progress::new(Plan::nothing());
-    live_service.connect(rt, alloc, usize::MAX)?;
+    live_service.connect(rt, alloc, door, usize::MAX)?;
     run(
         rt,
         alloc,

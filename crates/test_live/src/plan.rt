@@ -14,6 +14,8 @@ pub struct Plan {
     pub at_once: u64,
     /// Over how many stocks and accounts: 1 to 3.
     pub partners: u64,
+    /// How often all of it is gone over, where each connection is dropped in between.
+    pub rounds: u64,
     /// Behind how many octets a connection is cut that is opened first; each that is opened later has more.
     pub octets: usize,
 }
@@ -70,6 +72,7 @@ impl Plan {
             orders: 0,
             at_once: 0,
             partners: 0,
+            rounds: 1,
             octets: usize::MAX,
         }
     }
@@ -80,6 +83,7 @@ impl Plan {
             orders: 1,
             at_once: 1,
             partners: 1,
+            rounds: 1,
             octets: usize::MAX,
         }
     }

@@ -13,6 +13,15 @@ pub struct Quiet {
     takes: [u64; 6],
 }
 
+/// How often something moved.
+fn moved(wires: &[Wire], signals: &Signals) -> u64 {
+    let mut count = signals.moved();
+    for wire in wires {
+        count = count.saturating_add(wire.moves());
+    }
+    count
+}
+
 /// How often each wire was read.
 fn takes(wires: &[Wire]) -> [u64; 6] {
     let mut counts = [0u64; 6];
@@ -26,14 +35,14 @@ impl Quiet {
     /// The wires as they are.
     pub fn new(wires: &[Wire], signals: &Signals) -> Quiet {
         Quiet {
-            moved: signals.moved(),
+            moved: moved(wires, signals),
             takes: takes(wires),
         }
     }
 
     /// Whether each wire was read often enough since something moved.
     pub fn is_now(&mut self, wires: &[Wire], signals: &Signals) -> bool {
-        let moved = signals.moved();
+        let moved = moved(wires, signals);
         let now = takes(wires);
         if moved != self.moved {
             self.moved = moved;

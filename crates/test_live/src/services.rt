@@ -1,6 +1,7 @@
 //! Three services and the broker, all in threads of their own.
 
 use crate::broker::{ServedBroker, Signals};
+use crate::door::Door;
 use crate::fault::CallFault;
 use crate::live_service::{InMemory, LiveService, live_accounts, live_orders, live_stocks};
 use crate::plan::Plan;
@@ -81,10 +82,23 @@ fn all_cuts(watches: &[Watch; 3]) -> u64 {
 
 impl<'a> Services<'a> {
     /// Opens the connections that aren't there.
-    fn connect<R: Wait>(&mut self, rt: &R, alloc: Global, octets: usize) -> Result<(), CallFault> {
-        self.buying.connect(rt, alloc, octets)?;
-        self.storing.connect(rt, alloc, octets)?;
-        self.charging.connect(rt, alloc, octets)
+    fn connect<R: Wait>(
+        &mut self,
+        rt: &R,
+        alloc: Global,
+        door: Door<'_>,
+        octets: usize,
+    ) -> Result<(), CallFault> {
+        self.buying.connect(rt, alloc, door, octets)?;
+        self.storing.connect(rt, alloc, door, octets)?;
+        self.charging.connect(rt, alloc, door, octets)
+    }
+
+    /// Drops all connections.
+    fn disconnect<R: Wait>(&mut self, rt: &R) {
+        self.buying.disconnect(rt);
+        self.storing.disconnect(rt);
+        self.charging.disconnect(rt);
     }
 
     /// What they leave, where none of them is run by a thread.
@@ -173,19 +187,20 @@ fn empty<H: Handler>(alloc: Global) -> Alone<H> {
 }
 
 /// Runs the services again and again, until all is done: whether it is. A connection that was cut is opened again.
-fn run_all<'a, R: Wait + Threads + Sync>(
+fn run_round<'a, R: Wait + Threads + Sync>(
     rt: &R,
     alloc: Global,
     services: &mut Services<'a>,
     wires: &[Wire],
     watches: &[Watch; 3],
+    served: &mut ServedBroker,
+    door: Door<'_>,
     progress: &Progress,
 ) -> Result<bool, CallFault> {
-    let mut served = ServedBroker::new(alloc);
     let mut octets = progress.plan.octets;
     for _ in 0..RUNS {
-        services.connect(rt, alloc, octets)?;
-        services.run(rt, alloc, wires, watches, &mut served, progress);
+        services.connect(rt, alloc, door, octets)?;
+        services.run(rt, alloc, wires, watches, served, progress);
         if progress.is_handled() && services.is_settled(alloc) {
             return Ok(true);
         }
@@ -197,6 +212,39 @@ fn run_all<'a, R: Wait + Threads + Sync>(
     Ok(false)
 }
 
+/// The same in each round of the plan, before which each connection is dropped.
+fn run_all<'a, R: Wait + Threads + Sync>(
+    rt: &R,
+    alloc: Global,
+    services: &mut Services<'a>,
+    wires: &[Wire],
+    watches: &[Watch; 3],
+    door: Door<'_>,
+    plan: Plan,
+) -> Result<bool, CallFault> {
+    let mut served = ServedBroker::new(alloc);
+    let progress = Progress::new(plan);
+    for round in 0..plan.rounds {
+        if round > 0 {
+            services.disconnect(rt);
+        }
+        let is_done = run_round(
+            rt,
+            alloc,
+            services,
+            wires,
+            watches,
+            &mut served,
+            door,
+            &progress,
+        )?;
+        if !is_done {
+            return Ok(false);
+        }
+    }
+    Ok(true)
+}
+
 /// What runs of these services leave; None where it's never done.
 fn run_to_end<'a, R: Wait + Threads + Sync>(
     rt: &R,
@@ -204,20 +252,21 @@ fn run_to_end<'a, R: Wait + Threads + Sync>(
     mut services: Services<'a>,
     wires: &[Wire],
     watches: &[Watch; 3],
+    door: Door<'_>,
     plan: Plan,
 ) -> Result<Option<Left>, CallFault> {
-    let progress = Progress::new(plan);
-    if run_all(rt, alloc, &mut services, wires, watches, &progress)? {
+    if run_all(rt, alloc, &mut services, wires, watches, door, plan)? {
         Ok(services.into_left(all_cuts(watches) > 0))
     } else {
         Ok(None)
     }
 }
 
-/// Does what a plan says; None where it's never done.
+/// Does what a plan says, with a broker behind a door, or else on wires; None where it's never done.
 pub fn run_plan<R: Wait + Threads + Sync>(
     rt: &R,
     alloc: Global,
+    door: Door<'_>,
     plan: Plan,
 ) -> Result<Option<Left>, CallFault> {
     let wires = [
@@ -238,5 +287,5 @@ pub fn run_plan<R: Wait + Threads + Sync>(
         storing: LiveService::new(empty(alloc), &watches[1]),
         charging: LiveService::new(empty(alloc), &watches[2]),
     };
-    run_to_end(rt, alloc, services, &wires, &watches, plan)
+    run_to_end(rt, alloc, services, &wires, &watches, door, plan)
 }

@@ -28,6 +28,7 @@ struct Ends {
 pub struct Wire {
     ends: Mutex<Ends>,
     takes: AtomicU64,
+    moves: AtomicU64,
     vain: AtomicU64,
 }
 
@@ -123,6 +124,7 @@ impl Wire {
                 is_cut: true,
             }),
             takes: AtomicU64::new(0),
+            moves: AtomicU64::new(0),
             vain: AtomicU64::new(0),
         }
     }
@@ -192,6 +194,18 @@ impl Wire {
     /// How often the service has taken octets, or tried to.
     pub fn takes(&self) -> u64 {
         self.takes.load(Ordering::SeqCst)
+    }
+
+    /// How often octets went or came by a socket in the wire's place.
+    pub fn moves(&self) -> u64 {
+        self.moves.load(Ordering::SeqCst)
+    }
+
+    /// So many octets went or came by it.
+    pub fn note_move(&self, count: usize) {
+        if count > 0 {
+            self.moves.fetch_add(1, Ordering::SeqCst);
+        }
     }
 
     /// The service takes, or tries to; the first time it waits until it does so at the other wire.
