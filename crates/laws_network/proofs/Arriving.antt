@@ -114,26 +114,28 @@ at_end : {A : Type 0} (xs rest : List A) (y : A) → slice_get (xs ++ y ∷ rest
 at_end [] rest y = refl
 at_end (x ∷ xs) rest y = at_end xs rest y
 
+-- of letters that are a beginning of what was sent: where each later one is held, and the next one isn't, there are none
+-- later
+pub no_more : (there rest : List (ℕ × Message)) (sent : List Message) (held : ℕ → Option Message)
+    → there ++ rest ≡ numbered 0 sent
+    → ((n : ℕ) (m : Message) → nth sent n ≡ Some m → length there < n → IsSome (held n))
+    → held (suc (length there)) ≡ None → there ≡ numbered 0 sent
+no_more there [] sent held is all none = sym (append-nil there) ∙ is
+no_more there ((a, m) ∷ rest) sent held is all none =
+    let at : slice_get (numbered 0 sent) (length there) ≡ Some (a, m) =
+    subst (λ l. slice_get l (length there) ≡ Some (a, m)) is (at_end there rest (a, m)) in
+    let next = get-numbered_is 0 (length there) sent a m at in
+    let lt : length there < suc (length there) = omega arith in
+    let some : IsSome (held (suc (length there))) = all (suc (length there)) m next.1 lt in
+    let no : false ≡ true = subst (λ (o : Option Message). IsSome o) none some in
+    cc
+
 module _ {S C D : Type 0} (reactions : Reactions S C) (x : Kept C) (z : Kept D) (p : Pair) where
   abbrev Sent : List Message
   Sent = sent_of reactions x.journal p
 
   abbrev There : List (ℕ × Message)
   There = letters_of z.journal p
-
-  no_more : (rest : List (ℕ × Message)) → There ++ rest ≡ numbered 0 Sent
-      → ((n : ℕ) (m : Message) → nth Sent n ≡ Some m → HasArrived z p n)
-      → z.held p (suc (handled_of z.journal p)) ≡ None
-      → HandledAll reactions x.journal z.journal p
-  no_more [] is all none = sym (append-nil There) ∙ is
-  no_more ((a, m) ∷ rest) is all none =
-      let at : slice_get (numbered 0 Sent) (length There) ≡ Some (a, m) =
-      subst (λ l. slice_get l (length There) ≡ Some (a, m)) is (at_end There rest (a, m)) in
-      let next = get-numbered_is 0 (length There) Sent a m at in
-      let lt : handled_of z.journal p < suc (handled_of z.journal p) = omega arith in
-      let some : IsSome (z.held p (suc (handled_of z.journal p))) = all (suc (length There)) m next.1 lt in
-      let no : false ≡ true = subst (λ (o : Option Message). IsSome o) none some in
-      cc
 
   -- what is settled was handled
   above_settled : Follows reactions x z
@@ -149,7 +151,8 @@ module _ {S C D : Type 0} (reactions : Reactions S C) (x : Kept C) (z : Kept D) 
       → ((n : ℕ) (m : Message) → unsettled_of reactions x.journal x.settled p n ≡ Some m → HasArrived z p n)
       → z.held p (suc (handled_of z.journal p)) ≡ None → HandledAll reactions x.journal z.journal p
   all_arrived f all none = let prefix = f.handled p in
-      no_more prefix.0 prefix.1 (λ n m sent. above_settled f all n m sent (nat_lt (x.settled p) n) refl) none
+      no_more There prefix.0 Sent (z.held p) prefix.1
+      (λ n m sent. above_settled f all n m sent (nat_lt (x.settled p) n) refl) none
 
   full : (rest : List (ℕ × Message)) → There ++ rest ≡ numbered 0 Sent → handled_of z.journal p ≡ length Sent
       → HandledAll reactions x.journal z.journal p

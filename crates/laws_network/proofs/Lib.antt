@@ -1,6 +1,6 @@
 mod Founded
 mod Keeping
-mod Arriving
+pub mod Arriving
 mod Facts
 mod Paths
 mod SideStepping

@@ -1,8 +1,11 @@
 //! One example for the page of each library that needs neither a schedule nor SQL.
 
-ghost use Rattle.std.specs.Prelude.{◌≤◌};
+ghost use Rattle.std.specs.Prelude.{◌≤◌, List};
 ghost use Rattle.laws_broker.specs.Runs.{NoLifeLosesAny};
 ghost use Rattle.laws_broker.specs.Carried.{ReadMessagesWereSent};
+ghost use Rattle.envelope.specs.declared.message.Envelope.{Envelope};
+ghost use Rattle.laws_services.specs.Frames.{CarriesWritten};
+ghost use Rattle.laws_services.specs.Steps.{IsFounded, Does};
 ghost use Rattle.laws_stores.specs.Deeds.{DeedOfOne};
 ghost use Rattle.laws_stores.specs.Good.{HoldsAuthentic, journals_of};
 ghost use Rattle.laws_stores.specs.Sight.{AllTables};
@@ -12,7 +15,7 @@ ghost use Rattle.laws_journals.specs.Steps.{Configuration, Reaches};
 ghost use Rattle.base.specs.declared.pair.Pair.{Pair};
 
 use activities::{Handler, HandlerFault, Input, Outs};
-use base::limits::MAX_QUEUED;
+use base::limits::{MAX_BODY, MAX_QUEUED};
 use base::{Entity, EntityFault, Key, Kind, Number, Pair};
 use billing::Accounts;
 use broker_book::{Action, Mode, QueueFault, Sent, Shared};
@@ -32,12 +35,13 @@ use keep_plain::PlainKeep;
 use laws_broker::{each_message_was_sent, no_message_is_lost};
 use laws_journals::stays_authentic;
 use laws_network::{Delivery, Event, Network, Outcome, exchange};
+use laws_services::frames_are_steps;
 use laws_stores::a_deed_keeps_the_laws;
 use marks::Marks;
 use outbox::settle;
 use purchasing::Orders;
 use receipts::{ReceiptFault, Receipts};
-use reception::{ReceptionFault, take_frame};
+use reception::{ReceptionFault, Taken, Untaken, take_frame};
 use relay::{Relay, RelayFault};
 use resequencer::next_held;
 use std::alloc::{AllocError, Global};
@@ -276,6 +280,22 @@ pub fn lawful_journals_stay_lawful()
         AreLawful (journals_of x) → AreLawful (journals_of y) }
 {
     a_deed_keeps_the_laws();
+}
+
+pub fn what_a_broker_brought_is_a_step<H, K>(
+    alloc: Global,
+    own: &mut Endpoint<H, K>,
+    client: &mut ClientSession<u64>,
+    frame: Frame<MAX_BODY>,
+) -> Result<Taken, Untaken>
+where
+    H: Handler,
+    K: Keep<State = H::State, Command = H::Command> + Drop,
+    ensures { (written : List Envelope) → CarriesWritten written frame →
+        Does K.seen H.service (IsFounded written) own.old own.new }
+{
+    frames_are_steps::<H, K>();
+    take_frame(alloc, own, client, frame)
 }
 
 pub fn a_mark_is_read<K: Keep>(keep: &mut K, alloc: Global, pair: &Pair) -> Result<u64, KeepFault> {

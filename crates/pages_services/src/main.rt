@@ -23,8 +23,8 @@ use examples::{
     no_mark_is_taken_back, nothing_goes_out_before_the_broker_answers, nothing_is_held_at_first,
     order_of_one, printed_octets_are_read, services_without_orders_agree, so_much_is_on_hand,
     so_much_is_the_limit, tables_hold_nothing_at_first, three_parts_are_one_text,
-    what_a_client_reads_was_sent, what_comes_early_waits, what_wants_an_ack_stays_until_it_comes,
-    what_was_put_is_taken, words_that_are_no_text_are_told,
+    what_a_broker_brought_is_a_step, what_a_client_reads_was_sent, what_comes_early_waits,
+    what_wants_an_ack_stays_until_it_comes, what_was_put_is_taken, words_that_are_no_text_are_told,
 };
 use hotel::{RoomCommand, Rooms};
 use hotel_day::a_day_at_the_hotel;
@@ -32,9 +32,12 @@ use keep::{Faulty, Keep, KeepFault, Leaves};
 use keep_plain::PlainKeep;
 use laws_network::{Delivery, Event, Network, Outcome, exchange};
 use purchasing::Orders;
+use reception::Taken;
 use std::alloc::Global;
 use std::error::Error;
 use std::fmt::Debug;
+use stomp_client::ClientSession;
+use stomp_frame::{Command, Frame};
 use trade::OrderCommand;
 use warehouse::Stocks;
 
@@ -274,6 +277,18 @@ fn print_exchanges(rt: &impl Print, alloc: Global) -> Result<()> {
     show(rt, "exchange", &a_store_fails(alloc)?)
 }
 
+/// What purchasing does as some broker answers its CONNECT.
+fn is_answered(alloc: Global) -> Result<Taken> {
+    let mut purchasing: Endpoint<Orders, PlainKeep<Orders>> = Endpoint::new(PlainKeep::new(alloc));
+    let mut client = ClientSession::new(alloc);
+    client.connect()?;
+    let frame = Frame::new(alloc, Command::Connected);
+    match what_a_broker_brought_is_a_step(alloc, &mut purchasing, &mut client, frame) {
+        Ok(taken) => Ok(taken),
+        Err(untaken) => Err(untaken.fault.into()),
+    }
+}
+
 /// Three services over empty tables.
 fn nobody_ordered(alloc: Global) -> bool {
     let mut purchasing: Endpoint<Orders, PlainKeep<Orders>> = Endpoint::new(PlainKeep::new(alloc));
@@ -291,6 +306,7 @@ fn print_services(rt: &impl Print, alloc: Global) -> Result<()> {
         nothing_goes_out_before_the_broker_answers(alloc),
     )?;
     tell(rt, "reception", a_connected_client_subscribes(alloc))?;
+    show(rt, "laws_services", &is_answered(alloc)?)?;
     show(rt, "audit", &nobody_ordered(alloc))
 }
 

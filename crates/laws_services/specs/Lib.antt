@@ -1,0 +1,4 @@
+pub mod Services
+pub mod Steps
+pub mod Good
+pub mod Frames

@@ -1,0 +1,90 @@
+//! Each call of an endpoint is a step, by its contract alone: the premises are clauses of `Endpoint`'s calls, and of
+//! the `turn` of `Shared`'s. Each law is the contract of a function with nothing to do.
+
+ghost use Rattle.std.specs.Prelude.{◌≡◌, ◌≤◌, ℕ, List, Contains, Option, Some, Result, Ok};
+ghost use Rattle.base.specs.Entity.{Entity};
+ghost use Rattle.base.specs.declared.limits.TheConstants.{HELD_WINDOW};
+ghost use Rattle.base.specs.declared.pair.Pair.{Pair};
+ghost use Rattle.envelope.specs.declared.message.Envelope.{Envelope};
+ghost use Rattle.envelope.specs.declared.message.Envelope.TheVariants as envelope;
+ghost use Rattle.envelope.specs.declared.message.Letter.{Letter};
+ghost use Rattle.activities.specs.declared.input.Input.TheVariants.{FromSeat};
+ghost use Rattle.endpoint.specs.Arrivals.{IngestMay, DrainMay, SettleMay};
+ghost use Rattle.endpoint.specs.Calls.{Commits, DoesDeed, Finds, StillMatches, OfLetter, OfHeldLetter, OfSettle};
+ghost use Rattle.endpoint.specs.declared.answer.Committed.{Committed};
+ghost use Rattle.endpoint.specs.declared.answer.Ingested.{Ingested};
+ghost use Rattle.endpoint.specs.declared.answer.Ingested.TheVariants as ingested;
+ghost use Rattle.endpoint.specs.declared.fault.EndFault.{EndFault};
+ghost use Rattle.laws_services.specs.Steps.{IsFounded, Does, TakesLetter, MayWrite};
+
+use activities::Handler;
+use keep::Keep;
+
+/// A command: a step, whatever it is answered.
+pub fn commits_are_steps<H, K>()
+where
+    H: Handler,
+    K: Keep<State = H::State, Command = H::Command>,
+    ensures { (old new : K) (written : List Envelope) (e : Entity) (seat : ℕ) (command : H.Command)
+        (result : Result Committed EndFault) →
+        Commits K.seen old new H.service (record { entity = e; input = FromSeat seat command }) result →
+        StillMatches K.seen old new H.service → Does K.seen H.service (IsFounded written) old new }
+{}
+
+/// A letter that was written: a step, whatever it is answered. An `Ok` takes it. Where it was handled a settle may be
+/// written up to its number; where it comes again, up to what was handled.
+pub fn ingests_are_steps<H, K>()
+where
+    H: Handler,
+    K: Keep<State = H::State, Command = H::Command>,
+    ensures does { (old new : K) (written : List Envelope) (l : Letter) (result : Result Ingested EndFault) →
+        DoesDeed K.seen old new HELD_WINDOW H.service OfLetter l.pair.to (IngestMay H.service l) result →
+        StillMatches K.seen old new H.service → Contains written (envelope.Letter l) →
+        Does K.seen H.service (IsFounded written) old new }
+    ensures takes { (old new : K) (l : Letter) (answer : Ingested) →
+        DoesDeed K.seen old new HELD_WINDOW H.service OfLetter l.pair.to (IngestMay H.service l) (Ok answer) →
+        StillMatches K.seen old new H.service → TakesLetter K.seen H.service l old new }
+    ensures handled { (old new : K) (l : Letter) (position : ℕ) →
+        DoesDeed K.seen old new HELD_WINDOW H.service OfLetter l.pair.to (IngestMay H.service l)
+        (Ok (ingested.Handled position)) →
+        MayWrite K.seen H.service old new (envelope.Settle l.pair l.number) }
+    ensures repeated { (old new : K) (l : Letter) (handled count : ℕ) →
+        DoesDeed K.seen old new HELD_WINDOW H.service OfLetter l.pair.to (IngestMay H.service l)
+        (Ok (ingested.Repeated handled)) →
+        count ≤ handled → MayWrite K.seen H.service old new (envelope.Settle l.pair count) }
+{}
+
+/// The next letter of a pair where it is held: a step, whatever it is answered. A settle may be written up to the
+/// number that is told.
+pub fn drains_are_steps<H, K>()
+where
+    H: Handler,
+    K: Keep<State = H::State, Command = H::Command>,
+    ensures does { (old new : K) (written : List Envelope) (p : Pair) (result : Result (Option ℕ) EndFault) →
+        DoesDeed K.seen old new HELD_WINDOW H.service OfHeldLetter p.to (DrainMay H.service p) result →
+        StillMatches K.seen old new H.service → Does K.seen H.service (IsFounded written) old new }
+    ensures handled { (old new : K) (p : Pair) (number : ℕ) →
+        DoesDeed K.seen old new HELD_WINDOW H.service OfHeldLetter p.to (DrainMay H.service p) (Ok (Some number)) →
+        MayWrite K.seen H.service old new (envelope.Settle p number) }
+{}
+
+/// A settle that was written: a step, whatever it is answered.
+pub fn settles_are_steps<H, K>()
+where
+    H: Handler,
+    K: Keep<State = H::State, Command = H::Command>,
+    ensures { (old new : K) (written : List Envelope) (p : Pair) (number : ℕ) (result : Result ℕ EndFault) →
+        DoesDeed K.seen old new HELD_WINDOW H.service OfSettle p.from (SettleMay H.service p number) result →
+        StillMatches K.seen old new H.service → Contains written (envelope.Settle p number) →
+        Does K.seen H.service (IsFounded written) old new }
+{}
+
+/// A store that is opened again: what it has then is some of what a stop might leave.
+pub fn reopenings_are_steps<H, K>()
+where
+    H: Handler,
+    K: Keep<State = H::State, Command = H::Command>,
+    ensures { (old new : K) (written : List Envelope) → (K.seen old).doubt ≤ (K.seen new).doubt →
+        Finds K.seen old new → StillMatches K.seen old new H.service →
+        Does K.seen H.service (IsFounded written) old new }
+{}
