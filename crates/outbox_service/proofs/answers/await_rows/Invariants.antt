@@ -1,0 +1,5 @@
+use Rattle.shared_endpoint.specs.Keys.{IsSeatOf}
+use Rattle.outbox_service.proofs.answers.await_rows.Given as goal
+
+abbrev pub invariant-loop : goal.invariant-loop
+invariant-loop g l = IsSeatOf l.shared l.seat

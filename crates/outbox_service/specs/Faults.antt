@@ -1,0 +1,11 @@
+-- Why the program ends with status 1.
+use Rattle.keep.specs.declared.fault.KeepFault.{KeepFault}
+use Rattle.keep.specs.declared.fault.KeepFault.TheVariants.{Failed, Memory, WrongFile}
+use Rattle.outbox_service.specs.declared.fault.RunFault.{RunFault}
+use Rattle.outbox_service.specs.declared.fault.RunFault.TheVariants as run
+
+-- why a file couldn't be opened, as it's told
+abbrev pub fault_of_file : KeepFault → RunFault
+fault_of_file Failed = run.Unopened
+fault_of_file Memory = run.FileMemory
+fault_of_file WrongFile = run.WrongFile

@@ -1,0 +1,43 @@
+//! Why the program ends with status 1.
+
+use keep::KeepFault;
+use thiserror::Error;
+
+/// Why the program ends with status 1.
+#[derive(Clone, Copy, Debug, PartialEq, Eq, Error)]
+pub enum RunFault {
+    /// The file of the tables can't be opened.
+    #[error("fault 1 Failed: the file can't be opened, or another program has it")]
+    Unopened,
+    /// Memory was refused at its opening.
+    #[error("fault 2 Memory: out of memory at the opening of the file")]
+    FileMemory,
+    /// It's no file of this service.
+    #[error("fault 3 WrongFile: the file is of another service or version")]
+    WrongFile,
+    /// A stream failed, or the system refused what threads wait with.
+    #[error("fault 2 Device: a stream or the system failed")]
+    Device,
+    /// The store has failed.
+    #[error("fault 63 StoreFailed: the store failed")]
+    Store,
+    /// Memory was refused at the start.
+    #[error("fault 81 Memory: out of memory")]
+    Memory,
+}
+
+impl RunFault {
+    ghost use Rattle.std.specs.Prelude.{◌≡◌};
+    ghost use Rattle.outbox_service.specs.Faults.{fault_of_file};
+
+    /// Why a file couldn't be opened.
+    pub fn of_file(fault: KeepFault) -> RunFault
+        ensures { result ≡ fault_of_file fault }
+    {
+        match fault {
+            KeepFault::Failed => RunFault::Unopened,
+            KeepFault::Memory => RunFault::FileMemory,
+            KeepFault::WrongFile => RunFault::WrongFile,
+        }
+    }
+}

@@ -1,0 +1,154 @@
+//! The lines of the standard input.
+
+ghost use Rattle.std.specs.Prelude.{◌≡◌, IfOk, OnErr, option_map};
+ghost use Rattle.outbox_service.specs.Input.{IsTaken};
+
+use mio::unix::SourceFd;
+use mio::{Events, Interest, Poll, Token};
+use std::alloc::{AllocError, Global};
+use std::io;
+use std::io::BufRead;
+use std::net::Net;
+use std::time::Duration;
+
+/// The descriptor of the standard input.
+const DESCRIPTOR: i32 = 0;
+
+const TOKEN: Token = Token(0);
+
+/// How many octets of a line are kept at most: no line that can be read has more.
+const LONGEST: usize = 4_096;
+
+/// Waits for the standard input.
+#[derive(Drop)]
+struct Waits {
+    poll: Poll,
+    events: Events<Global>,
+    /// A file can't be waited for: it is always ready.
+    is_file: bool,
+}
+
+/// What came.
+#[derive(Drop)]
+pub enum Came {
+    /// A line, without the LF that ends it.
+    Line(Vec<u8>),
+    /// Nothing for some time.
+    Nothing,
+    /// The end: no line comes any more.
+    End,
+}
+
+/// The lines of a reader that is the standard input.
+#[derive(Drop)]
+pub struct InputLines<I: BufRead + Drop> {
+    alloc: Global,
+    input: I,
+    waits: Waits,
+    /// What came and wasn't given yet.
+    text: Vec<u8>,
+    has_ended: bool,
+}
+
+impl Waits {
+    fn new<R: Net>(rt: &R, alloc: Global) -> io::Result<Waits> {
+        let poll = Poll::new(rt)?;
+        let descriptor = DESCRIPTOR;
+        let mut source = SourceFd(&descriptor);
+        let is_file = poll
+            .registry()
+            .register(&mut source, TOKEN, Interest::READABLE)
+            .is_err();
+        Ok(Waits {
+            poll,
+            events: Events::with_capacity(alloc, 1)?,
+            is_file,
+        })
+    }
+
+    /// Whether there is something to read, or an end, within this time.
+    fn is_ready(&mut self, most: Duration) -> bool {
+        if self.is_file {
+            return true;
+        }
+        match self.poll.poll(&mut self.events, Some(most)) {
+            Ok(()) => self.events.iter().next().is_some(),
+            Err(_) => false,
+        }
+    }
+
+    /// Has it told again that there is something to read: it's told once, and there may be more.
+    fn again(&mut self) -> io::Result<()> {
+        if self.is_file {
+            return Ok(());
+        }
+        let descriptor = DESCRIPTOR;
+        let mut source = SourceFd(&descriptor);
+        self.poll
+            .registry()
+            .reregister(&mut source, TOKEN, Interest::READABLE)
+    }
+}
+
+impl<I: BufRead + Drop> InputLines<I> {
+    /// Those of this reader, which is the standard input's.
+    ///
+    /// # Errors
+    /// Where the system or memory refused what it waits with.
+    pub fn new<R: Net>(rt: &R, alloc: Global, input: I) -> io::Result<InputLines<I>> {
+        Ok(InputLines {
+            alloc,
+            input,
+            waits: Waits::new(rt, alloc)?,
+            text: Vec::new(alloc),
+            has_ended: false,
+        })
+    }
+
+    /// The first line of what came; at the end the last may lack its LF.
+    fn take_line(&mut self) -> Result<Option<Vec<u8>>, AllocError>
+        ensures taken { IfOk result (λ line. IsTaken self.old.has_ended self.old.text.items self.new.text.items
+            (option_map (λ octets. octets.items) line)) }
+        ensures refused { OnErr result (self.new.text.items ≡ self.old.text.items) }
+    {
+        let length = self.text.len();
+        let (end, next) = match self.text.iter().position(|octet| *octet == b'\n') {
+            Some(end) => (end, end + 1),
+            None if self.has_ended && length > 0 => (length, length),
+            None => return Ok(None),
+        };
+        let line = Vec::from_slice(self.alloc, &self.text[..end])?;
+        drop(self.text.drain(..next));
+        Ok(Some(line))
+    }
+
+    /// Reads what is there. What no line can have isn't kept.
+    fn read(&mut self) -> io::Result<()> {
+        let piece = self.input.fill_buf()?;
+        let count = piece.len();
+        self.text.extend_from_slice(piece)?;
+        self.input.consume(count);
+        self.has_ended = count == 0;
+        if !self.text.contains(&b'\n') {
+            self.text.truncate(LONGEST);
+        }
+        self.waits.again()
+    }
+
+    /// The next line, or what else came within this time.
+    ///
+    /// # Errors
+    /// Where the reader failed, or memory was refused.
+    pub fn next(&mut self, most: Duration) -> io::Result<Came> {
+        if let Some(line) = self.take_line()? {
+            return Ok(Came::Line(line));
+        }
+        if self.has_ended {
+            return Ok(Came::End);
+        }
+        if self.waits.is_ready(most) {
+            self.read()?;
+        }
+        Ok(Came::Nothing)
+    }
+}

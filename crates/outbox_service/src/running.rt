@@ -1,0 +1,225 @@
+//! The service, with all its threads, over tables in memory or in a file.
+
+ghost use Rattle.std.specs.Thread.{IsSend};
+ghost use Rattle.shared_endpoint.specs.Keys.{IsHandOf, IsScoutOf, AreSeatsOf};
+
+use crate::answers::answer_first;
+use crate::board::Board;
+use crate::fault::RunFault;
+use crate::serving::keep_serving;
+use crate::sockets::Broker;
+use crate::told::Told;
+use crate::words::Settings;
+use activities::Handler;
+use billing::Accounts;
+use endpoint::Endpoint;
+use keep::Keep;
+use keep_files::{FileKeep, Reopenable};
+use keep_plain::PlainKeep;
+use keep_sqlite::Filed;
+use log::Log;
+use purchasing::Orders;
+use schedule_text::ServiceName;
+use shared_endpoint::{Hand, Scout, Seat, Shared};
+use sqlite::{FileFrom, FileStore, Start, Unknown};
+use sqlite_disk::Disk;
+use std::alloc::Global;
+use std::sync::Wait;
+use std::thread::Threads;
+use std::time::Clock;
+use std::{io, thread};
+use warehouse::Stocks;
+
+/// Runs all threads of the service: one answers lines, and the others keep it connected until the lines end.
+fn run_threads<H, K, R>(
+    rt: &R,
+    host: &HostRuntime,
+    alloc: Global,
+    shared: &Shared<H, K>,
+    seats: &mut [Seat<H, K>],
+    hand: Hand<H, K>,
+    scout: Scout<H, K>,
+    broker: Broker<'_>,
+) -> Result<(), RunFault>
+where
+    H: Told + Send + Sync,
+    H::State: Send,
+    H::Command: Send,
+    K: Keep<State = H::State, Command = H::Command> + Drop + Send,
+    R: Threads + Wait + Clock + Log + Sync,
+    requires seats { AreSeatsOf shared.now seats.old }
+    requires hand { IsHandOf shared.now hand }
+    requires scout { IsScoutOf shared.now scout }
+{
+    let Ok(board) = Board::new(host, alloc) else {
+        return Err(RunFault::Device);
+    };
+    let (_served, answered) = thread::join(
+        rt,
+        ||
+            requires hand { IsHandOf shared.now hand }
+            requires scout { IsScoutOf shared.now scout }
+            requires handler { IsSend H.row × IsSend H.State.row × IsSend H.Command.row }
+            requires store { IsSend K.row }
+        { keep_serving(rt, host, alloc, shared, hand, scout, broker, &board) },
+        || -> io::Result<()>
+            requires seats { AreSeatsOf shared.now seats.now }
+        { answer_first(rt, host, alloc, shared, seats, &board) },
+    );
+    match answered {
+        _ if board.is_broken() => Err(RunFault::Store),
+        Ok(()) => Ok(()),
+        Err(_) => Err(RunFault::Device),
+    }
+}
+
+/// Runs the service over its store.
+fn run_over<H, K, R>(
+    rt: &R,
+    host: &HostRuntime,
+    keep: K,
+    broker: Broker<'_>,
+) -> Result<(), RunFault>
+where
+    H: Told + Send + Sync,
+    H::State: Send,
+    H::Command: Send,
+    K: Keep<State = H::State, Command = H::Command> + Drop + Send,
+    R: Threads + Wait + Clock + Log + Sync,
+{
+    let alloc = host.alloc();
+    match Shared::<H, K>::open(rt, alloc, Endpoint::new(keep)) {
+        Ok(opened) => {
+            let shared = opened.0;
+            let mut seats = opened.1;
+            run_threads(
+                rt, host, alloc, &shared, &mut seats, opened.2, opened.3, broker,
+            )
+        }
+        Err(_) => Err(RunFault::Memory),
+    }
+}
+
+// Each step makes one type more concrete: a call over types that are all known takes a minute of the check.
+
+/// Runs a service over the tables of a file that is open, on whatever disk.
+fn run_kept<H, S, R>(
+    rt: &R,
+    host: &HostRuntime,
+    keep: FileKeep<H, S>,
+    broker: Broker<'_>,
+) -> Result<(), RunFault>
+where
+    H: Told + Filed<State = <H as Handler>::State, Command = <H as Handler>::Command> + Send + Sync,
+    <H as Handler>::State: Send,
+    <H as Handler>::Command: Send,
+    S: Reopenable + Drop + Send,
+    S::Files: Send,
+    R: Threads + Wait + Clock + Log + Sync,
+{
+    run_over::<H, FileKeep<H, S>, R>(rt, host, keep, broker)
+}
+
+/// The same on a disk.
+fn run_on_disk<H, D, R>(
+    rt: &R,
+    host: &HostRuntime,
+    keep: FileKeep<H, FileStore<D>>,
+    broker: Broker<'_>,
+) -> Result<(), RunFault>
+where
+    H: Told + Filed<State = <H as Handler>::State, Command = <H as Handler>::Command> + Send + Sync,
+    <H as Handler>::State: Send,
+    <H as Handler>::Command: Send,
+    D: Disk + Drop + Send,
+    R: Threads + Wait + Clock + Log + Sync,
+{
+    run_kept::<H, FileStore<D>, R>(rt, host, keep, broker)
+}
+
+/// The same on a disk of the operating system.
+fn run_from<H, D, R>(
+    rt: &R,
+    host: &HostRuntime,
+    keep: FileKeep<H, FileStore<FileFrom<D>>>,
+    broker: Broker<'_>,
+) -> Result<(), RunFault>
+where
+    H: Told + Filed<State = <H as Handler>::State, Command = <H as Handler>::Command> + Send + Sync,
+    <H as Handler>::State: Send,
+    <H as Handler>::Command: Send,
+    D: Start + Send,
+    R: Threads + Wait + Clock + Log + Sync,
+{
+    run_on_disk::<H, FileFrom<D>, R>(rt, host, keep, broker)
+}
+
+/// Opens a file, and tells why it can't be opened.
+fn open_file<H: Filed, D: Start>(
+    host: &HostRuntime,
+    path: &str,
+    start: D,
+) -> Result<FileKeep<H, FileStore<FileFrom<D>>>, RunFault> {
+    match FileKeep::open(host, path, start) {
+        Ok(keep) => Ok(keep),
+        Err(fault) => Err(RunFault::of_file(fault)),
+    }
+}
+
+/// Runs a service over the tables of a file. What it holds when it's opened nobody can know; `start` stands for it.
+fn run_filed<H, D, R>(
+    rt: &R,
+    host: &HostRuntime,
+    path: &str,
+    start: D,
+    broker: Broker<'_>,
+) -> Result<(), RunFault>
+where
+    H: Told + Filed<State = <H as Handler>::State, Command = <H as Handler>::Command> + Send + Sync,
+    <H as Handler>::State: Send,
+    <H as Handler>::Command: Send,
+    D: Start + Send,
+    R: Threads + Wait + Clock + Log + Sync,
+{
+    let keep = open_file::<H, D>(host, path, start)?;
+    run_from::<H, D, R>(rt, host, keep, broker)
+}
+
+/// Runs a service over tables in memory, or over those of a file where there is one.
+fn run_at<H, R>(
+    rt: &R,
+    host: &HostRuntime,
+    path: Option<&str>,
+    broker: Broker<'_>,
+) -> Result<(), RunFault>
+where
+    H: Told + Filed<State = <H as Handler>::State, Command = <H as Handler>::Command> + Send + Sync,
+    <H as Handler>::State: Send,
+    <H as Handler>::Command: Send,
+    R: Threads + Wait + Clock + Log + Sync,
+{
+    match path {
+        Some(path) => run_filed::<H, Unknown, R>(rt, host, path, Unknown, broker),
+        None => run_over::<H, PlainKeep<H>, R>(rt, host, PlainKeep::new(host.alloc()), broker),
+    }
+}
+
+/// Runs the service that is asked for. The runtime is given twice: files and sockets need the system's own.
+///
+/// # Errors
+/// Where the file can't be opened, the store failed, or a stream or the system did, or memory was refused at the start.
+pub fn run<R>(rt: &R, host: &HostRuntime, settings: Settings<'_>) -> Result<(), RunFault>
+where
+    R: Threads + Wait + Clock + Log + Sync,
+{
+    let Settings {
+        service,
+        broker,
+        file,
+    } = settings;
+    match service {
+        ServiceName::Purchasing => run_at::<Orders, R>(rt, host, file, broker),
+        ServiceName::Warehouse => run_at::<Stocks, R>(rt, host, file, broker),
+        ServiceName::Billing => run_at::<Accounts, R>(rt, host, file, broker),
+    }
+}

@@ -1,0 +1,98 @@
+//! Connections to the broker.
+
+ghost use Rattle.std.specs.Prelude.{◌≡◌, IfOk};
+ghost use Rattle.stomp_frame.specs.declared.command.Command.TheVariants.{Connect};
+
+use crate::board::Board;
+use base::limits::MAX_BODY;
+use mio::net::TcpStream;
+use service_workers::Conn;
+use std::alloc::Global;
+use std::io::ErrorKind;
+use std::net::{SocketAddr, ToSocketAddrs};
+use std::time::Duration;
+use std::{io, net};
+use stomp_client::connect_frame_to;
+use stomp_frame::{Frame, FrameFault};
+use stomp_wire::StreamLink;
+
+/// How long it may take to connect, in milliseconds.
+const PATIENCE: u64 = 2_000;
+
+/// What carries a connection's octets: a socket, and another handle of it.
+pub type Socket = StreamLink<TcpStream, TcpStream>;
+
+/// Where the broker is, and what it's told of the service.
+#[derive(Clone, Copy, Debug)]
+pub struct Broker<'a> {
+    /// Where it is: a name or an address.
+    pub address: &'a str,
+    /// Its port.
+    pub port: u16,
+    /// The header `host` of CONNECT: which of the broker's hosts is meant.
+    pub host: &'a str,
+    /// The headers `login` and `passcode`, where they are given.
+    pub login: Option<&'a str>,
+    pub passcode: Option<&'a str>,
+    /// How many messages it's asked to hand out at most that aren't acknowledged, where it's asked for that.
+    pub prefetch: Option<u64>,
+}
+
+impl Broker<'_> {
+    /// The CONNECT for it.
+    ///
+    /// # Errors
+    /// Where one of the values can't stand in a frame, or memory was refused.
+    pub fn greet(&self, alloc: Global) -> Result<Frame<MAX_BODY>, FrameFault>
+        ensures { IfOk result (λ frame. frame.command ≡ Connect) }
+    {
+        connect_frame_to(alloc, self.host, self.login, self.passcode)
+    }
+}
+
+/// A socket to the first address of the host that accepts.
+fn reach(host: &HostRuntime, broker: Broker<'_>) -> io::Result<net::TcpStream> {
+    let mut last = io::Error::from(ErrorKind::AddrNotAvailable);
+    let found = (broker.address, broker.port).to_socket_addrs(host)?;
+    for one in found {
+        match connect(host, one) {
+            Ok(stream) => return Ok(stream),
+            Err(error) => last = error,
+        }
+    }
+    Err(last)
+}
+
+/// A socket to an address, whose calls don't wait.
+fn connect(host: &HostRuntime, address: SocketAddr) -> io::Result<net::TcpStream> {
+    let most = Duration::from_millis(PATIENCE);
+    let stream = net::TcpStream::connect_timeout(host, &address, most)?;
+    stream.set_nodelay(true)?;
+    stream.set_nonblocking(true)?;
+    Ok(stream)
+}
+
+/// Opens the connection of a number, on which CONNECT waits to be written then.
+///
+/// # Errors
+/// Where the broker isn't there, or the system or memory refused a socket.
+pub fn open(
+    host: &HostRuntime,
+    alloc: Global,
+    broker: Broker<'_>,
+    board: &Board,
+    number: u8,
+) -> io::Result<Conn<Socket>> {
+    let Ok(connect) = broker.greet(alloc) else {
+        return Err(io::Error::from(ErrorKind::OutOfMemory));
+    };
+    let stream = reach(host, broker)?;
+    let writer = TcpStream::from_std(stream.try_clone()?);
+    let mut reader = TcpStream::from_std(stream);
+    board.rest(number).watch(&mut reader)?;
+    let link = StreamLink::new(reader, writer);
+    match Conn::open_by(alloc, link, &connect, broker.prefetch) {
+        Ok(conn) => Ok(conn),
+        Err(_) => Err(io::Error::from(ErrorKind::OutOfMemory)),
+    }
+}
