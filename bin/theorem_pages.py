@@ -493,11 +493,11 @@ ANY_BROKER = {
           " (`CarriesWritten`). What they ensure of `MayWrite` is what the frames that are written for it carry."],
          [("laws_services", "frames", it) for it in ("frames_are_steps", "held_letters_are_steps")]),
         ("And so is each call of an endpoint",
-         ["By the clauses of `Endpoint`'s calls, and of the `turn` of a `Shared`'s, which many threads use"
-          " ([THEOREM-THREADS.md](THEOREM-THREADS.md)): a command, a letter, a held letter, a settle, a reopening, a read. What a listing of"
-          " the outbox gives may be written, and so may a settle up to what was handled."],
+         ["By the clauses of `Endpoint`'s calls, of `group_commit::take_group`, and of the `turn` of a `Shared`'s, which many threads use"
+          " ([THEOREM-THREADS.md](THEOREM-THREADS.md)): a command, a letter, a held letter, a settle, several letters and settles by one"
+          " transaction, a reopening, a read. What a listing of the outbox gives may be written, and so may a settle up to what was handled."],
          [("laws_services", "calls", it) for it in ("commits_are_steps", "ingests_are_steps", "drains_are_steps", "settles_are_steps",
-                                                    "reopenings_are_steps")]
+                                                    "groups_are_steps", "reopenings_are_steps")]
          + [("laws_services", "reads", it) for it in ("reads_are_steps", "listings_are_steps", "counts_are_steps")]),
     ],
 }
@@ -581,8 +581,8 @@ THREADS = {
           " (`tokens_stay_good`), and that no file is in doubt."],
          [("shared_endpoint", "laws", it) for it in ("commits_are_one_threads", "views_are_one_threads", "lengths_are_one_threads",
                                                      "ingests_are_one_threads", "drains_are_one_threads", "settles_are_one_threads",
-                                                     "handled_is_the_lists", "unsettled_are_above_marks", "journals_are_one_threads",
-                                                     "tokens_stay_good")], True),
+                                                     "groups_are_one_threads", "handled_is_the_lists", "unsettled_are_above_marks",
+                                                     "journals_are_one_threads", "tokens_stay_good")], True),
         ("Failures are counted, and for good",
          ["That the store failed, or had failed before, is told only where a failure was counted; and behind it the token gets nothing"
           " else."],
@@ -596,7 +596,7 @@ THREADS = {
                        " the token raised the mark of the journal's length to (`raised_after`), which the Scout reads by `mark`."],
          [("shared_endpoint", "shared", "Shared::open")]
          + [("shared_endpoint", "calls", f"Shared::{it}") for it in ("commit", "view", "length", "ingest", "drain_held", "settle",
-                                                                     "handled", "unsettled", "journal")]
+                                                                     "take_group", "handled", "unsettled", "journal")]
          + [("shared_endpoint", "mark", "Shared::mark")]),
         ("A mark never falls, and comes to the greatest number raised",
          ["Numbers that threads share with no lock, each at its place. `open` gives seats of its own, with empty lists of what each raised"

@@ -70,6 +70,18 @@ where
         }
     }
 
+    /// The store of this service.
+    pub fn into_keep(self) -> K
+        ensures { result ≡ self }
+    {
+        let WindowedEndpoint {
+            keep,
+            handler: _,
+            window: _,
+        } = self;
+        keep
+    }
+
     /// Whether calls may be made: else each answers `Unusable`, until a `reopen` is Ok.
     pub fn usable(&self) -> bool
         ensures { result ≡ (K.seen self.now).usable }

@@ -1,5 +1,6 @@
 -- A letter that was taken is there for good: handled, or held.
-use Rattle.std.proofs.Common.{◌≡◌, ℕ, ◌<◌, ◌⊎◌, inl, inr, sym, subst, arith, Ok, IsSome, length}
+use Rattle.std.proofs.Common.{◌≡◌, ℕ, ◌<◌, ◌⊎◌, inl, inr, sym, subst, arith, Ok, IsSome, List, [], ◌∷◌, length}
+use Rattle.std.specs.Prelude.{⊤}
 use Rattle.std.proofs.Props.{props}
 use Rattle.base.specs.declared.entity.Kind.{Kind}
 use Rattle.base.specs.declared.entity.Kind.TheVariants.{Order, Stock, Account}
@@ -7,9 +8,11 @@ use Rattle.base.specs.declared.pair.Pair.{Pair}
 use Rattle.envelope.specs.declared.message.Letter.{Letter}
 use Rattle.activities.specs.Journal.{AreOf}
 use Rattle.activities.specs.Service.{Service}
+use Rattle.activities.proofs.Legal.{are_of-more}
 use Rattle.activities.proofs.Sameness.{either}
+use Rattle.keep.specs.Tables.{Tables}
 use Rattle.endpoint.specs.Arrivals.{IngestMay}
-use Rattle.endpoint.specs.Deeds.{Kept, kept, Deed, Did}
+use Rattle.endpoint.specs.Deeds.{Kept, kept, Deed, Nothing, TakesIn, Holds, Settles, Did}
 use Rattle.endpoint.specs.declared.answer.Ingested.{Ingested}
 use Rattle.endpoint.specs.declared.answer.Ingested.TheVariants.{Handled, Repeated, Held}
 use Rattle.envelope.specs.declared.message.Envelope.{Envelope}
@@ -21,6 +24,7 @@ use Rattle.laws_stores.specs.Sight.{AllTables, OrderTables, StockTables, Account
 use Rattle.laws_stores.specs.Sight.{orders_service, stocks_service, accounts_service}
 use Rattle.laws_stores.proofs.Writing.{receiver-kind}
 use Rattle.laws_services.specs.Good.{IsThere}
+use Rattle.laws_services.specs.Steps.{DidEach, DidSome}
 
 -- ---- one service
 
@@ -38,11 +42,37 @@ module _ {S C : Type 0} (s : Service S C) (l : Letter) where
       (λ none. let old = may.1 in inl (omega (arith, none, old)))
       inr
 
-  pub is_received : (answer : Ingested) (x y : Kept C) (d : Deed C) → IngestMay s l (Ok answer) x d → Did s x d y
+  is_received : (answer : Ingested) (x y : Kept C) (d : Deed C) → IngestMay s l (Ok answer) x d → Did s x d y
       → AreOf s.kind x.journal
       → IsReceived s y l
   is_received answer x y d may did kinds =
       (ingest_arrived s l answer x y d may did, of_kind answer x y d may did kinds)
+
+  -- ---- on the way of several deeds
+
+  did_kinds : (x y : Kept C) (d : Deed C) → Did s x d y → AreOf s.kind x.journal → AreOf s.kind y.journal
+  did_kinds x y Nothing did kinds = subst (λ (k : Kept C). AreOf s.kind k.journal) (sym did) kinds
+  did_kinds x y (TakesIn row) did kinds =
+      subst (AreOf s.kind) (sym did.0.appended) (are_of-more s.kind x.journal row kinds did.0.follows.of_kind)
+  did_kinds x y (Holds k) did kinds = subst (λ (k : Kept C). AreOf s.kind k.journal) (sym did.2) kinds
+  did_kinds x y (Settles p n) did kinds = subst (λ (k : Kept C). AreOf s.kind k.journal) (sym did.2) kinds
+
+  still_received : (through : List (Tables S C)) (x y : Tables S C) → DidEach s (λ _ _. ⊤) x through y
+      → IsReceived s (kept x) l
+      → IsReceived s (kept y) l
+  still_received [] x y did h = subst (λ (t : Tables S C). IsReceived s (kept t) l) (sym did) h
+  still_received (next ∷ through) x y did h = still_received through next y did.1
+      (did_arrived s (kept x) (kept next) did.0.0 did.0.2 l.pair l.number h.0, h.1)
+
+  pub some_received : (through : List (Tables S C)) (x y : Tables S C) → DidEach s (λ _ _. ⊤) x through y
+      → DidSome s (λ u d. (answer : Ingested) × IngestMay s l (Ok answer) u d) x through
+      → AreOf s.kind x.journal
+      → IsReceived s (kept y) l
+  some_received [] x y did some kinds = absurd some
+  some_received (next ∷ through) x y did (inl one) kinds = still_received through next y did.1
+      (is_received one.1.0 (kept x) (kept next) one.0 one.1.1 one.2 kinds)
+  some_received (next ∷ through) x y did (inr some) kinds = some_received through next y did.1 some
+      (did_kinds (kept x) (kept next) did.0.0 did.0.2 kinds)
 
 -- ---- three services
 

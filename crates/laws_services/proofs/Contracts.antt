@@ -1,6 +1,6 @@
 -- From what a call's contract tells to the step that it is.
-use Rattle.std.proofs.Common.{◌≡◌, ℕ, ◌≤◌, ◌⊎◌, inl, inr, List, Option, Some, Result, Ok, Err, refl, sym, ap, ◌∙◌}
-use Rattle.std.proofs.Common.{subst, arith}
+use Rattle.std.proofs.Common.{◌≡◌, ℕ, ◌≤◌, ◌⊎◌, inl, inr, List, [], ◌∷◌, Option, Some, Result, Ok, Err, refl, sym, ap}
+use Rattle.std.proofs.Common.{◌∙◌, subst, arith}
 use Rattle.std.specs.Prelude.{Contains, slice_get}
 use Rattle.std.specs.Global.{Vec}
 use Rattle.std.proofs.Math.Logic.{∥∥₁_map}
@@ -46,13 +46,27 @@ module _ {E S C : Type 0} (seen : E → Seen (Tables S C)) (service : Service S 
     comes = λ clean match t l. let c = comes clean match t l in
         ∣ record {
           before = c.before;
-          deed = c.deed;
+          through = t ∷ [];
           was = c.was;
-          may = weaker (kept c.before) c.deed c.may;
-          did = c.did;
+          did = ((c.deed, weaker (kept c.before) c.deed c.may, c.did), refl);
         } ∣₁;
     matches = matches;
   }
+
+  -- and a letter is taken where an `Ok` of it is
+  pub takes_more : (allowed : Kept C → Deed C → Type 0) (l : Letter)
+      → ((x : Kept C) (d : Deed C) → allowed x d → (answer : Ingested) × IngestMay service l (Ok answer) x d)
+      → ComesBy seen old new service allowed → TakesLetter seen service l old new
+  takes_more allowed l weaker comes clean match t may = let c = comes clean match t may in
+      ∣ (
+        record {
+          before = c.before;
+          through = t ∷ [];
+          was = c.was;
+          did = ((c.deed, tt, c.did), refl);
+        },
+        inl (c.deed, weaker (kept c.before) c.deed c.may, c.did),
+      ) ∣₁
 
   -- what is there then was there before
   pub found_does : (written : List Envelope) → (seen old).doubt ≤ (seen new).doubt → Finds seen old new
@@ -62,9 +76,8 @@ module _ {E S C : Type 0} (seen : E → Seen (Tables S C)) (service : Service S 
     doubt = doubt;
     comes = λ clean match t l. ∥∥₁_map (finds clean t l) (λ was. record {
       before = t;
-      deed = Nothing;
+      through = [];
       was = was;
-      may = tt;
       did = refl;
     });
     matches = matches;
@@ -211,10 +224,9 @@ module _ {E S C : Type 0} (seen : E → Seen (Tables S C)) (sound : (k : E) → 
         (IsFounded written)
         (λ x d may. ingest_is service (λ f. Contains written f ⊎ IsHeldIn x.held f) l (inl was) result x d may) matches
 
-    pub ingest_takes : (answer : Ingested) → Ingests (Ok answer) → StillMatches seen old new service
-        → TakesLetter seen service l old new
-    ingest_takes answer h matches = deed_does Reason e (IngestMay service l) (λ x. refl) (Ok answer) h
-        (λ x d. (given : Ingested) × IngestMay service l (Ok given) x d) (λ x d may. (answer, may)) matches
+    pub ingest_takes : (answer : Ingested) → Ingests (Ok answer) → TakesLetter seen service l old new
+    ingest_takes answer h = takes_more seen service old new (IngestMay service l (Ok answer)) l
+        (λ x d may. (answer, may)) (deed_comes Reason e (IngestMay service l) (λ x. refl) (Ok answer) h)
 
     pub ingest_handled : (position : ℕ) → Ingests (Ok (ingested.Handled position))
         → MayWrite seen service old new (envelope.Settle l.pair l.number)

@@ -1,5 +1,5 @@
 -- What one service's step does to its tables and to the traffic.
-use Rattle.std.proofs.Common.{◌≡◌, ◌⊎◌, inl, inr}
+use Rattle.std.proofs.Common.{◌≡◌, ◌⊎◌, inl, inr, List, [], ◌∷◌}
 use Rattle.std.specs.Prelude.{Contains}
 use Rattle.std.proofs.Math.Logic.{∥∥₁_map}
 use Rattle.base.specs.Entity.{Entity}
@@ -12,14 +12,14 @@ use Rattle.activities.specs.Service.{Service}
 use Rattle.activities.proofs.Sameness.{either}
 use Rattle.keep.specs.Seen.{Seen}
 use Rattle.keep.specs.Tables.{Tables}
-use Rattle.endpoint.specs.Deeds.{kept, Deed, Nothing, TakesIn, Holds, Settles}
+use Rattle.endpoint.specs.Deeds.{Kept, kept, Deed, Nothing, TakesIn, Holds, Settles}
 use Rattle.endpoint.specs.Matches.{AllMatch}
 use Rattle.laws_journals.specs.Growth.{IsFrom}
-use Rattle.laws_stores.specs.Deeds.{DeedIs, FoundedDeed}
+use Rattle.laws_stores.specs.Deeds.{DeedIs}
 use Rattle.laws_stores.specs.Good.{IsHeldIn}
-use Rattle.laws_services.specs.Steps.{ServiceStep, TakesLetter}
+use Rattle.laws_services.specs.Steps.{IsFounded, DidEach, CameByDeeds, TakesLetter, ServiceStep}
 use Rattle.laws_services.specs.Services.{Traffic}
-use Rattle.laws_services.proofs.Arriving.{IsReceived, is_received}
+use Rattle.laws_services.proofs.Arriving.{IsReceived, some_received}
 
 -- ---- what a deed takes in among some envelopes it takes in among more
 
@@ -34,27 +34,40 @@ module _ (P Q : Envelope → Type 0) (more : (e : Envelope) → P e → Q e) whe
   deed_more (Holds l) h = more (envelope.Letter l) h
   deed_more (Settles p n) h = more (envelope.Settle p n) h
 
+-- what a deed takes in, holds or settles is known, or was held
+abbrev pub Founded : {C : Type 0} → (Envelope → Type 0) → Kept C → Deed C → Type 0
+Founded known x d = DeedIs (λ e. known e ⊎ IsHeldIn x.held e) d
+
+module _ {S C : Type 0} (service : Service S C) where
+  -- what is allowed so is allowed thus
+  pub each_more : (allowed more : Kept C → Deed C → Type 0) → ((x : Kept C) (d : Deed C) → allowed x d → more x d)
+      → (through : List (Tables S C)) (x y : Tables S C) → DidEach service allowed x through y
+      → DidEach service more x through y
+  each_more allowed more weaker [] x y did = did
+  each_more allowed more weaker (next ∷ through) x y did = (
+    (did.0.0, weaker (kept x) did.0.0 did.0.1, did.0.2),
+    each_more allowed more weaker through next y did.1,
+  )
+
 module _ {E S C : Type 0} (seen : E → Seen (Tables S C)) (service : Service S C) (old new : E)
     (clean : (seen new).doubt ≡ 0)
     (match : AllMatch service (seen old).may_leave) (y : Tables S C) (may : (seen new).may_leave y) where
-  -- a content comes of one before by a deed of what is known, or was held
+  -- a content comes of one before by deeds of what is known, or was held
   pub step_comes : (known : Envelope → Type 0) (from to : Traffic)
       → ((e : Envelope) → Contains from.written e → known e)
       → ServiceStep seen service old new from to
-      → ∥ ((x : Tables S C) × (seen old).may_leave x × FoundedDeed service known x y) ∥₁
-  step_comes known from to all step = ∥∥₁_map (step.does.comes clean match y may) (λ c. (
-    c.before,
-    c.was,
-    record {
-      deed = c.deed;
-      founded = deed_more (λ e. Contains from.written e ⊎ IsHeldIn c.before.held e)
-          (λ e. known e ⊎ IsHeldIn c.before.held e)
-          (λ e h. either h (λ was. inl (all e was)) inr) c.deed c.may;
-      did = c.did;
-    },
-  ))
+      → ∥ CameByDeeds service (Founded known) (seen old).may_leave y ∥₁
+  step_comes known from to all step = ∥∥₁_map (step.does.comes clean match y may) (λ c. record {
+    before = c.before;
+    through = c.through;
+    was = c.was;
+    did = each_more service (IsFounded from.written) (Founded known)
+        (λ x d founded. deed_more (λ e. Contains from.written e ⊎ IsHeldIn x.held e) (λ e. known e ⊎ IsHeldIn x.held e)
+        (λ e h. either h (λ was. inl (all e was)) inr) d founded)
+        c.through c.before y c.did;
+  })
 
   -- a letter that was taken is received there
   pub step_takes : (l : Letter) → TakesLetter seen service l old new → ∥ IsReceived service (kept y) l ∥₁
-  step_takes l takes = ∥∥₁_map (takes.comes clean match y may) (λ c.
-      is_received service l c.may.0 (kept c.before) (kept y) c.deed c.may.1 c.did (match c.before c.was).legal.kinds)
+  step_takes l takes = ∥∥₁_map (takes clean match y may) (λ c.
+      some_received service l c.0.through c.0.before y c.0.did c.1 (match c.0.before c.0.was).legal.kinds)

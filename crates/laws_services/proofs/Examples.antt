@@ -1,5 +1,5 @@
 -- Examples: what a service may take in, a step of one, and that a letter that nobody wrote would break the laws.
-use Rattle.std.proofs.Common.{◌≡◌, ℕ, [], ◌∷◌, ◌&&◌, ◌==◌, Bool, true, false, Some, None, IsSome, Ok, refl}
+use Rattle.std.proofs.Common.{◌≡◌, ℕ, [], ◌∷◌, ◌&&◌, ◌==◌, Bool, true, false, Some, None, IsSome, refl}
 use Rattle.std.proofs.Common.{sym, ap, subst, arith, inl, inr}
 use Rattle.std.specs.Prelude.{⊤, Contains, if◌then◌else◌}
 use Rattle.std.proofs.lemmas.List.Elements.{Contains-push_cases}
@@ -17,10 +17,9 @@ use Rattle.activities.specs.declared.input.Input.TheVariants.{FromSeat}
 use Rattle.activities.proofs.Sameness.{either}
 use Rattle.keep.specs.Seen.{Seen}
 use Rattle.keep.specs.Tables.{empty}
-use Rattle.endpoint.specs.Arrivals.{row_of_letter, IngestMay}
+use Rattle.endpoint.specs.Arrivals.{row_of_letter}
 use Rattle.endpoint.specs.Deeds.{Kept, kept, Deed, TakesIn, Holds, Did, with_held}
 use Rattle.endpoint.specs.Matches.{TablesMatchJournal, MayBeHeld}
-use Rattle.endpoint.specs.declared.answer.Ingested.{Ingested}
 use Rattle.endpoint.specs.declared.answer.Ingested.TheVariants as ingested
 use Rattle.endpoint.proofs.Examples.{o1, bolts}
 use Rattle.endpoint.proofs.Opening.{empty-matches}
@@ -28,25 +27,25 @@ use Rattle.laws_stores.specs.Sight.{AllTables, OrderTables, StockTables, Account
 use Rattle.laws_stores.proofs.Doing.{both_same}
 use Rattle.laws_services.specs.Good.{AreGoodServices}
 use Rattle.laws_services.specs.Services.{Traffic, Services, DidNothing}
-use Rattle.laws_services.specs.Steps.{IsFounded, Does, TakesLetter, StepOfOne, AtWarehouse}
+use Rattle.laws_services.specs.Steps.{IsFounded, CameByDeeds, Does, TakesLetter, StepOfOne, AtWarehouse}
 use Rattle.laws_services.proofs.Running.{new_good}
 
 -- a store in memory: a stop leaves its tables and no others
-abbrev only : {T : Type 0} → T → Seen T
+abbrev pub only : {T : Type 0} → T → Seen T
 only t = record { tables = t; may_leave = λ x. x ≡ t; failures = 0; usable = true; doubt = 0; armed = None }
 
 -- a letter of an order to its stock, and the one behind it, which comes early
 abbrev pair : Pair
 pair = record { from = o1; to = bolts }
 
-abbrev first : letter.Letter
+abbrev pub first : letter.Letter
 first = record { pair = pair; number = 1; message = Request 3 }
 
 abbrev early : letter.Letter
 early = record { pair = pair; number = 2; message = Request 3 }
 
 -- warehouse did nothing, or holds the early one
-abbrev idle : StockTables
+abbrev pub idle : StockTables
 idle = empty
 
 abbrev holding : StockTables
@@ -63,7 +62,7 @@ abbrev received : Traffic
 received = record { written = Letter early ∷ []; taken = early ∷ [] }
 
 -- three services of which warehouse has these tables
-abbrev services : StockTables → Traffic → Services OrderTables StockTables AccountTables
+abbrev pub services : StockTables → Traffic → Services OrderTables StockTables AccountTables
 services warehouse traffic = record { purchasing = empty; warehouse = warehouse; billing = empty; traffic = traffic }
 
 -- ---- what is taken in
@@ -123,17 +122,21 @@ holding_matches =
       held = λ p n some. held_alone p n (same_pair pair p && 2 == n) refl some;
     }
 
+abbrev came_by_holding : (allowed : Kept StockCommand → Deed StockCommand → Type 0) → allowed (kept idle) (Holds early)
+    → (t : StockTables) → t ≡ holding
+    → CameByDeeds stocks_service allowed (only idle).may_leave t
+came_by_holding allowed may t is = record {
+  before = idle;
+  through = holding ∷ [];
+  was = refl;
+  did = ((Holds early, may, held_it), is);
+}
+
 does_hold : (allowed : Kept StockCommand → Deed StockCommand → Type 0) → allowed (kept idle) (Holds early)
     → Does only stocks_service allowed idle holding
 does_hold allowed may = record {
   doubt = omega arith;
-  comes = λ clean match t is. ∣ record {
-    before = idle;
-    deed = Holds early;
-    was = refl;
-    may = may;
-    did = subst (λ (u : StockTables). Did stocks_service (kept idle) (Holds early) (kept u)) (sym is) held_it;
-  } ∣₁;
+  comes = λ clean match t is. ∣ came_by_holding allowed may t is ∣₁;
   matches = λ clean match t is. subst (TablesMatchJournal stocks_service) (sym is) holding_matches;
 }
 
@@ -144,7 +147,7 @@ an_early_letter_is_taken = AtWarehouse (record {
   takes = λ l was. either (Contains-push_cases [] early l was)
       (λ none. inl none)
       (λ same. inr (subst (λ k. TakesLetter only stocks_service k idle holding) same
-      (does_hold (λ x d. (answer : Ingested) × IngestMay stocks_service early (Ok answer) x d) (ingested.Held, refl))));
+      (λ clean match t is. ∣ (came_by_holding (λ x d. ⊤) tt t is, inl (Holds early, (ingested.Held, refl), held_it)) ∣₁)));
 }) refl refl
 
 -- ---- without the premise the laws don't hold: where nobody wrote the letter, the services aren't good behind it

@@ -1,7 +1,10 @@
 pub mod Deeds
 pub mod Arriving
+pub mod Several
 pub mod Stepping
 pub mod Running
 pub mod Contracts
 pub mod Receiving
+pub mod Grouping
 mod Examples
+mod GroupExamples

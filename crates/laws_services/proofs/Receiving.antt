@@ -32,7 +32,7 @@ use Rattle.laws_stores.proofs.Founded.{nothing_is, ingest_is, settle_is, drain_i
 use Rattle.laws_stores.proofs.Writing.{handled_true, repeated_true, drained_true}
 use Rattle.laws_services.specs.Steps.{IsFounded, Does, TakesLetter, MayWrite}
 use Rattle.laws_services.specs.Frames.{CarriesWritten, IsOfLetter}
-use Rattle.laws_services.proofs.Contracts.{does_more}
+use Rattle.laws_services.proofs.Contracts.{does_more, takes_more}
 
 module _ {S C : Type 0} (service : Service S C) where
   -- ---- what is done with a frame is done with the letter or the settle that it carries, or it's nothing
@@ -131,12 +131,10 @@ module _ {E S C : Type 0} (seen : E → Seen (Tables S C)) (service : Service S 
   taken_so l read (Settled mark) is x d may = absurd is
   taken_so l read (Error text) is x d may = absurd is
 
-  pub frame_takes : (r : Taken) (l : Letter) → (seen old).doubt ≤ (seen new).doubt
-      → ComesBy seen old new service (TakeMay service f (Ok r)) → StillMatches seen old new service → IsOfLetter r
+  pub frame_takes : (r : Taken) (l : Letter) → ComesBy seen old new service (TakeMay service f (Ok r)) → IsOfLetter r
       → read_frame f ≡ Some (envelope.Letter l) → TakesLetter seen service l old new
-  frame_takes r l doubt comes matches is read = does_more seen service old new (TakeMay service f (Ok r))
-      (λ x d. (answer : Ingested) × IngestMay service l (Ok answer) x d) (λ x d may. taken_so l read r is x d may) doubt
-      comes matches
+  frame_takes r l comes is read = takes_more seen service old new (TakeMay service f (Ok r)) l
+      (λ x d may. taken_so l read r is x d may) comes
 
   pub frame_handled : (position : ℕ) (l : Letter) → ComesBy seen old new service (TakeMay service f (Ok (Handled position)))
       → read_frame f ≡ Some (envelope.Letter l) → MayWrite seen service old new (envelope.Settle l.pair l.number)

@@ -1,5 +1,5 @@
 -- A step of one of three services leaves them good.
-use Rattle.std.proofs.Common.{◌≡◌, ◌⊎◌, inl, inr, refl, sym, subst, arith}
+use Rattle.std.proofs.Common.{◌≡◌, ◌⊎◌, inl, inr, sym, subst, arith}
 use Rattle.std.specs.Prelude.{Contains}
 use Rattle.std.proofs.Math.Logic.{∥∥₁_elim, ∥∥₁_map}
 use Rattle.envelope.specs.declared.message.Envelope.{Envelope}
@@ -7,17 +7,18 @@ use Rattle.envelope.specs.declared.message.Letter.{Letter}
 use Rattle.activities.proofs.Sameness.{either}
 use Rattle.keep.specs.Seen.{Seen}
 use Rattle.endpoint.specs.Matches.{AllMatch}
-use Rattle.laws_stores.specs.Deeds.{DeedOfOne, OfPurchasing, OfWarehouse, OfBilling, ComesOf}
+use Rattle.laws_stores.specs.Deeds.{ComesOf}
 use Rattle.laws_stores.specs.Good.{IsGenuine}
 use Rattle.laws_stores.specs.Sight.{AllTables, MayLeave, AreClean, AreMatching, OrderTables, StockTables, AccountTables}
 use Rattle.laws_stores.specs.Sight.{orders_service, stocks_service, accounts_service}
 use Rattle.laws_stores.proofs.Genuine.{orders_genuine, stocks_genuine, accounts_genuine}
-use Rattle.laws_stores.proofs.Keeping.{genuine_later, good_later}
 use Rattle.laws_services.specs.Good.{IsThere, AreGoodServices}
 use Rattle.laws_services.specs.Steps.{StepOfOne, AtPurchasing, AtWarehouse, AtBilling}
 use Rattle.laws_services.specs.Services.{Services, sight_of}
-use Rattle.laws_services.proofs.Arriving.{there-prop, at_purchasing, at_warehouse, at_billing, one_there}
+use Rattle.laws_services.proofs.Arriving.{there-prop, at_purchasing, at_warehouse, at_billing}
 use Rattle.laws_services.proofs.Deeds.{step_comes, step_takes}
+use Rattle.laws_services.proofs.Several.{Leads, orders_lead, stocks_lead, accounts_lead, there_later, genuine_later}
+use Rattle.laws_services.proofs.Several.{good_later}
 
 module _ {KO KS KA : Type 0} (orders : KO → Seen OrderTables) (stocks : KS → Seen StockTables)
     (accounts : KA → Seen AccountTables) (a b : Services KO KS KA) where
@@ -64,46 +65,46 @@ module _ {KO KS KA : Type 0} (orders : KO → Seen OrderTables) (stocks : KS →
   step_matching (AtBilling s p w) clean match =
       (same_orders p match.0, same_stocks w match.1, s.does.matches clean.2 match.2)
 
-  -- ---- each combination of contents then comes of one before, by one deed
+  -- ---- each combination of contents then comes of one before, by deeds of one service
 
   module _ (known : Envelope → Type 0) (all : (e : Envelope) → Contains a.traffic.written e → known e) where
     comes : StepOfOne orders stocks accounts a b → Clean b → Matching a
-        → ComesOf (DeedOfOne known) (sight_of orders stocks accounts a) (sight_of orders stocks accounts b)
+        → ComesOf (Leads known) (sight_of orders stocks accounts a) (sight_of orders stocks accounts b)
     comes (AtPurchasing s w c) clean match y may = ∥∥₁_map
         (step_comes orders orders_service a.purchasing b.purchasing clean.0 match.0 y.purchasing may.purchasing known
         a.traffic b.traffic all s)
-        (λ led. (
-          record { purchasing = led.0; warehouse = y.warehouse; billing = y.billing },
+        (λ from. (
+          record { purchasing = from.before; warehouse = y.warehouse; billing = y.billing },
           record {
-            purchasing = led.1;
+            purchasing = from.was;
             warehouse = subst (λ k. (stocks k).may_leave y.warehouse) w may.warehouse;
             billing = subst (λ k. (accounts k).may_leave y.billing) c may.billing;
           },
-          OfPurchasing led.2 refl refl,
+          orders_lead known y.warehouse y.billing from.through from.before y.purchasing from.did,
         ))
     comes (AtWarehouse s p c) clean match y may = ∥∥₁_map
         (step_comes stocks stocks_service a.warehouse b.warehouse clean.1 match.1 y.warehouse may.warehouse known
         a.traffic b.traffic all s)
-        (λ led. (
-          record { purchasing = y.purchasing; warehouse = led.0; billing = y.billing },
+        (λ from. (
+          record { purchasing = y.purchasing; warehouse = from.before; billing = y.billing },
           record {
             purchasing = subst (λ k. (orders k).may_leave y.purchasing) p may.purchasing;
-            warehouse = led.1;
+            warehouse = from.was;
             billing = subst (λ k. (accounts k).may_leave y.billing) c may.billing;
           },
-          OfWarehouse led.2 refl refl,
+          stocks_lead known y.purchasing y.billing from.through from.before y.warehouse from.did,
         ))
     comes (AtBilling s p w) clean match y may = ∥∥₁_map
         (step_comes accounts accounts_service a.billing b.billing clean.2 match.2 y.billing may.billing known
         a.traffic b.traffic all s)
-        (λ led. (
-          record { purchasing = y.purchasing; warehouse = y.warehouse; billing = led.0 },
+        (λ from. (
+          record { purchasing = y.purchasing; warehouse = y.warehouse; billing = from.before },
           record {
             purchasing = subst (λ k. (orders k).may_leave y.purchasing) p may.purchasing;
             warehouse = subst (λ k. (stocks k).may_leave y.warehouse) w may.warehouse;
-            billing = led.1;
+            billing = from.was;
           },
-          OfBilling led.2 refl refl,
+          accounts_lead known y.purchasing y.warehouse from.through from.before y.billing from.did,
         ))
 
   -- ---- traffic
@@ -148,7 +149,7 @@ module _ {KO KS KA : Type 0} (orders : KO → Seen OrderTables) (stocks : KS →
             (λ new. new);
         taken = λ l h. either (taken step clean match l h)
             (λ old t may. ∥∥₁_elim (led t may) (there-prop t l) (λ from.
-            one_there (IsGenuine was) from.0 t l.pair l.number from.2 l.pair.to.kind
+            there_later (IsGenuine was) from.2.0 from.0 t from.2.1 l.pair l.number l.pair.to.kind
             (good.taken l old from.0 from.1)))
             (λ new. new);
       }

@@ -1,7 +1,9 @@
-//! Each call of an endpoint is a step, by its contract alone: the premises are clauses of `Endpoint`'s calls, and of
-//! the `turn` of `Shared`'s. Each law is the contract of a function with nothing to do.
+//! Each call of an endpoint is a step, by its contract alone: the premises are clauses of `Endpoint`'s calls, of
+//! `group_commit::take_group`, and of the `turn` of `Shared`'s. Each law is the contract of a function with nothing to
+//! do.
 
-ghost use Rattle.std.specs.Prelude.{◌≡◌, ◌≤◌, ℕ, List, Contains, Option, Some, Result, Ok};
+ghost use Rattle.std.specs.Prelude.{◌≡◌, ◌≤◌, ℕ, List, All, Contains, Option, Some, Result, Ok, slice_get};
+ghost use Rattle.std.specs.Global.{Vec};
 ghost use Rattle.base.specs.Entity.{Entity};
 ghost use Rattle.base.specs.declared.limits.TheConstants.{HELD_WINDOW};
 ghost use Rattle.base.specs.declared.pair.Pair.{Pair};
@@ -15,6 +17,9 @@ ghost use Rattle.endpoint.specs.declared.answer.Committed.{Committed};
 ghost use Rattle.endpoint.specs.declared.answer.Ingested.{Ingested};
 ghost use Rattle.endpoint.specs.declared.answer.Ingested.TheVariants as ingested;
 ghost use Rattle.endpoint.specs.declared.fault.EndFault.{EndFault};
+ghost use Rattle.group_commit.specs.Group.{Groups};
+ghost use Rattle.group_commit.specs.declared.grouped.Grouped.{Grouped};
+ghost use Rattle.group_commit.specs.declared.grouped.Grouped.TheVariants as grouped;
 ghost use Rattle.laws_services.specs.Steps.{IsFounded, Does, TakesLetter, MayWrite};
 
 use activities::Handler;
@@ -43,7 +48,7 @@ where
         Does K.seen H.service (IsFounded written) old new }
     ensures takes { (old new : K) (l : Letter) (answer : Ingested) →
         DoesDeed K.seen old new HELD_WINDOW H.service OfLetter l.pair.to (IngestMay H.service l) (Ok answer) →
-        StillMatches K.seen old new H.service → TakesLetter K.seen H.service l old new }
+        TakesLetter K.seen H.service l old new }
     ensures handled { (old new : K) (l : Letter) (position : ℕ) →
         DoesDeed K.seen old new HELD_WINDOW H.service OfLetter l.pair.to (IngestMay H.service l)
         (Ok (ingested.Handled position)) →
@@ -77,6 +82,25 @@ where
         DoesDeed K.seen old new HELD_WINDOW H.service OfSettle p.from (SettleMay H.service p number) result →
         StillMatches K.seen old new H.service → Contains written (envelope.Settle p number) →
         Does K.seen H.service (IsFounded written) old new }
+{}
+
+/// Several letters and settles that were written, which are taken in together: a step, whatever it is answered. Each
+/// letter of which something is told is taken; where it was handled a settle may be written up to its number.
+pub fn groups_are_steps<H, K>()
+where
+    H: Handler,
+    K: Keep<State = H::State, Command = H::Command>,
+    ensures does { (old new : K) (written envelopes : List Envelope) (result : Result (Vec Grouped) EndFault) →
+        Groups K.seen old new H.service envelopes result → StillMatches K.seen old new H.service →
+        All (Contains written) envelopes → Does K.seen H.service (IsFounded written) old new }
+    ensures takes { (old new : K) (envelopes : List Envelope) (told : Vec Grouped) (i : ℕ) (l : Letter) (g : Grouped) →
+        Groups K.seen old new H.service envelopes (Ok told) → slice_get envelopes i ≡ Some (envelope.Letter l) →
+        slice_get told.items i ≡ Some g → TakesLetter K.seen H.service l old new }
+    ensures handled { (old new : K) (envelopes : List Envelope) (told : Vec Grouped) (i : ℕ) (l : Letter)
+        (position : ℕ) →
+        Groups K.seen old new H.service envelopes (Ok told) → slice_get envelopes i ≡ Some (envelope.Letter l) →
+        slice_get told.items i ≡ Some (grouped.Handled position) →
+        MayWrite K.seen H.service old new (envelope.Settle l.pair l.number) }
 {}
 
 /// A store that is opened again: what it has then is some of what a stop might leave.

@@ -32,9 +32,8 @@ where
         StillMatches K.seen old new H.service → CarriesWritten written f →
         Does K.seen H.service (IsFounded written) old new }
     ensures takes { (old new : K) (f : Content) (taken : Taken) (l : Letter) →
-        (K.seen old).doubt ≤ (K.seen new).doubt → ComesBy K.seen old new H.service (TakeMay H.service f (Ok taken)) →
-        StillMatches K.seen old new H.service → IsOfLetter taken → read_frame f ≡ Some (envelope.Letter l) →
-        TakesLetter K.seen H.service l old new }
+        ComesBy K.seen old new H.service (TakeMay H.service f (Ok taken)) → IsOfLetter taken →
+        read_frame f ≡ Some (envelope.Letter l) → TakesLetter K.seen H.service l old new }
     ensures handled { (old new : K) (f : Content) (position : ℕ) (l : Letter) →
         ComesBy K.seen old new H.service (TakeMay H.service f (Ok (Handled position))) →
         read_frame f ≡ Some (envelope.Letter l) → MayWrite K.seen H.service old new (envelope.Settle l.pair l.number) }

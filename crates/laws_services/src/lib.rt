@@ -5,7 +5,8 @@
 //! settled its receiver has handled; the partners of each order agree, and nothing of a stock or of an account's limit
 //! is lost or used twice; and a pair of which each unsettled letter was taken, and whose next one isn't held, was
 //! handled to its end. It holds at the end of any steps, of each content that a stop may leave of each store. That a
-//! call is such a step follows from its contract: those laws are here too.
+//! call is such a step follows from its contract, and so it does of a group, which takes in several envelopes by one
+//! transaction: those laws are here too.
 //!
 //! ```rust
 //! pub fn what_a_broker_brought_is_a_step<H, K>(
@@ -34,7 +35,8 @@ mod laws;
 mod reads;
 
 pub use calls::{
-    commits_are_steps, drains_are_steps, ingests_are_steps, reopenings_are_steps, settles_are_steps,
+    commits_are_steps, drains_are_steps, groups_are_steps, ingests_are_steps, reopenings_are_steps,
+    settles_are_steps,
 };
 pub use frames::{frames_are_steps, held_letters_are_steps};
 pub use laws::{

@@ -1,6 +1,6 @@
 -- What a deed of one token leaves of what another knows.
 use Rattle.std.proofs.Common.{◌≡◌, ◌≢◌, ℕ, suc, ◌+◌, ◌≤◌, ◌==◌, max, Bool, true, false, List}
-use Rattle.std.proofs.Common.{[], ◌∷◌, ◌++◌, length, refl, sym, ap, ◌∙◌, subst, arith, append-nil}
+use Rattle.std.proofs.Common.{[], ◌∷◌, ◌++◌, length, inl, refl, sym, ap, ◌∙◌, subst, arith, append-nil}
 use Rattle.std.specs.Prelude.{if◌then◌else◌}
 use Rattle.std.proofs.lemmas.Bool.Decides.{nat_tests}
 use Rattle.base.specs.Entity.{Entity}
@@ -11,11 +11,12 @@ use Rattle.activities.specs.declared.input.Input.{Input}
 use Rattle.activities.specs.declared.input.Input.TheVariants.{FromSeat, FromEntity}
 use Rattle.activities.specs.declared.input.JournalRow.{JournalRow}
 use Rattle.activities.specs.Service.{Service}
-use Rattle.keep.specs.Tables.{Messages, set_mark}
+use Rattle.keep.specs.Tables.{Tables, Messages, set_mark}
 use Rattle.endpoint.specs.Deeds.{Kept, Deed, Nothing, TakesIn, Holds, Settles, Did, held_after}
 use Rattle.shared_endpoint.specs.Token.{hand_number, is_of, rows_of}
-use Rattle.shared_endpoint.specs.History.{Stands, IsDeedOf}
-use Rattle.shared_endpoint.specs.Lore.{stands_same}
+use Rattle.told_lock.specs.Rule.{Every}
+use Rattle.shared_endpoint.specs.History.{Stands, IsDeedOf, DidAll, CameAll}
+use Rattle.shared_endpoint.specs.Lore.{stands_same, stands_join}
 
 -- a test on numbers, of one number and of another
 one_of_two : (s n m : ℕ) → (s == n) ≡ true → m ≢ n → (s == m) ≡ false
@@ -61,7 +62,44 @@ rises p q n marks = by_test (same_pair p q) (same_pair-Decides p q).0
     by_test true f = bound (marks p) (marks q) n (ap marks (f refl))
     by_test false f = same (marks q)
 
+-- a deed as a list: nothing is none
+abbrev pub as_list : {C : Type 0} → Deed C → List (Deed C)
+as_list Nothing = []
+as_list (TakesIn row) = TakesIn row ∷ []
+as_list (Holds l) = Holds l ∷ []
+as_list (Settles p n) = Settles p n ∷ []
+
+pub list_is_short : {C : Type 0} (d : Deed C) → length (as_list d) ≤ 1
+list_is_short Nothing = omega arith
+list_is_short (TakesIn row) = omega arith
+list_is_short (Holds l) = omega arith
+list_is_short (Settles p n) = omega arith
+
+pub every_listed : {C : Type 0} (P : Deed C → Type 0) (d : Deed C) → P d → Every P (as_list d)
+every_listed P Nothing h = tt
+every_listed P (TakesIn row) h = (h, tt)
+every_listed P (Holds l) h = (h, tt)
+every_listed P (Settles p n) h = (h, tt)
+
 module _ {S C : Type 0} (service : Service S C) where
+  pub did_listed : (x y : Kept C) (d : Deed C) → Did service x d y → DidAll service x (as_list d) y
+  did_listed x y Nothing did = did
+  did_listed x y (TakesIn row) did = (y, did, refl)
+  did_listed x y (Holds l) did = (y, did, refl)
+  did_listed x y (Settles p n) did = (y, did, refl)
+
+  -- a content that might be left before comes of itself, by no deed
+  pub came_of_none : (Allowed : List (Deed C) → Type 0) (old : Tables S C → Type 0) (now : Tables S C) → Allowed []
+      → old now → CameAll service Allowed old now
+  came_of_none Allowed old now allowed was = record {
+    before = now;
+    deeds = [];
+    was = was;
+    one_call = inl (omega arith);
+    may = allowed;
+    did = refl;
+  }
+
   same_held : (n m : ℕ) (e : Entity) (input : Input C) (held : Messages) → is_of n input ≡ true → m ≢ n
       → m ≡ hand_number → held_after e input held ≡ held
   same_held n m e (FromSeat seat command) held mine apart is = refl
@@ -93,6 +131,13 @@ module _ {S C : Type 0} (service : Service S C) where
     held = λ is. absurd (apart (is ∙ sym of));
   })
 
-  -- no deed
-  pub no_deed : (m : ℕ) (x y : Kept C) (d : Deed C) → d ≡ Nothing → Did service x d y → Stands m x y
-  no_deed m x y d none did = subst (Stands m x) (sym (subst (λ k. Did service x k y) none did)) (stands_same m x)
+  -- another's deeds
+  pub deeds_of_other : (n m : ℕ) (x y : Kept C) (ds : List (Deed C)) → Every (IsDeedOf n) ds → m ≢ n
+      → DidAll service x ds y → Stands m x y
+  deeds_of_other n m x y [] of apart did = subst (Stands m x) (sym did) (stands_same m x)
+  deeds_of_other n m x y (d ∷ ds) of apart did = stands_join m x did.0 y
+      (deed_of_other n m x did.0 d of.0 apart did.1) (deeds_of_other n m did.0 y ds of.1 apart did.2)
+
+  -- no deeds
+  pub no_deeds : (m : ℕ) (x y : Kept C) (ds : List (Deed C)) → ds ≡ [] → DidAll service x ds y → Stands m x y
+  no_deeds m x y ds none did = subst (Stands m x) (sym (subst (λ k. DidAll service x k y) none did)) (stands_same m x)

@@ -11,12 +11,12 @@ use Rattle.activities.specs.declared.input.Input.TheVariants.{FromSeat, FromEnti
 use Rattle.activities.specs.declared.input.JournalRow.{JournalRow}
 use Rattle.keep.specs.Seen.{Seen, IsSound}
 use Rattle.keep.specs.Tables.{Tables}
-use Rattle.endpoint.specs.Deeds.{kept, Nothing, Did}
+use Rattle.endpoint.specs.Deeds.{kept}
 use Rattle.endpoint.specs.Matches.{AllMatch}
 use Rattle.told_lock.specs.declared.view.Told.{Told}
 use Rattle.told_lock.specs.Rule.{Every, IsTold}
 use Rattle.shared_endpoint.specs.Token.{hand_number, scout_number, is_of, rows_of}
-use Rattle.shared_endpoint.specs.History.{IsLater, Since, Broke, EndsAs, Stands}
+use Rattle.shared_endpoint.specs.History.{DidAll, IsLater, Since, Broke, EndsAs, Stands}
 use Rattle.shared_endpoint.specs.Keys.{Any}
 use Rattle.shared_endpoint.specs.Lore.{zero_below}
 use Rattle.shared_endpoint.specs.Promises.{IsGood, Continues, AllListed, IsLeft, ClosesToOneHistory}
@@ -144,7 +144,8 @@ module _ {E S C : Type 0} (seen : E → Seen (Tables S C)) (service : Service S 
             let is : t ≡ tables = (sound c.good).only_now clean0 usable t was in
             record {
               matches = all_match t was;
-              deed = Nothing;
+              deeds = [];
+              one_call = inl (omega arith);
               did = ap (λ (k : Tables S C). kept k) is;
               none = λ _. refl;
             }
@@ -156,7 +157,8 @@ module _ {E S C : Type 0} (seen : E → Seen (Tables S C)) (service : Service S 
             let is : came.before ≡ tables = (sound c.good).only_now clean0 usable came.before came.was in
             record {
               matches = h.0 t left;
-              deed = came.deed;
-              did = subst (λ (k : Tables S C). Did service (kept k) came.deed (kept t)) is came.did;
+              deeds = came.deeds;
+              one_call = came.one_call;
+              did = subst (λ (k : Tables S C). DidAll service (kept k) came.deeds (kept t)) is came.did;
               none = λ up. absurd (true≢false (sym up ∙ b.now));
             }

@@ -2,6 +2,7 @@ pub mod Deeds
 pub mod Steps
 pub mod Stepping
 pub mod Passing
+pub mod Grouping
 pub mod Closing
 pub mod Telling
 pub mod Ending

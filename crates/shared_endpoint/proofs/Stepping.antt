@@ -1,6 +1,6 @@
 -- From what each call of an endpoint tells to one step of a token.
 use Rattle.std.proofs.Common.{◌≡◌, ℕ, ◌≤◌, ◌==◌, true, false, true≢false, Option, Some, None}
-use Rattle.std.proofs.Common.{Result, Ok, Err, ⊎_elim, refl, sym, ◌∙◌, subst, arith}
+use Rattle.std.proofs.Common.{Result, Ok, Err, inl, ⊎_elim, refl, sym, ap, ◌∙◌, subst, arith}
 use Rattle.std.specs.Prelude.{⊤}
 use Rattle.std.proofs.lemmas.Bool.Decides.{nat_tests}
 use Rattle.base.specs.Entity.{Entity}
@@ -27,6 +27,7 @@ use Rattle.endpoint.specs.Faults.{end_of}
 use Rattle.keep.proofs.Arms.{stays_armed}
 use Rattle.shared_endpoint.specs.Token.{hand_number, is_of}
 use Rattle.shared_endpoint.specs.History.{IsDeedOf, IsUsed, Steps, fault_in, tells}
+use Rattle.shared_endpoint.proofs.Deeds.{as_list, list_is_short, every_listed, did_listed, came_of_none}
 
 -- where memory was refused or the endpoint wasn't usable, nothing was done
 abbrev pub IsQuiet : {R C : Type 0} → Result R EndFault → Deed C → Type 0
@@ -51,7 +52,7 @@ nothing_of : {C : Type 0} (n : ℕ) (deed : Deed C) → deed ≡ Nothing → IsD
 nothing_of n deed e = subst (IsDeedOf n) (sym e) tt
 
 module _ {E S C : Type 0} (seen : E → Seen (Tables S C)) (service : Service S C) (d e : E) where
-  use_of : {R : Type 0} (May : EndFault → Type 0) (result : Result R EndFault) → IsCall seen d e May (end_of result)
+  pub use_of : {R : Type 0} (May : EndFault → Type 0) (result : Result R EndFault) → IsCall seen d e May (end_of result)
       → IsUsed seen d e (fault_in result)
   use_of May (Ok r) h = h
   use_of May (Err StoreFailed) h = h
@@ -88,11 +89,14 @@ module _ {E S C : Type 0} (seen : E → Seen (Tables S C)) (service : Service S 
         let s = says (kept came.before) came.deed came.may in
         record {
           before = came.before;
-          deed = came.deed;
+          deeds = as_list came.deed;
           was = came.was;
-          may =
-              (s.0, quiet May result came.deed call s.1);
-          did = came.did;
+          one_call = inl (list_is_short came.deed);
+          may = (
+            every_listed (IsDeedOf n) came.deed s.0,
+            λ unsaid up. ap as_list (quiet May result came.deed call s.1 unsaid up),
+          );
+          did = did_listed service (kept came.before) (kept t) came.deed came.did;
         };
     matches = matches;
   }
@@ -104,7 +108,7 @@ module _ {E S C : Type 0} (seen : E → Seen (Tables S C)) (service : Service S 
   read_steps n May result doubt call stays = record {
     doubt = doubt;
     used = use_of May result call;
-    deeds = λ z a t l. record { before = t; deed = Nothing; was = stays z t l; may = (tt, λ _ _. refl); did = refl };
+    deeds = λ z a t l. came_of_none service _ _ t (tt, λ _ _. refl) (stays z t l);
     matches = λ z a t l. a t (stays z t l);
   }
 
@@ -211,12 +215,12 @@ module _ {E S C : Type 0} (seen : E → Seen (Tables S C)) (service : Service S 
   count_steps n count (Ok r) h = record {
     doubt = omega arith;
     used = (h.0, h.0, refl, stays_armed (seen d).armed);
-    deeds = λ z a t l. record { before = t; deed = Nothing; was = l; may = (tt, λ _ _. refl); did = refl };
+    deeds = λ z a t l. came_of_none service _ _ t (tt, λ _ _. refl) l;
     matches = λ z a. a;
   }
   count_steps n count (Err fault) h = record {
     doubt = omega arith;
     used = subst (λ (f : EndFault). IsUsed seen d d (Some f)) (sym h.1) (h.0, refl);
-    deeds = λ z a t l. record { before = t; deed = Nothing; was = l; may = (tt, λ _ _. refl); did = refl };
+    deeds = λ z a t l. came_of_none service _ _ t (tt, λ _ _. refl) l;
     matches = λ z a. a;
   }

@@ -10,15 +10,15 @@ use Rattle.keep.specs.Tables.{Tables}
 use Rattle.endpoint.specs.declared.fault.EndFault.{EndFault}
 use Rattle.endpoint.specs.declared.fault.EndFault.TheVariants.{NotMine, Business, TooEarly, StoreFailed, Memory}
 use Rattle.endpoint.specs.declared.fault.EndFault.TheVariants.{Unusable, NumberLimit, NotSent}
-use Rattle.endpoint.specs.Deeds.{kept, Deed, Nothing, Did}
+use Rattle.endpoint.specs.Deeds.{kept, Deed}
 use Rattle.endpoint.specs.Matches.{AllMatch}
 use Rattle.told_lock.specs.declared.view.Told.{Told}
 use Rattle.told_lock.specs.declared.view.Known.{Known}
 use Rattle.told_lock.specs.Rule.{Every, IsTold, Took, MaySee, MayStay, without}
-use Rattle.shared_endpoint.specs.History.{IsDeedOf, IsLater, Since, Broke, EndsAs, IsUsed, Steps, Turns}
+use Rattle.shared_endpoint.specs.History.{IsDeedOf, DidAll, IsLater, Since, Broke, EndsAs, IsUsed, Steps, Turns}
 use Rattle.shared_endpoint.specs.History.{Gives, given, tells}
 use Rattle.shared_endpoint.specs.Lore.{zero_below, later_same, since_same}
-use Rattle.shared_endpoint.proofs.Deeds.{deed_of_other, no_deed}
+use Rattle.shared_endpoint.proofs.Deeds.{deeds_of_other, no_deeds}
 
 same_below : (a b : ℕ) → b ≡ a → a ≤ b
 same_below a b e = omega arith
@@ -70,13 +70,17 @@ module _ {E S C : Type 0} (seen : E → Seen (Tables S C)) (service : Service S 
         (served : IsServed seen d e)
       where
         pub leads : (clean : (seen e).doubt ≡ 0) → AllMatch service (seen d).may_leave
-            → (deed : Deed C) × (IsDeedOf n deed × (tells fault ≡ false → (seen e).usable ≡ true → deed ≡ Nothing))
-            × Did service (kept (seen d).tables) deed (kept (seen e).tables)
+            → (deeds : List (Deed C))
+            × (Every (IsDeedOf n) deeds × (tells fault ≡ false → (seen e).usable ≡ true → deeds ≡ []))
+            × DidAll service (kept (seen d).tables) deeds (kept (seen e).tables)
         leads clean m =
             let came = s.deeds clean m (seen e).tables ((sound e).stays clean served.1) in
             let same = (sound d).only_now (zero_below (seen d).doubt (seen e).doubt s.doubt clean) served.0 came.before
-            came.was in
-            (came.deed, came.may, subst (λ t. Did service (kept t) came.deed (kept (seen e).tables)) same came.did)
+            came.was in (
+              came.deeds,
+              came.may,
+              subst (λ t. DidAll service (kept t) came.deeds (kept (seen e).tables)) same came.did,
+            )
 
         pub others_stand : (m : ℕ) → m ≢ n → Since seen service m d e
         others_stand m apart = record {
@@ -85,7 +89,7 @@ module _ {E S C : Type 0} (seen : E → Seen (Tables S C)) (service : Service S 
           clean = λ z a.
               let l = leads z a in (
                 s.matches z a,
-                deed_of_other service n m (kept (seen d).tables) (kept (seen e).tables) l.0 l.1.0 apart l.2,
+                deeds_of_other service n m (kept (seen d).tables) (kept (seen e).tables) l.0 l.1.0 apart l.2,
               );
         }
 
@@ -96,7 +100,7 @@ module _ {E S C : Type 0} (seen : E → Seen (Tables S C)) (service : Service S 
           clean = λ z a.
               let l = leads z a in (
                 s.matches z a,
-                no_deed service m (kept (seen d).tables) (kept (seen e).tables) l.0
+                no_deeds service m (kept (seen d).tables) (kept (seen e).tables) l.0
                     (l.1.1 unsaid served.1) l.2,
               );
         }
@@ -157,7 +161,14 @@ module _ {E S C : Type 0} (seen : E → Seen (Tables S C)) (service : Service S 
             s.matches z a,
             λ l left.
                 let came = s.deeds z a l left in
-                record { before = came.before; deed = came.deed; was = came.was; may = tt; did = came.did },
+                record {
+                  before = came.before;
+                  deeds = came.deeds;
+                  was = came.was;
+                  one_call = came.one_call;
+                  may = tt;
+                  did = came.did;
+                },
           );
         }
 

@@ -48,7 +48,7 @@ use Rattle.shared_endpoint.proofs.Stepping.{ingest_says, drain_says, settle_says
 -- ---- lists
 
 -- the list of a token with one row more
-own_row : {C : Type 0} (n : ℕ) (rows after : List (JournalRow C)) (row : JournalRow C) (pos : ℕ)
+pub own_row : {C : Type 0} (n : ℕ) (rows after : List (JournalRow C)) (row : JournalRow C) (pos : ℕ)
     → is_of n row.input ≡ true → after ≡ rows ++ row ∷ [] → 1 + length rows ≡ pos
     → rows_of n 1 after ≡ rows_of n 1 rows ++ (pos, row) ∷ []
 own_row {C} n rows after row pos of is place =
@@ -131,7 +131,7 @@ module _ {E S C : Type 0} (seen : E → Seen (Tables S C)) (service : Service S 
         }
 
     -- so a law follows from what the call says of one thread
-    one_threads : {R : Type 0} (n : ℕ) (Call : E → E → Type 0) (result : Result R EndFault)
+    pub one_threads : {R : Type 0} (n : ℕ) (Call : E → E → Type 0) (result : Result R EndFault)
         (Answer : Tables S C → Tables S C → Type 0)
         → ((d e : E) → Call d e → tells (fault_in result) ≡ true → (seen d).doubt ≡ 0 → (seen e).doubt ≡ 0
         → AllMatch service (seen d).may_leave → TablesMatchJournal service (seen d).tables

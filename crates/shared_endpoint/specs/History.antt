@@ -1,7 +1,6 @@
 -- What a token knows of a service, and what others' calls leave of that as it is.
 use Rattle.std.specs.Prelude.{◌≡◌, ◌⊎◌, ℕ, ◌≤◌, Bool, true, false, List, [], ◌∷◌, Option, Some, None, Result, Ok, Err}
-use Rattle.std.specs.Prelude.{if◌then◌else◌, ⊤}
-use Rattle.base.specs.declared.limits.TheConstants.{HELD_WINDOW}
+use Rattle.std.specs.Prelude.{if◌then◌else◌, length, ⊤}
 use Rattle.base.specs.declared.pair.Pair.{Pair}
 use Rattle.activities.specs.Numbered.{IsPrefixOf}
 use Rattle.activities.specs.Service.{Service}
@@ -11,11 +10,11 @@ use Rattle.keep.specs.Tables.{Tables}
 use Rattle.endpoint.specs.declared.fault.EndFault.{EndFault}
 use Rattle.endpoint.specs.declared.fault.EndFault.TheVariants.{StoreFailed, Memory, Unusable}
 use Rattle.endpoint.specs.Calls.{StillMatches}
-use Rattle.endpoint.specs.Deeds.{Kept, kept, Deed, Nothing, TakesIn, Holds, Settles, Comes}
+use Rattle.endpoint.specs.Deeds.{Kept, kept, Deed, Nothing, TakesIn, Holds, Settles, Did}
 use Rattle.endpoint.specs.Matches.{AllMatch}
 use Rattle.told_lock.specs.declared.view.Told.{Told}
 use Rattle.told_lock.specs.declared.view.Known.{Known}
-use Rattle.told_lock.specs.Rule.{MaySee, MayStay, saw, counted}
+use Rattle.told_lock.specs.Rule.{Every, MaySee, MayStay, saw, counted}
 use Rattle.shared_endpoint.specs.Token.{hand_number, is_of, rows_of}
 
 -- ---- answers
@@ -50,6 +49,30 @@ IsDeedOf n (TakesIn row) = is_of n row.input ≡ true
 IsDeedOf n (Holds l) = n ≡ hand_number
 IsDeedOf n (Settles p k) = n ≡ hand_number
 
+-- what one call does: one deed at most, or where it takes in a group, several of the Hand's
+abbrev pub AreOneCalls : {C : Type 0} → List (Deed C) → Type 0
+AreOneCalls deeds = (length deeds ≤ 1) ⊎ Every (IsDeedOf hand_number) deeds
+
+module _ {S C : Type 0} (service : Service S C) where
+  -- these deeds lead, one after another, from what was kept to this
+  abbrev pub DidAll : Kept C → List (Deed C) → Kept C → Type 0
+  DidAll x [] y = y ≡ x
+  DidAll x (deed ∷ deeds) y = (between : Kept C) × Did service x deed between × DidAll between deeds y
+
+  -- a content after a call comes of one before it, by deeds one after another that one call may do, and that are
+  -- allowed
+  pub record CameAll (Allowed : List (Deed C) → Type 0) (old : Tables S C → Type 0) (now : Tables S C) : Type 0 where
+    pub before : Tables S C
+    pub deeds : List (Deed C)
+    pub was : old before
+    pub one_call : AreOneCalls deeds
+    pub may : Allowed deeds
+    pub did : DidAll (kept before) deeds (kept now)
+
+  -- each content that there is then comes so of one before
+  abbrev pub AllCame : (List (Deed C) → Type 0) → (old new : Tables S C → Type 0) → Type 0
+  AllCame Allowed old new = (t : Tables S C) → new t → CameAll Allowed old t
+
 -- what a token knows that gave this back: it has seen it, or what it has seen stays
 abbrev pub given : {E : Type 0} → Bool → E → Told E → Told E
 given true e t = saw e t
@@ -79,14 +102,14 @@ module _ {E S C : Type 0} (seen : E → Seen (Tables S C)) where
       pub clean : (seen b).doubt ≡ 0 → AllMatch service (seen a).may_leave
           → AllMatch service (seen b).may_leave × Stands n (kept (seen a).tables) (kept (seen b).tables)
 
-    -- an endpoint that failed: a stop leaves what it was, but for one deed at most
+    -- an endpoint that failed: a stop leaves what it was, but for what one call does
     pub record Broke (good e : E) : Type 0 where
       pub was : (seen good).usable ≡ true
       pub now : (seen e).usable ≡ false
       pub doubt : (seen good).doubt ≤ (seen e).doubt
       pub clean : (seen e).doubt ≡ 0 → AllMatch service (seen good).may_leave
           → AllMatch service (seen e).may_leave
-          × Comes HELD_WINDOW service (λ x d. ⊤) (seen good).may_leave (seen e).may_leave
+          × AllCame service (λ deeds. ⊤) (seen good).may_leave (seen e).may_leave
 
     -- the endpoint is the good one, or that which failed
     abbrev pub EndsAs : E → E → Type 0
@@ -124,13 +147,13 @@ module _ {E S C : Type 0} (seen : E → Seen (Tables S C)) where
 
     -- ---- between taking and giving back
 
-    -- one call of a token: its deed is the token's, and none where it was served and its answer doesn't tell
+    -- one call of a token: its deeds are the token's, and there are none where it was served and its answer doesn't tell
     pub record Steps (n : ℕ) (d e : E) (fault : Option EndFault) : Type 0 where
       pub doubt : (seen d).doubt ≤ (seen e).doubt
       pub used : IsUsed d e fault
       pub deeds : (seen e).doubt ≡ 0 → AllMatch service (seen d).may_leave
-          → Comes HELD_WINDOW service
-          (λ x deed. IsDeedOf n deed × (tells fault ≡ false → (seen e).usable ≡ true → deed ≡ Nothing))
+          → AllCame service
+          (λ deeds. Every (IsDeedOf n) deeds × (tells fault ≡ false → (seen e).usable ≡ true → deeds ≡ []))
           (seen d).may_leave (seen e).may_leave
       pub matches : StillMatches seen d e service
 

@@ -6,6 +6,8 @@ use Rattle.std.specs.Global.{Vec}
 use Rattle.base.specs.Entity.{Entity}
 use Rattle.base.specs.declared.limits.TheConstants.{HELD_WINDOW}
 use Rattle.base.specs.declared.pair.Pair.{Pair}
+use Rattle.envelope.specs.declared.message.Envelope.{Envelope}
+use Rattle.envelope.specs.declared.message.Envelope.TheVariants as envelope
 use Rattle.envelope.specs.declared.message.Letter.{Letter}
 use Rattle.activities.specs.Journal.{handled_of}
 use Rattle.activities.specs.Rows.{row_of}
@@ -22,15 +24,18 @@ use Rattle.endpoint.specs.declared.answer.Ingested.{Ingested}
 use Rattle.endpoint.specs.declared.fault.EndFault.{EndFault}
 use Rattle.endpoint.specs.declared.fault.EndFault.TheVariants.{NotMine, StoreFailed, Unusable}
 use Rattle.endpoint.specs.Answers.{CommitAt}
-use Rattle.endpoint.specs.Arrivals.{IngestMay, DrainMay, SettleMay}
+use Rattle.endpoint.specs.Arrivals.{IngestMay, DrainMay, SettleMay, row_of_letter}
 use Rattle.endpoint.specs.Calls.{Commits, DoesDeed, OfLetter, OfHeldLetter, OfSettle, Views, Counts}
 use Rattle.endpoint.specs.Deeds.{Kept, kept, Deed, Nothing, TakesIn, Holds, Settles, Did}
 use Rattle.endpoint.specs.Faults.{end_of}
 use Rattle.endpoint.specs.Matches.{TablesMatchJournal, AllMatch}
+use Rattle.group_commit.specs.Group.{Groups, TakesEach}
+use Rattle.group_commit.specs.declared.grouped.Grouped.{Grouped}
+use Rattle.group_commit.specs.declared.grouped.Grouped.TheVariants as grouped
 use Rattle.told_lock.specs.declared.view.Told.{Told}
 use Rattle.told_lock.specs.Rule.{Every}
 use Rattle.shared_endpoint.specs.Token.{hand_number, is_of, rows_of}
-use Rattle.shared_endpoint.specs.History.{fault_in, tells, Stands, Passes, Turn}
+use Rattle.shared_endpoint.specs.History.{fault_in, tells, Stands, AreOneCalls, DidAll, Passes, Turn}
 use Rattle.shared_endpoint.specs.Keys.{Any, Closes}
 
 -- ---- answers at one journal
@@ -47,6 +52,14 @@ list_after list rows Nothing = list
 list_after list rows (TakesIn row) = list ++ (suc rows, row) ∷ []
 list_after list rows (Holds l) = list
 list_after list rows (Settles p k) = list
+
+-- a list behind a group, with the row of each letter that was handled, at the position that is told of it
+abbrev pub list_grouped : {C : Type 0} → List (ℕ × JournalRow C) → List Envelope → List Grouped
+    → List (ℕ × JournalRow C)
+list_grouped list (envelope.Letter l ∷ es) (grouped.Handled position ∷ gs) =
+    list_grouped (list ++ (position, row_of_letter l) ∷ []) es gs
+list_grouped list (envelope.Settle p n ∷ es) (grouped.Settled mark ∷ gs) = list_grouped list es gs
+list_grouped list _ _ = list
 
 -- the rows of a list, without their positions
 abbrev pub listed : {C : Type 0} → List (ℕ × JournalRow C) → List (JournalRow C)
@@ -67,6 +80,13 @@ module _ {S C : Type 0} (service : Service S C) where
     pub allowed : may (kept t) deed
     pub did : Did service (kept t) deed (kept u)
     pub list : rows_of n 1 u.journal ≡ list_after (rows_of n 1 t.journal) (length t.journal) deed
+
+  -- A group of the Hand: its envelopes are taken in one after another, as one thread takes in each, and the Hand's list
+  -- has the row of each letter more.
+  abbrev pub GroupsAt : List Envelope → Result (Vec Grouped) EndFault → (t u : Tables S C) → Type 0
+  GroupsAt es (Ok told) t u = TakesEach service es told.items t u
+      × (rows_of hand_number 1 u.journal ≡ list_grouped (rows_of hand_number 1 t.journal) es told.items)
+  GroupsAt es (Err _) t u = ⊥
 
   -- a view: the entity's row by the journal
   abbrev pub ViewsAt : Entity → Result (Option S) EndFault → (t u : Tables S C) → Type 0
@@ -148,6 +168,10 @@ module _ {E S C : Type 0} (seen : E → Seen (Tables S C)) (service : Service S 
       (λ d e. DoesDeed seen d e HELD_WINDOW service OfSettle p.from (SettleMay service p number) result) result
       (DoesAt service hand_number (SettleMay service p number result))
 
+  abbrev pub GroupsAreOneThreads : Type 0
+  GroupsAreOneThreads = (es : List Envelope) (result : Result (Vec Grouped) EndFault)
+      → IsOneThreads hand_number (λ d e. Groups seen d e service es result) result (GroupsAt service es result)
+
   abbrev pub HandledIsTheLists : Type 0
   HandledIsTheLists = (p : Pair) (result : Result ℕ EndFault)
       → IsOneThreads hand_number (λ d e. Reads seen d e (λ t n. n ≡ t.handled p) (end_of result)) result
@@ -200,13 +224,14 @@ module _ {E S C : Type 0} (seen : E → Seen (Tables S C)) (service : Service S 
       Any (λ k. Any (λ item. item ≡ (pos, row)) (rows_of k.number 1 (seen k.seen).tables.journal)) tokens
       × AllListed tokens (suc pos) rows
 
-  -- What may be found of the endpoint: these tables, or where its store failed those with one deed more: one row taken
-  -- in, one letter held, or one mark raised.
+  -- What may be found of the endpoint: these tables, or where its store failed those with what one call does more: one
+  -- row taken in, one letter held, or one mark raised; or several of these one after another, all of them the Hand's.
   pub record IsLeft (before : Tables S C) (e : E) (t : Tables S C) : Type 0 where
     pub matches : TablesMatchJournal service t
-    pub deed : Deed C
-    pub did : Did service (kept before) deed (kept t)
-    pub none : (seen e).usable ≡ true → deed ≡ Nothing
+    pub deeds : List (Deed C)
+    pub one_call : AreOneCalls deeds
+    pub did : DidAll service (kept before) deeds (kept t)
+    pub none : (seen e).usable ≡ true → deeds ≡ []
 
   -- One history of all: tables that match their journal, of which all holds that any token has seen, so that each list
   -- stands in it; it has no other rows; and no more failures were seen by any than are counted.

@@ -8,18 +8,20 @@ ghost use Rattle.keep.specs.Listing.{AreFirst};
 ghost use Rattle.endpoint.specs.Arrivals.{IngestMay, DrainMay, SettleMay};
 ghost use Rattle.endpoint.specs.Calls.{Commits, DoesDeed, OfLetter, OfHeldLetter, OfSettle, Views, Counts};
 ghost use Rattle.endpoint.specs.Faults.{end_of};
+ghost use Rattle.group_commit.specs.Group.{Groups};
 ghost use Rattle.told_lock.specs.Rule.{Every};
-ghost use Rattle.shared_endpoint.specs.Mark.{raised_after, row_committed, row_handled, AreRowsDrained};
+ghost use Rattle.shared_endpoint.specs.Mark.{raised_after, row_committed, row_handled, rows_grouped, AreRowsDrained};
 ghost use Rattle.shared_endpoint.specs.Token.{hand_number, scout_number};
 ghost use Rattle.shared_endpoint.specs.History.{fault_in, Turns};
 
-use crate::mark::{row_committed, row_handled};
+use crate::mark::{row_committed, row_handled, rows_grouped};
 use crate::shared::{Shared, tells};
 use crate::tokens::{Hand, Scout, Seat};
 use activities::{Handler, JournalRow};
 use base::{Entity, Pair};
 use endpoint::{Committed, EndFault, Ingested};
-use envelope::Letter;
+use envelope::{Envelope, Letter};
+use group_commit::{Grouped, take_group};
 use keep::{Keep, Place};
 use std::alloc::Global;
 use std::sync::Wait;
@@ -182,6 +184,32 @@ where
         let told = tells(&mark);
         self.give(rt, &mut hand.key, boxed, told);
         mark
+    }
+
+    /// Takes in the first of these letters and settles, as many as can be taken in together, by one transaction: each as
+    /// `ingest` and `settle` take it in, one after another.
+    ///
+    /// # Errors
+    /// `StoreFailed`, `Memory` and `Unusable`, and no other.
+    pub fn take_group<R: Wait>(
+        &self,
+        rt: &R,
+        alloc: Global,
+        hand: &mut Hand<H, K>,
+        envelopes: &[Envelope],
+    ) -> Result<Vec<Grouped>, EndFault>
+        requires hand { IsHandOf self.now hand.old }
+        ensures hand { IsHandOf self.now hand.new }
+        ensures turn { Turns K.seen H.service hand_number (told_hand hand.old) (told_hand hand.new)
+            (λ d e. Groups K.seen d e H.service envelopes.now result) (fault_in result) }
+        ensures raised { hand_raised hand.new ≡ raised_after (hand_raised hand.old) (rows_grouped result) }
+    {
+        let mut boxed = self.lock.take(rt, &mut hand.key);
+        let grouped = take_group(alloc, &mut boxed.endpoint, envelopes);
+        let told = tells(&grouped);
+        self.give(rt, &mut hand.key, boxed, told);
+        self.raise(&mut hand.mark, rows_grouped(&grouped));
+        grouped
     }
 
     /// How many letters of a pair were handled here: `Endpoint::handled`.

@@ -2,7 +2,8 @@
 
 ghost use Rattle.shared_endpoint.specs.Promises.{CommitsAreOneThreads, ViewsAreOneThreads, LengthsAreOneThreads};
 ghost use Rattle.shared_endpoint.specs.Promises.{IngestsAreOneThreads, DrainsAreOneThreads, SettlesAreOneThreads};
-ghost use Rattle.shared_endpoint.specs.Promises.{HandledIsTheLists, UnsettledAreAboveMarks, JournalsAreOneThreads};
+ghost use Rattle.shared_endpoint.specs.Promises.{GroupsAreOneThreads, HandledIsTheLists, UnsettledAreAboveMarks};
+ghost use Rattle.shared_endpoint.specs.Promises.{JournalsAreOneThreads};
 ghost use Rattle.shared_endpoint.specs.Promises.{ClosesToOneHistory, FailuresAreCounted, FailuresAreForGood, TokensStayGood};
 
 use activities::Handler;
@@ -56,6 +57,15 @@ where
     H: Handler,
     K: Keep<State = H::State, Command = H::Command> + Drop,
     ensures { SettlesAreOneThreads K.seen H.service }
+{}
+
+/// The letters and settles of a group are answered one after another as each alone is, and the Hand's list has the row of
+/// each letter more.
+pub fn groups_are_one_threads<H, K>()
+where
+    H: Handler,
+    K: Keep<State = H::State, Command = H::Command> + Drop,
+    ensures { GroupsAreOneThreads K.seen H.service }
 {}
 
 /// The letters of a pair that were handled are those of the Hand's list.

@@ -35,9 +35,9 @@ mod tokens;
 
 pub use laws::{
     closes_to_one_history, commits_are_one_threads, drains_are_one_threads, failures_are_counted,
-    failures_are_for_good, handled_is_the_lists, ingests_are_one_threads, journals_are_one_threads,
-    lengths_are_one_threads, settles_are_one_threads, tokens_stay_good, unsettled_are_above_marks,
-    views_are_one_threads,
+    failures_are_for_good, groups_are_one_threads, handled_is_the_lists, ingests_are_one_threads,
+    journals_are_one_threads, lengths_are_one_threads, settles_are_one_threads, tokens_stay_good,
+    unsettled_are_above_marks, views_are_one_threads,
 };
 pub use shared::Shared;
 pub use tokens::{Hand, Scout, Seat};

@@ -1,15 +1,17 @@
 //! The mark of the journal's length, which calls raise and the Scout reads without the lock.
 
-ghost use Rattle.std.specs.Prelude.{◌≡◌, ◌≤◌, ◌∷◌, [], ◌++◌, true, IfOk};
+ghost use Rattle.std.specs.Prelude.{◌≡◌, ◌≤◌, ◌∷◌, [], ◌++◌, true, None, IfOk};
 ghost use Rattle.marks.specs.Entries.{entry, greatest};
 ghost use Rattle.marks.specs.Seats.{raised_by};
-ghost use Rattle.shared_endpoint.specs.Mark.{raised_after, row_committed, row_handled, AreRowsDrained};
+ghost use Rattle.shared_endpoint.specs.Mark.{raised_after, row_committed, row_handled, last_handled, rows_grouped};
+ghost use Rattle.shared_endpoint.specs.Mark.{AreRowsDrained};
 
 use crate::boxed::Boxed;
 use crate::shared::Shared;
 use crate::tokens::Scout;
 use activities::Handler;
 use endpoint::{Committed, EndFault, Ingested};
+use group_commit::Grouped;
 use keep::Keep;
 use marks::MarkSeat;
 
@@ -33,6 +35,29 @@ pub(crate) fn row_handled(answer: &Result<Ingested, EndFault>) -> Option<u64>
     match answer {
         Ok(Ingested::Handled(pos)) => Some(*pos),
         Ok(Ingested::Repeated(_) | Ingested::Held) | Err(_) => None,
+    }
+}
+
+/// The last of the positions that are told.
+fn last_handled(told: &[Grouped]) -> Option<u64>
+    ensures { result ≡ last_handled None told.now }
+{
+    let mut last = None;
+    for grouped in told {
+        if let Grouped::Handled(position) = grouped {
+            last = Some(*position);
+        }
+    }
+    last
+}
+
+/// The position of the last row that taking in a group added.
+pub(crate) fn rows_grouped(answer: &Result<Vec<Grouped>, EndFault>) -> Option<u64>
+    ensures { result ≡ rows_grouped answer.now }
+{
+    match answer {
+        Ok(told) => last_handled(told.as_slice()),
+        Err(_) => None,
     }
 }
 

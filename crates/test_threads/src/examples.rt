@@ -1,6 +1,9 @@
 //! The examples of the libraries' pages, and what they give.
 
 use crate::threads::Alone;
+use endpoint::EndFault;
+use envelope::{Envelope, Letter};
+use group_commit::{Grouped, take_group};
 use intake::{Intake, Taken};
 use shared_endpoint::Shared;
 use std::alloc::Global;
@@ -61,4 +64,14 @@ pub fn what_a_reader_puts_is_taken<R: Wait>(rt: &R, alloc: Global) -> Option<(u6
     let _second = zero.put(rt, 8);
     let slip = worker.take(rt)?;
     Some((slip.arrival, worker.close(zero, one)))
+}
+
+pub fn two_letters_are_taken_in_together(
+    alloc: Global,
+    endpoint: &mut Alone,
+    first: Letter,
+    second: Letter,
+) -> Result<Vec<Grouped>, EndFault> {
+    let group = [Envelope::Letter(first), Envelope::Letter(second)];
+    take_group(alloc, endpoint, &group)
 }

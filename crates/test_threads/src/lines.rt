@@ -2,9 +2,11 @@
 
 use crate::beside::tell_beside;
 use crate::examples::{
-    a_token_takes_the_value, the_scout_reads_the_outbox, what_a_reader_puts_is_taken,
+    a_token_takes_the_value, the_scout_reads_the_outbox, two_letters_are_taken_in_together,
+    what_a_reader_puts_is_taken,
 };
 use crate::fault::CallFault;
+use crate::grouping::{request, tell_groups};
 use crate::intake_lines::tell_intake;
 use crate::marking::tell_mark;
 use crate::tally::{Tally, counted};
@@ -29,6 +31,15 @@ pub fn empty(alloc: Global) -> Alone {
 pub fn push_rows(alloc: Global, out: &mut String, endpoint: &mut Alone) -> Result<(), CallFault> {
     let rows = endpoint.journal(alloc, 1, usize::MAX)?;
     Ok(write!(out, " rows {} ordered {}", rows.len(), ordered(&rows))?)
+}
+
+/// Which tables a failed transaction leaves.
+pub fn leaves(word: &str) -> Result<Leaves, LineFault> {
+    match word {
+        "old" => Ok(Leaves::Old),
+        "new" => Ok(Leaves::New),
+        _ => Err(LineFault::Unknown),
+    }
 }
 
 /// A run over tables that don't fail.
@@ -65,11 +76,7 @@ fn fail<R: Wait + Threads + Sync>(
     words: [&str; 4],
 ) -> Result<(), CallFault> {
     let [call, word, seats, commands] = words;
-    let leaves = match word {
-        "old" => Leaves::Old,
-        "new" => Leaves::New,
-        _ => return Err(LineFault::Unknown.into()),
-    };
+    let leaves = leaves(word)?;
     let work = Work {
         seats: size(seats)?,
         commands: natural(commands)?,
@@ -99,7 +106,10 @@ fn show_pages<R: Wait>(rt: &R, alloc: Global, out: &mut String) -> Result<(), Ca
     let value = a_token_takes_the_value(rt, alloc);
     let letters = the_scout_reads_the_outbox(rt, alloc, empty(alloc));
     let taken = what_a_reader_puts_is_taken(rt, alloc);
-    Ok(write!(out, "{value:?} {letters:?} {taken:?}")?)
+    let first = request(alloc, "order/o1", "stock/a", "1")?;
+    let second = request(alloc, "order/o1", "stock/b", "1")?;
+    let told = two_letters_are_taken_in_together(alloc, &mut empty(alloc), first, second)?;
+    Ok(write!(out, "{value:?} {letters:?} {taken:?} {told:?}")?)
 }
 
 /// What a line answers.
@@ -125,6 +135,7 @@ fn answer<R: Wait + Threads + Sync>(
         )?,
         ["beside", words @ ..] => tell_beside(rt, alloc, &mut out, words)?,
         ["mark", words @ ..] => tell_mark(rt, alloc, &mut out, words)?,
+        ["group", words @ ..] => tell_groups(alloc, &mut out, words)?,
         ["intake", words @ ..] => tell_intake(rt, alloc, &mut out, words)?,
         ["pages"] => show_pages(rt, alloc, &mut out)?,
         _ => return Err(LineFault::Unknown.into()),

@@ -1,4 +1,5 @@
-//! Reads lines that name runs of many threads over one service or an intake, and prints what came of each.
+//! Reads lines that name runs of many threads over one service or an intake, or groups of letters, and prints what came of
+//! each.
 //!
 //! A comment, which begins with `#`, and an empty line are printed as they are. Each other line has one answer: what
 //! the run came to, or the text of its fault. So the answer to a line of `stdin` stands at the same line of `stdout`,
@@ -13,6 +14,12 @@
 //!   the toolchain's lock;
 //! - `mark SEATS COUNT LETTERS`: the mark of the journal's length at first, behind such a run once its threads are joined,
 //!   and then, by one thread, behind a letter 2 of a pair, which is held, letter 1, the held one, and letter 1 again;
+//! - `group ITEM .. then ITEM ..`: over empty tables groups of items are taken in, one behind the other. `ORDER>STOCK:N` is
+//!   the letter N of an order to a stock, which asks for one, and `ORDER<STOCK:N` settles what the stock sent to the order
+//!   up to N. Of each item that was taken in it's told that it was `handled`, with the position of its row, or `settled`,
+//!   or else `none` of a group; and then how many `rows` the journal has;
+//! - `group fail CALL LEAVES ITEM .. then ITEM ..`: the same over a store whose CALL-th call fails, as in `fail`: `failed`
+//!   and `unusable` are told of a group then, and the rows behind the store's opening again;
 //! - `intake threads ZERO ONE`: an intake's readers put ZERO and ONE arrivals, and its worker takes them all, each in a
 //!   thread of its own;
 //! - `intake alone COUNT TAKES`: one thread puts COUNT arrivals by each reader in turn, and takes so many times;
@@ -36,6 +43,7 @@ mod arrivals;
 mod beside;
 mod examples;
 mod fault;
+mod grouping;
 mod intake_lines;
 mod lines;
 mod marking;

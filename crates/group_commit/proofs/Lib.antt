@@ -1,0 +1,5 @@
+mod Apart
+pub mod Reading
+mod Steps
+mod Gathering
+pub mod Writing

@@ -1,0 +1,62 @@
+-- each exit behind the numbers: there is no step, or the step is that of its lemma
+use Rattle.std.proofs.Common.{◌≡◌, ◌+◌, ◌-◌, ◌^◌, ◌++◌, ◌∷◌, [], ◌∙◌, ap, arith, min, sym, subst, ℕ, List, Ok}
+use Rattle.base.specs.Number.{IsNumber}
+use Rattle.activities.specs.Reaction.{react}
+use Rattle.activities.specs.Rows.{row_for}
+use Rattle.activities.specs.declared.input.Input.{Input}
+use Rattle.activities.specs.declared.outs.Out.{Out}
+use Rattle.keep.specs.declared.change.Change.{Change}
+use Rattle.keep.specs.declared.change.Change.TheVariants.{Journal, State}
+use Rattle.outbox.specs.Numbering.{numbering}
+use Rattle.group_commit.proofs.Steps.{letter_step}
+use Rattle.group_commit.proofs.planning.react.Goals as goal
+
+pub returns-in-Ok-false : goal.returns-in-Ok-false
+returns-in-Ok-false g c =
+    let e = c.in-Ok-false.ensures in
+    record { call = e.call; doubt = e.doubt; clean = λ clean. ((λ next found. tt), (e.clean clean).1) }
+
+-- the position is the one behind so many rows
+position_is : (n v p : ℕ) → v ≡ min (n + 1) (2 ^ 64 - 1) → (p ≡ v) × IsNumber v → p ≡ n + 1
+position_is n v p is h = let a = h.0 in let b = h.1.small in omega (arith, is, a, b)
+
+pub returns-in-Ok-add_rows : goal.returns-in-Ok-add_rows
+returns-in-Ok-add_rows g c =
+    let S = g.row.H-State.Denot in
+    let C = g.row.H-Command.Denot in
+    let service = g.H.Handler.service in
+    let t = (g.K.Keep.seen c.args.keep.now).tables in
+    let l = c.args.letter.now in
+    let e = c.in-Ok-true.ensures in
+    let a = c.in-Ok-apply.ensures in
+    let at = c.in-Some.ensures in
+    let is : c.get.result ≡ c.in-Some.position = c.get.ensures.value in
+    let R : Input C → Type 0 = λ input. react service.reactions c.args.state input ≡ Ok (c.apply.new.state, a.0) in
+    let last : ℕ → Input C → List (Change S C) = λ position input.
+    State l.pair.to (row_for service.is_none c.apply.new.state)
+    ∷ Journal position (record { entity = l.pair.to; input = input }) ∷ [] in
+    record {
+      call = e.call;
+      doubt = e.doubt;
+      clean = λ clean.
+          let told = e.clean clean in
+          let fit = told.0 c.in-Ok-true.field-0-test in (
+            letter_step service g.met.H.Handler.none_is_opening t c.args._before.now l c.requires.kind c.requires.apart
+                c.args.rows c.args.state (c.apply.new.state, a.0) c.get.result c.as_slice.result.now
+                c.number.new.changes.items c.add_rows.new.changes.items (subst R c.in-Ok.ensures a.1)
+                (subst IsNumber (sym (is ∙ at.0)) at.1)
+                (is ∙ position_is c.args.rows c.saturating_add.result c.in-Some.position c.saturating_add.ensures at)
+                (c.as_slice.ensures.value ∙ a.2 ∙ ap (λ (os : List Out). os ++ a.0) c.new-outs.ensures)
+                (fit.0 ∙ ap (λ (cs : List (Change S C)). cs ++ numbering t.sent l.pair.to c.as_slice.result.now)
+                c.in-Ok-take_in.ensures) fit.1
+                (c.in-Ok-add_rows.ensures
+                ∙ ap (λ n. c.number.new.changes.items ++ last n c.in-Ok.input) (sym is)
+                ∙ ap (λ (i : Input C). c.number.new.changes.items ++ last c.get.result i) c.in-Ok.ensures),
+            told.1,
+          );
+    }
+
+pub returns : goal.returns
+returns g c =
+    let e = c.in-Ok-true.ensures in
+    record { call = e.call; doubt = e.doubt; clean = λ clean. (e.clean clean).1 }

@@ -1,0 +1,10 @@
+//! What is told of an envelope that was taken in with others.
+
+/// What is told of an envelope that was taken in with others.
+#[derive(Clone, Copy, Debug, PartialEq, Eq)]
+pub enum Grouped {
+    /// The letter was handled: this is the position of its row in the journal.
+    Handled(u64),
+    /// What was sent on the pair is settled, up to this number.
+    Settled(u64),
+}

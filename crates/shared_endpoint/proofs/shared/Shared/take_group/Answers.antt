@@ -1,0 +1,38 @@
+use Rattle.std.proofs.Common.{◌∙◌}
+use Rattle.shared_endpoint.specs.Token.{hand_number}
+use Rattle.shared_endpoint.proofs.Passing.{token_gives, token_turns, token_stays}
+use Rattle.shared_endpoint.proofs.Grouping.{group_steps}
+use Rattle.shared_endpoint.proofs.shared.Shared.take_group.Goals as goal
+
+pub give-requires-clause-may : goal.give-requires-clause-may
+give-requires-clause-may g c =
+    let k = g.K.Keep in
+    let h = g.H.Handler in
+    let same = c.deref_mut.ensures.value ∙ c.boxed.view_is in
+    token_gives k.seen h.service g.met.K.Keep.sound c.args.self.now.lock
+    hand_number c.args.hand.now.key _ _ _ _ _ _
+    c.requires.hand.0 c.take-boxed.ensures.took same c.tells-told.ensures
+    (group_steps k.seen h.service g.met.K.Keep.sound _ _ c.args.envelopes.now c.take_group-grouped.result
+    c.take_group-grouped.ensures.groups c.take_group-grouped.ensures.matches)
+
+pub returns-clause-hand : goal.returns-clause-hand
+returns-clause-hand g c =
+    let k = g.K.Keep in
+    let h = g.H.Handler in (
+      token_stays k.seen h.service g.met.K.Keep.sound c.args.self.now.lock
+          hand_number c.args.hand.now.key c.give.new.key _ _ _ _
+          c.requires.hand.0 c.take-boxed.ensures.took c.give.ensures.key c.give.ensures.gave,
+      c.raise.ensures.mark,
+    )
+
+pub returns-clause-turn : goal.returns-clause-turn
+returns-clause-turn g c =
+    let k = g.K.Keep in
+    let h = g.H.Handler in
+    let same = c.deref_mut.ensures.value ∙ c.boxed.view_is in
+    token_turns k.seen h.service g.met.K.Keep.sound c.args.self.now.lock
+    hand_number c.args.hand.now.key c.give.new.key _ _ _ _ _ _
+    _ c.requires.hand.0 c.take-boxed.ensures.took same c.tells-told.ensures
+    (group_steps k.seen h.service g.met.K.Keep.sound _ _ c.args.envelopes.now c.take_group-grouped.result
+    c.take_group-grouped.ensures.groups c.take_group-grouped.ensures.matches)
+    c.take_group-grouped.ensures.groups c.give.ensures.gave
