@@ -40,6 +40,8 @@ pub struct Board {
     answered: AtomicU64,
     /// How many are open.
     open: AtomicU64,
+    /// How many settles were taken.
+    settles: AtomicU64,
     has_ended: AtomicBool,
     is_over: AtomicBool,
     is_broken: AtomicBool,
@@ -64,6 +66,7 @@ impl Board {
             asked: AtomicU64::new(1),
             answered: AtomicU64::new(0),
             open: AtomicU64::new(0),
+            settles: AtomicU64::new(0),
             has_ended: AtomicBool::new(false),
             is_over: AtomicBool::new(false),
             is_broken: AtomicBool::new(false),
@@ -160,6 +163,16 @@ impl Board {
     /// A connection was opened.
     pub fn note_opened<R: Clock>(&self, rt: &R) {
         self.opened.store(self.now(rt), Ordering::SeqCst);
+    }
+
+    /// A settle was taken.
+    pub fn note_settle(&self) {
+        self.settles.fetch_add(1, Ordering::SeqCst);
+    }
+
+    /// How many settles were taken so far.
+    pub fn settles(&self) -> u64 {
+        self.settles.load(Ordering::SeqCst)
     }
 
     /// There is nothing to do before this time, in milliseconds since the beginning.

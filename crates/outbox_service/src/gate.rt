@@ -61,6 +61,10 @@ impl<R: Wait + Clock + Log> Gate<R> for Turn<'_> {
         self.board.wake_seat();
     }
 
+    fn after_settle(&self, _rt: &R) {
+        self.board.note_settle();
+    }
+
     fn rest(&self, rt: &R, who: Resting) {
         match who {
             Resting::Full(_) => thread::sleep(rt, Duration::from_micros(MOMENT)),

@@ -1,7 +1,7 @@
 //! A service of a transactional outbox: it talks to a broker of STOMP 1.2 on two sockets, and answers lines.
 //!
 //! ```text
-//! outbox-service --service purchasing|warehouse|billing --port PORT [--file PATH] [--broker HOST]
+//! outbox-service --service purchasing|warehouse|billing --port PORT [--file PATH] [OPTIONS]
 //! ```
 //!
 //! It opens two connections to a host's port (127.0.0.1 where no other is named), prints `connected N`, and then answers
@@ -14,12 +14,17 @@
 //! - What was answered `committed` is in the tables: in the file of `--file`, or in memory until the program ends.
 //! - Letters are sent until their receivers have settled them, and each is handled once, in order of its pair. Four threads
 //!   do that (`service_workers`); this program adds its sockets, its lines and its patience.
-//! - A connection that ends is opened again by itself, at intervals that double from 100 milliseconds to 5 seconds. Where
-//!   the first letter that isn't settled is the same for half a minute, both connections are opened anew and so all letters
-//!   are sent again; that half minute doubles too, up to an hour, as long as this letter stays.
+//! - A connection that ends is opened again by itself, at intervals that double from 100 milliseconds to 5 seconds. It's
+//!   opened anew where CONNECT isn't answered for 10 seconds, where nothing came for one to two minutes, and once an hour.
+//! - Where the first letter that isn't settled is the same for half a minute, and no other was settled, both connections are
+//!   opened anew and so all letters are sent again; that half minute doubles, up to an hour, as long as this letter stays.
 //! - What happens to connections is told on standard error, as lines with a level.
 //! - At the end of the input, what was taken from the connections is handled, the broker is told by DISCONNECT, its receipt
-//!   is awaited for a second at most, and the program ends with status 0. It may be killed at any time. The store's failure ends it with status 1: started again, it opens its file anew.
+//!   is awaited for a second at most, and the program ends with status 0. It may be killed at any time. The store's failure
+//!   ends it with status 1: started again, it opens its file anew.
+//! - Over a broker of other hands, of which nothing is proved: where each frame that a service reads carries what one of the
+//!   three wrote, or none, each service handles a beginning of what the others' journals send, once each and in order, and
+//!   the partners of each order agree (`laws_services`).
 //!
 //! Exit status: 0 at the end of the input; 1 where the file can't be opened, the store failed, or a stream or the system
 //! did; 2 where the words of the command line are at fault.
@@ -32,6 +37,7 @@ mod fault;
 mod gate;
 mod input;
 mod overdue;
+mod pulse;
 mod rest;
 mod running;
 mod serving;

@@ -17,10 +17,12 @@ const FIRST: u64 = 30_000;
 /// The longest that this grows to: while a partner is away, its queue isn't to be filled with copies.
 const LONGEST: u64 = 3_600_000;
 
-/// The first letter that wasn't settled when it was looked last, and when it is looked again.
+/// The first letter that wasn't settled when it was looked last, how many settles were taken until then, and when it is
+/// looked again.
 #[derive(Drop)]
 pub struct Overdue {
     first: Option<Place>,
+    settles: u64,
     next: u64,
     pause: u64,
 }
@@ -30,6 +32,7 @@ impl Overdue {
     pub fn new() -> Overdue {
         Overdue {
             first: None,
+            settles: 0,
             next: 0,
             pause: FIRST,
         }
@@ -40,20 +43,23 @@ impl Overdue {
         self.next
     }
 
-    /// The first letter that isn't settled is at this place; whether it was at the last look too.
-    fn found(&mut self, first: Option<Place>) -> bool {
+    /// The first letter that isn't settled is at this place, and so many settles were taken: whether letters are overdue.
+    /// Where some were settled meanwhile the receivers are at work, and the first may just wait for its turn.
+    fn found(&mut self, first: Option<Place>, settles: u64) -> bool {
         let is_same = first.is_some() && first == self.first;
-        self.pause = if is_same {
-            self.pause.saturating_mul(2).min(LONGEST)
-        } else {
-            FIRST
-        };
+        let is_overdue = is_same && settles == self.settles;
+        if is_overdue {
+            self.pause = self.pause.saturating_mul(2).min(LONGEST);
+        } else if !is_same {
+            self.pause = FIRST;
+        }
         self.first = first;
-        is_same
+        self.settles = settles;
+        is_overdue
     }
 
-    /// Where it's time, looks whether the first letter that isn't settled is that of the last look: so a settle may be
-    /// lost, and it has to be sent again.
+    /// Where it's time, looks whether the first letter that isn't settled is that of the last look, and none was settled
+    /// since: so a settle may be lost, and it has to be sent again.
     pub fn look<H, K, R: Wait + Clock>(
         &mut self,
         rt: &R,
@@ -72,12 +78,12 @@ impl Overdue {
         if now < self.next {
             return false;
         }
-        let is_same = match shared.unsettled(rt, alloc, scout, &None, 1) {
-            Ok(letters) => self.found(first_place(letters)),
+        let is_overdue = match shared.unsettled(rt, alloc, scout, &None, 1) {
+            Ok(letters) => self.found(first_place(letters), board.settles()),
             Err(_) => false,
         };
         self.next = now.saturating_add(self.pause);
-        is_same
+        is_overdue
     }
 }
 

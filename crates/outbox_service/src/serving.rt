@@ -5,6 +5,7 @@ ghost use Rattle.shared_endpoint.specs.Keys.{IsHandOf, IsScoutOf};
 use crate::board::Board;
 use crate::gate::Turn;
 use crate::overdue::Overdue;
+use crate::pulse::{Pulse, Silence};
 use crate::sockets::{Broker, Socket, open};
 use activities::Handler;
 use keep::Keep;
@@ -23,56 +24,131 @@ const MOMENT: u64 = 100;
 /// How long it's waited at most until the broker has answered DISCONNECT, in milliseconds.
 const PARTING: u64 = 1_000;
 
+/// The place of one of the two connections.
+#[derive(Drop)]
+struct Slot {
+    number: u8,
+    conn: Option<Conn<Socket>>,
+    pulse: Pulse,
+}
+
+impl Slot {
+    /// It's empty.
+    fn new(number: u8) -> Slot {
+        Slot {
+            number,
+            conn: None,
+            pulse: Pulse::new(0),
+        }
+    }
+
+    /// Opens the connection where it isn't open. Whether it is then.
+    fn open<R: Clock + Log>(
+        &mut self,
+        rt: &R,
+        host: &HostRuntime,
+        alloc: Global,
+        broker: Broker<'_>,
+        board: &Board,
+    ) -> bool {
+        if self.conn.is_some() {
+            return true;
+        }
+        let number = self.number;
+        match open(host, alloc, broker, board, number) {
+            Ok(opened) => {
+                info!(rt; "connection {number} is open");
+                board.note_opened(rt);
+                self.conn = Some(opened);
+                self.pulse = Pulse::new(board.now(rt));
+                true
+            }
+            Err(error) => {
+                warn!(rt; "connection {number} can't be opened: {error}");
+                false
+            }
+        }
+    }
+
+    /// Puts a connection there, if it is one.
+    fn put(&mut self, conn: Option<Conn<Socket>>) {
+        self.conn = conn;
+    }
+
+    /// When it's to be looked at next.
+    fn next(&self) -> u64 {
+        match &self.conn {
+            Some(conn) => self.pulse.last(conn.is_connected()),
+            None => u64::MAX,
+        }
+    }
+
+    /// Takes leave of a connection on which nothing comes.
+    fn look<R: Wait + Clock + Log>(&mut self, rt: &R, alloc: Global, board: &Board) {
+        let now = board.now(rt);
+        let Some(conn) = &mut self.conn else {
+            return;
+        };
+        if conn.has_come() {
+            self.pulse.hear(now);
+        }
+        if let Some(silence) = self.pulse.silence(conn.is_connected(), now) {
+            tell_silence(rt, self.number, silence);
+            self.leave(rt, alloc, board);
+        }
+    }
+
+    /// Takes leave of the broker, and waits until it has answered, for some time at most: a socket that is closed while
+    /// octets wait in it unread is reset, and the broker may lose what was written last.
+    fn leave<R: Wait + Clock>(&mut self, rt: &R, alloc: Global, board: &Board) {
+        let Some(mut conn) = self.conn.take() else {
+            return;
+        };
+        let Ok(receipt) = conn.leave() else {
+            return;
+        };
+        let last = board.now(rt).saturating_add(PARTING);
+        for _ in rt.forever() {
+            if conn.has_left(alloc, receipt) || board.now(rt) >= last {
+                break;
+            }
+            // There may be more where something came.
+            if !conn.has_come() {
+                let moment = Duration::from_millis(MOMENT);
+                board.rest(self.number).wait(rt, moment);
+            }
+        }
+    }
+}
+
+/// Tells why a connection is opened anew.
+fn tell_silence<R: Log>(rt: &R, number: u8, silence: Silence) {
+    match silence {
+        Silence::Unanswered => {
+            warn!(rt; "connection {number}: CONNECT isn't answered: it's opened anew")
+        }
+        Silence::Quiet => info!(rt; "connection {number}: nothing comes: it's opened anew"),
+        Silence::Old => info!(rt; "connection {number} is an hour old: it's opened anew"),
+    }
+}
+
 /// The two connections of the service.
 #[derive(Drop)]
 struct Conns {
-    zero: Option<Conn<Socket>>,
-    one: Option<Conn<Socket>>,
-}
-
-/// Opens the connection of a number where it isn't open. Whether it is then.
-fn open_one<R: Clock + Log>(
-    rt: &R,
-    host: &HostRuntime,
-    alloc: Global,
-    broker: Broker<'_>,
-    board: &Board,
-    number: u8,
-    conn: &mut Option<Conn<Socket>>,
-) -> bool {
-    if conn.is_some() {
-        return true;
-    }
-    match open(host, alloc, broker, board, number) {
-        Ok(opened) => {
-            info!(rt; "connection {number} is open");
-            board.note_opened(rt);
-            *conn = Some(opened);
-            true
-        }
-        Err(error) => {
-            warn!(rt; "connection {number} can't be opened: {error}");
-            false
-        }
-    }
+    zero: Slot,
+    one: Slot,
 }
 
 impl Conns {
     /// None is open.
     fn none() -> Conns {
         Conns {
-            zero: None,
-            one: None,
+            zero: Slot::new(0),
+            one: Slot::new(1),
         }
     }
 
-    /// These.
-    fn of(conns: [Option<Conn<Socket>>; 2]) -> Conns {
-        let [zero, one] = conns;
-        Conns { zero, one }
-    }
-
-    /// Opens those that aren't open. Where all are, there is nothing to do before this time.
+    /// Opens those that aren't open. Where all are, there is nothing to do before this time but to look at them.
     fn open<R: Clock + Log>(
         &mut self,
         rt: &R,
@@ -83,14 +159,40 @@ impl Conns {
         due: u64,
     ) {
         let asked = board.asked();
-        let zero = open_one(rt, host, alloc, broker, board, 0, &mut self.zero);
-        let one = open_one(rt, host, alloc, broker, board, 1, &mut self.one);
+        let zero = self.zero.open(rt, host, alloc, broker, board);
+        let one = self.one.open(rt, host, alloc, broker, board);
         if zero && one {
-            board.set_due(due);
+            board.set_due(due.min(self.zero.next()).min(self.one.next()));
         } else {
             board.put_off(rt);
         }
         board.answer(asked, u64::from(zero).saturating_add(u64::from(one)));
+    }
+
+    /// Those that are open, which leave their places.
+    fn take(&mut self) -> [Option<Conn<Socket>>; 2] {
+        let zero = self.zero.conn.take();
+        let one = self.one.conn.take();
+        [zero, one]
+    }
+
+    /// Puts these in their places.
+    fn put(&mut self, conns: [Option<Conn<Socket>>; 2]) {
+        let [zero, one] = conns;
+        self.zero.put(zero);
+        self.one.put(one);
+    }
+
+    /// Takes leave of those on which nothing comes.
+    fn look<R: Wait + Clock + Log>(&mut self, rt: &R, alloc: Global, board: &Board) {
+        self.zero.look(rt, alloc, board);
+        self.one.look(rt, alloc, board);
+    }
+
+    /// Takes leave of all.
+    fn leave<R: Wait + Clock>(&mut self, rt: &R, alloc: Global, board: &Board) {
+        self.zero.leave(rt, alloc, board);
+        self.one.leave(rt, alloc, board);
     }
 }
 
@@ -117,38 +219,14 @@ where
 {
     let stop = Stop::new();
     let turn = Turn::new(board, &stop);
-    let given = [conns.zero.take(), conns.one.take()];
+    let given = conns.take();
     let (hand, scout, ended) = run_service(rt, alloc, shared, hand, scout, given, &turn, &stop);
     match ended {
-        Ok(left) => *conns = Conns::of(left),
+        Ok(left) => conns.put(left),
         // Memory was refused: the connections are gone, and it's tried again in a moment.
         Err(_) => thread::sleep(rt, Duration::from_millis(MOMENT)),
     }
     (hand, scout)
-}
-
-/// Takes leave of the broker on a connection, and waits until it has answered, for some time at most: a socket that is
-/// closed while octets wait in it unread is reset, and the broker may lose what was written last.
-fn leave<R: Wait + Clock>(
-    rt: &R,
-    alloc: Global,
-    board: &Board,
-    number: u8,
-    conn: Option<Conn<Socket>>,
-) {
-    let Some(mut conn) = conn else {
-        return;
-    };
-    let Ok(receipt) = conn.leave() else {
-        return;
-    };
-    let last = board.now(rt).saturating_add(PARTING);
-    for _ in rt.forever() {
-        if conn.has_left(alloc, receipt) || board.now(rt) >= last {
-            break;
-        }
-        board.rest(number).wait(rt, Duration::from_millis(MOMENT));
-    }
 }
 
 /// Keeps the service connected, until all ends.
@@ -183,11 +261,10 @@ where
             info!(rt; "letters aren't settled for long: they are sent again, on new connections");
             conns = Conns::none();
         }
+        conns.look(rt, alloc, board);
         conns.open(rt, host, alloc, broker, board, overdue.next());
         tokens = run_turn(rt, alloc, shared, hand, scout, &mut conns, board);
     }
-    let Conns { zero, one } = conns;
-    leave(rt, alloc, board, 0, zero);
-    leave(rt, alloc, board, 1, one);
+    conns.leave(rt, alloc, board);
     board.close();
 }

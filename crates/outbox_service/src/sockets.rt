@@ -1,7 +1,9 @@
 //! Connections to the broker.
 
 ghost use Rattle.std.specs.Prelude.{◌≡◌, IfOk};
+ghost use Rattle.std.specs.Option.{option_copied};
 ghost use Rattle.stomp_frame.specs.declared.command.Command.TheVariants.{Connect};
+ghost use Rattle.stomp_client.specs.Frames.{connect_frame_to, connect_refused, IsMadeUnless};
 
 use crate::board::Board;
 use base::limits::MAX_BODY;
@@ -44,7 +46,10 @@ impl Broker<'_> {
     /// # Errors
     /// Where one of the values can't stand in a frame, or memory was refused.
     pub fn greet(&self, alloc: Global) -> Result<Frame<MAX_BODY>, FrameFault>
-        ensures { IfOk result (λ frame. frame.command ≡ Connect) }
+        ensures made { IsMadeUnless
+            (connect_refused self.now.host.now (option_copied self.now.login) (option_copied self.now.passcode))
+            (connect_frame_to self.now.host.now (option_copied self.now.login) (option_copied self.now.passcode)) result }
+        ensures command { IfOk result (λ frame. frame.command ≡ Connect) }
     {
         connect_frame_to(alloc, self.host, self.login, self.passcode)
     }

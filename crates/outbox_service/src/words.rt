@@ -26,8 +26,9 @@ const VERSION: &str = "0.1.0";
 const LINES: &str = "\
 It opens two connections to the broker, prints `connected N`, how many are open then, and answers
 the lines of its standard input, each by a line on standard output. A connection that ends is
-opened again by itself, at growing intervals of 100 milliseconds to 5 seconds. What happens to
-connections is told on standard error, as lines with a level.
+opened again by itself, at growing intervals of 100 milliseconds to 5 seconds, and one on which
+the broker is mute is opened anew. What happens to connections is told on standard error, as lines
+with a level.
 
 Lines:
   place KEY STOCK N .. ACCOUNT AMOUNT  purchasing: an order asks for N of each of one to eight

@@ -1,1 +1,2 @@
 mod Further
+mod Batching

@@ -1,5 +1,5 @@
 -- What contracts read of a connection.
-use Rattle.std.specs.Prelude.{◌≡◌, ℕ, Ok, Option, None}
+use Rattle.std.specs.Prelude.{◌≡◌, ℕ, Bool, Ok, Option, None}
 use Rattle.base.specs.declared.pair.Pair.{Pair}
 use Rattle.stomp_frame.specs.Frames.{Content}
 use Rattle.stomp_client.specs.Calls.{ConnectsBy}
@@ -19,6 +19,10 @@ sent_of c p = marks_of c.relay p
 -- its client
 abbrev pub client_of : {L : Type 0} → Conn L → Client ℕ
 client_of c = c.channel.client.client
+
+-- whether octets came that nobody was told of
+abbrev pub came : {L : Type 0} → Conn L → Bool
+came c = c.has_come
 
 -- over this link nothing but this CONNECT was written, nothing was sent, and it will ask for this prefetch
 pub record IsNewConnBy {L : Type 0} (connect : Content) (prefetch : Option ℕ) (link : L) (c : Conn L) : Type 0 where

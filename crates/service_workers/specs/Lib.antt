@@ -1,3 +1,4 @@
+pub mod Batches
 pub mod Conns
 pub mod Tokens
 pub mod Turns

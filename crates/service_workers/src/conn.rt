@@ -1,9 +1,10 @@
 //! A connection of a service with a broker.
 
-ghost use Rattle.std.specs.Prelude.{◌≡◌, None, IfOk, IfErr};
+ghost use Rattle.std.specs.Prelude.{◌≡◌, ◌||◌, ◌↔◌, true, false, nat_lt, None, IfOk, IfErr};
+ghost use Rattle.stomp_client.specs.declared.session.Stage.TheVariants.{Connected};
 ghost use Rattle.stomp_frame.specs.declared.command.Command.TheVariants.{Connect};
 ghost use Rattle.stomp_client.specs.Calls.{DisconnectsWithReceipt};
-ghost use Rattle.service_workers.specs.Conns.{IsNewConn, IsNewConnBy, client_of, link_of};
+ghost use Rattle.service_workers.specs.Conns.{IsNewConn, IsNewConnBy, client_of, link_of, came};
 
 use crate::Cut;
 use crate::turns::{ReadFault, read_in, write_out};
@@ -44,6 +45,8 @@ pub struct Conn<L: Drop> {
     prefetch: Option<u64>,
     // Whether the SUBSCRIBE that asks for it is still to be written.
     must_subscribe: bool,
+    // Whether octets came since it was asked last.
+    has_come: bool,
 }
 
 /// What a reader finds.
@@ -105,6 +108,7 @@ impl<L: Link + Drop> Conn<L> {
                 on_way: 0,
                 prefetch,
                 must_subscribe: false,
+                has_come: false,
             }),
             Err(_) => Err(link),
         }
@@ -128,6 +132,7 @@ impl<L: Link + Drop> Conn<L> {
             on_way: _,
             prefetch: _,
             must_subscribe: _,
+            has_come: _,
         } = self;
         link
     }
@@ -162,9 +167,21 @@ impl<L: Link + Drop> Conn<L> {
         false
     }
 
-    /// Whether letters can be sent.
-    pub(crate) fn is_connected(&self) -> bool {
+    /// Whether letters can be sent: CONNECTED came, and the session goes on.
+    pub fn is_connected(&self) -> bool
+        ensures { result ≡ true ↔ (client_of self.now).stage ≡ Connected }
+    {
         self.channel.client.stage() == Stage::Connected
+    }
+
+    /// Whether octets came since this was asked last.
+    pub fn has_come(&mut self) -> bool
+        ensures told { result ≡ came self.old }
+        ensures asked { self.new ≡ record self.old { has_come = false } }
+    {
+        let has_come = self.has_come;
+        self.has_come = false;
+        has_come
     }
 
     /// Writes what waits to be written, as far as the link takes it.
@@ -184,9 +201,14 @@ impl<L: Link + Drop> Conn<L> {
     }
 
     /// Reads what came, and answers how many octets these are: 0 where there are none now.
-    pub(crate) fn read(&mut self, alloc: Global) -> Result<usize, Cut> {
+    pub(crate) fn read(&mut self, alloc: Global) -> Result<usize, Cut>
+        ensures { IfOk result (λ count. came self.new ≡ came self.old || nat_lt 0 count) }
+    {
         match read_in(alloc, &mut self.link, &mut self.channel, READ) {
-            Ok(count) => Ok(count),
+            Ok(count) => {
+                self.has_come = self.has_come || count > 0;
+                Ok(count)
+            }
             Err(ReadFault::Link(LinkFault::Memory)) => Ok(0),
             Err(ReadFault::Link(fault)) => Err(Cut::Link(fault)),
             Err(ReadFault::Frame(fault)) => Err(Cut::Frame(fault)),

@@ -25,6 +25,9 @@ pub trait Gate<R: Wait> {
     /// A letter was given to the endpoint, which has answered.
     fn after_ingest(&self, rt: &R);
 
+    /// A settle was given to the endpoint, which took it: its receiver is at work.
+    fn after_settle(&self, rt: &R);
+
     /// A thread has nothing to do, and goes on once this returns. It may sleep until it's woken or its socket is ready, and
     /// for a moment at least, so that others get on; but it has to return after some time in any case, as not all that it
     /// may wait for wakes it: a socket that takes octets again, room in the intake, commands of others, that the end is

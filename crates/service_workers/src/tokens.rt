@@ -6,11 +6,12 @@ ghost use Rattle.service_workers.specs.Tokens.{GoesOn};
 use activities::{Handler, JournalRow};
 use base::Pair;
 use endpoint::{EndFault, Ingested};
-use envelope::Letter;
+use envelope::{Envelope, Letter};
+use group_commit::Grouped;
 use keep::{Keep, Place};
 use shared_endpoint::{
-    Hand, Scout, Shared, drains_are_one_threads, ingests_are_one_threads, journals_are_one_threads,
-    settles_are_one_threads, tokens_stay_good, unsettled_are_above_marks,
+    Hand, Scout, Shared, drains_are_one_threads, groups_are_one_threads, ingests_are_one_threads,
+    journals_are_one_threads, settles_are_one_threads, tokens_stay_good, unsettled_are_above_marks,
 };
 use std::alloc::Global;
 use std::sync::Wait;
@@ -74,6 +75,26 @@ where
     tokens_stay_good::<H, K>();
     settles_are_one_threads::<H, K>();
     shared.settle(rt, alloc, hand, pair, number)
+}
+
+/// Gives letters and settles to the endpoint, which takes in the first of them, as many as it can together.
+pub(crate) fn take_group<H, K, R: Wait>(
+    rt: &R,
+    alloc: Global,
+    shared: &Shared<H, K>,
+    hand: &mut Hand<H, K>,
+    envelopes: &[Envelope],
+) -> Result<Vec<Grouped>, EndFault>
+where
+    H: Handler,
+    K: Keep<State = H::State, Command = H::Command> + Drop,
+    requires hand { IsHandOf shared.now hand.old }
+    ensures hand { IsHandOf shared.now hand.new }
+    ensures goes_on { GoesOn K.seen H.service (told_hand hand.old) (told_hand hand.new) }
+{
+    tokens_stay_good::<H, K>();
+    groups_are_one_threads::<H, K>();
+    shared.take_group(rt, alloc, hand, envelopes)
 }
 
 /// The first letters after a place that aren't settled.

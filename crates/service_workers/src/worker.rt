@@ -3,16 +3,18 @@
 ghost use Rattle.shared_endpoint.specs.Keys.{IsHandOf, told_hand};
 ghost use Rattle.service_workers.specs.Tokens.{GoesOn};
 
+use crate::batch::{Batch, gather};
 use crate::conn::Conn;
 use crate::gate::Resting;
 use crate::lines::{Lines, READERS};
-use crate::tokens::{drain_held, ingest, settle};
+use crate::tokens::{drain_held, ingest, settle, take_group};
 use crate::{Arrival, Cut, Gate, Stop};
 use activities::Handler;
 use base::limits::{HELD_WINDOW, MAX_BODY};
 use base::{Kind, Pair};
 use endpoint::{EndFault, Ingested};
 use envelope::{Envelope, EnvelopeFault, Letter, from_message};
+use group_commit::Grouped;
 use intake::IntakeWorker;
 use keep::Keep;
 use reception::{Prepared, ReceptionFault, Taken, prepare};
@@ -84,8 +86,40 @@ where
     answer
 }
 
-/// Asks the endpoint for what a MESSAGE carries.
+/// Gives an envelope to the endpoint, by itself.
 fn ask<H, K, G: Gate<R>, R: Wait>(
+    rt: &R,
+    alloc: Global,
+    shared: &Shared<H, K>,
+    hand: &mut Hand<H, K>,
+    gate: &G,
+    envelope: &Envelope,
+) -> Answer
+where
+    H: Handler,
+    K: Keep<State = H::State, Command = H::Command> + Drop,
+    requires hand { IsHandOf shared.now hand.old }
+    ensures hand { IsHandOf shared.now hand.new }
+    ensures goes_on { GoesOn K.seen H.service (told_hand hand.old) (told_hand hand.new) }
+{
+    match envelope {
+        Envelope::Letter(letter) => {
+            let answer = take_in(rt, alloc, shared, hand, letter);
+            gate.after_ingest(rt);
+            Answer::Letter(answer)
+        }
+        Envelope::Settle(pair, number) => {
+            let answer = settle(rt, alloc, shared, hand, pair, *number);
+            if answer.is_ok() {
+                gate.after_settle(rt);
+            }
+            Answer::Settle(answer)
+        }
+    }
+}
+
+/// Gives what a MESSAGE carries to the endpoint, by itself.
+fn ask_unread<H, K, G: Gate<R>, R: Wait>(
     rt: &R,
     alloc: Global,
     shared: &Shared<H, K>,
@@ -101,15 +135,122 @@ where
     ensures goes_on { GoesOn K.seen H.service (told_hand hand.old) (told_hand hand.new) }
 {
     match from_message(alloc, message) {
-        Ok(Envelope::Letter(letter)) => {
-            let answer = take_in(rt, alloc, shared, hand, &letter);
-            gate.after_ingest(rt);
-            Answer::Letter(answer)
-        }
-        Ok(Envelope::Settle(pair, number)) => {
-            Answer::Settle(settle(rt, alloc, shared, hand, &pair, number))
-        }
+        Ok(envelope) => ask(rt, alloc, shared, hand, gate, &envelope),
         Err(_) => Answer::Unasked,
+    }
+}
+
+/// Gives several envelopes to the endpoint together, and tells what it told of the first of them, the last one first.
+/// Nothing where they are fewer than two, or where it took in none.
+fn ask_together<H, K, R: Wait>(
+    rt: &R,
+    alloc: Global,
+    shared: &Shared<H, K>,
+    hand: &mut Hand<H, K>,
+    envelopes: &[Envelope],
+) -> Vec<Grouped>
+where
+    H: Handler,
+    K: Keep<State = H::State, Command = H::Command> + Drop,
+    requires hand { IsHandOf shared.now hand.old }
+    ensures hand { IsHandOf shared.now hand.new }
+    ensures goes_on { GoesOn K.seen H.service (told_hand hand.old) (told_hand hand.new) }
+{
+    if envelopes.len() < 2 {
+        return Vec::new(alloc);
+    }
+    match take_group(rt, alloc, shared, hand, envelopes) {
+        Ok(mut told) => {
+            told.reverse();
+            told
+        }
+        Err(_) => Vec::new(alloc),
+    }
+}
+
+/// The answer to an envelope that was taken in with others. Behind a letter those that are held are handled, as behind
+/// one that was taken in by itself.
+fn answer_of<H, K, G: Gate<R>, R: Wait>(
+    rt: &R,
+    alloc: Global,
+    shared: &Shared<H, K>,
+    hand: &mut Hand<H, K>,
+    gate: &G,
+    envelope: &Envelope,
+    grouped: Grouped,
+) -> Answer
+where
+    H: Handler,
+    K: Keep<State = H::State, Command = H::Command> + Drop,
+    requires hand { IsHandOf shared.now hand.old }
+    ensures hand { IsHandOf shared.now hand.new }
+    ensures goes_on { GoesOn K.seen H.service (told_hand hand.old) (told_hand hand.new) }
+{
+    match (envelope, grouped) {
+        (Envelope::Letter(letter), Grouped::Handled(position)) => {
+            let ingested = match drain(rt, alloc, shared, hand, &letter.pair) {
+                Some(last) => Ingested::Repeated(last),
+                None => Ingested::Handled(position),
+            };
+            gate.after_ingest(rt);
+            Answer::Letter(Ok(ingested))
+        }
+        (Envelope::Settle(_, _), Grouped::Settled(mark)) => {
+            gate.after_settle(rt);
+            Answer::Settle(Ok(mark))
+        }
+        _ => Answer::Unasked,
+    }
+}
+
+/// What is told of the first of these envelopes, where it was taken in with those before it, or is now with those behind it.
+fn next_told<H, K, R: Wait>(
+    rt: &R,
+    alloc: Global,
+    shared: &Shared<H, K>,
+    hand: &mut Hand<H, K>,
+    told: &mut Vec<Grouped>,
+    envelopes: &[Envelope],
+) -> Option<Grouped>
+where
+    H: Handler,
+    K: Keep<State = H::State, Command = H::Command> + Drop,
+    requires hand { IsHandOf shared.now hand.old }
+    ensures hand { IsHandOf shared.now hand.new }
+    ensures goes_on { GoesOn K.seen H.service (told_hand hand.old) (told_hand hand.new) }
+{
+    if let Some(grouped) = told.pop() {
+        return Some(grouped);
+    }
+    *told = ask_together(rt, alloc, shared, hand, envelopes);
+    told.pop()
+}
+
+/// Gives the first of these envelopes to the endpoint, or else what the MESSAGE carries: together with others where it can
+/// be, or by itself.
+fn ask_next<H, K, G: Gate<R>, R: Wait>(
+    rt: &R,
+    alloc: Global,
+    shared: &Shared<H, K>,
+    hand: &mut Hand<H, K>,
+    gate: &G,
+    told: &mut Vec<Grouped>,
+    envelopes: &[Envelope],
+    message: &Frame<MAX_BODY>,
+) -> Answer
+where
+    H: Handler,
+    K: Keep<State = H::State, Command = H::Command> + Drop,
+    requires hand { IsHandOf shared.now hand.old }
+    ensures hand { IsHandOf shared.now hand.new }
+    ensures goes_on { GoesOn K.seen H.service (told_hand hand.old) (told_hand hand.new) }
+{
+    let Some(envelope) = envelopes.first() else {
+        return ask_unread(rt, alloc, shared, hand, gate, message);
+    };
+    match next_told(rt, alloc, shared, hand, told, envelopes) {
+        Some(grouped) => answer_of(rt, alloc, shared, hand, gate, envelope, grouped),
+        None => ask(rt, alloc, shared, hand, gate, envelope),
     }
 }
 
@@ -185,32 +326,6 @@ fn may_send<L: Link + Drop>(lines: &Lines<L>, answer: &Answer) -> bool {
     }
 }
 
-/// Takes what arrived: the endpoint is asked, and its answer is written. Whether there may be something to send then.
-fn take<H, K, L: Link + Drop, G: Gate<R>, R: Wait>(
-    rt: &R,
-    alloc: Global,
-    shared: &Shared<H, K>,
-    hand: &mut Hand<H, K>,
-    lines: &Lines<L>,
-    gate: &G,
-    arrival: Arrival,
-) -> bool
-where
-    H: Handler,
-    K: Keep<State = H::State, Command = H::Command> + Drop,
-    requires hand { IsHandOf shared.now hand.old }
-    ensures hand { IsHandOf shared.now hand.new }
-    ensures goes_on { GoesOn K.seen H.service (told_hand hand.old) (told_hand hand.new) }
-{
-    let number = arrival.conn;
-    let answer = ask(rt, alloc, shared, hand, gate, &arrival.message);
-    let may_send = may_send(lines, &answer);
-    if let Err(cut) = reply(rt, alloc, H::kind(), lines, arrival, answer) {
-        lines.cut(rt, gate, number, cut);
-    }
-    may_send
-}
-
 /// How many arrivals behind which there may be something to send are taken at most before the relay is woken for them.
 const SOME: u32 = 32;
 
@@ -221,6 +336,76 @@ fn wake_behind<G: Gate<R>, R: Wait>(rt: &R, gate: &G, least: u32, count: u32) ->
     }
     gate.wake(rt, Resting::Relay);
     0
+}
+
+/// Writes what is answered to what arrived. There are so many for which the relay wasn't woken; it answers how many are
+/// left.
+fn finish_taking<L: Link + Drop, G: Gate<R>, R: Wait>(
+    rt: &R,
+    alloc: Global,
+    kind: Kind,
+    lines: &Lines<L>,
+    gate: &G,
+    arrival: Arrival,
+    answer: Answer,
+    count: u32,
+) -> u32 {
+    let number = arrival.conn;
+    let may_send = may_send(lines, &answer);
+    if let Err(cut) = reply(rt, alloc, kind, lines, arrival, answer) {
+        lines.cut(rt, gate, number, cut);
+    }
+    if may_send {
+        wake_behind(rt, gate, SOME, count.saturating_add(1))
+    } else {
+        count
+    }
+}
+
+/// Takes what arrived: the endpoint is asked, and then its answers are written, in order.
+fn take<H, K, L: Link + Drop, G: Gate<R>, R: Wait>(
+    rt: &R,
+    alloc: Global,
+    shared: &Shared<H, K>,
+    hand: &mut Hand<H, K>,
+    lines: &Lines<L>,
+    gate: &G,
+    batch: Batch,
+    mut count: u32,
+) -> u32
+where
+    H: Handler,
+    K: Keep<State = H::State, Command = H::Command> + Drop,
+    requires hand { IsHandOf shared.now hand.old }
+    ensures hand { IsHandOf shared.now hand.new }
+    ensures goes_on { GoesOn K.seen H.service (told_hand hand.old) (told_hand hand.new) }
+{
+    let Batch {
+        arrivals,
+        envelopes,
+        last,
+    } = batch;
+    let mut told = Vec::new(alloc);
+    let mut rest = envelopes.as_slice();
+    for arrival in arrivals {
+        let answer = ask_next(
+            rt,
+            alloc,
+            shared,
+            hand,
+            gate,
+            &mut told,
+            rest,
+            &arrival.message,
+        );
+        rest = rest.get(1..).unwrap_or(&[]);
+        count = finish_taking(rt, alloc, H::kind(), lines, gate, arrival, answer, count);
+    }
+    let Some(arrival) = last else {
+        return count;
+    };
+    let answer = ask_unread(rt, alloc, shared, hand, gate, &arrival.message);
+    finish_taking(rt, alloc, H::kind(), lines, gate, arrival, answer, count)
 }
 
 /// Writes all that waits, on both connections.
@@ -256,9 +441,8 @@ where
         let is_last = stop.asked() && lines.done() >= READERS;
         match intake.take(rt) {
             Some(slip) => {
-                if take(rt, alloc, shared, hand, lines, gate, slip.arrival) {
-                    count = wake_behind(rt, gate, SOME, count.saturating_add(1));
-                }
+                let batch = gather(rt, alloc, slip.arrival, intake);
+                count = take(rt, alloc, shared, hand, lines, gate, batch, count);
             }
             None => {
                 count = wake_behind(rt, gate, 1, count);

@@ -123,6 +123,8 @@ impl<'a, R: Wait> Gate<R> for Watch<'a> {
         self.ingested.fetch_add(1, Ordering::SeqCst);
     }
 
+    fn after_settle(&self, _rt: &R) {}
+
     fn rest(&self, _rt: &R, _who: Resting) {
         thread::yield_now();
     }
