@@ -468,34 +468,37 @@ JOURNALS = {
 ANY_BROKER = {
     "file": "docs/THEOREM-ANY-BROKER.md",
     "title": "Three services over any broker",
-    "said": ["What three services promise over a broker of other hands, of which nothing is proved: RabbitMQ, ActiveMQ or any other. It stands"
-             " behind [THEOREM.md](THEOREM.md) and [THEOREM-SERVICE.md](THEOREM-SERVICE.md): what is defined there isn't printed again."],
+    "said": ["What three services promise over a broker of other hands, of which nothing is proved: RabbitMQ, ActiveMQ or any other. It"
+             " stands behind [THEOREM.md](THEOREM.md) and [THEOREM-SERVICE.md](THEOREM-SERVICE.md): what is defined there isn't printed"
+             " again."],
     "behind": ["docs/THEOREM.md", "docs/THEOREM-STORE.md", "docs/THEOREM-SERVICE.md", "docs/THEOREM-EVENTS.md", "docs/THEOREM-MAIL.md",
                "docs/THEOREM-JOURNALS.md"],
     "sections": [
         ("Whatever the broker does",
-         ["Where each frame that a service reads carries an envelope that one of the three wrote before, or none (`CarriesWritten`, `IsFounded`),"
-          " whatever the broker loses, repeats or reorders, whenever services stop, and whatever a stop leaves of their stores:",
-          "- each service has handled, pair by pair, a beginning of what the sender's journal sends, once each and in its order, and what is"
-          " marked as settled was handled (`handled_is_a_beginning`);",
+         ["Where each frame that a service reads carries an envelope that one of the three wrote before, or none (`CarriesWritten`,"
+          " `IsFounded`), whatever the broker loses, repeats or reorders, whenever services stop, and whatever a stop leaves of their"
+          " stores:",
+          "- each service has handled, pair by pair, a beginning of what the sender's journal sends, once each and in its order, and what"
+          " is marked as settled was handled (`handled_is_a_beginning`);",
           "- the partners of each order agree, and nothing of a stock or of an account's limit is lost or used twice"
           " (`any_broker_keeps_the_laws`);",
-          "- where each letter of a pair that isn't marked as settled was taken, in whatever order, and the next one isn't held, all that was"
-          " sent on the pair was handled (`nothing_waits_all_was_handled`).",
+          "- where each letter of a pair that isn't marked as settled was taken, in whatever order, and the next one isn't held, all that"
+          " was sent on the pair was handled (`nothing_waits_all_was_handled`).",
           "The premises stand in `IsRun`: steps of one service after another lead there; at first the services were good, as new ones are"
-          " (`new_services_are_good`), and their tables matched their journals; and at the end no file is in doubt. That an envelope comes is"
-          " no premise, and isn't promised."],
+          " (`new_services_are_good`), and their tables matched their journals; and at the end no file is in doubt. That an envelope comes"
+          " is no premise, and isn't promised."],
          [("laws_services", "laws", it) for it in ("any_broker_keeps_the_laws", "handled_is_a_beginning", "nothing_waits_all_was_handled",
                                                    "new_services_are_good")]),
         ("A frame that is taken is such a step",
-         ["So a service's own calls are all that has to be looked at, and each of them is a step by its contract: the premises of these laws"
-          " are clauses of `reception::take_frame` and `reception::drain`, but for one, that what the frame carries was written"
+         ["So a service's own calls are all that has to be looked at, and each of them is a step by its contract: the premises of these"
+          " laws are clauses of `reception::take_frame` and `reception::drain`, but for one, that what the frame carries was written"
           " (`CarriesWritten`). What they ensure of `MayWrite` is what the frames that are written for it carry."],
          [("laws_services", "frames", it) for it in ("frames_are_steps", "held_letters_are_steps")]),
         ("And so is each call of an endpoint",
          ["By the clauses of `Endpoint`'s calls, of `group_commit::take_group`, and of the `turn` of a `Shared`'s, which many threads use"
           " ([THEOREM-THREADS.md](THEOREM-THREADS.md)): a command, a letter, a held letter, a settle, several letters and settles by one"
-          " transaction, a reopening, a read. What a listing of the outbox gives may be written, and so may a settle up to what was handled."],
+          " transaction, a reopening, a read. What a listing of the outbox gives may be written, and so may a settle up to what was"
+          " handled."],
          [("laws_services", "calls", it) for it in ("commits_are_steps", "ingests_are_steps", "drains_are_steps", "settles_are_steps",
                                                     "groups_are_steps", "reopenings_are_steps")]
          + [("laws_services", "reads", it) for it in ("reads_are_steps", "listings_are_steps", "counts_are_steps")]),
