@@ -91,7 +91,7 @@ def target_of(path, name, where):
     if crate not in CRATES:
         return ("foreign", path, name)
     if rest[0] == "proofs":
-        fail(f"{where}: {path}: a definition cites a lemma's module")
+        return ("lemma", path, name)  # an impl's law may be one; what is printed may not
     if rest[0] == "specs" and rest[1:2] == ["declared"]:
         file, left = declared_in(crate, rest[2:])
         if left[:1] == ["TheConstants"]:
@@ -327,6 +327,8 @@ class Rests:
         self.found, self.foreign = [], []
 
     def add(self, target):
+        if target[0] == "lemma":
+            fail(f"{target[1]}.{target[2]}: a definition cites a lemma")
         if target[0] == "foreign":
             if target[2] and target not in self.foreign:
                 self.foreign.append(target)

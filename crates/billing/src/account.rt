@@ -5,7 +5,7 @@ ghost use Rattle.trade.specs.Accounts.{on_account_command, account_reactions};
 ghost use Rattle.trade.specs.Sound.{IsAccountSound};
 ghost use Rattle.trade.specs.declared.commands.AccountCommand.TheVariants.{SetLimit};
 
-use activities::Refusal;
+use activities::{Parts, Refusal};
 use base::limits::MAX_NUMBER;
 use base::{Entity, Number};
 use std::alloc::{AllocError, Global};
@@ -62,8 +62,8 @@ impl Account {
         if billed > limit
             || limit > MAX_NUMBER
             || held > limit - billed
-            || lines.total(LinePhase::Held) != u128::from(held)
-            || lines.total(LinePhase::Done) != u128::from(billed)
+            || lines.total(LinePhase::Held) != Some(held)
+            || lines.total(LinePhase::Done) != Some(billed)
         {
             return None;
         }
@@ -97,18 +97,18 @@ impl Account {
         self.held
     }
 
-    /// An equal account, in memory of its own.
+    /// An equal account, which shares its lines with this one. It takes no memory.
     ///
     /// # Errors
-    /// Where a growth was refused.
-    pub fn copy(&self, alloc: Global) -> Result<Account, AllocError>
+    /// Where the lines have too many owners to count: 2^63 - 1.
+    pub fn copy(&self) -> Result<Account, AllocError>
         ensures { IfOk result (λ a. a ≡ self.now) }
     {
         Ok(Account {
             limit: self.limit,
             billed: self.billed,
             held: self.held,
-            lines: self.lines.copy(alloc)?,
+            lines: self.lines.copy()?,
         })
     }
 
@@ -128,11 +128,21 @@ impl Account {
     }
 }
 
+/// An input changes no line but its sender's.
+impl Parts for Account {
+    ghost use Rattle.trade.specs.Following.{LinesFollow};
+
+    ghost follows = { λ sender old new. LinesFollow sender old.lines new.lines };
+}
+
 // What the limit leaves can be held, and what is finished is billed.
 impl Holder for Account {
+    ghost use Rattle.std.specs.Prelude.{refl};
     ghost use Rattle.trade.specs.Accounts.{account_holding};
 
     ghost holding = { account_holding };
+
+    ghost given = { λ x ls. refl };
 
     fn lines(&self) -> &Lines {
         &self.lines
@@ -153,15 +163,17 @@ impl Holder for Account {
         Ok(())
     }
 
-    fn finish(&mut self, order: &Entity, number: Number) {
-        self.lines.set_phase(order, LinePhase::Done);
+    fn finish(&mut self, order: &Entity, number: Number) -> Result<(), AllocError> {
+        self.lines.set_phase(order, LinePhase::Done)?;
         let number = number.get();
         self.held -= number;
         self.billed += number;
+        Ok(())
     }
 
-    fn free(&mut self, order: &Entity, number: Number) {
-        self.lines.set_phase(order, LinePhase::Released);
+    fn free(&mut self, order: &Entity, number: Number) -> Result<(), AllocError> {
+        self.lines.set_phase(order, LinePhase::Released)?;
         self.held -= number.get();
+        Ok(())
     }
 }

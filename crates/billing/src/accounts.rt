@@ -1,21 +1,21 @@
 //! The handler of the service billing.
 
 ghost use Rattle.std.specs.Prelude.{◌≡◌, Ok, Err, IfOk};
-ghost use Rattle.activities.specs.Applied.{IsApplied, IsSending};
+ghost use Rattle.activities.specs.Applied.{IsApplied};
 ghost use Rattle.activities.specs.Reaction.{react};
-ghost use Rattle.trade.specs.Accounts.{account_reactions};
+ghost use Rattle.trade.specs.Holding.{ChangesLines};
+ghost use Rattle.trade.specs.Accounts.{account_holding, account_reactions};
 
 use crate::Account;
-use activities::{Handler, HandlerFault, Input, Outs, Reacting, take_in};
-use base::{Entity, Kind};
-use envelope::Message;
+use activities::{Handler, HandlerFault, Input, Outs};
+use base::Kind;
 use std::alloc::{AllocError, Global};
 use trade::{AccountCommand, take_line_message};
 
 /// What billing does with what its accounts take in.
 ///
 /// An account holds what an order asks for where its limit leaves as much, and keeps a line for the order: held, and
-/// then billed or released; or refused. Only a request that is answered wants memory.
+/// then billed or released; or refused. Only what changes a line wants memory.
 pub struct Accounts;
 
 impl Handler for Accounts {
@@ -23,6 +23,7 @@ impl Handler for Accounts {
     ghost use Rattle.std.proofs.lemmas.Bool.{false≢true};
     ghost use Rattle.base.specs.declared.entity.Kind.TheVariants.{Account as AccountKind};
     ghost use Rattle.trade.specs.Accounts.{account_reactions};
+    ghost use Rattle.trade.proofs.Following.{accounts_follow};
 
     type State = Account;
 
@@ -44,8 +45,8 @@ impl Handler for Accounts {
         false
     }
 
-    fn copy_state(alloc: Global, state: &Account) -> Result<Account, AllocError> {
-        state.copy(alloc)
+    fn copy_state(_alloc: Global, state: &Account) -> Result<Account, AllocError> {
+        state.copy()
     }
 
     fn copy_command(_alloc: Global, command: &AccountCommand) -> Result<AccountCommand, AllocError>
@@ -63,43 +64,20 @@ impl Handler for Accounts {
         outs: &mut Outs,
     ) -> Result<(), HandlerFault>
         ensures applied { IsApplied account_reactions state.old input.now outs.old state.new outs.new result }
-        ensures memory { result ≡ Err HandlerFault.Memory → IsSending (react account_reactions state.old input.now) }
+        ensures memory { result ≡ Err HandlerFault.Memory → ChangesLines account_holding state.old
+            (react account_reactions state.old input.now) }
     {
-        take_in::<Accounts>(alloc, state, input, outs)
-    }
-
-    ghost none_is_opening = { λ s is. absurd (false≢true is) };
-}
-
-impl Reacting for Accounts {
-    ghost use Rattle.trade.specs.Accounts.{account_reactions};
-
-    type State = Account;
-
-    type Command = AccountCommand;
-
-    ghost reactions = { account_reactions };
-
-    fn take_command(
-        _alloc: Global,
-        state: &mut Account,
-        command: &AccountCommand,
-        _outs: &mut Outs,
-    ) -> Result<(), HandlerFault> {
-        match command {
-            AccountCommand::SetLimit(limit) => state
+        match input {
+            Input::FromSeat(_, AccountCommand::SetLimit(limit)) => state
                 .set_limit(*limit)
                 .map_err(HandlerFault::Business),
+            Input::FromEntity(sender, _, message) => Ok(take_line_message(
+                alloc, state, sender, *message, outs,
+            )?),
         }
     }
 
-    fn take_message(
-        alloc: Global,
-        state: &mut Account,
-        sender: &Entity,
-        message: Message,
-        outs: &mut Outs,
-    ) -> Result<(), AllocError> {
-        take_line_message(alloc, state, sender, message, outs)
-    }
+    ghost none_is_opening = { λ s is. absurd (false≢true is) };
+
+    ghost follows = { accounts_follow };
 }

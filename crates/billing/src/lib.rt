@@ -2,8 +2,7 @@
 //!
 //! The code is the table of accounts' reactions: what an order asks for is held where the limit leaves as much, and
 //! refused where not; a confirm bills what is held, and a cancel sets it free. Nothing of the limit is used twice,
-//! whatever comes. After a refusal or want of memory nothing has changed, and only a request that is answered wants
-//! memory.
+//! whatever comes. After a refusal or want of memory nothing has changed, and only what changes a line wants memory.
 //!
 //! ```rust
 //! pub fn so_much_is_the_limit(alloc: Global, amount: u64) -> Result<u64, HandlerFault> {

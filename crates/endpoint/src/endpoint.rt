@@ -92,7 +92,7 @@ where
     /// Takes in a command of a seat, 0 to 15, in one transaction: the journal has one more row, the entity's row is its
     /// state then, and what it sends stands in the outbox, with the next numbers of each pair.
     ///
-    /// Calls of the store: `entity`, one `sent` for each message that is sent, and one `apply`.
+    /// Calls of the store: `entity`, one `sent` for each message that is sent, and one `apply_steps`.
     ///
     /// # Errors
     /// In this order: `Unusable`; `NotMine` where the entity is of another service; `NumberLimit` where the journal has

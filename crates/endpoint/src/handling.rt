@@ -3,29 +3,30 @@
 ghost use Rattle.std.specs.Prelude.{◌≡◌, ◌+◌, ◌<◌, ◌++◌, [], ◌∷◌, true, length, OnOk};
 ghost use Rattle.activities.specs.Rows.{row_for, state_for};
 ghost use Rattle.keep.specs.Law.{Reads, Writes};
+ghost use Rattle.keep.specs.Seen.{keep_end};
+ghost use Rattle.keep.specs.Steps.{AreSteps};
 ghost use Rattle.keep.specs.Tables.{changed, ArePlaced};
 ghost use Rattle.keep.specs.declared.change.Change.TheVariants.{State, Journal};
 ghost use Rattle.endpoint.specs.Faults.{end_of};
-ghost use Rattle.endpoint.specs.Parts.Handling.{Handles};
+ghost use Rattle.endpoint.specs.Parts.Handling.{Handles, SetNoRow};
 
 use crate::{Committed, EndFault};
 use activities::{Handler, Input, JournalRow, Outs};
 use base::{Entity, Number};
 use inbox::Window;
-use keep::{Change, Keep};
+use keep::{Change, Keep, KeepFault};
 use outbox::number_outs;
 use std::alloc::{AllocError, Global};
 
 /// An entity's state: its row, or the opening state where no row stands. One read of the store.
-#[tactic(auto, using(crate::proofs::Parts::read_told))]
-fn read_state<H, K>(alloc: Global, keep: &mut K, entity: &Entity) -> Result<H::State, EndFault>
+pub fn read_state<H, K>(alloc: Global, keep: &mut K, entity: &Entity) -> Result<H::State, KeepFault>
 where
     H: Handler,
     K: Keep<State = H::State, Command = H::Command>,
     requires { (K.seen keep.old).usable ≡ true }
     ensures { Reads K.seen keep.old keep.new (λ t state. state ≡ state_for H.service.reactions.opening
         (t.entity entity.now))
-        (end_of result) }
+        (keep_end result) }
 {
     match keep.entity(alloc, entity)? {
         Some(state) => Ok(state),
@@ -50,7 +51,7 @@ where
 }
 
 /// The row that stands for a state, or none.
-fn row_for<H: Handler>(state: H::State) -> Option<H::State>
+pub fn row_for<H: Handler>(state: H::State) -> Option<H::State>
     ensures { result ≡ row_for H.service.is_none state }
 {
     if H::is_none(&state) {
@@ -61,7 +62,7 @@ fn row_for<H: Handler>(state: H::State) -> Option<H::State>
 }
 
 /// Adds the entity's row and the journal's to these changes.
-fn add_rows<H: Handler>(
+pub fn add_rows<H: Handler>(
     alloc: Global,
     position: Number,
     entity: &Entity,
@@ -80,7 +81,8 @@ fn add_rows<H: Handler>(
     Ok(())
 }
 
-/// Writes these changes, the entity's row and the journal's, at this position, in one transaction.
+/// Writes these changes, the entity's row and the journal's, at this position, in one transaction of steps.
+#[tactic(auto, using(crate::proofs::Parts::write_told))]
 fn write<H, K>(
     alloc: Global,
     keep: &mut K,
@@ -93,13 +95,16 @@ fn write<H, K>(
 where
     H: Handler,
     K: Keep<State = H::State, Command = H::Command>,
-    requires { (K.seen keep.old).usable ≡ true }
+    requires usable { (K.seen keep.old).usable ≡ true }
+    requires steps { (K.seen keep.old).doubt ≡ 0 → AreSteps H.State.follows (changes.items
+        ++ State entity.now (row_for H.service.is_none state)
+        ∷ Journal position (record { entity = entity.now; input = input }) ∷ []) (K.seen keep.old).tables }
     ensures { let all = changes.items ++ State entity.now (row_for H.service.is_none state)
         ∷ Journal position (record { entity = entity.now; input = input }) ∷ [] in
         Writes K.seen keep.old keep.new (ArePlaced all) (changed all) (end_of result) }
 {
     add_rows::<H>(alloc, position, entity, input, state, &mut changes)?;
-    apply_all::<H, K>(alloc, keep, changes)
+    Ok(keep.apply_steps(alloc, changes)?)
 }
 
 /// Takes in an input of an entity of this service, in one transaction with `changes`: those of handled marks and held
@@ -118,6 +123,7 @@ where
     W: Window,
     requires usable { (K.seen keep.old).usable ≡ true }
     requires kind { entity.now.kind ≡ H.service.kind }
+    requires rows { SetNoRow changes.items }
     ensures { Handles K.seen keep.old keep.new W.ahead H.service (record { entity = entity.now; input = input })
         changes.items result }
 {

@@ -2,11 +2,13 @@
 use Rattle.std.proofs.Common.{◌≡◌, ℕ, ◌+◌, ◌<◌, List, [], ◌∷◌, ◌++◌, length, get_or, Option, Some, Result}
 use Rattle.std.proofs.Common.{Bool, Ok, Err, refl, sym, ap, ◌∙◌, subst, arith, true, length-append}
 use Rattle.std.specs.Prelude.{⊤}
+use Rattle.base.specs.Entity.{Entity}
 use Rattle.envelope.specs.declared.message.Envelope.{Envelope}
 use Rattle.envelope.specs.declared.message.Envelope.TheVariants as envelope
 use Rattle.activities.specs.Service.{Service}
 use Rattle.keep.specs.Law.{Reads}
 use Rattle.keep.specs.Seen.{Seen, keep_end}
+use Rattle.keep.specs.Steps.{AreSteps}
 use Rattle.keep.specs.Tables.{Tables, changed, ArePlaced}
 use Rattle.keep.specs.declared.change.Change.{Change}
 use Rattle.keep.specs.declared.fault.KeepFault.{KeepFault}
@@ -21,6 +23,7 @@ use Rattle.group_commit.specs.declared.group.Group.{Group}
 use Rattle.group_commit.specs.declared.grouped.Grouped.{Grouped}
 use Rattle.group_commit.specs.declared.grouped.Grouped.TheVariants as grouped
 use Rattle.group_commit.specs.declared.planning.Step.{Step}
+use Rattle.group_commit.proofs.Following.{steps-append}
 use Rattle.group_commit.proofs.Reading.{reads_nothing, reads_then, read_gives, read_refused, read_fails}
 
 module _ {S C : Type 0} (service : Service S C) where
@@ -57,17 +60,18 @@ module _ {S C : Type 0} (service : Service S C) where
     pub matches : TablesMatchJournal service (changed group.changes.items t)
     pub long : rows ≡ length (changed group.changes.items t).journal
 
-  taken-more : (es : List Envelope) (group later : Group S C) (rows : ℕ) (t : Tables S C) (e : Envelope) (step : Step S C)
+  taken-more : (Follows : Option Entity → S → S → Type 0) (es : List Envelope) (group later : Group S C) (rows : ℕ)
+      (t : Tables S C) (e : Envelope) (step : Step S C)
       → AreTaken es group rows t
       → length group.told.items < length es → e ≡ get_or es (length group.told.items) e
-      → IsStep service group.changes.items rows e t (Some step)
+      → IsStep service Follows group.changes.items rows e t (Some step)
       → later.changes.items ≡ group.changes.items ++ step.changes.items
       → later.told.items ≡ group.told.items ++ step.told ∷ []
       → AreTaken es later (rows_behind rows step.told) t
-  taken-more es group later rows t e step were below is planned changes told =
+  taken-more Follows es group later rows t e step were below is planned changes told =
       let u : Tables S C = changed group.changes.items t in
       let v : Tables S C = changed step.changes.items u in
-      let it = planned were.matches were.long in
+      let it = planned.0 were.matches were.long in
       let to : changed later.changes.items t ≡ v =
       ap (λ (cs : List (Change S C)). changed cs t) changes ∙ changed-append group.changes.items step.changes.items t in
       let each = takes-more es group.told.items t u v e step.told were.each below is it.0 in
@@ -80,7 +84,8 @@ module _ {S C : Type 0} (service : Service S C) where
         long = rows-more e step.told u v rows it.0 were.long ∙ ap (λ (w : Tables S C). length w.journal) (sym to);
       }
 
-module _ {E S C : Type 0} (seen : E → Seen (Tables S C)) (service : Service S C) (old : E) (es : List Envelope) where
+module _ {E S C : Type 0} (seen : E → Seen (Tables S C)) (service : Service S C)
+    (Follows : Option Entity → S → S → Type 0) (old : E) (es : List Envelope) where
   abbrev Nothing : Tables S C → Bool → Type 0
   Nothing t r = ⊤
 
@@ -94,9 +99,10 @@ module _ {E S C : Type 0} (seen : E → Seen (Tables S C)) (service : Service S 
     pub told : length group.told.items ≡ at
     pub taken : (seen k).doubt ≡ 0 → TablesMatchJournal service (seen old).tables
         → AreTaken service es group rows (seen old).tables
+    pub steps : (seen k).doubt ≡ 0 → AreSteps Follows group.changes.items (seen old).tables
 
   abbrev Goal : Tables S C → Group S C → Type 0
-  Goal = IsGathered service es
+  Goal = IsGathered service Follows es
 
   abbrev Gathered : E → Result (Group S C) KeepFault → Type 0
   Gathered k result = Reads seen old k Goal (keep_end result)
@@ -118,6 +124,7 @@ module _ {E S C : Type 0} (seen : E → Seen (Tables S C)) (service : Service S 
           matches = subst (TablesMatchJournal service) (sym same) good;
           long = long clean ∙ ap (λ (t : Tables S C). length t.journal) (sym same);
         };
+        steps = λ clean. subst (λ (cs : List (Change S C)). AreSteps Follows cs (seen old).tables) (sym changes) tt;
       }
 
   module _ (k : E) (group : Group S C) (rows at : ℕ) (so : IsSoFar k group rows at) where
@@ -126,14 +133,14 @@ module _ {E S C : Type 0} (seen : E → Seen (Tables S C)) (service : Service S 
       call = so.read.call;
       doubt = so.read.doubt;
       clean = λ clean. (
-        λ good. let it = so.taken clean good in (it.each, it.placed),
+        ((λ good. let it = so.taken clean good in (it.each, it.placed)), so.steps clean),
         (so.read.clean clean).1,
       );
     }
 
     module _ (new : E) (e : Envelope) where
       abbrev step_of : Tables S C → Option (Step S C) → Type 0
-      step_of = IsStep service group.changes.items rows e
+      step_of = IsStep service Follows group.changes.items rows e
 
       both : WasRead k new → WasRead old new
       both r = reads_then seen old k new Nothing true Nothing Nothing (Ok true) (λ t u a b. tt) so.read r
@@ -144,7 +151,10 @@ module _ {E S C : Type 0} (seen : E → Seen (Tables S C)) (service : Service S 
         call = whole.call;
         doubt = whole.doubt;
         clean = λ clean. (
-          λ good. let it = so.taken (omega (arith, clean, d)) good in (it.each, it.placed),
+          (
+            (λ good. let it = so.taken (omega (arith, clean, d)) good in (it.each, it.placed)),
+            so.steps (omega (arith, clean, d)),
+          ),
           (whole.clean clean).1,
         );
       }
@@ -181,14 +191,20 @@ module _ {E S C : Type 0} (seen : E → Seen (Tables S C)) (service : Service S 
           let d = r.doubt in
           let count = so.told in
           let long = ap length told ∙ length-append group.told.items (step.told ∷ []) in
+          let clean0 : (seen new).doubt ≡ 0 → (seen k).doubt ≡ 0 = λ clean. omega (arith, clean, d) in
+          let planned : (seen new).doubt ≡ 0 → step_of (seen old).tables (Some step) = λ clean.
+          subst (step_of (seen old).tables) one
+          (subst (λ (t : Tables S C). step_of t found) (so.read.clean (clean0 clean)).1 (r.clean clean).0) in
           record {
             read = both (was_read found r);
             told = omega (arith, long, count);
             taken = λ clean good.
-                let clean0 : (seen k).doubt ≡ 0 = omega (arith, clean, d) in
-                let there = subst (λ (t : Tables S C). step_of t found) (so.read.clean clean0).1 (r.clean clean).0 in
-                let planned = subst (step_of (seen old).tables) one there in
                 subst (λ n. AreTaken service es later n (seen old).tables) (sym rows_are)
-                (taken-more service es group later rows (seen old).tables e step (so.taken clean0 good)
-                (omega (arith, below, count)) (is ∙ ap (λ n. get_or es n e) (sym count)) planned changes told);
+                (taken-more service Follows es group later rows (seen old).tables e step (so.taken (clean0 clean) good)
+                (omega (arith, below, count)) (is ∙ ap (λ n. get_or es n e) (sym count)) (planned clean) changes told);
+            steps = λ clean.
+                let it = (planned clean).1 in
+                subst (λ (cs : List (Change S C)). AreSteps Follows cs (seen old).tables) (sym changes)
+                (steps-append Follows group.changes.items step.changes.items (seen old).tables (so.steps (clean0 clean))
+                it.1 it.0);
           }

@@ -1,4 +1,5 @@
 mod Apart
+mod Following
 pub mod Reading
 mod Steps
 mod Gathering

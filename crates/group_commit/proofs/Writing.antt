@@ -1,7 +1,8 @@
 -- What was gathered is written: the group is taken in whole or not at all.
-use Rattle.std.proofs.Common.{◌≡◌, List, [], ◌∷◌, Result, Ok, Err, sym, ap, ◌∙◌, subst, true}
+use Rattle.std.proofs.Common.{◌≡◌, List, [], ◌∷◌, Option, Result, Ok, Err, sym, ap, ◌∙◌, subst, true}
 use Rattle.std.proofs.Common.{arith, true≢false}
 use Rattle.std.specs.Global.{Vec}
+use Rattle.base.specs.Entity.{Entity}
 use Rattle.envelope.specs.declared.message.Envelope.{Envelope}
 use Rattle.activities.specs.Service.{Service}
 use Rattle.activities.proofs.Sameness.{either}
@@ -36,7 +37,7 @@ module _ {E S C : Type 0} (seen : E → Seen (Tables S C)) (old new : E) (group 
   write_told keep.WrongFile r told is e h = absurd h.call.1
 
 module _ {E S C : Type 0} (seen : E → Seen (Tables S C)) (sound : (k : E) → IsSound (seen k)) (service : Service S C)
-    (es : List Envelope) where
+    (Follows : Option Entity → S → S → Type 0) (es : List Envelope) where
   abbrev Good : Tables S C → Type 0
   Good = TablesMatchJournal service
 
@@ -54,7 +55,7 @@ module _ {E S C : Type 0} (seen : E → Seen (Tables S C)) (sound : (k : E) → 
     good_now clean up good = good (seen old).tables ((sound old).stays clean up)
 
     -- the reading failed
-    pub not_gathered : (fault : KeepFault) → Reads seen old mid (IsGathered service es) (keep_end (Err fault))
+    pub not_gathered : (fault : KeepFault) → Reads seen old mid (IsGathered service Follows es) (keep_end (Err fault))
         → Both old mid (Err (end_fault_of fault))
     not_gathered keep.Memory r = let d = r.doubt in (
       record { call = r.call; doubt = r.doubt; clean = λ clean good. r.clean clean },
@@ -68,7 +69,7 @@ module _ {E S C : Type 0} (seen : E → Seen (Tables S C)) (sound : (k : E) → 
     not_gathered keep.WrongFile r = absurd r.call.1
 
     module _ (new : E) (group : Group S C)
-        (r : Reads seen old mid {R = Group S C} {F = KeepFault} (IsGathered service es) (Ok group)) where
+        (r : Reads seen old mid {R = Group S C} {F = KeepFault} (IsGathered service Follows es) (Ok group)) where
       abbrev made : Tables S C
       made = changed group.changes.items (seen old).tables
 
@@ -78,7 +79,7 @@ module _ {E S C : Type 0} (seen : E → Seen (Tables S C)) (sound : (k : E) → 
           → TakesEach service es told.items (seen old).tables (seen new).tables =
           λ clean good.
           let read = r.clean (omega (arith, clean, e)) in
-          let it = read.0 good in
+          let it = read.0.0 good in
           let now : (seen new).tables ≡ made =
           w.0.clean clean (subst (ArePlaced group.changes.items) (sym read.1) it.1)
           ∙ ap (changed group.changes.items) read.1 in
@@ -99,7 +100,7 @@ module _ {E S C : Type 0} (seen : E → Seen (Tables S C)) (sound : (k : E) → 
           → (gs : List Grouped) × TakesEach service es gs (seen old).tables t =
           λ clean good t l.
           let read = r.clean (omega (arith, clean, e)) in
-          let it = read.0 good in
+          let it = read.0.0 good in
           either (w.0.clean clean (subst (ArePlaced group.changes.items) (sym read.1) it.1) t l)
           (λ same. ([], same ∙ read.1))
           (λ now. (
@@ -121,7 +122,7 @@ module _ {E S C : Type 0} (seen : E → Seen (Tables S C)) (sound : (k : E) → 
           let same : (seen new).doubt ≡ 0 → Good (seen old).tables → (seen new).tables ≡ (seen old).tables =
           λ clean good.
           let read = r.clean (omega (arith, clean, e)) in
-          w.0.clean clean (subst (ArePlaced group.changes.items) (sym read.1) (read.0 good).1) ∙ read.1 in (
+          w.0.clean clean (subst (ArePlaced group.changes.items) (sym read.1) (read.0.0 good).1) ∙ read.1 in (
             record {
               call = then_served seen old mid new r.call w.0.call;
               doubt = omega (arith, d, e);

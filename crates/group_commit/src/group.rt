@@ -4,6 +4,7 @@ ghost use Rattle.std.specs.Prelude.{◌≡◌, ◌++◌, ◌∷◌, [], true, On
 ghost use Rattle.endpoint.specs.Calls.{StillMatches};
 ghost use Rattle.keep.specs.Law.{Reads};
 ghost use Rattle.keep.specs.Seen.{keep_end};
+ghost use Rattle.keep.specs.Steps.{AreSteps};
 ghost use Rattle.group_commit.specs.Group.{Groups};
 ghost use Rattle.group_commit.specs.Parts.Planning.{IsGathered, WritesGroup, ended, rows_behind};
 
@@ -80,7 +81,7 @@ where
     H: Handler,
     K: Keep<State = H::State, Command = H::Command>,
     requires { (K.seen keep.old).usable ≡ true }
-    ensures { Reads K.seen keep.old keep.new (IsGathered H.service envelopes.now) (keep_end result) }
+    ensures { Reads K.seen keep.old keep.new (IsGathered H.service H.State.follows envelopes.now) (keep_end result) }
 {
     let mut rows = keep.length();
     let mut group = Group::new(alloc);
@@ -101,7 +102,7 @@ where
     Ok(group)
 }
 
-/// Writes what was gathered, in one transaction, and answers what is told of it.
+/// Writes what was gathered, in one transaction of steps, and answers what is told of it.
 #[tactic(auto, using(crate::proofs::Writing::write_told))]
 fn write<H, K>(
     alloc: Global,
@@ -111,11 +112,13 @@ fn write<H, K>(
 where
     H: Handler,
     K: Keep<State = H::State, Command = H::Command>,
-    requires { (K.seen keep.old).usable ≡ true }
+    requires usable { (K.seen keep.old).usable ≡ true }
+    requires steps { (K.seen keep.old).doubt ≡ 0 → AreSteps H.State.follows group.changes.items
+        (K.seen keep.old).tables }
     ensures { WritesGroup K.seen keep.old keep.new group result }
 {
     let Group { changes, told } = group;
-    match keep.apply(alloc, changes) {
+    match keep.apply_steps(alloc, changes) {
         Ok(()) => Ok(told),
         Err(fault) => Err(EndFault::from(fault)),
     }
@@ -167,7 +170,7 @@ where
 /// transaction changes nothing.
 ///
 /// Calls of the store: for a letter `handled`, `entity`, and one `sent` for each message that it makes its receiver
-/// send; for a settle `sent` and `settled`; and one `apply`.
+/// send; for a settle `sent` and `settled`; and one `apply_steps`.
 ///
 /// # Errors
 /// In this order: `Unusable`; `StoreFailed` and `Memory` as in `Endpoint::ingest`. After each of them nothing is changed,

@@ -1,19 +1,19 @@
 //! The next step of a group: what taking one envelope in changes, on top of the changes of those before it.
 
-ghost use Rattle.std.specs.Prelude.{◌≡◌, ◌<◌, ◌≤◌, ◌^◌, ◌++◌, [], ◌∷◌, false, true, length, IfOk, OnOk};
+ghost use Rattle.std.specs.Prelude.{◌≡◌, ◌<◌, ◌≤◌, ◌^◌, ◌++◌, false, true, length, IfOk};
 ghost use Rattle.std.specs.List.{list_any};
-ghost use Rattle.activities.specs.Rows.{row_for, state_for};
+ghost use Rattle.activities.specs.Rows.{state_for};
 ghost use Rattle.activities.specs.declared.input.Input.TheVariants.{FromEntity};
 ghost use Rattle.envelope.specs.declared.message.Envelope.TheVariants.{Letter as OfLetter, Settle as OfSettle};
 ghost use Rattle.keep.specs.Law.{Reads};
 ghost use Rattle.keep.specs.Seen.{keep_end};
-ghost use Rattle.keep.specs.declared.change.Change.TheVariants.{State, Journal};
 ghost use Rattle.outbox.specs.Numbering.{numbering, NumbersFit};
 ghost use Rattle.group_commit.specs.Parts.Planning.{touches, IsStep, IsNext, stopped};
 
 use crate::Grouped;
-use activities::{Handler, HandlerFault, Input, JournalRow, Out, Outs};
+use activities::{Handler, HandlerFault, Input, Out, Outs};
 use base::{Entity, Number, Pair};
+use endpoint::{add_rows, read_state};
 use envelope::{Envelope, Letter};
 use keep::{Change, Keep, KeepFault};
 use outbox::{OutboxFault, number_outs, settle};
@@ -46,57 +46,6 @@ fn are_touching<S, C>(changes: &[Change<S, C>], entity: &Entity) -> bool
     ensures { result ≡ list_any (touches entity.now) changes.now }
 {
     changes.iter().any(|change| touches(change, entity))
-}
-
-/// An entity's state: its row, or the opening state where no row stands. One read of the store.
-fn read_state<H, K>(alloc: Global, keep: &mut K, entity: &Entity) -> Result<H::State, KeepFault>
-where
-    H: Handler,
-    K: Keep<State = H::State, Command = H::Command>,
-    requires { (K.seen keep.old).usable ≡ true }
-    ensures { Reads K.seen keep.old keep.new (λ t state. state ≡ state_for H.service.reactions.opening
-        (t.entity entity.now))
-        (keep_end result) }
-{
-    match keep.entity(alloc, entity) {
-        Ok(Some(state)) => Ok(state),
-        Ok(None) => match H::opening(alloc) {
-            Ok(state) => Ok(state),
-            Err(_) => Err(KeepFault::Memory),
-        },
-        Err(fault) => Err(fault),
-    }
-}
-
-/// The row that stands for a state, or none.
-fn row_for<H: Handler>(state: H::State) -> Option<H::State>
-    ensures { result ≡ row_for H.service.is_none state }
-{
-    if H::is_none(&state) {
-        None
-    } else {
-        Some(state)
-    }
-}
-
-/// Adds the entity's row and the journal's to these changes.
-fn add_rows<H: Handler>(
-    alloc: Global,
-    position: Number,
-    entity: &Entity,
-    input: Input<H::Command>,
-    state: H::State,
-    changes: &mut Vec<Change<H::State, H::Command>>,
-) -> Result<(), AllocError>
-    ensures { OnOk result (changes.new.items ≡ changes.old.items
-        ++ State entity.now (row_for H.service.is_none state) ∷ Journal position
-        (record { entity = entity.now; input = input }) ∷ []) }
-{
-    let row = row_for::<H>(state);
-    changes.push(Change::State(entity.copy(alloc)?, row))?;
-    let entity = entity.copy(alloc)?;
-    changes.push(Change::Journal(position, JournalRow { entity, input }))?;
-    Ok(())
 }
 
 /// What a letter is to its receiver.
@@ -141,6 +90,7 @@ where
 }
 
 /// The step of a letter that finds its receiver in this state. One read of the store for each message that this sends.
+// `_before` is there for the contract alone
 fn react<H, K>(
     alloc: Global,
     keep: &mut K,
@@ -157,7 +107,7 @@ where
     requires apart { list_any (touches letter.now.pair.to) _before.now ≡ false }
     ensures { Reads K.seen keep.old keep.new (λ t step. IsNext letter.now t
         → state ≡ state_for H.service.reactions.opening (t.entity letter.now.pair.to)
-        → IsStep H.service _before.now rows (OfLetter letter.now) t step) (keep_end result) }
+        → IsStep H.service H.State.follows _before.now rows (OfLetter letter.now) t step) (keep_end result) }
 {
     let Some(position) = Number::new(rows.saturating_add(1)) else {
         return Ok(None);
@@ -204,7 +154,7 @@ where
     requires kind { letter.now.pair.to.kind ≡ H.service.kind }
     requires apart { list_any (touches letter.now.pair.to) before.now ≡ false }
     ensures { Reads K.seen keep.old keep.new (λ t step. IsNext letter.now t
-        → IsStep H.service before.now rows (OfLetter letter.now) t step) (keep_end result) }
+        → IsStep H.service H.State.follows before.now rows (OfLetter letter.now) t step) (keep_end result) }
 {
     match read_state::<H, K>(alloc, keep, &letter.pair.to) {
         Ok(state) => react::<H, K>(alloc, keep, before, rows, letter, state),
@@ -227,7 +177,7 @@ where
     requires usable { (K.seen keep.old).usable ≡ true }
     requires kind { letter.now.pair.to.kind ≡ H.service.kind }
     requires apart { list_any (touches letter.now.pair.to) before.now ≡ false }
-    ensures { Reads K.seen keep.old keep.new (IsStep H.service before.now rows (OfLetter letter.now)) (keep_end result) }
+    ensures { Reads K.seen keep.old keep.new (IsStep H.service H.State.follows before.now rows (OfLetter letter.now)) (keep_end result) }
 {
     match keep.handled(alloc, &letter.pair) {
         Ok(handled) => {
@@ -242,6 +192,7 @@ where
 }
 
 /// The step of a settle whose number was sent, where the mark rises.
+// `_before` and `_rows` are there for the contract alone
 #[tactic(auto, using(crate::proofs::Reading::reads_then))]
 fn plan_mark<H, K>(
     alloc: Global,
@@ -258,7 +209,7 @@ where
     requires kind { pair.now.from.kind ≡ H.service.kind }
     requires apart { list_any (touches pair.now.from) _before.now ≡ false }
     ensures { Reads K.seen keep.old keep.new (λ t step. number ≤ t.sent pair.now
-        → IsStep H.service _before.now _rows (OfSettle pair.now number) t step) (keep_end result) }
+        → IsStep H.service H.State.follows _before.now _rows (OfSettle pair.now number) t step) (keep_end result) }
 {
     match keep.settled(alloc, pair) {
         Ok(mark) => {
@@ -296,7 +247,7 @@ where
     requires usable { (K.seen keep.old).usable ≡ true }
     requires kind { pair.now.from.kind ≡ H.service.kind }
     requires apart { list_any (touches pair.now.from) before.now ≡ false }
-    ensures { Reads K.seen keep.old keep.new (IsStep H.service before.now rows (OfSettle pair.now number))
+    ensures { Reads K.seen keep.old keep.new (IsStep H.service H.State.follows before.now rows (OfSettle pair.now number))
         (keep_end result) }
 {
     match keep.sent(alloc, pair) {
@@ -324,7 +275,7 @@ where
     H: Handler,
     K: Keep<State = H::State, Command = H::Command>,
     requires usable { (K.seen keep.old).usable ≡ true }
-    ensures { Reads K.seen keep.old keep.new (IsStep H.service before.now rows envelope.now) (keep_end result) }
+    ensures { Reads K.seen keep.old keep.new (IsStep H.service H.State.follows before.now rows envelope.now) (keep_end result) }
 {
     let own = match envelope {
         Envelope::Letter(letter) => &letter.pair.to,

@@ -1,5 +1,6 @@
 //! A room: who has it, and what the desk asks of it.
 
+use activities::Parts;
 use base::Entity;
 
 /// How many guests a room has beds for.
@@ -20,6 +21,13 @@ pub enum Room {
     Taken,
     /// An order that asked for it, until it confirms or cancels.
     Promised(Entity),
+}
+
+/// A room is small: it's written as a whole.
+impl Parts for Room {
+    ghost use Rattle.std.specs.Prelude.{⊤};
+
+    ghost follows = { λ _ _ _. ⊤ };
 }
 
 /// What the desk asks of a room.

@@ -98,6 +98,8 @@ impl Handler for Rooms {
     }
 
     ghost none_is_opening = { free_is_opening };
+
+    ghost follows = { λ old input done is. tt };
 }
 
 /// A refusal of the hotel's own.

@@ -7,4 +7,5 @@ pub mod Pages
 pub mod Places
 pub mod Seen
 pub mod Sorted
+pub mod Steps
 pub mod Tables

@@ -109,6 +109,7 @@ impl<K: Keep + Drop> Faulty<K> {
 
 impl<K: Keep + Drop> Keep for Faulty<K> {
     ghost use Rattle.keep.specs.Tables.{changed, ArePlaced};
+    ghost use Rattle.keep.specs.Steps.{AreSteps};
     ghost use Rattle.keep.specs.Listing.{AreFirst, IsDrainable, next_held};
     ghost use Rattle.keep.specs.Failing.{through, ReadsDue, WritesDue, ReopensThrough};
     ghost use Rattle.keep.specs.Inside.{sound_through};
@@ -246,6 +247,27 @@ impl<K: Keep + Drop> Keep for Faulty<K> {
             Some(Leaves::Old) => self.fail(),
             Some(Leaves::New) => {
                 let _ = self.keep.apply(alloc, changes);
+                self.fail()
+            }
+        }
+    }
+
+    #[tactic(auto, using(crate::proofs::Faults::write_inside, crate::proofs::Faults::write_failed, crate::proofs::Faults::write_hidden))]
+    fn apply_steps(
+        &mut self,
+        alloc: Global,
+        changes: Vec<Change<K::State, K::Command>>,
+    ) -> Result<(), KeepFault>
+        requires usable { (through K.seen self.old).usable ≡ true }
+        requires steps { (through K.seen self.old).doubt ≡ 0
+            → AreSteps K.State.follows changes.items (through K.seen self.old).tables }
+        ensures { WritesDue K.seen self.old self.new (ArePlaced changes.items) (changed changes.items) result }
+    {
+        match self.strike() {
+            None => self.keep.apply_steps(alloc, changes),
+            Some(Leaves::Old) => self.fail(),
+            Some(Leaves::New) => {
+                let _ = self.keep.apply_steps(alloc, changes);
                 self.fail()
             }
         }

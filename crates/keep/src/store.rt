@@ -3,7 +3,7 @@
 ghost use Rattle.std.specs.Prelude.{◌≡◌, ◌-◌, true, length, take, drop};
 
 use crate::{Change, KeepFault, Place};
-use activities::JournalRow;
+use activities::{JournalRow, Parts};
 use base::{Entity, Number, Pair};
 use envelope::{Letter, Message};
 use std::alloc::Global;
@@ -17,10 +17,11 @@ pub trait Keep {
     ghost use Rattle.keep.specs.Tables.{Tables, changed, ArePlaced};
     ghost use Rattle.keep.specs.Seen.{Seen, IsSound, keep_end};
     ghost use Rattle.keep.specs.Law.{Reads, Writes, Reopens};
+    ghost use Rattle.keep.specs.Steps.{AreSteps};
     ghost use Rattle.keep.specs.Listing.{AreFirst, IsDrainable, next_held};
 
     /// What is kept of an entity.
-    type State: Drop;
+    type State: Drop + Parts;
     /// What seats ask for.
     type Command: Drop;
 
@@ -111,6 +112,21 @@ pub trait Keep {
         changes: Vec<Change<Self::State, Self::Command>>,
     ) -> Result<(), KeepFault>
         requires { (seen self.old).usable ≡ true }
+        ensures { Writes seen self.old self.new (ArePlaced changes.items) (changed changes.items) (keep_end result) };
+
+    /// As [`apply`](Keep::apply), for changes of which each state that stands before a row of the journal follows the one
+    /// that it replaces, by that row's input: no more of it need be written than what such an input changes. A store that
+    /// writes states whole does just what `apply` does.
+    ///
+    /// # Errors
+    /// As [`apply`](Keep::apply).
+    fn apply_steps(
+        &mut self,
+        alloc: Global,
+        changes: Vec<Change<Self::State, Self::Command>>,
+    ) -> Result<(), KeepFault>
+        requires usable { (seen self.old).usable ≡ true }
+        requires steps { (seen self.old).doubt ≡ 0 → AreSteps Self.State.follows changes.items (seen self.old).tables }
         ensures { Writes seen self.old self.new (ArePlaced changes.items) (changed changes.items) (keep_end result) };
 
     /// Opens the store again: the tables now are some that a stop may leave. A usable keep may be reopened too, and has

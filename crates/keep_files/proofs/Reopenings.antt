@@ -53,6 +53,19 @@ module _ {D : Type 0} {g : Ghosts D} (it : FileStore D g) (left : Files D)
       (may_leave_is it.pool _ both (stays _, stays _)) in
       opens_again it numbered sound (image_of g left) may
 
+-- ---- what is seen of an open store
+
+module _ {T : Type 0} where
+  pub open_counts : (told : Bool) (s : Seen T) (n : ℕ) → s.failures ≡ n → (seen_open told s).failures ≡ n
+  open_counts true s n is = is
+  open_counts false s n is = is
+
+  -- where there is no doubt it's what the store shows
+  pub open_shows : (told : Bool) (s : Seen T) (t : T) → (s.doubt ≡ 0 → s.tables ≡ t) → (seen_open told s).doubt ≡ 0
+      → (seen_open told s).tables ≡ t
+  open_shows true s t shows none = shows none
+  open_shows false s t shows none = absurd (let z : 1 ≡ 0 = none in cc)
+
 -- ---- calls of an open store
 
 -- what a call tells is told of what is seen before it and after it

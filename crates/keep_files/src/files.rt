@@ -3,6 +3,7 @@
 ghost use Rattle.std.specs.Prelude.{◌≡◌, ◌≤◌, true, false, is_ok, IfOk, OnOk, OnErr, None};
 ghost use Rattle.sqlite_trees.specs.Tree.{Trees};
 ghost use Rattle.sqlite.specs.WalFiles.{image_at};
+ghost use Rattle.keep.specs.Steps.{AreSteps};
 ghost use Rattle.keep.specs.Law.{Reopens, Writes};
 ghost use Rattle.keep.specs.Seen.{keep_end};
 ghost use Rattle.keep.specs.Tables.{changed, empty, ArePlaced};
@@ -325,6 +326,30 @@ impl<H: Filed, S: Reopenable + Drop> Keep for FileKeep<H, S> {
     {
         match &mut self.access {
             Access::Open(keep) => keep.apply(alloc, changes),
+            Access::Closed(_) => Err(KeepFault::Failed),
+        }
+    }
+
+    fn apply_steps(
+        &mut self,
+        alloc: Global,
+        changes: Vec<Change<H::State, H::Command>>,
+    ) -> Result<(), KeepFault>
+        requires usable { (seen_by ⟦<SqliteKeep<H, S> as Keep>⟧.seen empty
+            self.old.is_told self.old.failures self.old.access).usable ≡ true }
+        requires steps { (seen_by ⟦<SqliteKeep<H, S> as Keep>⟧.seen empty
+            self.old.is_told self.old.failures self.old.access).doubt ≡ 0 → AreSteps H.State.follows changes.items
+            (seen_by ⟦<SqliteKeep<H, S> as Keep>⟧.seen empty
+            self.old.is_told self.old.failures self.old.access).tables }
+        ensures { Writes (λ f. seen_by ⟦<SqliteKeep<H, S> as Keep>⟧.seen empty
+            f.is_told f.failures f.access) self.old self.new (ArePlaced changes.items) (changed changes.items)
+            (keep_end result) }
+    {
+        if !self.is_told {
+            return self.apply(alloc, changes);
+        }
+        match &mut self.access {
+            Access::Open(keep) => keep.apply_steps(alloc, changes),
             Access::Closed(_) => Err(KeepFault::Failed),
         }
     }

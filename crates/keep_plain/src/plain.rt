@@ -127,6 +127,18 @@ impl<H: Handler> Keep for PlainKeep<H> {
         Ok(())
     }
 
+    fn apply_steps(
+        &mut self,
+        alloc: Global,
+        changes: Vec<Change<H::State, H::Command>>,
+    ) -> Result<(), KeepFault>
+        requires { (in_memory self.old.maps).usable ≡ true }
+        ensures { Writes (λ k. in_memory k.maps) self.old self.new (ArePlaced changes.items) (changed changes.items)
+            (keep_end result) }
+    {
+        self.apply(alloc, changes)
+    }
+
     fn reopen(&mut self, _alloc: Global) -> Result<(), KeepFault> {
         Ok(())
     }

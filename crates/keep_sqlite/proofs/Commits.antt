@@ -1,5 +1,5 @@
 -- How a transaction ends, from what its calls say of the connection.
-use Rattle.std.proofs.Common.{◌≡◌, ◌⊎◌, inl, inr, ℕ, ◌≤◌, length, drop, List, true, false, IsTrue, sym, ap}
+use Rattle.std.proofs.Common.{◌≡◌, ◌⊎◌, inl, inr, ℕ, ◌≤◌, length, drop, List, Option, true, false, IsTrue, sym, ap}
 use Rattle.std.proofs.Common.{subst, ◌∙◌}
 use Rattle.std.proofs.Common.{true≢false, arith}
 use Rattle.std.proofs.lemmas.List.{drop_all}
@@ -10,6 +10,8 @@ use Rattle.sqlite.specs.State.{State, HasCleanDisk, Shows, KeepsCommit, IsRolled
 use Rattle.sqlite.specs.Steps.{FailsToCommit}
 use Rattle.keep.specs.Tables.{changed}
 use Rattle.keep.specs.declared.change.Change.{Change}
+use Rattle.base.specs.Entity.{Entity}
+use Rattle.last_states.specs.Known.{Knows}
 use Rattle.keep_sqlite.specs.Filing.{Filing}
 use Rattle.keep_sqlite.specs.Tables.{tables_of}
 use Rattle.keep_sqlite.specs.Ready.{IsFiled, IsReady, Makes, IsUnderWay}
@@ -94,6 +96,12 @@ module _ {S C : Type 0} (f : Filing S C) where
             },
             ap (λ (d : Database). tables_of f d.trees) s.now_is ∙ now_made (sent_clean clean),
           )
+
+      pub done_known : (known : Entity → Option S) → (HasCleanDisk staged → Knows known (f.entity staged.now.trees))
+          → (HasCleanDisk new → Shows staged new staged.now staged.now false) → HasCleanDisk new
+          → Knows known (f.entity new.now.trees)
+      done_known known knows shown clean = subst (λ (d : Database). Knows known (f.entity d.trees))
+          (sym (shown clean).now_is) (knows (sent_clean clean))
 
       pub done_may : (db : Trees) → HasCleanDisk new → new.may_leave db
           → old.may_leave db ⊎ (tables_of f db ≡ changed all (tables_of f old.now.trees))

@@ -1,7 +1,9 @@
 -- How the calls of a store end.
 use Rattle.std.proofs.Common.{◌≡◌, ◌≤◌, ◌⊎◌, inl, inr, ℕ, Bool, true, false, Result}
 use Rattle.std.proofs.Common.{Ok, Err, IfOk}
-use Rattle.std.proofs.Common.{IsTrue, refl, sym, ap, ◌∙◌, arith}
+use Rattle.std.proofs.Common.{IsTrue, refl, sym, ap, subst, ◌∙◌, arith, Option}
+use Rattle.base.specs.Entity.{Entity}
+use Rattle.last_states.specs.Known.{Knows}
 use Rattle.sqlite_trees.specs.Tree.{Trees}
 use Rattle.sqlite_trees.specs.View.{doubt}
 use Rattle.sqlite.specs.declared.error.Error.{Error}
@@ -25,6 +27,16 @@ pub only_settled : {S C : Type 0} (f : Filing S C) (count : ℕ) (s : State)
     → s.may_leave db → db ≡ s.now.trees
 only_settled f count s sound live settled clean db may =
     settled (live clean) db may ∙ ap (λ (d : Database). d.trees) (sym (sound clean (live clean)).settled)
+
+-- what is known of states stays so behind a read
+pub known_stays : {S C : Type 0} (f : Filing S C) (known : Entity → Option S) (old new : State)
+    → (HasCleanDisk old → IsTrue old.is_open → Knows known (f.entity old.now.trees))
+    → doubt old.is_clean ≤ doubt new.is_clean → (HasCleanDisk new → Stays old new) → HasCleanDisk new
+    → IsTrue new.is_open → Knows known (f.entity new.now.trees)
+known_stays f known old new knows less stays clean live =
+    let s = stays clean in
+    subst (λ (d : Database). Knows known (f.entity d.trees)) (sym (s.now_is live))
+    (knows (omega (arith, clean, less)) (s.was_open live))
 
 -- `E` are the stores, with their connections, their use and their failures
 module _ {E S C : Type 0} (f : Filing S C) (conn : E → State) (usable : E → Bool) (failures : E → ℕ) where

@@ -7,10 +7,11 @@ use Rattle.std.specs.Option.{option_and_then}
 use Rattle.std.proofs.lemmas.List.{take_more}
 use Rattle.std.specs.List.{AllByRecursion}
 use Rattle.std.proofs.lemmas.Bool.{cases_Bool}
-use Rattle.sqlite.specs.declared.types.Value.TheVariants.{Int}
+use Rattle.sqlite.specs.declared.types.Value.TheVariants.{Int, Text}
 use Rattle.sqlite_value.specs.Order.{Row, column, bytes}
 use Rattle.sqlite_trees.specs.Tree.{Trees}
 use Rattle.sqlite_catalog.specs.Listing.{IsSound}
+use Rattle.sqlite_rules.specs.Lists.{Has}
 use Rattle.sqlite.specs.Effect.{IsDatabase}
 use Rattle.sqlite.specs.State.{State}
 use Rattle.base.specs.Entity.{Entity}
@@ -51,6 +52,8 @@ pub record AreHeld {S C : Type 0} (f : Filing S C) (h : Holders S) (kind : Kind)
   pub one_head : (db : Trees) → IsSound f.schema db → AreRising f.schema db → (k : List ℕ)
       → IsOne (has_key (text_key k)) (db 9)
   pub lines_rise : (db : Trees) → AreRising f.schema db → IsRising (db 11)
+  pub order_text : (db : Trees) → IsSound f.schema db → (r : Row) → Has (db 11) r
+      → (s : List ℕ) × (column r 2 ≡ Text s)
   pub apart : AreApart f.schema
 
 -- ---- rows of lines
@@ -75,7 +78,7 @@ by_lines line rows = sym (steps_map line (λ o. lines_with o) rows [])
 
 module _ {S C : Type 0} (f : Filing S C) (h : Holders S) (kind : Kind) (word : LinePhase → List ℕ)
     (held : AreHeld f h kind word) where
-  abbrev of_key : List ℕ → List Row → List Row → Option S
+  abbrev pub of_key : List ℕ → List Row → List Row → Option S
   of_key k heads lines = state_in h.state (line_in h.phase_in) (find (has_key (text_key k)) heads)
       (filter (has_key (text_key k)) lines)
 
@@ -84,7 +87,7 @@ module _ {S C : Type 0} (f : Filing S C) (h : Holders S) (kind : Kind) (word : L
     one = record { kind = kind; key = key }
 
     -- the state of one is as it was set, and those of the others are as they were
-    sets_row : (row : Option S) (heads lines heads_after lines_after : List Row)
+    pub sets_row : (row : Option S) (heads lines heads_after lines_after : List Row)
         → of_key key heads_after lines_after ≡ row
         → ((k : List ℕ) → (key ≡ k → ⊥) → of_key k heads_after lines_after ≡ of_key k heads lines) → (x : Entity)
         → holder_in h x heads_after lines_after ≡ set_entity one row (λ e. holder_in h e heads lines) x
@@ -101,7 +104,7 @@ module _ {S C : Type 0} (f : Filing S C) (h : Holders S) (kind : Kind) (word : L
       ])
     ]
 
-    made : (count : ℕ) (row : Option S) (old new : State)
+    pub made : (count : ℕ) (row : Option S) (old new : State)
         → WritesOwn f.schema count old new
         → ((x : Entity) → holder_in h x (new.now.trees 9) (new.now.trees 11)
         ≡ set_entity one row (λ e. holder_in h e (old.now.trees 9) (old.now.trees 11)) x)

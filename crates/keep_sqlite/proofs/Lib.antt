@@ -1,6 +1,7 @@
 mod Lookup
 mod Unique
 mod Keys
+mod Knowing
 mod Frames
 mod Changes
 mod Commits
@@ -22,5 +23,8 @@ mod AddedRows
 mod OrdersRead
 mod OrdersWritten
 mod Holders
+mod StepLines
+mod StepRows
+mod HolderSteps
 mod StocksHeld
 mod AccountsHeld

@@ -36,7 +36,7 @@ pub record IsMarked (r : Row) : Type 0 where
 
 -- ---- one value
 
-text_of_kind : (v : Value) → is_of kind.Text v ≡ true → not (is_null v) ≡ true → (s : List ℕ) × (v ≡ Text s)
+pub text_of_kind : (v : Value) → is_of kind.Text v ≡ true → not (is_null v) ≡ true → (s : List ℕ) × (v ≡ Text s)
 text_of_kind Null typed there = absurd (true≢false (sym there))
 text_of_kind (Int n) typed there = absurd (true≢false (sym typed))
 text_of_kind (Real x) typed there = absurd (true≢false (sym typed))

@@ -1,13 +1,13 @@
 -- What the rows of stocks and of accounts have alike: a head with numbers each, and a line for each order.
 use Rattle.std.specs.Prelude.{◌≡◌, ℕ, pos, Bool, if◌then◌else◌, List, [], ◌∷◌, filter, find, Option}
-use Rattle.std.specs.Prelude.{Some, None, option_map, true, false, refl}
+use Rattle.std.specs.Prelude.{Some, None, option_map, option_and_then, true, false, refl}
 use Rattle.std.proofs.Common.{ap, cond, ◌∙◌}
 use Rattle.sqlite.specs.declared.types.Value.{Value}
 use Rattle.sqlite.specs.declared.types.Value.TheVariants.{Int, Text}
 use Rattle.sqlite_value.specs.Order.{Row, column, bytes}
 use Rattle.base.specs.Entity.{Entity}
 use Rattle.base.specs.declared.entity.Kind.{Kind}
-use Rattle.trade.specs.Lines.{Line}
+use Rattle.trade.specs.Lines.{Line, line_of}
 use Rattle.trade.specs.declared.line_phase.LinePhase.{LinePhase}
 use Rattle.sql_bodies.specs.LineRows.{line_from, lines_with}
 use Rattle.sql_bodies.specs.Steps.{steps}
@@ -58,6 +58,10 @@ no_holder {S} h e heads lines none =
     ∙ elim (h.is_one e.kind) as (λ is. cond {A = Option S} is None None ≡ None) [ true ↦ refl | false ↦ refl ]
 
 -- ---- what is written
+
+-- the line of a sender, where there is one and it has one
+abbrev pub sender_line : Option Entity → List Line → Option Line
+sender_line sender ls = option_and_then (λ order. line_of order ls) sender
 
 -- the columns of a line behind its rowid, with the word of its phase
 abbrev pub line_cells : (LinePhase → List ℕ) → List ℕ → Line → Cells

@@ -1,8 +1,8 @@
 -- From what a connection leaves to what the store leaves. The lemmas stand here, since ghost fields name them.
-use Rattle.std.specs.Prelude.{◌≡◌, ℕ, ◌+◌, IsTrue, List, [], ◌∷◌, Bool, None}
+use Rattle.std.specs.Prelude.{◌≡◌, ℕ, ◌+◌, IsTrue, List, [], ◌∷◌, Bool, Option, None}
 use Rattle.std.proofs.Common.{refl, ap, sym, ◌∙◌}
 use Rattle.std.proofs.Math.Logic.{∥∥₁_map}
-use base.Stored.{Coded-set}
+use base.Stored.{Coded, Coded-set}
 use native.Mathlib.Nat.{ℕ_set}
 use mathlib.Core.Bool.{Bool-set}
 use mathlib.Core.HLevel.{Π_prop}
@@ -20,6 +20,8 @@ use Rattle.sqlite.specs.State.{State, HasCleanDisk}
 use Rattle.keep.specs.Seen.{Seen, IsSound}
 use Rattle.keep.specs.Tables.{Tables}
 use Rattle.sql_rows.specs.Tables.{IsRising}
+use Rattle.base.specs.Entity.{Entity}
+use Rattle.last_states.specs.Known.{Knows, Knows-prop}
 use Rattle.keep_sqlite.specs.Filing.{Filing}
 use Rattle.keep_sqlite.specs.Tables.{tables_of}
 use Rattle.keep_sqlite.specs.Ready.{AreNumbered, IsFiled, IsReady}
@@ -66,6 +68,13 @@ module _ (schema : Schema) (count : ℕ) where
 
   pub ready_prop : (s : State) → IsProp (HasCleanDisk s → IsTrue s.is_open → IsReady schema count s)
   ready_prop s = Π_prop (λ _. Π_prop (λ _. IsReady-prop s))
+
+-- ---- what is known of states
+
+-- it is a proposition, so that a ghost field may have it
+pub kept_prop : {S : Type 0} → Coded S → (s : State) (known rows : Entity → Option S)
+    → IsProp (HasCleanDisk s → IsTrue s.is_open → Knows known rows)
+kept_prop coded s known rows = Π_prop (λ _. Π_prop (λ _. Knows-prop coded known rows))
 
 -- ---- the law of a store
 

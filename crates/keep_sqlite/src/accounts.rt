@@ -1,6 +1,7 @@
 //! Billing in files.
 
-ghost use Rattle.std.specs.Prelude.{◌≡◌, ◌≤◌, false, refl, map, Some, None, OnOk, IfOk, IsTrue, slice_get};
+ghost use Rattle.std.specs.Prelude.{◌≡◌, ◌≤◌, true, false, refl, map, Some, None, OnOk, IfOk, IsTrue, slice_get};
+ghost use Rattle.std.specs.Prelude.{is_some, option_copied};
 ghost use Rattle.std.specs.List.{AllByRecursion};
 ghost use Rattle.sqlite_trees.specs.Tree.{Trees};
 ghost use Rattle.sqlite_trees.specs.View.{doubt};
@@ -13,7 +14,10 @@ ghost use Rattle.keep.specs.declared.change.Change.TheVariants.{State};
 ghost use Rattle.sql_bodies.specs.LineRows.{lines_with, IsRow};
 ghost use Rattle.sql_bodies.specs.Words.{account_phase_in};
 ghost use Rattle.sql_rows.specs.Schema.{billing};
-ghost use Rattle.sql_rows.specs.Tables.{Adds, Edits, IsRising, Puts, Stays, text_key};
+ghost use Rattle.sql_rows.specs.Tables.{Adds, Edits, IsRising, Puts, Stays, pair_key, text_key};
+ghost use Rattle.trade.specs.Following.{LinesFollow};
+ghost use Rattle.trade.specs.Sound.{IsAccountSound};
+ghost use Rattle.trade.specs.Accounts.{AccountState};
 ghost use Rattle.trade.specs.Words.{account_line_word};
 ghost use Rattle.keep_sqlite.specs.AddedRows.{AreAdded};
 ghost use Rattle.keep_sqlite.specs.Holders.{line_cells, lines_in, shown_line, state_in};
@@ -21,6 +25,7 @@ ghost use Rattle.keep_sqlite.specs.Ready.{IsFiled, IsReady, Makes};
 ghost use Rattle.keep_sqlite.specs.Accounts.{accounts, account_cells, account_from};
 
 use crate::filed::Filed;
+use crate::lines::sender_line;
 use crate::writes::{bound_number, bound_quantity};
 use base::{Entity, Kind};
 use billing::{Account, Accounts};
@@ -30,7 +35,7 @@ use sql_rows::{
     take_account_lines,
 };
 use sqlite::{Alter, Connection, Error, Row, Transaction};
-use std::alloc::Global;
+use std::alloc::{AllocError, Global};
 use trade::{AccountCommand, Holder, Line, Lines};
 
 /// Puts the line that a row tells among others.
@@ -161,6 +166,33 @@ fn add_lines<S: Alter>(tx: &mut Transaction<'_, S>, key: &str, lines: &[Line]) -
     Ok(())
 }
 
+/// Sets the line of an order.
+fn set_line<S: Alter>(tx: &mut Transaction<'_, S>, key: &str, line: &Line) -> Result<usize, Error>
+    requires schema { HasCleanDisk (state S.Store tx.old.conn.now)
+        → (state S.Store tx.old.conn.now).now.schema ≡ billing }
+    requires rising { HasCleanDisk (state S.Store tx.old.conn.now)
+        → IsRising ((state S.Store tx.old.conn.now).now.trees 11) }
+    requires inside { HasCleanDisk (state S.Store tx.old.conn.now)
+        → IsTrue (state S.Store tx.old.conn.now).in_transaction }
+    ensures same_reference { tx.new.conn.ghost_name ≡ tx.old.conn.ghost_name }
+    ensures row { IsRow line.now }
+    ensures ok { HasCleanDisk (state S.Store tx.new.conn.now) → OnOk result (Edits 11
+        (Puts (pair_key key.now line.now.order.key) (line_cells account_line_word key.now line.now))
+        (state S.Store tx.old.conn.now) (state S.Store tx.new.conn.now)) }
+    ensures kept { HasCleanDisk (state S.Store tx.new.conn.now)
+        → KeepsCommit (state S.Store tx.old.conn.now) (state S.Store tx.new.conn.now) }
+    ensures survives { Survives (state S.Store tx.old.conn.now) (state S.Store tx.new.conn.now) (λ _. ⊥) }
+{
+    let order = line.order();
+    sql_rows::put_account_line(
+        tx,
+        key,
+        order.key(),
+        bound_number(line.number()),
+        line.phase().account_word(),
+    )
+}
+
 /// Sets the numbers of an account.
 fn put_head<S: Alter>(
     tx: &mut Transaction<'_, S>,
@@ -174,6 +206,7 @@ fn put_head<S: Alter>(
     requires inside { HasCleanDisk (state S.Store tx.old.conn.now)
         → IsTrue (state S.Store tx.old.conn.now).in_transaction }
     ensures same_reference { tx.new.conn.ghost_name ≡ tx.old.conn.ghost_name }
+    ensures sound { IsAccountSound account.now }
     ensures ok { HasCleanDisk (state S.Store tx.new.conn.now) → OnOk result (Edits 9
         (Puts (text_key key.now) (account_cells key.now account.now))
         (state S.Store tx.old.conn.now) (state S.Store tx.new.conn.now)) }
@@ -212,8 +245,45 @@ fn set_account<S: Alter>(
 {
     take_account_lines(tx, key)?;
     put_head(tx, key, account)?;
-    add_lines(tx, key, account.lines().as_slice())?;
+    let lines = account.lines().to_vec()?;
+    add_lines(tx, key, lines.as_slice())?;
     Ok(count)
+}
+
+/// Sets an account that follows the one that stands by an input of this sender: its numbers, and the sender's line.
+fn step_account<S: Alter>(
+    tx: &mut Transaction<'_, S>,
+    key: &str,
+    account: &Account,
+    sender: Option<&Entity>,
+    count: u64,
+) -> Result<u64, Error>
+    requires filed { HasCleanDisk (state S.Store tx.old.conn.now)
+        → IsFiled billing count (state S.Store tx.old.conn.now).now }
+    requires sound { HasCleanDisk (state S.Store tx.old.conn.now) → IsDatabase (state S.Store tx.old.conn.now).now }
+    requires inside { HasCleanDisk (state S.Store tx.old.conn.now)
+        → IsTrue (state S.Store tx.old.conn.now).in_transaction }
+    requires stands { HasCleanDisk (state S.Store tx.old.conn.now)
+        → is_some (accounts.entity (state S.Store tx.old.conn.now).now.trees (account_of key.now)) ≡ true }
+    requires follows { HasCleanDisk (state S.Store tx.old.conn.now) → (before : AccountState)
+        → accounts.entity (state S.Store tx.old.conn.now).now.trees (account_of key.now) ≡ Some before
+        → LinesFollow (option_copied sender) before.lines account.now.lines }
+    ensures same_reference { tx.new.conn.ghost_name ≡ tx.old.conn.ghost_name }
+    ensures ok { HasCleanDisk (state S.Store tx.new.conn.now)
+        → IfOk result (λ count. Makes accounts (changed_by (State (account_of key.now) (Some account.now))) count
+        (state S.Store tx.old.conn.now) (state S.Store tx.new.conn.now)) }
+    ensures kept { HasCleanDisk (state S.Store tx.new.conn.now)
+        → KeepsCommit (state S.Store tx.old.conn.now) (state S.Store tx.new.conn.now) }
+    ensures survives { Survives (state S.Store tx.old.conn.now) (state S.Store tx.new.conn.now) (λ _. ⊥) }
+{
+    put_head(tx, key, account)?;
+    match sender_line(account.lines(), sender) {
+        Some(line) => {
+            set_line(tx, key, line)?;
+            Ok(count)
+        }
+        None => Ok(count),
+    }
 }
 
 /// Takes an account away, its lines first.
@@ -251,6 +321,10 @@ impl Filed for Accounts {
         Service::Billing
     }
 
+    fn copy_state(_alloc: Global, row: &Account) -> Result<Account, AllocError> {
+        row.copy()
+    }
+
     fn read_state<S: Alter>(
         alloc: Global,
         conn: &mut Connection<S>,
@@ -274,6 +348,20 @@ impl Filed for Accounts {
             (Kind::Account, Some(account)) => set_account(tx, entity.key(), account, count),
             (Kind::Account, None) => remove_account(tx, entity.key(), count),
             (Kind::Order | Kind::Stock, _) => Err(Error::InvalidQuery),
+        }
+    }
+
+    fn write_step<S: Alter>(
+        _alloc: Global,
+        tx: &mut Transaction<'_, S>,
+        entity: &Entity,
+        row: &Account,
+        sender: Option<&Entity>,
+        count: u64,
+    ) -> Result<u64, Error> {
+        match entity.kind() {
+            Kind::Account => step_account(tx, entity.key(), row, sender, count),
+            Kind::Order | Kind::Stock => Err(Error::InvalidQuery),
         }
     }
 

@@ -1,6 +1,6 @@
 //! What differs between the files of services.
 
-ghost use Rattle.std.specs.Prelude.{◌≡◌, ◌≤◌, ℕ, List, false, OnOk, IfOk, IsTrue};
+ghost use Rattle.std.specs.Prelude.{◌≡◌, ◌≤◌, ℕ, List, true, false, Some, OnOk, IfOk, IsTrue, is_some, option_copied};
 ghost use Rattle.sqlite_trees.specs.Tree.{Trees};
 ghost use Rattle.sqlite_trees.specs.View.{doubt};
 ghost use Rattle.sqlite.specs.Effect.{IsDatabase};
@@ -11,18 +11,19 @@ ghost use Rattle.keep.specs.declared.change.Change.TheVariants.{State};
 ghost use Rattle.sql_rows.specs.Tables.{Stays};
 ghost use Rattle.keep_sqlite.specs.Ready.{IsFiled, IsReady, Makes};
 
+use activities::Parts;
 use base::Entity;
 use sql_bodies::CommandBody;
 use sql_rows::Service;
 use sqlite::{Alter, Connection, Error, Transaction};
-use std::alloc::Global;
+use std::alloc::{AllocError, Global};
 
 /// A service whose states and commands can stand in a file.
 pub trait Filed {
     ghost use Rattle.keep_sqlite.specs.Filing.{Filing};
 
     /// What is kept of an entity.
-    type State: Drop;
+    type State: Drop + Parts;
     /// What its seats ask for.
     type Command: CommandBody;
 
@@ -32,6 +33,13 @@ pub trait Filed {
     /// Which service it is.
     fn service() -> Service
         ensures { result ≡ filing.is_service.service };
+
+    /// An equal state, in memory of its own or shared with it.
+    ///
+    /// # Errors
+    /// Where a growth was refused.
+    fn copy_state(alloc: Global, row: &Self::State) -> Result<Self::State, AllocError>
+        ensures { IfOk result (λ s. s ≡ row.now) };
 
     /// The row of an entity. How many rows the journal has stands for the contract alone.
     ///
@@ -73,6 +81,37 @@ pub trait Filed {
         ensures same_reference { tx.new.conn.ghost_name ≡ tx.old.conn.ghost_name }
         ensures ok { HasCleanDisk (state S.Store tx.new.conn.now)
             → IfOk result (λ count. Makes filing (changed_by (State entity.now row.now)) count
+            (state S.Store tx.old.conn.now) (state S.Store tx.new.conn.now)) }
+        ensures kept { HasCleanDisk (state S.Store tx.new.conn.now)
+            → KeepsCommit (state S.Store tx.old.conn.now) (state S.Store tx.new.conn.now) }
+        ensures survives { Survives (state S.Store tx.old.conn.now) (state S.Store tx.new.conn.now) (λ _. ⊥) };
+
+    /// Sets the row of an entity, which has one, to a state that follows it by an input of this sender: no more is
+    /// written than what differs. A seat is no sender.
+    ///
+    /// # Errors
+    /// Where the store failed or a growth was refused, and where the file has no place for the entity.
+    fn write_step<S: Alter>(
+        alloc: Global,
+        tx: &mut Transaction<'_, S>,
+        entity: &Entity,
+        row: &Self::State,
+        sender: Option<&Entity>,
+        count: u64,
+    ) -> Result<u64, Error>
+        requires filed { HasCleanDisk (state S.Store tx.old.conn.now)
+            → IsFiled filing.schema count (state S.Store tx.old.conn.now).now }
+        requires sound { HasCleanDisk (state S.Store tx.old.conn.now) → IsDatabase (state S.Store tx.old.conn.now).now }
+        requires inside { HasCleanDisk (state S.Store tx.old.conn.now)
+            → IsTrue (state S.Store tx.old.conn.now).in_transaction }
+        requires stands { HasCleanDisk (state S.Store tx.old.conn.now)
+            → is_some (filing.entity (state S.Store tx.old.conn.now).now.trees entity.now) ≡ true }
+        requires follows { HasCleanDisk (state S.Store tx.old.conn.now) → (before : Self.State)
+            → filing.entity (state S.Store tx.old.conn.now).now.trees entity.now ≡ Some before
+            → Self.State.follows (option_copied sender) before row.now }
+        ensures same_reference { tx.new.conn.ghost_name ≡ tx.old.conn.ghost_name }
+        ensures ok { HasCleanDisk (state S.Store tx.new.conn.now)
+            → IfOk result (λ count. Makes filing (changed_by (State entity.now (Some row.now))) count
             (state S.Store tx.old.conn.now) (state S.Store tx.new.conn.now)) }
         ensures kept { HasCleanDisk (state S.Store tx.new.conn.now)
             → KeepsCommit (state S.Store tx.old.conn.now) (state S.Store tx.new.conn.now) }

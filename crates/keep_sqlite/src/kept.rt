@@ -1,11 +1,13 @@
 //! A store over a connection.
 
-ghost use Rattle.std.specs.Prelude.{◌≡◌, ◌≤◌, ◌⊎◌, true, false, IsTrue, IfOk, IfErr, OnOk, Err};
+ghost use Rattle.std.specs.Prelude.{◌≡◌, ◌≤◌, ◌⊎◌, true, false, IsTrue, IfOk, IfErr, IfSome, OnOk, Err, Some};
 ghost use Rattle.sqlite_trees.specs.Tree.{Trees};
 ghost use Rattle.sqlite_trees.specs.View.{doubt};
 ghost use Rattle.sqlite.specs.Held.{state};
 ghost use Rattle.sqlite.specs.State.{HasCleanDisk};
-ghost use Rattle.keep.specs.Law.{MoreFailures, Writes};
+ghost use Rattle.last_states.specs.Known.{known_of, Knows};
+ghost use Rattle.keep.specs.Law.{MoreFailures, Reads, Writes};
+ghost use Rattle.keep.specs.Steps.{AreSteps};
 ghost use Rattle.keep.specs.Seen.{keep_end};
 ghost use Rattle.keep.specs.declared.fault.KeepFault.TheVariants.{Failed, Memory};
 ghost use Rattle.keep.specs.Tables.{changed, empty, ArePlaced};
@@ -14,7 +16,8 @@ ghost use Rattle.sqlite_catalog.specs.Listing.{IsSound};
 ghost use Rattle.sqlite.specs.WalFiles.{image_at};
 ghost use Rattle.keep_sqlite.specs.Found.{IsFoundIn, IsTakenOver, TellsOfService};
 ghost use Rattle.keep_sqlite.specs.Ready.{IsEnd, IsReady};
-ghost use Rattle.keep_sqlite.specs.Law.{ready_prop, seen_of, seen_sound};
+ghost use Rattle.keep_sqlite.specs.Law.{kept_prop, ready_prop, seen_of, seen_sound};
+ghost use Rattle.keep_sqlite.specs.Tables.{tables_of};
 
 use crate::filed::Filed;
 use crate::founding::{found, with_tables};
@@ -27,14 +30,17 @@ use activities::JournalRow;
 use base::{Entity, Number, Pair};
 use envelope::{Letter, Message};
 use keep::{Change, Keep, KeepFault, Place};
+use last_states::LastStates;
 use sql_rows::with_sorted_rows;
 use sqlite::{Alter, Connection, Error, ErrorCode, FileFrom, FileStore, MemStore, Start};
-use std::alloc::Global;
+use std::alloc::{AllocError, Global};
 use std::marker::PhantomData;
 
 /// The tables of a service in a file, or in memory, over a connection that stays open.
 pub struct SqliteKeep<H: Filed, S: Alter> {
     conn: Connection<S>,
+    // What the rows of entities hold, where it was read or written last.
+    states: LastStates<H::State>,
     // How many rows the journal has.
     count: u64,
     failures: u64,
@@ -44,6 +50,8 @@ pub struct SqliteKeep<H: Filed, S: Alter> {
     ghost sound: { HasCleanDisk (state S.Store conn) → IsTrue (state S.Store conn).is_open
         → IsReady H.filing.schema count (state S.Store conn) } by { ready_prop _ _ _ },
     ghost live: { IsTrue is_usable → HasCleanDisk (state S.Store conn) → IsTrue (state S.Store conn).is_open },
+    ghost known: { HasCleanDisk (state S.Store conn) → IsTrue (state S.Store conn).is_open
+        → Knows (known_of states) (H.filing.entity (state S.Store conn).now.trees) } by { kept_prop H.State.code (state S.Store conn) _ _ },
 }
 
 /// Written by hand, since the service is no value that could be dropped.
@@ -51,6 +59,7 @@ impl<H: Filed, S: Alter + Drop> Drop for SqliteKeep<H, S> {
     fn drop(self) {
         let SqliteKeep {
             conn: _conn,
+            states: _states,
             count: _,
             failures: _,
             is_usable: _,
@@ -101,6 +110,73 @@ impl<H: Filed, S: Alter> SqliteKeep<H, S> {
             Err(_) => self.fail(),
         }
     }
+
+    /// A copy of the state that is known of an entity, if one is.
+    fn known_state(&self, alloc: Global, entity: &Entity) -> Result<Option<H::State>, AllocError>
+        ensures { IfOk result (λ found. IfSome found (λ s. known_of self.now.states entity.now ≡ Some s)) }
+    {
+        match self.states.peek(entity) {
+            Some(state) => Ok(Some(H::copy_state(alloc, state)?)),
+            None => Ok(None),
+        }
+    }
+
+    /// The row of an entity, as it stands in the file.
+    fn read_row(&mut self, alloc: Global, entity: &Entity) -> Result<Option<H::State>, KeepFault>
+        requires { self.old.is_usable ≡ true }
+        ensures { Reads (λ k. seen_of H.filing (state S.Store k.conn) k.is_usable k.failures) self.old self.new
+            (λ t row. row ≡ t.entity entity.now) (keep_end result) }
+    {
+        self.is_usable = false;
+        let found = H::read_state::<S>(alloc, &mut self.conn, entity, self.count);
+        self.end(found)
+    }
+
+    /// Keeps the state of an entity beside its row, where it has one and memory can be had.
+    fn keep_state(&mut self, alloc: Global, entity: &Entity, row: &Option<H::State>)
+        requires { HasCleanDisk (state S.Store self.old.conn)
+            → row.now ≡ H.filing.entity (state S.Store self.old.conn).now.trees entity.now }
+        ensures same { (self.new.conn ≡ self.old.conn) × (self.new.is_usable ≡ self.old.is_usable)
+            × (self.new.failures ≡ self.old.failures) }
+    {
+        if let Some(state) = row {
+            if let Ok(state) = H::copy_state(alloc, state) {
+                self.states.remember(alloc, entity, state);
+            }
+        }
+    }
+
+    /// Makes these changes in one transaction; steps may be written in parts.
+    fn write(
+        &mut self,
+        alloc: Global,
+        changes: Vec<Change<H::State, H::Command>>,
+        are_steps: bool,
+    ) -> Result<(), KeepFault>
+        requires usable { self.old.is_usable ≡ true }
+        requires steps { HasCleanDisk (state S.Store self.old.conn) → IsTrue are_steps
+            → AreSteps H.State.follows changes.items (tables_of H.filing (state S.Store self.old.conn).now.trees) }
+        ensures { Writes (λ k. seen_of H.filing (state S.Store k.conn) k.is_usable k.failures) self.old self.new
+            (ArePlaced changes.items) (changed changes.items) (keep_end result) }
+    {
+        self.is_usable = false;
+        let done = write_all::<H, S>(
+            alloc,
+            &mut self.conn,
+            &mut self.states,
+            changes.as_slice(),
+            are_steps,
+            self.count,
+        );
+        match done {
+            Ok(count) => {
+                self.count = count;
+                self.is_usable = true;
+                Ok(())
+            }
+            Err(error) => self.end(Err(error)),
+        }
+    }
 }
 
 impl<H: Filed> SqliteKeep<H, MemStore> {
@@ -116,9 +192,11 @@ impl<H: Filed> SqliteKeep<H, MemStore> {
         ensures refused { IfErr result (λ fault. (fault ≡ Memory) ⊎ (fault ≡ Failed)) }
     {
         let mut conn = Connection::open_in_memory(alloc)?;
+        let states = LastStates::new(alloc)?;
         match found::<H, MemStore>(&mut conn) {
             Ok(()) => Ok(SqliteKeep {
                 conn,
+                states,
                 count: 0,
                 failures: 0,
                 is_usable: true,
@@ -142,9 +220,13 @@ impl<H: Filed, S: Alter> Keep for SqliteKeep<H, S> {
     }
 
     fn entity(&mut self, alloc: Global, entity: &Entity) -> Result<Option<H::State>, KeepFault> {
-        self.is_usable = false;
-        let found = H::read_state::<S>(alloc, &mut self.conn, entity, self.count);
-        self.end(found)
+        if let Some(state) = self.known_state(alloc, entity)? {
+            self.states.touch(entity);
+            return Ok(Some(state));
+        }
+        let row = self.read_row(alloc, entity)?;
+        self.keep_state(alloc, entity, &row);
+        Ok(row)
     }
 
     fn sent(&mut self, _alloc: Global, pair: &Pair) -> Result<u64, KeepFault> {
@@ -217,15 +299,21 @@ impl<H: Filed, S: Alter> Keep for SqliteKeep<H, S> {
         ensures { Writes (λ k. seen_of H.filing (state S.Store k.conn) k.is_usable k.failures) self.old self.new
             (ArePlaced changes.items) (changed changes.items) (keep_end result) }
     {
-        self.is_usable = false;
-        match write_all::<H, S>(alloc, &mut self.conn, changes.as_slice(), self.count) {
-            Ok(count) => {
-                self.count = count;
-                self.is_usable = true;
-                Ok(())
-            }
-            Err(error) => self.end(Err(error)),
-        }
+        self.write(alloc, changes, false)
+    }
+
+    fn apply_steps(
+        &mut self,
+        alloc: Global,
+        changes: Vec<Change<H::State, H::Command>>,
+    ) -> Result<(), KeepFault>
+        requires usable { self.old.is_usable ≡ true }
+        requires steps { HasCleanDisk (state S.Store self.old.conn)
+            → AreSteps H.State.follows changes.items (tables_of H.filing (state S.Store self.old.conn).now.trees) }
+        ensures { Writes (λ k. seen_of H.filing (state S.Store k.conn) k.is_usable k.failures) self.old self.new
+            (ArePlaced changes.items) (changed changes.items) (keep_end result) }
+    {
+        self.write(alloc, changes, true)
     }
 
     fn reopen(&mut self, _alloc: Global) -> Result<(), KeepFault> {
@@ -261,9 +349,13 @@ impl<H: Filed, S: Alter + Drop> SqliteKeep<H, S> {
             Ok(conn) => conn,
             Err((error, store)) => return Err((opening_fault(&error), store)),
         };
+        let Ok(states) = LastStates::new(alloc) else {
+            return Err((KeepFault::Memory, conn.into_store()));
+        };
         match examine::<H, S>(alloc, &mut conn) {
             Ok(Some(count)) => Ok(SqliteKeep {
                 conn,
+                states,
                 count,
                 failures: 0,
                 is_usable: true,
@@ -333,6 +425,7 @@ impl<H: Filed, S: Alter> SqliteKeep<H, S> {
     {
         let SqliteKeep {
             conn,
+            states: _states,
             count: _,
             failures,
             is_usable: _,

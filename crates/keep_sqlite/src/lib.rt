@@ -24,6 +24,7 @@ mod filed;
 mod founding;
 mod journal;
 mod kept;
+mod lines;
 mod listing;
 mod opening;
 mod order_reads;

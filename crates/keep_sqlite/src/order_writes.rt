@@ -172,6 +172,32 @@ fn take_order<S: Alter>(tx: &mut Transaction<'_, S>, key: &str, count: u64) -> R
     Ok(count)
 }
 
+/// Sets the row of an order that was placed: no other has one.
+pub fn set_order<S: Alter>(
+    tx: &mut Transaction<'_, S>,
+    key: &str,
+    row: &Option<Order>,
+    count: u64,
+) -> Result<u64, Error>
+    requires filed { HasCleanDisk (state S.Store tx.old.conn.now)
+        → IsFiled purchasing count (state S.Store tx.old.conn.now).now }
+    requires sound { HasCleanDisk (state S.Store tx.old.conn.now) → IsDatabase (state S.Store tx.old.conn.now).now }
+    requires inside { HasCleanDisk (state S.Store tx.old.conn.now)
+        → IsTrue (state S.Store tx.old.conn.now).in_transaction }
+    ensures same_reference { tx.new.conn.ghost_name ≡ tx.old.conn.ghost_name }
+    ensures ok { HasCleanDisk (state S.Store tx.new.conn.now)
+        → IfOk result (λ count. Makes orders (changed_by (State (order_of key.now) (Some row.now))) count
+        (state S.Store tx.old.conn.now) (state S.Store tx.new.conn.now)) }
+    ensures kept { HasCleanDisk (state S.Store tx.new.conn.now)
+        → KeepsCommit (state S.Store tx.old.conn.now) (state S.Store tx.new.conn.now) }
+    ensures survives { Survives (state S.Store tx.old.conn.now) (state S.Store tx.new.conn.now) (λ _. ⊥) }
+{
+    match row {
+        Some(order) => put_order(tx, key, order, count),
+        None => Err(Error::InvalidQuery),
+    }
+}
+
 /// Sets the row of an order, or takes it away: only an order that was placed has one.
 pub fn write_order<S: Alter>(
     tx: &mut Transaction<'_, S>,
@@ -193,8 +219,7 @@ pub fn write_order<S: Alter>(
     ensures survives { Survives (state S.Store tx.old.conn.now) (state S.Store tx.new.conn.now) (λ _. ⊥) }
 {
     match row {
-        Some(Some(order)) => put_order(tx, key, order, count),
-        Some(None) => Err(Error::InvalidQuery),
+        Some(row) => set_order(tx, key, row, count),
         None => take_order(tx, key, count),
     }
 }

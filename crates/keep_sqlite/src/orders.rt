@@ -5,12 +5,13 @@ ghost use Rattle.keep_sqlite.specs.Orders.{orders};
 
 use crate::filed::Filed;
 use crate::order_reads::find_order;
-use crate::order_writes::write_order;
+use crate::order_writes::{set_order, write_order};
+use activities::Handler;
 use base::{Entity, Kind};
 use purchasing::{Order, Orders};
 use sql_rows::Service;
 use sqlite::{Alter, Connection, Error, Transaction};
-use std::alloc::Global;
+use std::alloc::{AllocError, Global};
 use trade::OrderCommand;
 
 impl Filed for Orders {
@@ -22,6 +23,10 @@ impl Filed for Orders {
 
     fn service() -> Service {
         Service::Purchasing
+    }
+
+    fn copy_state(alloc: Global, row: &Option<Order>) -> Result<Option<Order>, AllocError> {
+        <Orders as Handler>::copy_state(alloc, row)
     }
 
     fn read_state<S: Alter>(
@@ -50,6 +55,21 @@ impl Filed for Orders {
         match entity.kind() {
             Kind::Order => write_order(tx, entity.key(), row, count),
             // They have no place here.
+            Kind::Stock | Kind::Account => Err(Error::InvalidQuery),
+        }
+    }
+
+    // An order is small: all of it is written.
+    fn write_step<S: Alter>(
+        _alloc: Global,
+        tx: &mut Transaction<'_, S>,
+        entity: &Entity,
+        row: &Option<Order>,
+        _sender: Option<&Entity>,
+        count: u64,
+    ) -> Result<u64, Error> {
+        match entity.kind() {
+            Kind::Order => set_order(tx, entity.key(), row, count),
             Kind::Stock | Kind::Account => Err(Error::InvalidQuery),
         }
     }

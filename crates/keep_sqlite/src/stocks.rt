@@ -1,6 +1,7 @@
 //! The warehouse in files.
 
-ghost use Rattle.std.specs.Prelude.{◌≡◌, ◌≤◌, false, refl, map, Some, None, OnOk, IfOk, IsTrue, slice_get};
+ghost use Rattle.std.specs.Prelude.{◌≡◌, ◌≤◌, true, false, refl, map, Some, None, OnOk, IfOk, IsTrue, slice_get};
+ghost use Rattle.std.specs.Prelude.{is_some, option_copied};
 ghost use Rattle.std.specs.List.{AllByRecursion};
 ghost use Rattle.sqlite_trees.specs.Tree.{Trees};
 ghost use Rattle.sqlite_trees.specs.View.{doubt};
@@ -13,7 +14,10 @@ ghost use Rattle.keep.specs.declared.change.Change.TheVariants.{State};
 ghost use Rattle.sql_bodies.specs.LineRows.{lines_with, IsRow};
 ghost use Rattle.sql_bodies.specs.Words.{stock_phase_in};
 ghost use Rattle.sql_rows.specs.Schema.{warehouse};
-ghost use Rattle.sql_rows.specs.Tables.{Adds, Edits, IsRising, Puts, Stays, text_key};
+ghost use Rattle.sql_rows.specs.Tables.{Adds, Edits, IsRising, Puts, Stays, pair_key, text_key};
+ghost use Rattle.trade.specs.Following.{LinesFollow};
+ghost use Rattle.trade.specs.Sound.{IsStockSound};
+ghost use Rattle.trade.specs.Stocks.{StockState};
 ghost use Rattle.trade.specs.Words.{stock_line_word};
 ghost use Rattle.keep_sqlite.specs.AddedRows.{AreAdded};
 ghost use Rattle.keep_sqlite.specs.Holders.{line_cells, lines_in, shown_line, state_in};
@@ -21,6 +25,7 @@ ghost use Rattle.keep_sqlite.specs.Ready.{IsFiled, IsReady, Makes};
 ghost use Rattle.keep_sqlite.specs.Stocks.{stocks, stock_cells, stock_from};
 
 use crate::filed::Filed;
+use crate::lines::sender_line;
 use crate::writes::{bound_number, bound_quantity};
 use base::{Entity, Kind};
 use sql_bodies::put_stock_line;
@@ -28,7 +33,7 @@ use sql_rows::{
     Service, add_stock_line, put_stock, read_stock, read_stock_lines, take_stock, take_stock_lines,
 };
 use sqlite::{Alter, Connection, Error, Row, Transaction};
-use std::alloc::Global;
+use std::alloc::{AllocError, Global};
 use trade::{Holder, Line, Lines, StockCommand};
 use warehouse::{Stock, Stocks};
 
@@ -161,6 +166,33 @@ fn add_lines<S: Alter>(tx: &mut Transaction<'_, S>, key: &str, lines: &[Line]) -
     Ok(())
 }
 
+/// Sets the line of an order.
+fn set_line<S: Alter>(tx: &mut Transaction<'_, S>, key: &str, line: &Line) -> Result<usize, Error>
+    requires schema { HasCleanDisk (state S.Store tx.old.conn.now)
+        → (state S.Store tx.old.conn.now).now.schema ≡ warehouse }
+    requires rising { HasCleanDisk (state S.Store tx.old.conn.now)
+        → IsRising ((state S.Store tx.old.conn.now).now.trees 11) }
+    requires inside { HasCleanDisk (state S.Store tx.old.conn.now)
+        → IsTrue (state S.Store tx.old.conn.now).in_transaction }
+    ensures same_reference { tx.new.conn.ghost_name ≡ tx.old.conn.ghost_name }
+    ensures row { IsRow line.now }
+    ensures ok { HasCleanDisk (state S.Store tx.new.conn.now) → OnOk result (Edits 11
+        (Puts (pair_key key.now line.now.order.key) (line_cells stock_line_word key.now line.now))
+        (state S.Store tx.old.conn.now) (state S.Store tx.new.conn.now)) }
+    ensures kept { HasCleanDisk (state S.Store tx.new.conn.now)
+        → KeepsCommit (state S.Store tx.old.conn.now) (state S.Store tx.new.conn.now) }
+    ensures survives { Survives (state S.Store tx.old.conn.now) (state S.Store tx.new.conn.now) (λ _. ⊥) }
+{
+    let order = line.order();
+    sql_rows::put_stock_line(
+        tx,
+        key,
+        order.key(),
+        bound_number(line.number()),
+        line.phase().stock_word(),
+    )
+}
+
 /// Sets the numbers of a stock.
 fn put_head<S: Alter>(tx: &mut Transaction<'_, S>, key: &str, stock: &Stock) -> Result<usize, Error>
     requires schema { HasCleanDisk (state S.Store tx.old.conn.now)
@@ -170,6 +202,7 @@ fn put_head<S: Alter>(tx: &mut Transaction<'_, S>, key: &str, stock: &Stock) -> 
     requires inside { HasCleanDisk (state S.Store tx.old.conn.now)
         → IsTrue (state S.Store tx.old.conn.now).in_transaction }
     ensures same_reference { tx.new.conn.ghost_name ≡ tx.old.conn.ghost_name }
+    ensures sound { IsStockSound stock.now }
     ensures ok { HasCleanDisk (state S.Store tx.new.conn.now) → OnOk result (Edits 9
         (Puts (text_key key.now) (stock_cells key.now stock.now))
         (state S.Store tx.old.conn.now) (state S.Store tx.new.conn.now)) }
@@ -209,8 +242,45 @@ fn set_stock<S: Alter>(
 {
     take_stock_lines(tx, key)?;
     put_head(tx, key, stock)?;
-    add_lines(tx, key, stock.lines().as_slice())?;
+    let lines = stock.lines().to_vec()?;
+    add_lines(tx, key, lines.as_slice())?;
     Ok(count)
+}
+
+/// Sets a stock that follows the one that stands by an input of this sender: its numbers, and the sender's line.
+fn step_stock<S: Alter>(
+    tx: &mut Transaction<'_, S>,
+    key: &str,
+    stock: &Stock,
+    sender: Option<&Entity>,
+    count: u64,
+) -> Result<u64, Error>
+    requires filed { HasCleanDisk (state S.Store tx.old.conn.now)
+        → IsFiled warehouse count (state S.Store tx.old.conn.now).now }
+    requires sound { HasCleanDisk (state S.Store tx.old.conn.now) → IsDatabase (state S.Store tx.old.conn.now).now }
+    requires inside { HasCleanDisk (state S.Store tx.old.conn.now)
+        → IsTrue (state S.Store tx.old.conn.now).in_transaction }
+    requires stands { HasCleanDisk (state S.Store tx.old.conn.now)
+        → is_some (stocks.entity (state S.Store tx.old.conn.now).now.trees (stock_of key.now)) ≡ true }
+    requires follows { HasCleanDisk (state S.Store tx.old.conn.now) → (before : StockState)
+        → stocks.entity (state S.Store tx.old.conn.now).now.trees (stock_of key.now) ≡ Some before
+        → LinesFollow (option_copied sender) before.lines stock.now.lines }
+    ensures same_reference { tx.new.conn.ghost_name ≡ tx.old.conn.ghost_name }
+    ensures ok { HasCleanDisk (state S.Store tx.new.conn.now)
+        → IfOk result (λ count. Makes stocks (changed_by (State (stock_of key.now) (Some stock.now))) count
+        (state S.Store tx.old.conn.now) (state S.Store tx.new.conn.now)) }
+    ensures kept { HasCleanDisk (state S.Store tx.new.conn.now)
+        → KeepsCommit (state S.Store tx.old.conn.now) (state S.Store tx.new.conn.now) }
+    ensures survives { Survives (state S.Store tx.old.conn.now) (state S.Store tx.new.conn.now) (λ _. ⊥) }
+{
+    put_head(tx, key, stock)?;
+    match sender_line(stock.lines(), sender) {
+        Some(line) => {
+            set_line(tx, key, line)?;
+            Ok(count)
+        }
+        None => Ok(count),
+    }
 }
 
 /// Takes a stock away, its lines first.
@@ -244,6 +314,10 @@ impl Filed for Stocks {
         Service::Warehouse
     }
 
+    fn copy_state(_alloc: Global, row: &Stock) -> Result<Stock, AllocError> {
+        row.copy()
+    }
+
     fn read_state<S: Alter>(
         alloc: Global,
         conn: &mut Connection<S>,
@@ -267,6 +341,20 @@ impl Filed for Stocks {
             (Kind::Stock, Some(stock)) => set_stock(tx, entity.key(), stock, count),
             (Kind::Stock, None) => remove_stock(tx, entity.key(), count),
             (Kind::Order | Kind::Account, _) => Err(Error::InvalidQuery),
+        }
+    }
+
+    fn write_step<S: Alter>(
+        _alloc: Global,
+        tx: &mut Transaction<'_, S>,
+        entity: &Entity,
+        row: &Stock,
+        sender: Option<&Entity>,
+        count: u64,
+    ) -> Result<u64, Error> {
+        match entity.kind() {
+            Kind::Stock => step_stock(tx, entity.key(), row, sender, count),
+            Kind::Order | Kind::Account => Err(Error::InvalidQuery),
         }
     }
 

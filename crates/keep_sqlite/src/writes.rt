@@ -1,27 +1,33 @@
 //! The changes of a transaction.
 
 ghost use Rattle.std.specs.Prelude.{◌≡◌, ◌<◌, ◌^◌, ◌≤◌, ◌⊎◌};
-ghost use Rattle.std.specs.Prelude.{true, false, IfOk, OnErr, IsTrue, FitsSigned, pos};
+ghost use Rattle.std.specs.Prelude.{true, false, IfOk, OnOk, OnErr, IsTrue, FitsSigned, pos, is_some, option_copied};
+ghost use Rattle.std.specs.Prelude.{option_map, Option, drop, length, ◌+◌};
 ghost use Rattle.std.specs.Int.{w64};
 ghost use Rattle.sqlite_trees.specs.Tree.{Trees};
 ghost use Rattle.sqlite_trees.specs.View.{doubt};
 ghost use Rattle.sqlite.specs.Effect.{IsDatabase};
 ghost use Rattle.sqlite.specs.Held.{state};
 ghost use Rattle.sqlite.specs.State.{HasCleanDisk, Survives, KeepsCommit};
-ghost use Rattle.keep.specs.Tables.{changed, changed_by};
-ghost use Rattle.keep.specs.declared.change.Change.TheVariants.{Sent, Settled, Handled, Held, NotHeld};
+ghost use Rattle.base.specs.Entity.{Entity};
+ghost use Rattle.last_states.specs.Known.{known_of, Knows};
+ghost use Rattle.keep.specs.Steps.{AreSteps};
+ghost use Rattle.keep.specs.Tables.{Tables, changed, changed_by};
+ghost use Rattle.keep.specs.declared.change.Change.TheVariants.{State, Sent, Settled, Handled, Held, NotHeld};
 ghost use Rattle.keep_sqlite.specs.Tables.{tables_of};
 ghost use Rattle.activities.specs.declared.input.Input.TheVariants.{FromSeat, FromEntity};
 ghost use Rattle.base.specs.Number.{is_number};
 ghost use Rattle.base.specs.declared.limits.TheConstants.{MAX_NUMBER};
 ghost use Rattle.keep_sqlite.specs.Parts.{with_sent, with_settled, with_letter, without_letters, with_row};
 ghost use Rattle.keep_sqlite.specs.Ready.{IsFiled, IsReady, Makes, IsFirstCell};
+ghost use Rattle.keep_sqlite.specs.Stepping.{IsStepBy, sender_behind, step_at};
 
 use crate::filed::Filed;
 use activities::{Input, JournalRow};
 use base::{Entity, Number, Pair};
 use envelope::{Letter, Message};
 use keep::Change;
+use last_states::LastStates;
 use sql_bodies::CommandBody;
 use sql_rows::{
     add_command, add_message, find_marks, put_held, put_in_marks, put_out_marks, put_outbox,
@@ -407,8 +413,8 @@ fn write_row<H: Filed, S: Alter>(
     }
 }
 
-/// Makes one change, and answers how many rows the journal has then.
-fn write_one<H: Filed, S: Alter>(
+/// Makes one change, of a state as a whole, and answers how many rows the journal has then.
+fn write_change<H: Filed, S: Alter>(
     alloc: Global,
     tx: &mut Transaction<'_, S>,
     change: &Change<H::State, H::Command>,
@@ -438,11 +444,140 @@ fn write_one<H: Filed, S: Alter>(
     }
 }
 
+/// Who sent the input that a row of the journal tells of, where one stands first among these changes: no sender is a
+/// seat.
+fn sender_behind<S, C>(behind: &[Change<S, C>]) -> Option<Option<&Entity>>
+    ensures { option_map option_copied result ≡ sender_behind behind.now }
+{
+    match behind.first() {
+        Some(Change::Journal(_, row)) => match &row.input {
+            Input::FromSeat(_, _) => Some(None),
+            Input::FromEntity(sender, _, _) => Some(Some(sender)),
+        },
+        _ => None,
+    }
+}
+
+/// Forgets the state that a change sets or takes away, and tells whether it was known.
+fn forget<S: Drop, C>(states: &mut LastStates<S>, change: &Change<S, C>) -> bool
+    ensures known { (t : Tables S C) → Knows (known_of states.old) t.entity
+        → Knows (known_of states.new) (changed_by change.now t).entity }
+    ensures stood { IsTrue result → (t : Tables S C) → Knows (known_of states.old) t.entity → (e : Entity)
+        (row : Option S) → change.now ≡ State e row → is_some (t.entity e) ≡ true }
+{
+    match change {
+        Change::State(entity, _) => states.forget(entity),
+        _ => false,
+    }
+}
+
+/// Keeps a state that a change sets, where memory can be had.
+fn note<H: Filed>(
+    alloc: Global,
+    states: &mut LastStates<H::State>,
+    change: &Change<H::State, H::Command>,
+)
+    ensures { (t : Tables H.State H.Command) → Knows (known_of states.old) (changed_by change.now t).entity
+        → Knows (known_of states.new) (changed_by change.now t).entity }
+{
+    if let Change::State(entity, Some(state)) = change {
+        if let Ok(state) = H::copy_state(alloc, state) {
+            states.remember(alloc, entity, state);
+        }
+    }
+}
+
+/// Makes one change, and answers how many rows the journal has then: of a state whose row is known to stand no more is
+/// written than what the step changes.
+fn write_known<H: Filed, S: Alter>(
+    alloc: Global,
+    tx: &mut Transaction<'_, S>,
+    change: &Change<H::State, H::Command>,
+    step: Option<Option<&Entity>>,
+    is_known: bool,
+    count: u64,
+) -> Result<u64, Error>
+    requires filed { HasCleanDisk (state S.Store tx.old.conn.now)
+        → IsFiled H.filing.schema count (state S.Store tx.old.conn.now).now }
+    requires sound { HasCleanDisk (state S.Store tx.old.conn.now) → IsDatabase (state S.Store tx.old.conn.now).now }
+    requires inside { HasCleanDisk (state S.Store tx.old.conn.now)
+        → IsTrue (state S.Store tx.old.conn.now).in_transaction }
+    requires stands { HasCleanDisk (state S.Store tx.old.conn.now) → IsTrue is_known → (e : Entity)
+        (row : Option H.State) → change.now ≡ State e row
+        → is_some (H.filing.entity (state S.Store tx.old.conn.now).now.trees e) ≡ true }
+    requires step { HasCleanDisk (state S.Store tx.old.conn.now)
+        → IsStepBy H.State.follows (option_map option_copied step) change.now
+        (tables_of H.filing (state S.Store tx.old.conn.now).now.trees) }
+    ensures same_reference { tx.new.conn.ghost_name ≡ tx.old.conn.ghost_name }
+    ensures ok { HasCleanDisk (state S.Store tx.new.conn.now)
+        → IfOk result (λ count. Makes H.filing (changed_by change.now) count
+        (state S.Store tx.old.conn.now) (state S.Store tx.new.conn.now)) }
+    ensures kept { HasCleanDisk (state S.Store tx.new.conn.now)
+        → KeepsCommit (state S.Store tx.old.conn.now) (state S.Store tx.new.conn.now) }
+    ensures survives { Survives (state S.Store tx.old.conn.now) (state S.Store tx.new.conn.now) (λ _. ⊥) }
+{
+    match (change, step) {
+        (Change::State(entity, Some(state)), Some(sender)) if is_known => {
+            H::write_step::<S>(alloc, tx, entity, state, sender, count)
+        }
+        _ => write_change::<H, S>(alloc, tx, change, count),
+    }
+}
+
+/// Makes one change, and answers how many rows the journal has then. What is known of states goes with it.
+fn write_one<H: Filed, S: Alter>(
+    alloc: Global,
+    tx: &mut Transaction<'_, S>,
+    states: &mut LastStates<H::State>,
+    change: &Change<H::State, H::Command>,
+    step: Option<Option<&Entity>>,
+    count: u64,
+) -> Result<u64, Error>
+    requires filed { HasCleanDisk (state S.Store tx.old.conn.now)
+        → IsFiled H.filing.schema count (state S.Store tx.old.conn.now).now }
+    requires sound { HasCleanDisk (state S.Store tx.old.conn.now) → IsDatabase (state S.Store tx.old.conn.now).now }
+    requires inside { HasCleanDisk (state S.Store tx.old.conn.now)
+        → IsTrue (state S.Store tx.old.conn.now).in_transaction }
+    requires known { HasCleanDisk (state S.Store tx.old.conn.now)
+        → Knows (known_of states.old) (H.filing.entity (state S.Store tx.old.conn.now).now.trees) }
+    requires step { HasCleanDisk (state S.Store tx.old.conn.now)
+        → IsStepBy H.State.follows (option_map option_copied step) change.now
+        (tables_of H.filing (state S.Store tx.old.conn.now).now.trees) }
+    ensures same_reference { tx.new.conn.ghost_name ≡ tx.old.conn.ghost_name }
+    ensures ok { HasCleanDisk (state S.Store tx.new.conn.now)
+        → IfOk result (λ count. Makes H.filing (changed_by change.now) count
+        (state S.Store tx.old.conn.now) (state S.Store tx.new.conn.now)) }
+    ensures kept { HasCleanDisk (state S.Store tx.new.conn.now)
+        → KeepsCommit (state S.Store tx.old.conn.now) (state S.Store tx.new.conn.now) }
+    ensures survives { Survives (state S.Store tx.old.conn.now) (state S.Store tx.new.conn.now) (λ _. ⊥) }
+    ensures known { HasCleanDisk (state S.Store tx.new.conn.now)
+        → OnOk result (Knows (known_of states.new) (H.filing.entity (state S.Store tx.new.conn.now).now.trees)) }
+{
+    let is_known = forget(states, change);
+    let count = write_known::<H, S>(alloc, tx, change, step, is_known, count)?;
+    note::<H>(alloc, states, change);
+    Ok(count)
+}
+
+/// The step of the change at a place, where changes are steps.
+fn step_at<S, C>(changes: &[Change<S, C>], place: usize, are_steps: bool) -> Option<Option<&Entity>>
+    requires { place < length changes.now }
+    ensures { option_map option_copied result ≡ step_at are_steps (drop (place + 1) changes.now) }
+{
+    if are_steps {
+        sender_behind(&changes[place + 1..])
+    } else {
+        None
+    }
+}
+
 /// Makes the changes, in order, up to the first that is refused, and answers how many rows the journal has then.
 fn stage<H: Filed, S: Alter>(
     alloc: Global,
     tx: &mut Transaction<'_, S>,
+    states: &mut LastStates<H::State>,
     changes: &[Change<H::State, H::Command>],
+    are_steps: bool,
     count: u64,
 ) -> Result<u64, Error>
     requires filed { HasCleanDisk (state S.Store tx.old.conn.now)
@@ -451,6 +586,10 @@ fn stage<H: Filed, S: Alter>(
     requires inside { HasCleanDisk (state S.Store tx.old.conn.now)
         → IsTrue (state S.Store tx.old.conn.now).in_transaction }
     requires open { HasCleanDisk (state S.Store tx.old.conn.now) → IsTrue (state S.Store tx.old.conn.now).is_open }
+    requires known { HasCleanDisk (state S.Store tx.old.conn.now)
+        → Knows (known_of states.old) (H.filing.entity (state S.Store tx.old.conn.now).now.trees) }
+    requires steps { HasCleanDisk (state S.Store tx.old.conn.now) → IsTrue are_steps
+        → AreSteps H.State.follows changes.now (tables_of H.filing (state S.Store tx.old.conn.now).now.trees) }
     ensures same_reference { tx.new.conn.ghost_name ≡ tx.old.conn.ghost_name }
     ensures ok { HasCleanDisk (state S.Store tx.new.conn.now)
         → IfOk result (λ count. Makes H.filing (changed changes.now) count
@@ -458,24 +597,36 @@ fn stage<H: Filed, S: Alter>(
     ensures kept { HasCleanDisk (state S.Store tx.new.conn.now)
         → KeepsCommit (state S.Store tx.old.conn.now) (state S.Store tx.new.conn.now) }
     ensures survives { Survives (state S.Store tx.old.conn.now) (state S.Store tx.new.conn.now) (λ _. ⊥) }
+    ensures known { HasCleanDisk (state S.Store tx.new.conn.now)
+        → OnOk result (Knows (known_of states.new) (H.filing.entity (state S.Store tx.new.conn.now).now.trees)) }
 {
     let mut count = count;
-    for change in changes {
-        count = write_one::<H, S>(alloc, tx, change, count)?;
+    for place in 0..changes.len() {
+        let step = step_at(changes, place, are_steps);
+        count = write_one::<H, S>(alloc, tx, states, &changes[place], step, count)?;
     }
     Ok(count)
 }
 
-/// Makes all changes in one transaction, or none, and answers how many rows the journal has then.
+/// Makes all changes in one transaction, or none, and answers how many rows the journal has then. The states that are
+/// known go with it.
 pub fn write_all<H: Filed, S: Alter>(
     alloc: Global,
     conn: &mut Connection<S>,
+    states: &mut LastStates<H::State>,
     changes: &[Change<H::State, H::Command>],
+    are_steps: bool,
     count: u64,
 ) -> Result<u64, Error>
     requires autocommit { conn.old.in_transaction ≡ false }
     requires ready { HasCleanDisk (state S.Store conn.old) → IsReady H.filing.schema count (state S.Store conn.old) }
+    requires known { HasCleanDisk (state S.Store conn.old)
+        → Knows (known_of states.old) (H.filing.entity (state S.Store conn.old).now.trees) }
+    requires steps { HasCleanDisk (state S.Store conn.old) → IsTrue are_steps
+        → AreSteps H.State.follows changes.now (tables_of H.filing (state S.Store conn.old).now.trees) }
     ensures autocommit { conn.new.in_transaction ≡ false }
+    ensures known { HasCleanDisk (state S.Store conn.new) → IsTrue (state S.Store conn.new).is_open
+        → Knows (known_of states.new) (H.filing.entity (state S.Store conn.new).now.trees) }
     ensures ok { HasCleanDisk (state S.Store conn.new)
         → IfOk result (λ count. IsReady H.filing.schema count (state S.Store conn.new)
         × (tables_of H.filing (state S.Store conn.new).now.trees
@@ -491,9 +642,10 @@ pub fn write_all<H: Filed, S: Alter>(
     // Called for what its contract says: the rows are as the schema demands.
     let _ = conn.schema();
     let mut tx = conn.transaction();
-    let count = match stage::<H, S>(alloc, &mut tx, changes, count) {
+    let count = match stage::<H, S>(alloc, &mut tx, states, changes, are_steps, count) {
         Ok(count) => count,
         Err(error) => {
+            states.clear();
             tx.rollback();
             return Err(error);
         }
@@ -501,6 +653,9 @@ pub fn write_all<H: Filed, S: Alter>(
     // The proof tells of both ends, each by its arm.
     match tx.commit() {
         Ok(()) => Ok(count),
-        Err(error) => Err(error),
+        Err(error) => {
+            states.clear();
+            Err(error)
+        }
     }
 }

@@ -32,6 +32,7 @@ use hotel::{Room, Rooms};
 use inbox::{Class, Rank, classify};
 use keep::{Change, Keep, KeepFault};
 use keep_plain::PlainKeep;
+use last_states::LastStates;
 use laws_broker::{each_message_was_sent, no_message_is_lost};
 use laws_journals::stays_authentic;
 use laws_network::{Delivery, Event, Network, Outcome, exchange};
@@ -309,6 +310,14 @@ pub fn tables_hold_nothing_at_first(alloc: Global) -> Result<bool, KeepFault> {
     let mut keep: PlainKeep<Orders> = PlainKeep::new(alloc);
     let letters = keep.unsettled(alloc, &None, usize::MAX)?;
     Ok(letters.is_empty())
+}
+
+pub fn what_was_remembered_is_known(alloc: Global, order: &Entity) -> Result<bool, AllocError> {
+    let mut states = LastStates::new(alloc)?;
+    states.remember(alloc, order, 7_u64);
+    let known = states.peek(order).copied();
+    let was_known = states.forget(order);
+    Ok(known == Some(7) && was_known && states.peek(order).is_none())
 }
 
 pub fn a_mark_is_one_change(alloc: Global, pair: &Pair) -> Result<usize, AllocError> {

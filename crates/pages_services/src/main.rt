@@ -24,7 +24,8 @@ use examples::{
     order_of_one, printed_octets_are_read, services_without_orders_agree, so_much_is_on_hand,
     so_much_is_the_limit, tables_hold_nothing_at_first, three_parts_are_one_text,
     what_a_broker_brought_is_a_step, what_a_client_reads_was_sent, what_comes_early_waits,
-    what_wants_an_ack_stays_until_it_comes, what_was_put_is_taken, words_that_are_no_text_are_told,
+    what_wants_an_ack_stays_until_it_comes, what_was_put_is_taken, what_was_remembered_is_known,
+    words_that_are_no_text_are_told,
 };
 use hotel::{RoomCommand, Rooms};
 use hotel_day::a_day_at_the_hotel;
@@ -136,6 +137,11 @@ fn print_tables(rt: &impl Print, alloc: Global) -> Result<()> {
     let pair = pair(alloc)?;
     tell(rt, "keep", first_mark(alloc, &pair))?;
     tell(rt, "keep_plain", tables_hold_nothing_at_first(alloc))?;
+    tell(
+        rt,
+        "last_states",
+        what_was_remembered_is_known(alloc, &pair.from),
+    )?;
     tell(rt, "outbox", a_mark_is_one_change(alloc, &pair))?;
     tell(rt, "resequencer", nothing_is_held_at_first(alloc, &pair))?;
     let letter = Letter {

@@ -1,5 +1,5 @@
--- What the clauses of the world's run say of a run in a world that was just opened.
-use Rattle.std.proofs.Common.{◌≡◌, List, [], ◌++◌, length, take, Result, Ok, Err, OnOk, sym, ap, subst, ◌∙◌}
+-- What the clauses of the world's steps say of a run in a world that was just opened.
+use Rattle.std.proofs.Common.{List}
 use Rattle.std.proofs.Math.Logic.{∥∥₁_map}
 use Rattle.keep.specs.Seen.{Seen}
 use Rattle.schedule_text.specs.declared.event.Event.{Event}
@@ -8,7 +8,6 @@ use Rattle.laws_stores.specs.Sight.{AllTables, Sight, OrderTables, StockTables, 
 use Rattle.schedule_runner.specs.Good.{StaysGood, Agrees}
 use Rattle.schedule_runner.specs.Passing.{Passed}
 use Rattle.schedule_runner.specs.Paths.{IsPath, Makes}
-use Rattle.schedule_runner.specs.Runs.{Ran}
 use Rattle.schedule_runner.specs.Sight.{StaysClean, StaysMatching}
 use Rattle.schedule_runner.specs.Told.{Told}
 use Rattle.schedule_runner.specs.declared.world.World.{World}
@@ -19,22 +18,6 @@ use Rattle.programs.specs.Runs.{IsBeginning, HasRun}
 -- a stop of stores that were opened leaves what it may leave of them
 pub opened_so : (s : Sight) → AreNew s → AreOpened (AreLeftBy s) s
 opened_so s new = record { new = new; found = λ clean t may. (clean, may) }
-
--- what is appended to nothing is all
-pub all_appended : {E : Type 0} (Made : List Event → List Outcome → Type 0) (events : List Event)
-    (old new : List Outcome)
-    (result : Result Unit E) → old ≡ [] → Ran Made events old new result → Made (take (length new) events) new
-all_appended Made events old new result none r =
-    let same : r.outcomes ≡ new = sym (r.appended ∙ ap (λ os. os ++ r.outcomes) none) in
-    subst (λ os. Made (take (length os) events) os) same r.made
-
--- and where all events were made it has as many outcomes
-pub all_counted : {E : Type 0} (Made : List Event → List Outcome → Type 0) (events : List Event)
-    (old new : List Outcome)
-    (result : Result Unit E) → old ≡ [] → Ran Made events old new result → OnOk result (length new ≡ length events)
-all_counted Made events old new (Ok done) none r =
-    ap length (r.appended ∙ ap (λ os. os ++ r.outcomes) none) ∙ r.all
-all_counted Made events old new (Err e) none r = tt
 
 module _ {KO KS KA : Type 0} (orders : KO → Seen OrderTables) (stocks : KS → Seen StockTables)
     (accounts : KA → Seen AccountTables) (Found : AllTables → Type 0) where

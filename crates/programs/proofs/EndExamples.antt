@@ -1,10 +1,11 @@
 -- Examples: how a run of a text ends, in what its writers hold then and in its status, and what the words of the
 -- command line come to.
 use Rattle.std.proofs.Common.{◌≡◌, ◌≢◌, List, [], ◌∷◌, ◌++◌, ℕ, true, false, refl, sym, subst, ◌∙◌, ap, ap₂, inl, inr, get_or}
-use Rattle.std.proofs.Common.{arith}
-use Rattle.std.specs.Prelude.{codes, Some, None, Result, Ok, Err, IsOk, unwrap_or, map}
+use Rattle.std.proofs.Common.{◌≤◌, length, arith}
+use Rattle.std.specs.Prelude.{codes, Option, Some, None, Result, Ok, Err, IsOk, unwrap_or, map}
 use Rattle.std.specs.Fmt.{digits}
 use Rattle.std.specs.Global.{Vec}
+use Rattle.std.specs.Io.KnownBytes.{Appends}
 use Rattle.std.specs.Str.{is_utf8, chars}
 use Rattle.base.specs.Entity.{order_of}
 use Rattle.trade.specs.declared.commands.OrderCommand.TheVariants.{CancelOrder}
@@ -24,7 +25,7 @@ use Rattle.programs.specs.declared.fault.RunFault.TheVariants.{BadEvent, Memory,
 use Rattle.programs.specs.declared.fault.StoresFault.{StoresFault}
 use Rattle.programs.specs.declared.fault.StoresFault.TheVariants.{Purchasing, Warehouse, Billing}
 use Rattle.programs.specs.StoresFaults.{keep_fault_words}
-use Rattle.programs.specs.Ends.{Writers, lines_of, AreTold, IsReadFrom, IsRunOf, IsUnread, IsRunFrom, IsEndOf, IsUntold}
+use Rattle.programs.specs.Ends.{Writers, lines_of, IsCutOff, IsReadFrom, AreRun, IsRunOf, IsUnread, IsRunFrom, IsEndOf, IsUntold}
 use Rattle.programs.specs.Ends.{fault_line}
 use Rattle.schedule_text.specs.declared.outcome.Outcome.{Outcome}
 use Rattle.programs.specs.Asked.{AreKeeps, IsAskedFor, command_line}
@@ -78,19 +79,63 @@ a_beginning_is_written = (
       let first : 114 ≡ 117 = ap (λ text. get_or text 0 0) whole in omega arith,
 )
 
--- outcomes are told, or a beginning of them; where an event wasn't made that is told as well
-outcomes_are_told : (AreTold true (NotDone NotOpen ∷ []) (Some []) (Some refused) (Ok tt))
-    × (AreTold false (NotDone NotOpen ∷ []) (Some []) (Some refused) (Err Memory))
-    × (AreTold true (NotDone NotOpen ∷ []) (Some []) (Some (codes "refu")) (Err Device))
-    × (AreTold false (NotDone NotOpen ∷ []) (Some []) (Some refused) (Ok tt) → ⊥)
-    × (AreTold true (NotDone NotOpen ∷ []) (Some []) (Some refused) (Err (BadEvent 1)) → ⊥)
-outcomes_are_told = (
-  sym refusal_is_told,
-  sym refusal_is_told,
-  subst (λ t. AppendsPart (Some []) (Some (codes "refu")) t) (sym refusal_is_told) a_beginning_is_written.0,
-  λ h. h,
-  λ h. h,
+abbrev refusal : Outcome
+refusal = NotDone NotOpen
+
+-- behind the refusal's lines there is no part of them alone
+not_cut : (mid : Option (List ℕ)) (more : List Outcome) (part : List ℕ)
+    → Appends (Some []) mid (lines_of (refusal ∷ more)) → Appends mid (Some (codes "refu")) part → ⊥
+unfolding digits
+not_cut None more part first second = first
+not_cut (Some xs) more part first second =
+    let whole : codes "refu" ≡ lines_of (refusal ∷ more) ++ part =
+    second ∙ ap (λ (text : List ℕ). text ++ part) first in
+    absurd (cc)
+
+-- a writer that is cut off holds a beginning of the last outcome's lines behind those before it, or all lines; where two
+-- events were made it doesn't hold a part of the first one's alone
+writers_are_cut_off : (IsCutOff (Some []) (Some (codes "refu")) (refusal ∷ []))
+    × (IsCutOff (Some []) (Some refused) (refusal ∷ []))
+    × (IsCutOff (Some []) (Some (refused ++ codes "refu")) (refusal ∷ refusal ∷ []))
+    × (IsCutOff (Some []) (Some (codes "refu")) (refusal ∷ refusal ∷ []) → ⊥)
+unfolding digits
+writers_are_cut_off = (
+  record {
+    before = [];
+    last = refusal ∷ [];
+    one = omega arith;
+    are = refl;
+    mid = Some [];
+    written = refl;
+    part = record { part = codes "refu"; rest = codes "sed 61 71\n"; whole = refl; appended = refl };
+  },
+  record {
+    before = refusal ∷ [];
+    last = [];
+    one = omega arith;
+    are = refl;
+    mid = Some refused;
+    written = refl;
+    part = record { part = []; rest = []; whole = refl; appended = refl };
+  },
+  record {
+    before = refusal ∷ [];
+    last = refusal ∷ [];
+    one = omega arith;
+    are = refl;
+    mid = Some refused;
+    written = refl;
+    part = record { part = codes "refu"; rest = codes "sed 61 71\n"; whole = refl; appended = refl };
+  },
+  λ h. let two = first_is_whole h.before h.last h.one h.are in
+      not_cut h.mid two.0 h.part.part
+      (subst (λ os. Appends (Some []) h.mid (lines_of os)) two.1 h.written) h.part.appended,
 )
+  where
+    first_is_whole : (before last : List Outcome) → length last ≤ 1 → refusal ∷ refusal ∷ [] ≡ before ++ last
+        → (more : List Outcome) × (before ≡ refusal ∷ more)
+    first_is_whole [] last one are = let long = ap length are in absurd (omega arith)
+    first_is_whole (o ∷ os) last one are = (os, cc)
 
 -- ---- whatever a run is, and for whatever faults stores fail
 module _ (Run : List Event → List Outcome → Type 0) (Fails : StoresFault → Type 0) where
@@ -246,11 +291,27 @@ words_are_answered = (
 -- ---- a run of one line whose outcome is that refusal
 module _ (Run : List Event → List Outcome → Type 0) (Fails : StoresFault → Type 0)
     (ran : Run (cancel ∷ []) (NotDone NotOpen ∷ [])) where
+  -- its event is run and the refusal written, or a beginning of it where the writer failed; no other fault is told, but
+  -- where a store may fail to open
+  an_event_is_run : (AreRun Run Fails (cancel ∷ []) (Some []) (Some refused) (Ok tt))
+      × (AreRun Run Fails (cancel ∷ []) (Some []) (Some (codes "refu")) (Err Device))
+      × (AreRun Run Fails (cancel ∷ []) (Some []) (Some refused) (Err Memory) → ⊥)
+      × (AreRun Run Fails (cancel ∷ []) (Some []) (Some []) (Err (BadEvent 1)) → ⊥)
+      × ((fault : StoresFault) → AreRun Run (λ _. ⊥) (cancel ∷ []) (Some []) (Some []) (Err (Unopened fault)) → ⊥)
+  an_event_is_run = (
+    (refusal ∷ [], ran, sym refusal_is_told),
+    (refusal ∷ [], ran, writers_are_cut_off.0),
+    λ h. h,
+    λ h. h,
+    λ fault h. h.0,
+  )
+
   -- it is run and the refusal written, or a beginning of it where the writer failed; or memory was refused, and nothing
   -- is written
   a_line_is_run : (IsRunOf Run Fails cancels (Some []) (Some refused) (Ok tt))
       × (IsRunOf Run Fails cancels (Some []) (Some (codes "refu")) (Err Device))
       × (IsRunOf Run Fails cancels (Some []) (Some []) (Err Memory))
+      × (IsRunOf Run Fails cancels (Some []) (Some refused) (Err Memory) → ⊥)
   a_line_is_run = (
     (NotDone NotOpen ∷ [], record { events = cancel ∷ []; read = line_is_read; ran = ran }, sym refusal_is_told),
     (
@@ -258,7 +319,8 @@ module _ (Run : List Event → List Outcome → Type 0) (Fails : StoresFault →
       record { events = cancel ∷ []; read = line_is_read; ran = ran },
       subst (λ t. AppendsPart (Some []) (Some (codes "refu")) t) (sym refusal_is_told) a_beginning_is_written.0,
     ),
-    inl refl,
+    refl,
+    λ h. absurd (cc),
   )
 
   -- what the reader has left is run, where it is known; else it's the run of some text

@@ -1,7 +1,7 @@
 -- How a schedule ends.
-use Rattle.std.proofs.Common.{◌≡◌, ◌⊎◌, ℕ, Bool, true, false, List, length, take, Option, Result, Ok, Err, inl, inr}
+use Rattle.std.proofs.Common.{◌≡◌, ◌⊎◌, ℕ, Bool, true, false, List, Option, Result, Ok, Err, inl, inr}
 use Rattle.std.proofs.Common.{refl, sym, ap, subst, ◌∙◌}
-use Rattle.std.proofs.Math.Seq.{take-length}
+use Rattle.std.proofs.lemmas.List.Concat.{flat_map-append}
 use Rattle.std.specs.Prelude.{if◌then◌else◌, IfSome, IfOk, IsOk, OnErr, MatchResult}
 use Rattle.std.specs.Global.{Vec}
 use Rattle.std.specs.Io.KnownBytes.{Appends}
@@ -23,41 +23,51 @@ use Rattle.programs.specs.declared.fault.StoresFault.{StoresFault}
 use Rattle.programs.specs.RunFaults.{run_fault_of}
 use Rattle.schedule_text.specs.Events.{events_of}
 use Rattle.schedule_text.specs.Faults.{IsRead}
-use Rattle.programs.specs.Ends.{Writers, fault_line, AreTold, IsReadFrom, IsRunOf, IsRunFrom, IsEndOf, IsUntold}
+use Rattle.schedule_text.specs.Outcomes.{outcome_lines}
+use Rattle.programs.specs.Ends.{Writers, fault_line, lines_of, IsCutOff, IsReadFrom, AreRun, IsRunOf, IsRunFrom, IsEndOf, IsUntold}
 use Rattle.streams.specs.Written.{AppendsPart}
-use Rattle.streams.proofs.Writes.{part_whole}
+use Rattle.streams.proofs.Writes.{part_whole, part_then}
 use Rattle.programs.specs.Usage.{IsAsked, IsStatusOf, IsRefused, IsUsage, IsCutUsage, IsWordAnswer}
 use Rattle.std.specs.declared.io.Error.{Error}
+
+-- a writer that was cut off took a beginning of all lines
+cut_part : (old new : Option (List ℕ)) (outcomes : List Outcome) → IsCutOff old new outcomes
+    → AppendsPart old new (lines_of outcomes)
+cut_part old new outcomes cut =
+    subst (AppendsPart old new)
+    (sym (ap lines_of cut.are ∙ flat_map-append outcome_lines cut.before cut.last))
+    (part_then old cut.mid new (lines_of cut.before) (lines_of cut.last) cut.written cut.part)
+
+-- what is known of a run, and of stores that fail, may be said otherwise
+pub are_run_as : (Run More : List Event → List Outcome → Type 0) (Fails Others : StoresFault → Type 0)
+    → ((events : List Event) (outcomes : List Outcome) → Run events outcomes → More events outcomes)
+    → ((fault : StoresFault) → Fails fault → Others fault)
+    → (events : List Event) (out out' : Option (List ℕ)) (r : Result Unit RunFault) → AreRun Run Fails events out out' r
+    → AreRun More Others events out out' r
+are_run_as Run More Fails Others more others events out out' (Ok tt) run = (run.0, more events run.0 run.1, run.2)
+are_run_as Run More Fails Others more others events out out' (Err Device) run = (run.0, more _ run.0 run.1, run.2)
+are_run_as Run More Fails Others more others events out out' (Err (Unopened fault)) run = (others fault run.0, run.1)
+are_run_as Run More Fails Others more others events out out' (Err Memory) run = run
+are_run_as Run More Fails Others more others events out out' (Err (BadEvent number)) run = run
 
 module _ (Run : List Event → List Outcome → Type 0) (Fails : StoresFault → Type 0) where
   -- a schedule that can't be read
   pub unread : (text : List ℕ) (out : Option (List ℕ)) (fault : ScheduleFault) → IsRead (events_of text) (Err fault)
       → IsRunOf Run Fails text out out (Err (run_fault_of fault))
   unread text out (read.BadEvent number) told = (told, refl)
-  unread text out read.Memory told = inl refl
+  unread text out read.Memory told = refl
 
-  -- the outcomes of events that were read are told
-  pub run_told : (text : List ℕ) (events : List Event) (outcomes : List Outcome) (whole : Bool)
-      (out out' : Option (List ℕ)) (r : Result Unit RunFault)
-      → events_of text ≡ Ok events → Run (take (length outcomes) events) outcomes
-      → (whole ≡ true → length outcomes ≡ length events) → AreTold whole outcomes out out' r
-      → IsRunOf Run Fails text out out' r
-  run_told text events outcomes true out out' (Ok tt) read begun all told =
-      let ran = subst (λ es. Run es outcomes) (take-length events)
-      (subst (λ n. Run (take n events) outcomes) (all refl) begun) in
-      (outcomes, record { events = events; read = read; ran = ran }, told)
-  run_told text events outcomes false out out' (Err Memory) read begun all told =
-      inr (outcomes, record { events = events; read = read; ran = begun }, told)
-  run_told text events outcomes true out out' (Err Device) read begun all told =
-      (outcomes, record { events = events; read = read; ran = begun }, told)
-  run_told text events outcomes false out out' (Err Device) read begun all told =
-      (outcomes, record { events = events; read = read; ran = begun }, told)
-  run_told text events outcomes false out out' (Ok tt) read begun all told = elim told [ ]
-  run_told text events outcomes true out out' (Err Memory) read begun all told = elim told [ ]
-  run_told text events outcomes true out out' (Err (BadEvent number)) read begun all told = elim told [ ]
-  run_told text events outcomes false out out' (Err (BadEvent number)) read begun all told = elim told [ ]
-  run_told text events outcomes true out out' (Err (Unopened fault)) read begun all told = elim told [ ]
-  run_told text events outcomes false out out' (Err (Unopened fault)) read begun all told = elim told [ ]
+  -- a run of the events that were read is one of the text
+  pub run_told : (text : List ℕ) (events : List Event) (out out' : Option (List ℕ)) (r : Result Unit RunFault)
+      → events_of text ≡ Ok events → AreRun Run Fails events out out' r → IsRunOf Run Fails text out out' r
+  run_told text events out out' (Ok tt) read run =
+      (run.0, record { events = events; read = read; ran = run.1 }, run.2)
+  run_told text events out out' (Err Device) read run =
+      (run.0, record { events = events; read = read; ran = run.1 }, cut_part out out' run.0 run.2)
+  run_told text events out out' (Err (Unopened fault)) read run =
+      (subst (λ (r : Result (List Event) ℕ). IsOk r) (sym read) refl, run.0, run.1)
+  run_told text events out out' (Err Memory) read run = elim run [ ]
+  run_told text events out out' (Err (BadEvent number)) read run = elim run [ ]
 
   -- a run of the text that was read is one of what the reader had left
   pub from_text : (input : Option (List ℕ)) (text : List ℕ) (out out' : Option (List ℕ)) (r : Result Unit RunFault)
@@ -90,14 +100,12 @@ module _ (Run : List Event → List Outcome → Type 0) (Fails : StoresFault →
   told_status input old new fault (Ok s) status is ran told untold = inl (inr (is ∙ told.0, fault, ran, told.1))
   told_status input old new fault (Err e) status is ran told untold = inr (is, (fault, ran, untold))
 
-  -- the outcomes of what the reader had left are told
-  pub from_events : (input : Option (List ℕ)) (events : Vec Event) (outcomes : List Outcome) (whole : Bool)
-      (out out' : Option (List ℕ)) (r : Result Unit RunFault)
-      → IsReadFrom input (Ok events) → Run (take (length outcomes) events.items) outcomes
-      → (whole ≡ true → length outcomes ≡ length events.items) → AreTold whole outcomes out out' r
-      → IsRunFrom Run Fails input out out' r
-  from_events input events outcomes whole out out' r read begun all told =
-      inl (read.0, read.1, run_told read.0 events.items outcomes whole out out' r read.2 begun all told)
+  -- a run of the events of what the reader had left is one of that
+  pub from_events : (input : Option (List ℕ)) (events : Vec Event) (out out' : Option (List ℕ))
+      (r : Result Unit RunFault)
+      → IsReadFrom input (Ok events) → AreRun Run Fails events.items out out' r → IsRunFrom Run Fails input out out' r
+  from_events input events out out' r read run =
+      inl (read.0, read.1, run_told read.0 events.items out out' r read.2 run)
 
   -- no events were read
   pub from_no_events : (input out : Option (List ℕ)) (fault : RunFault) → IsReadFrom input (Err fault)
@@ -106,12 +114,6 @@ module _ (Run : List Event → List Outcome → Type 0) (Fails : StoresFault →
   from_no_events input out Memory read = inr refl
   from_no_events input out Device read = inr refl
   from_no_events input out (Unopened fault) read = elim read [ ]
-
-  -- a store couldn't be opened for the events that were read
-  pub from_unopened : (input : Option (List ℕ)) (events : Vec Event) (out : Option (List ℕ)) (fault : StoresFault)
-      → IsReadFrom input (Ok events) → Fails fault → IsRunFrom Run Fails input out out (Err (Unopened fault))
-  from_unopened input events out fault read fails =
-      inl (read.0, read.1, (subst (λ (r : Result (List Event) ℕ). IsOk r) (sym read.2) refl, fails, refl))
 
 -- memory was refused over the words
 pub refused_status : (old new : Writers) (r : Result ℕ Error) (status : ℕ)

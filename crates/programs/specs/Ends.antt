@@ -1,5 +1,5 @@
 -- How a whole schedule ends.
-use Rattle.std.specs.Prelude.{◌≡◌, ◌⊎◌, ℕ, Bool, true, false, List, ◌++◌, length, take, codes, decimal, Option, Result, Ok, Err, IfSome, ⊤}
+use Rattle.std.specs.Prelude.{◌≡◌, ◌⊎◌, ◌≤◌, ℕ, List, ◌++◌, length, take, codes, decimal, Option, Result, Ok, Err, IfSome, ⊤}
 use Rattle.std.specs.Prelude.{IsOk}
 use Rattle.std.specs.Global.{Vec}
 use Rattle.std.specs.List.{flat_map}
@@ -47,13 +47,16 @@ IsReadFrom input (Err Memory) = ⊤
 IsReadFrom input (Err Device) = ⊤
 IsReadFrom input (Err (Unopened fault)) = ⊥
 
--- What telling outcomes answers, over the known octets of the writer before it and after it, where all events were made,
--- or memory was refused before one of them: all is written; or the writer failed, and took a beginning.
-abbrev pub AreTold : Bool → List Outcome → Option (List ℕ) → Option (List ℕ) → Result Unit RunFault → Type 0
-AreTold true outcomes old new (Ok _) = Appends old new (lines_of outcomes)
-AreTold false outcomes old new (Err Memory) = Appends old new (lines_of outcomes)
-AreTold whole outcomes old new (Err Device) = AppendsPart old new (lines_of outcomes)
-AreTold whole outcomes old new _ = ⊥
+-- a writer that failed took the lines of all outcomes but the last one, and of the last one's a beginning; or no outcome
+-- was cut off, and it took all lines
+pub record IsCutOff (old new : Option (List ℕ)) (outcomes : List Outcome) : Type 0 where
+  pub before : List Outcome
+  pub last : List Outcome
+  pub one : length last ≤ 1
+  pub are : outcomes ≡ before ++ last
+  pub mid : Option (List ℕ)
+  pub written : Appends old mid (lines_of before)
+  pub part : AppendsPart mid new (lines_of last)
 
 -- `Run` says that events were made, with these outcomes
 module _ (Run : List Event → List Outcome → Type 0) where
@@ -71,17 +74,26 @@ module _ (Run : List Event → List Outcome → Type 0) where
 
   -- and `Fails` for which faults the opening of stores may fail
   module _ (Fails : StoresFault → Type 0) where
+    -- What running events answers, over the known octets of the writer before it and after it: all are made and their
+    -- outcomes written; or the writer failed, and took the outcomes of the first events, the last of them maybe in part;
+    -- or a store can't be opened, and nothing is written.
+    abbrev pub AreRun : List Event → Option (List ℕ) → Option (List ℕ) → Result Unit RunFault → Type 0
+    AreRun events old new (Ok _) = (outcomes : List Outcome) × Run events outcomes × Appends old new (lines_of outcomes)
+    AreRun events old new (Err Device) =
+        (outcomes : List Outcome) × Run (take (length outcomes) events) outcomes × IsCutOff old new outcomes
+    AreRun events old new (Err (Unopened fault)) = Fails fault × (new ≡ old)
+    AreRun events old new _ = ⊥
+
     -- What running a text answers, over the known octets of the writer before it and after it: its events are made and
     -- their outcomes written; or the writer failed, and took a beginning of the outcomes of the first events; or the
-    -- first faulty line is told, or that a store can't be opened, and nothing is written; or memory was refused, before
-    -- the first event or before a later one, and the outcomes of those before it are written.
+    -- first faulty line is told, or that a store can't be opened, or that memory was refused to the events, and nothing
+    -- is written.
     abbrev pub IsRunOf : List ℕ → Option (List ℕ) → Option (List ℕ) → Result Unit RunFault → Type 0
     IsRunOf text old new (Ok _) =
         (outcomes : List Outcome) × RunsWhole text outcomes × Appends old new (lines_of outcomes)
     IsRunOf text old new (Err (BadEvent number)) = (events_of text ≡ Err number) × (new ≡ old)
     IsRunOf text old new (Err (Unopened fault)) = IsOk (events_of text) × Fails fault × (new ≡ old)
-    IsRunOf text old new (Err Memory) =
-        (new ≡ old) ⊎ ((outcomes : List Outcome) × BeginsRun text outcomes × Appends old new (lines_of outcomes))
+    IsRunOf text old new (Err Memory) = new ≡ old
     IsRunOf text old new (Err Device) =
         (outcomes : List Outcome) × BeginsRun text outcomes × AppendsPart old new (lines_of outcomes)
 

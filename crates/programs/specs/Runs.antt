@@ -1,5 +1,5 @@
 -- What running events tells: three services over their stores, and the mail between them.
-use Rattle.std.specs.Prelude.{◌≡◌, List, None, length, take, true}
+use Rattle.std.specs.Prelude.{◌≡◌, List, None}
 use Rattle.keep.specs.Seen.{Seen}
 use Rattle.schedule_text.specs.declared.event.Event.{Event}
 use Rattle.schedule_text.specs.declared.outcome.Outcome.{Outcome}
@@ -14,7 +14,6 @@ use Rattle.schedule_runner.specs.Sight.{sight, StaysClean}
 use Rattle.schedule_runner.specs.Told.{AllTold}
 use Rattle.schedule_runner.specs.declared.world.World.{World}
 use Rattle.programs.specs.Opened.{AreOpened}
-use Rattle.programs.specs.declared.running.Made.{Made}
 
 -- A good start: the tables that were found match their journals, and those of all three are good together. Empty tables
 -- are so, and those that a good end left.
@@ -54,8 +53,3 @@ module _ {KO KS KA : Type 0} (orders : KO → Seen OrderTables) (stocks : KS →
     pub clean : StaysClean orders stocks accounts first last
     pub ended : IsGoodStart (sight orders stocks accounts first) → AreClean (sight orders stocks accounts last)
         → IsGoodEnd events outcomes first last
-
--- Events were made, or the first of them, with these outcomes; `Run` says that events were made, with their outcomes.
-pub record AreMade (Run : List Event → List Outcome → Type 0) (events : List Event) (made : Made) : Type 0 where
-  pub begun : Run (take (length made.outcomes.items) events) made.outcomes.items
-  pub all : made.is_whole ≡ true → length made.outcomes.items ≡ length events

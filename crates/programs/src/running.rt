@@ -1,18 +1,21 @@
-//! Events, made one by one in the world of three services over their stores.
+//! Events, made one by one in the world of three services over their stores, and told as they are.
 
 ghost use Rattle.std.specs.Prelude.{IfOk, IfErr};
+ghost use Rattle.programs.specs.Ends.{AreRun};
 ghost use Rattle.programs.specs.Opened.{AreNew, AreLeftBy, shown};
-ghost use Rattle.programs.specs.Runs.{AreMade, IsBeginning, HasRun};
+ghost use Rattle.programs.specs.Runs.{IsBeginning, HasRun};
 
-use crate::fault::StoresFault;
+use crate::fault::{RunFault, StoresFault};
 use crate::stores::Stores;
+use crate::writing::write_outcome;
 use billing::Account;
 use endpoint::Endpoint;
 use keep::{Faulty, Keep};
 use purchasing::Order;
 use schedule_runner::World;
-use schedule_text::{Event, Outcome};
+use schedule_text::Event;
 use std::alloc::Global;
+use std::io::Write;
 use trade::{AccountCommand, OrderCommand, StockCommand};
 use warehouse::Stock;
 
@@ -48,29 +51,36 @@ pub fn open_world<S: Stores>(
     Ok(make_world(alloc, keeps))
 }
 
-/// What became of events that were to be made.
-#[derive(Drop)]
-pub struct Made {
-    /// The outcomes of the first of them, in order.
-    pub outcomes: Vec<Outcome>,
-    /// Whether all were made; else there was no room for the outcome of the next, which wasn't made, nor any after it.
-    pub is_whole: bool,
-}
-
-/// Makes the events of a schedule, in order, over three stores that were just opened.
-pub fn make_events<O, S, A>(alloc: Global, keeps: (O, S, A), events: Vec<Event>) -> Made
+/// Makes the events of a schedule, in order, over three stores that were just opened, and writes each outcome before the
+/// next event is made. No outcome is kept.
+///
+/// # Errors
+/// `Device` where `out` failed: it took a beginning of what is told of the events that were made, and none was made after
+/// it failed. No other fault is told.
+pub fn run_events<O, S, A, W: Write>(
+    alloc: Global,
+    keeps: (O, S, A),
+    events: Vec<Event>,
+    out: &mut W,
+) -> Result<(), RunFault>
 where
     O: Keep<State = Option<Order>, Command = OrderCommand> + Drop,
     S: Keep<State = Stock, Command = StockCommand> + Drop,
     A: Keep<State = Account, Command = AccountCommand> + Drop,
     requires opened { AreNew (shown O.seen S.seen A.seen keeps) }
-    ensures { AreMade (HasRun O.seen S.seen A.seen (AreLeftBy (shown O.seen S.seen A.seen keeps))) events.items result }
+    ensures { AreRun (HasRun O.seen S.seen A.seen (AreLeftBy (shown O.seen S.seen A.seen keeps))) (λ _. ⊥) events.items
+        (W.contents out.old) (W.contents out.new) result }
 {
     let mut world = make_world(alloc, keeps);
-    let mut outcomes = Vec::new(alloc);
-    let is_whole = match world.run(events.as_slice(), &mut outcomes) {
-        Ok(()) => true,
-        Err(_) => false,
-    };
-    Made { outcomes, is_whole }
+    for event in events.as_slice() {
+        let outcome = world.step(event);
+        match write_outcome(out, &outcome) {
+            Ok(()) => {}
+            Err(_) => return Err(RunFault::Device),
+        }
+    }
+    match out.flush() {
+        Ok(()) => Ok(()),
+        Err(_) => Err(RunFault::Device),
+    }
 }

@@ -2,42 +2,27 @@
 
 ghost use Rattle.std.specs.Prelude.{◌≡◌, ◌⊎◌, OnOk, OnErr, IfOk, MatchResult, IfSome};
 ghost use Rattle.std.specs.Io.KnownBytes.{Appends};
-ghost use Rattle.programs.specs.Ends.{fault_line, AreTold, IsReadFrom, IsRunOf, IsRunFrom, IsEndOf, IsUntold};
+ghost use Rattle.programs.specs.Ends.{fault_line, IsReadFrom, IsRunOf, IsRunFrom, IsEndOf, IsUntold};
 ghost use Rattle.programs.specs.Runs.{HasRun};
 ghost use Rattle.streams.specs.Written.{AppendsPart};
 
 use crate::fault::RunFault;
-use crate::running::{Made, make_events};
+use crate::running::run_events;
 use crate::stores::Stores;
-use crate::writing::{write_numbered, write_outcomes};
+use crate::writing::write_numbered;
 use schedule_text::{Event, read_schedule};
 use std::alloc::Global;
 use std::io;
 use std::io::{ErrorKind, Read, Write};
 use streams::{write_octets, write_three};
 
-/// Writes the outcomes of events.
-///
-/// # Errors
-/// `Memory` where not all of the events were made: what was is told. `Device` where `out` failed: it took a beginning of
-/// what is told.
-pub fn write_made<W: Write>(out: &mut W, made: &Made) -> Result<(), RunFault>
-    ensures { AreTold made.now.is_whole made.now.outcomes.items (W.contents out.old) (W.contents out.new) result }
-{
-    match write_outcomes(out, made.outcomes.as_slice()) {
-        Ok(()) if made.is_whole => Ok(()),
-        Ok(()) => Err(RunFault::Memory),
-        Err(_) => Err(RunFault::Device),
-    }
-}
-
 /// Reads a schedule from its text and runs it over these stores: nothing is opened or run before the whole of it is
-/// read, and the outcomes are written at the end.
+/// read, and each outcome is written before the next event is made.
 ///
 /// # Errors
-/// `BadEvent` with the number of the first faulty line, and `Unopened` where a store can't be opened: nothing was run.
-/// `Memory` where the events or an outcome couldn't be held: what was run before is told. `Device` where `out` failed:
-/// it took a beginning of what is told of the first events.
+/// `BadEvent` with the number of the first faulty line, `Memory` where the events couldn't be held, and `Unopened` where
+/// a store can't be opened: nothing was run. `Device` where `out` failed: it took a beginning of what is told of the
+/// first events, and no event was made after it failed.
 pub fn run_text<S: Stores, W: Write>(
     alloc: Global,
     stores: S,
@@ -49,8 +34,7 @@ pub fn run_text<S: Stores, W: Write>(
 {
     let events = read_schedule(alloc, text)?;
     let keeps = stores.open(alloc)?;
-    let made = make_events(alloc, keeps, events);
-    write_made(out, &made)
+    run_events(alloc, keeps, events, out)
 }
 
 /// All that a reader gives.
@@ -66,7 +50,7 @@ fn read_all<R: Read>(alloc: Global, input: &mut R) -> Result<Vec<u8>, RunFault>
     }
 }
 
-/// Reads a schedule from `input`, for [`make_events`](crate::make_events).
+/// Reads a schedule from `input`, for [`run_events`](crate::run_events).
 ///
 /// # Errors
 /// `BadEvent` with the number of the first faulty line; `Memory` where the text or its events couldn't be held; `Device`

@@ -91,7 +91,7 @@ Exit status:
   1  `line N: bad event`: line N is the first that is none of the above, and nothing was run;
      `fault N NAME: SERVICE`: its file can't be opened, and nothing was run: 1 Failed, 2 Memory,
      3 WrongFile, which is none of this service, or of another version;
-     `fault 81 Memory`: the schedule or its outcomes couldn't be held, and what was run is told;
+     `fault 81 Memory`: the schedule couldn't be held, and nothing was run;
      `fault 2 Device`: a stream failed
   2  the words of the command line are at fault";
 

@@ -1,7 +1,6 @@
 //! What is written: octets, words and numbers, and the lines that tell outcomes. It takes no memory.
 
 ghost use Rattle.std.specs.Prelude.{◌++◌, decimal, OnOk, OnErr};
-ghost use Rattle.std.specs.List.{flat_map};
 ghost use Rattle.std.specs.Io.KnownBytes.{Appends};
 ghost use Rattle.schedule_text.specs.Outcomes.{outcome_lines, told_lines, shown_entity, shown_pair};
 ghost use Rattle.schedule_text.specs.Words.{escaped};
@@ -86,21 +85,9 @@ fn write_told<W: Write>(out: &mut W, told: Told<'_>) -> io::Result<()>
 }
 
 /// Writes the lines that tell an outcome.
-fn write_outcome<W: Write>(out: &mut W, outcome: &Outcome) -> io::Result<()>
+pub(crate) fn write_outcome<W: Write>(out: &mut W, outcome: &Outcome) -> io::Result<()>
     ensures ok { OnOk result (Appends (W.contents out.old) (W.contents out.new) (outcome_lines outcome.now)) }
     ensures err { OnErr result (AppendsPart (W.contents out.old) (W.contents out.new) (outcome_lines outcome.now)) }
 {
     write_told(out, outcome.told())
-}
-
-/// Writes the lines that tell outcomes, and ends the writing.
-pub(crate) fn write_outcomes<W: Write>(out: &mut W, outcomes: &[Outcome]) -> io::Result<()>
-    ensures ok { OnOk result (Appends (W.contents out.old) (W.contents out.new) (flat_map outcome_lines outcomes.now)) }
-    ensures err { OnErr result (AppendsPart (W.contents out.old) (W.contents out.new)
-        (flat_map outcome_lines outcomes.now)) }
-{
-    for outcome in outcomes {
-        write_outcome(out, outcome)?;
-    }
-    out.flush()
 }

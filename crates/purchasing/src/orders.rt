@@ -87,6 +87,8 @@ impl Handler for Orders {
     }
 
     ghost none_is_opening = { none_is_none };
+
+    ghost follows = { λ old input done is. tt };
 }
 
 impl Reacting for Orders {

@@ -270,6 +270,8 @@ where
         ensures agree { Agrees KO.seen KS.seen KA.seen self.old self.new }
         ensures did { Makes (Passed KO.seen KS.seen KA.seen) event.now result self.old self.new }
         ensures goes { Goes KO.seen KS.seen KA.seen (event.now ∷ []) (result ∷ []) self.old self.new }
+        ensures passes { Passes KO.seen KS.seen KA.seen (Makes (Passed KO.seen KS.seen KA.seen) event.now result)
+            (Makes (Step KO.seen KS.seen KA.seen) event.now result) self.old self.new }
     {
         self.single_step(event)
     }

@@ -1,5 +1,6 @@
 -- What is known of runs over files that were opened.
-use Rattle.std.proofs.Common.{List, length, take, sym, subst}
+use Rattle.std.proofs.Common.{ℕ, List, Option, Result, sym, subst}
+use Rattle.std.specs.Prelude.{⊤}
 use Rattle.keep.specs.Seen.{Seen}
 use Rattle.laws_stores.specs.Sight.{AllTables, OrderTables, StockTables, AccountTables}
 use Rattle.schedule_text.specs.declared.event.Event.{Event}
@@ -9,9 +10,11 @@ use Rattle.keep_sqlite.specs.Found.{IsFoundIn}
 use Rattle.keep_sqlite.specs.Orders.{orders}
 use Rattle.keep_sqlite.specs.Stocks.{stocks}
 use Rattle.programs.proofs.Beginnings.{run_as}
+use Rattle.programs.proofs.Endings.{are_run_as}
+use Rattle.programs.specs.Ends.{AreRun}
 use Rattle.programs.specs.Opened.{AreLeftBy, shown}
-use Rattle.programs.specs.Runs.{AreMade, HasRun}
-use Rattle.programs.specs.declared.running.Made.{Made}
+use Rattle.programs.specs.Runs.{HasRun}
+use Rattle.programs.specs.declared.fault.RunFault.{RunFault}
 use Rattle.schedule_stores.specs.Files.{AreFoundIn, IsLeftBy, IsOpenedWith, RunsOver}
 
 -- of a store that was opened with such tables a stop leaves no others
@@ -31,11 +34,10 @@ module _ {KO KS KA : Type 0} (order : KO → Seen OrderTables) (stock : KS → S
   }
 
   -- a run over what a stop may leave of files is one over what they are found to hold
-  pub made_over : (events : List Event) (made : Made)
-      → AreMade (RunsOver order stock account keeps) events made
-      → AreMade (HasRun order stock account (AreFoundIn p w b)) events made
-  made_over events made m = record {
-    begun = run_as order stock account (AreLeftBy (shown order stock account keeps)) (AreFoundIn p w b) files_left
-        (take (length made.outcomes.items) events) made.outcomes.items m.begun;
-    all = m.all;
-  }
+  pub run_over_files : (events : List Event) (out out' : Option (List ℕ)) (r : Result Unit RunFault)
+      → AreRun (RunsOver order stock account keeps) (λ _. ⊥) events out out' r
+      → AreRun (HasRun order stock account (AreFoundIn p w b)) (λ _. ⊤) events out out' r
+  run_over_files = are_run_as (RunsOver order stock account keeps) (HasRun order stock account (AreFoundIn p w b))
+      (λ _. ⊥) (λ _. ⊤)
+      (run_as order stock account (AreLeftBy (shown order stock account keeps)) (AreFoundIn p w b) files_left)
+      (λ fault no. absurd no)

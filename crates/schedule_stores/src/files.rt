@@ -1,13 +1,14 @@
 //! Tables of SQL in the files of a folder.
 
-ghost use Rattle.std.specs.Prelude.{◌≡◌, IfOk};
+ghost use Rattle.std.specs.Prelude.{◌≡◌, IfOk, ⊤};
 ghost use Rattle.sqlite.specs.WalFiles.{image_at};
 ghost use Rattle.keep_sqlite.specs.Accounts.{accounts};
 ghost use Rattle.keep_sqlite.specs.Found.{IsFoundIn};
 ghost use Rattle.keep_sqlite.specs.Orders.{orders};
 ghost use Rattle.keep_sqlite.specs.Stocks.{stocks};
+ghost use Rattle.programs.specs.Ends.{AreRun};
 ghost use Rattle.programs.specs.Opened.{AreNew, shown};
-ghost use Rattle.programs.specs.Runs.{AreMade, HasRun};
+ghost use Rattle.programs.specs.Runs.{HasRun};
 ghost use Rattle.schedule_stores.specs.Files.{AreFoundIn, IsOpenedWith, RunsOver};
 
 use crate::memory::is_sound;
@@ -15,11 +16,12 @@ use billing::Accounts;
 use keep::{Keep, KeepFault};
 use keep_files::{FileKeep, Reopenable};
 use keep_sqlite::Filed;
-use programs::{Made, StoresFault, make_events};
+use programs::{RunFault, StoresFault, run_events};
 use purchasing::Orders;
 use schedule_text::Event;
 use sqlite::{FileFrom, FileStore, Start};
 use std::alloc::{AllocError, Global};
+use std::io::Write;
 use warehouse::Stocks;
 
 /// A service's tables in a file of the operating system.
@@ -84,8 +86,8 @@ fn open_file<H: Filed, D: Start>(
 // A call whose types are three files of the operating system goes over the limits of its check. So each of the calls that
 // follow has one such file more than the one before it.
 
-/// Makes events over files that were opened, whatever they are.
-fn make_over<P, W, B>(
+/// Runs events over files that were opened, whatever they are.
+fn run_over<P, W, B, T: Write>(
     alloc: Global,
     keeps: (
         FileKeep<Orders, P>,
@@ -93,21 +95,23 @@ fn make_over<P, W, B>(
         FileKeep<Accounts, B>,
     ),
     events: Vec<Event>,
-) -> Made
+    out: &mut T,
+) -> Result<(), RunFault>
 where
     P: Reopenable + Drop,
     W: Reopenable + Drop,
     B: Reopenable + Drop,
     requires opened { AreNew (shown ⟦<FileKeep<Orders, P> as Keep>⟧.seen ⟦<FileKeep<Stocks, W> as Keep>⟧.seen
         ⟦<FileKeep<Accounts, B> as Keep>⟧.seen keeps) }
-    ensures { AreMade (RunsOver ⟦<FileKeep<Orders, P> as Keep>⟧.seen ⟦<FileKeep<Stocks, W> as Keep>⟧.seen
-        ⟦<FileKeep<Accounts, B> as Keep>⟧.seen keeps) events.items result }
+    ensures { AreRun (RunsOver ⟦<FileKeep<Orders, P> as Keep>⟧.seen ⟦<FileKeep<Stocks, W> as Keep>⟧.seen
+        ⟦<FileKeep<Accounts, B> as Keep>⟧.seen keeps) (λ _. ⊥) events.items (T.contents out.old) (T.contents out.new)
+        result }
 {
-    make_events(alloc, keeps, events)
+    run_events(alloc, keeps, events, out)
 }
 
 /// The same where billing's is a file of the operating system.
-fn make_over_billing<P, W, A: Start>(
+fn run_over_billing<P, W, A: Start, T: Write>(
     alloc: Global,
     keeps: (
         FileKeep<Orders, P>,
@@ -115,50 +119,56 @@ fn make_over_billing<P, W, A: Start>(
         InFile<Accounts, A>,
     ),
     events: Vec<Event>,
-) -> Made
+    out: &mut T,
+) -> Result<(), RunFault>
 where
     P: Reopenable + Drop,
     W: Reopenable + Drop,
     requires opened { AreNew (shown ⟦<FileKeep<Orders, P> as Keep>⟧.seen ⟦<FileKeep<Stocks, W> as Keep>⟧.seen
         ⟦<FileKeep<Accounts, FileStore<FileFrom<A>>> as Keep>⟧.seen keeps) }
-    ensures { AreMade (RunsOver ⟦<FileKeep<Orders, P> as Keep>⟧.seen ⟦<FileKeep<Stocks, W> as Keep>⟧.seen
-        ⟦<FileKeep<Accounts, FileStore<FileFrom<A>>> as Keep>⟧.seen keeps) events.items result }
+    ensures { AreRun (RunsOver ⟦<FileKeep<Orders, P> as Keep>⟧.seen ⟦<FileKeep<Stocks, W> as Keep>⟧.seen
+        ⟦<FileKeep<Accounts, FileStore<FileFrom<A>>> as Keep>⟧.seen keeps) (λ _. ⊥) events.items (T.contents out.old)
+        (T.contents out.new) result }
 {
-    make_over(alloc, keeps, events)
+    run_over(alloc, keeps, events, out)
 }
 
 /// The same where warehouse's is too.
-fn make_over_warehouse<P, S: Start, A: Start>(
+fn run_over_warehouse<P, S: Start, A: Start, T: Write>(
     alloc: Global,
     keeps: (FileKeep<Orders, P>, InFile<Stocks, S>, InFile<Accounts, A>),
     events: Vec<Event>,
-) -> Made
+    out: &mut T,
+) -> Result<(), RunFault>
 where
     P: Reopenable + Drop,
     requires opened { AreNew (shown ⟦<FileKeep<Orders, P> as Keep>⟧.seen
         ⟦<FileKeep<Stocks, FileStore<FileFrom<S>>> as Keep>⟧.seen
         ⟦<FileKeep<Accounts, FileStore<FileFrom<A>>> as Keep>⟧.seen keeps) }
-    ensures { AreMade (RunsOver ⟦<FileKeep<Orders, P> as Keep>⟧.seen
+    ensures { AreRun (RunsOver ⟦<FileKeep<Orders, P> as Keep>⟧.seen
         ⟦<FileKeep<Stocks, FileStore<FileFrom<S>>> as Keep>⟧.seen
-        ⟦<FileKeep<Accounts, FileStore<FileFrom<A>>> as Keep>⟧.seen keeps) events.items result }
+        ⟦<FileKeep<Accounts, FileStore<FileFrom<A>>> as Keep>⟧.seen keeps) (λ _. ⊥) events.items (T.contents out.old)
+        (T.contents out.new) result }
 {
-    make_over_billing(alloc, keeps, events)
+    run_over_billing(alloc, keeps, events, out)
 }
 
 /// The same where all three are.
-fn make_over_opened<O: Start, S: Start, A: Start>(
+fn run_over_opened<O: Start, S: Start, A: Start, T: Write>(
     alloc: Global,
     keeps: (InFile<Orders, O>, InFile<Stocks, S>, InFile<Accounts, A>),
     events: Vec<Event>,
-) -> Made
+    out: &mut T,
+) -> Result<(), RunFault>
     requires opened { AreNew (shown ⟦<FileKeep<Orders, FileStore<FileFrom<O>>> as Keep>⟧.seen
         ⟦<FileKeep<Stocks, FileStore<FileFrom<S>>> as Keep>⟧.seen
         ⟦<FileKeep<Accounts, FileStore<FileFrom<A>>> as Keep>⟧.seen keeps) }
-    ensures { AreMade (RunsOver ⟦<FileKeep<Orders, FileStore<FileFrom<O>>> as Keep>⟧.seen
+    ensures { AreRun (RunsOver ⟦<FileKeep<Orders, FileStore<FileFrom<O>>> as Keep>⟧.seen
         ⟦<FileKeep<Stocks, FileStore<FileFrom<S>>> as Keep>⟧.seen
-        ⟦<FileKeep<Accounts, FileStore<FileFrom<A>>> as Keep>⟧.seen keeps) events.items result }
+        ⟦<FileKeep<Accounts, FileStore<FileFrom<A>>> as Keep>⟧.seen keeps) (λ _. ⊥) events.items (T.contents out.old)
+        (T.contents out.new) result }
 {
-    make_over_warehouse(alloc, keeps, events)
+    run_over_warehouse(alloc, keeps, events, out)
 }
 
 /// Opens the files, purchasing's first.
@@ -194,22 +204,25 @@ fn open_files<O: Start, S: Start, A: Start>(
     Ok((orders, stocks, accounts))
 }
 
-/// Opens the files and makes the events of a schedule over what they hold.
+/// Opens the files and runs the events of a schedule over what they hold.
 ///
 /// # Errors
-/// Where a file can't be opened: nothing was made.
-pub(crate) fn make_over_files<O: Start, S: Start, A: Start>(
+/// `Unopened` where a file can't be opened: nothing was run. `Device` where `out` failed: it took a beginning of what is
+/// told of the events that were made, and none was made after it failed.
+pub(crate) fn run_files<O: Start, S: Start, A: Start, T: Write>(
     alloc: Global,
     stores: FileStores<O, S, A>,
     events: Vec<Event>,
-) -> Result<Made, StoresFault>
-    ensures { IfOk result (AreMade (HasRun ⟦<FileKeep<Orders, FileStore<FileFrom<O>>> as Keep>⟧.seen
+    out: &mut T,
+) -> Result<(), RunFault>
+    ensures { AreRun (HasRun ⟦<FileKeep<Orders, FileStore<FileFrom<O>>> as Keep>⟧.seen
         ⟦<FileKeep<Stocks, FileStore<FileFrom<S>>> as Keep>⟧.seen
         ⟦<FileKeep<Accounts, FileStore<FileFrom<A>>> as Keep>⟧.seen
-        (AreFoundIn (image_at O.Start) (image_at S.Start) (image_at A.Start))) events.items) }
+        (AreFoundIn (image_at O.Start) (image_at S.Start) (image_at A.Start))) (λ _. ⊤) events.items
+        (T.contents out.old) (T.contents out.new) result }
 {
     match open_files(stores) {
-        Ok(keeps) => Ok(make_over_opened(alloc, keeps, events)),
-        Err(fault) => Err(fault),
+        Ok(keeps) => run_over_opened(alloc, keeps, events, out),
+        Err(fault) => Err(RunFault::Unopened(fault)),
     }
 }

@@ -7,11 +7,11 @@ ghost use Rattle.programs.specs.Runs.{HasRun};
 ghost use Rattle.programs.specs.Usage.{IsStatusOf};
 ghost use Rattle.schedule_stores.specs.Files.{AreFoundIn};
 
-use crate::files::{FileStores, make_over_files};
+use crate::files::{FileStores, run_files};
 use billing::Accounts;
 use keep::Keep;
 use keep_files::FileKeep;
-use programs::{RunFault, read_events, tell_fault, write_made};
+use programs::{RunFault, read_events, tell_fault};
 use purchasing::Orders;
 use sqlite::{FileFrom, FileStore, Start};
 use std::alloc::Global;
@@ -32,8 +32,7 @@ fn read_and_run<O: Start, S: Start, A: Start, R: Read, W: Write>(
         (W.contents out.old) (W.contents out.new) result }
 {
     let events = read_events(alloc, input)?;
-    let made = make_over_files(alloc, stores, events)?;
-    write_made(out, &made)
+    run_files(alloc, stores, events, out)
 }
 
 /// Reads a schedule from `input`, runs it over files, and writes the outcome of each line to `out`. A fault is told on

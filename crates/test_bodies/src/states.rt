@@ -96,7 +96,7 @@ pub fn lines(alloc: Global, at_stock: bool, words: &[&str]) -> Result<String, Ca
     let mut lines = Lines::new(alloc);
     for words in words.chunks(3) {
         if !put(alloc, &mut lines, at_stock, words)? {
-            let before = lines.as_slice().len() as u64;
+            let before = lines.to_vec()?.len() as u64;
             return Err(CallFault::Row(before.saturating_add(1)));
         }
     }

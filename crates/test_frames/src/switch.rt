@@ -70,4 +70,6 @@ impl Handler for Switch {
     }
 
     ghost none_is_opening = { elim [ true ↦ λ h. absurd (true≢false (sym h)) | false ↦ λ h. refl ] };
+
+    ghost follows = { λ old input done is. tt };
 }

@@ -7,7 +7,7 @@ use broker_core::{Broker, SessionId};
 use envelope::{Letter, letter_to_send};
 use std::alloc::Global;
 use std::sync::Wait;
-use std::sync::atomic::{AtomicBool, AtomicU64, Ordering};
+use std::sync::atomic::{AtomicU64, Ordering};
 use std::thread;
 use stomp_frame::encode;
 use test_script::LineFault;
@@ -29,22 +29,29 @@ pub struct ServedBroker {
 /// What threads tell the broker's, and it tells them.
 #[derive(Drop)]
 pub struct Signals {
-    closed: AtomicBool,
+    users: u64,
+    left: AtomicU64,
     moved: AtomicU64,
 }
 
 impl Signals {
-    /// It's open.
-    pub fn new() -> Signals {
+    /// So many threads need the broker.
+    pub fn new(users: u64) -> Signals {
         Signals {
-            closed: AtomicBool::new(false),
+            users,
+            left: AtomicU64::new(0),
             moved: AtomicU64::new(0),
         }
     }
 
-    /// The broker's thread is to end.
-    pub fn close(&self) {
-        self.closed.store(true, Ordering::SeqCst);
+    /// One of them needs it no more.
+    pub fn leave(&self) {
+        self.left.fetch_add(1, Ordering::SeqCst);
+    }
+
+    /// Whether none of them does.
+    fn is_over(&self) -> bool {
+        self.left.load(Ordering::SeqCst) >= self.users
     }
 
     /// How often octets were moved.
@@ -133,10 +140,10 @@ impl ServedBroker {
         moved
     }
 
-    /// The broker's thread: it serves the wires until the signals is closed.
+    /// The broker's thread: it serves the wires until nobody needs it.
     pub fn run<R: Wait>(&mut self, rt: &R, wires: &[Wire], signals: &Signals) {
         for _ in rt.forever() {
-            if signals.closed.load(Ordering::SeqCst) {
+            if signals.is_over() {
                 break;
             }
             if self.serve(rt, wires) {

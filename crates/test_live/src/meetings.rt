@@ -68,7 +68,7 @@ fn run<'a, R: Wait + Threads + Sync>(
     progress: &Progress,
 ) {
     let stop = Stop::new();
-    let signals = Signals::new();
+    let signals = Signals::new(1);
     thread::join_mut(
         rt,
         &mut || {
@@ -77,7 +77,7 @@ fn run<'a, R: Wait + Threads + Sync>(
                 &mut || live_stocks(rt, alloc, live_service, progress, &stop),
                 &mut || watch_over(watch, &stop),
             );
-            signals.close();
+            signals.leave();
         },
         &mut || served.run(rt, wires, &signals),
     );

@@ -24,6 +24,9 @@ use warehouse::Stocks;
 /// How often the services are run, at most.
 const RUNS: usize = 300;
 
+/// How many of the threads of a run need the broker: the buyer's, and the one over both sellers.
+const SERVED: u64 = 2;
+
 /// How many octets more a connection carries that is opened for the next run.
 const MORE: usize = 512;
 
@@ -80,6 +83,22 @@ fn all_cuts(watches: &[Watch; 3]) -> u64 {
         .saturating_add(third.cuts())
 }
 
+/// The services of stocks and of accounts run until the end is asked for.
+fn live_sellers<'a, R: Wait + Threads + Sync>(
+    rt: &R,
+    alloc: Global,
+    storing: &mut InMemory<'a, Stocks>,
+    charging: &mut InMemory<'a, Accounts>,
+    progress: &Progress,
+    stop: &Stop,
+) {
+    thread::join_mut(
+        rt,
+        &mut || live_stocks(rt, alloc, storing, progress, stop),
+        &mut || live_accounts(rt, alloc, charging, progress, stop),
+    );
+}
+
 impl<'a> Services<'a> {
     /// Opens the connections that aren't there.
     fn connect<R: Wait>(
@@ -126,33 +145,7 @@ impl<'a> Services<'a> {
             && self.charging.is_settled(alloc)
     }
 
-    /// The services run until the end is asked for.
-    fn live<R: Wait + Threads + Sync>(
-        &mut self,
-        rt: &R,
-        alloc: Global,
-        progress: &Progress,
-        stop: &Stop,
-    ) {
-        let Services {
-            buying,
-            storing,
-            charging,
-        } = self;
-        thread::join_mut(
-            rt,
-            &mut || live_orders(rt, alloc, buying, progress, stop),
-            &mut || {
-                thread::join_mut(
-                    rt,
-                    &mut || live_stocks(rt, alloc, storing, progress, stop),
-                    &mut || live_accounts(rt, alloc, charging, progress, stop),
-                );
-            },
-        );
-    }
-
-    /// The same, with the broker, and with one who asks for the end.
+    /// The services run, with the broker, until somebody asks for the end.
     fn run<R: Wait + Threads + Sync>(
         &mut self,
         rt: &R,
@@ -163,20 +156,38 @@ impl<'a> Services<'a> {
         progress: &Progress,
     ) {
         let stop = Stop::new();
-        let signals = Signals::new();
+        let signals = Signals::new(SERVED);
         // Asked before any thread of theirs begins, since they may cut at once.
         let before = all_cuts(watches);
+        let Services {
+            buying,
+            storing,
+            charging,
+        } = self;
         thread::join_mut(
             rt,
             &mut || {
+                live_sellers(rt, alloc, storing, charging, progress, &stop);
+                signals.leave();
+            },
+            &mut || {
                 thread::join_mut(
                     rt,
-                    &mut || self.live(rt, alloc, progress, &stop),
-                    &mut || watch_over(rt, wires, watches, before, &signals, progress, &stop),
+                    &mut || {
+                        live_orders(rt, alloc, buying, progress, &stop);
+                        signals.leave();
+                    },
+                    &mut || {
+                        thread::join_mut(
+                            rt,
+                            &mut || {
+                                watch_over(rt, wires, watches, before, &signals, progress, &stop)
+                            },
+                            &mut || served.run(rt, wires, &signals),
+                        );
+                    },
                 );
-                signals.close();
             },
-            &mut || served.run(rt, wires, &signals),
         );
     }
 }

@@ -96,4 +96,6 @@ impl Handler for Counting {
     }
 
     ghost none_is_opening = { never_none };
+
+    ghost follows = { λ old input done is. tt };
 }

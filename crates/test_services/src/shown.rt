@@ -112,7 +112,7 @@ fn read_lines(alloc: Global, kind: Kind, words: &[&str]) -> Result<Lines, CallFa
 
 /// Appends lines.
 fn push_lines(out: &mut String, kind: Kind, lines: &Lines) -> Result<(), CallFault> {
-    for line in lines.as_slice() {
+    for line in &lines.to_vec()? {
         let phase = match kind {
             Kind::Stock => line.phase().stock_word(),
             _ => line.phase().account_word(),

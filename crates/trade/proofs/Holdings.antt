@@ -1,7 +1,7 @@
 -- What holds of all states that hold for orders: it does after a message where it does after each of the four changes
 -- of lines.
-use Rattle.std.proofs.Common.{◌≡◌, ℕ, ◌+◌, List, Bool, true, false, refl, arith, Option, Some, None}
-use Rattle.std.specs.Prelude.{if◌then◌else◌, ◌&&◌, is_none}
+use Rattle.std.proofs.Common.{◌≡◌, ℕ, ◌+◌, List, Bool, true, false, refl, arith, sym, ◌∙◌, Option, Some, None}
+use Rattle.std.specs.Prelude.{◌≢◌, if◌then◌else◌, ◌&&◌, is_none}
 use Rattle.base.specs.Entity.{Entity}
 use Rattle.base.specs.declared.entity.Kind.{Kind}
 use Rattle.base.specs.declared.entity.Kind.TheVariants.{Order, Stock, Account}
@@ -11,8 +11,8 @@ use Rattle.trade.specs.declared.line_phase.LinePhase.{LinePhase}
 use Rattle.trade.specs.declared.line_phase.LinePhase.TheVariants.{Held, Done, Released}
 use Rattle.trade.specs.Holding.{Holding, held_for, refused_to, finished_for, freed_for, held_by, on_request, on_held}
 use Rattle.trade.specs.Holding.{on_line_message}
-use Rattle.trade.specs.Lines.{Line, is_order, same_phase, line_of, with_line_phase, share_of, total}
-use Rattle.trade.proofs.LineLists.{sum_by-with_phase}
+use Rattle.trade.specs.Lines.{Line, is_order, same_phase, line_of, with_line, with_line_phase, share_of, total}
+use Rattle.trade.proofs.LineLists.{sum_by-with_phase, line_of-with_same, line_of-with_phase_same}
 
 -- holding, refusing, finishing and freeing keep what holds of a state
 pub record KeepsHolding {S : Type 0} (h : Holding S) (P : S → Type 0) : Type 0 where
@@ -42,7 +42,7 @@ request_kept h P keeps x s n kind none was = by_case (h.fits x n) refl
     by_case true e = rw e (keeps.holds x s n kind none e was)
     by_case false e = rw e (keeps.refuses x s n kind none was)
 
-held_kept : {S : Type 0} (P : S → Type 0) (held : Option ℕ) (becomes : ℕ → S) (x : S)
+pub held_kept : {S : Type 0} (P : S → Type 0) (held : Option ℕ) (becomes : ℕ → S) (x : S)
     → ((n : ℕ) → held ≡ Some n → P (becomes n)) → P x
     → P (on_held held becomes x).0
 held_kept P None becomes x keeps was = was
@@ -105,3 +105,45 @@ left p o n ls held none = by_line (line_of o ls) refl held
     by_line : (l : Option Line) → line_of o ls ≡ l → held_by l ≡ Some n → Left p o n ls
     by_line None at is = absurd (cc)
     by_line (Some l) at is = by_phase l (same_phase Held l.phase) refl at is
+
+-- ---- which lines change
+
+-- one more line, for an order that had none
+pub line_changes : (l : Line) (ls : List Line) → line_of l.order ls ≡ None → with_line l ls ≢ ls
+line_changes l ls none same = let some = line_of-with_same l ls none in let still = rw same at some in cc
+
+-- what was held no longer is
+pub phase_changes : (p : LinePhase) (o : Entity) (n : ℕ) (ls : List Line) → held_by (line_of o ls) ≡ Some n
+    → same_phase Held p ≡ false → with_line_phase o p ls ≢ ls
+phase_changes p o n ls held none same = by_line (line_of o ls) refl held
+  where
+    by_line : (l : Option Line) → line_of o ls ≡ l → held_by l ≡ Some n → ⊥
+    by_line None at is = cc
+    by_line (Some l) at is =
+        let there : line_of o ls ≡ Some (record l { phase = p }) = rw same at (line_of-with_phase_same o p l ls at) in
+        let still = rw there at held in
+        let no_more : held_by (Some (record l { phase = p })) ≡ None = rw none refl in
+        cc
+
+-- the lines that a state is given are its lines
+abbrev pub IsGiven : {S : Type 0} → Holding S → Type 0
+IsGiven {S} h = (x : S) (ls : List Line) → h.lines (h.with_lines x ls) ≡ ls
+
+pub request_changes : {S : Type 0} (h : Holding S) → IsGiven h → (x : S) (o : Entity) (n : ℕ)
+    → line_of o (h.lines x) ≡ None
+    → h.lines (on_request h x o n).0 ≢ h.lines x
+request_changes h given x o n none same = by_case (h.fits x n) refl
+  where
+    by_case : (t : Bool) → h.fits x n ≡ t → ⊥
+    by_case true e = line_changes _ _ none (sym (given _ _) ∙ rw e at same)
+    by_case false e = line_changes _ _ none (sym (given _ _) ∙ rw e at same)
+
+pub finish_changes : {S : Type 0} (h : Holding S) → IsGiven h → (x : S) (o : Entity) (n : ℕ)
+    → held_by (line_of o (h.lines x)) ≡ Some n
+    → h.lines (finished_for h x o n) ≢ h.lines x
+finish_changes h given x o n held same = phase_changes Done o n (h.lines x) held refl (sym (given _ _) ∙ same)
+
+pub free_changes : {S : Type 0} (h : Holding S) → IsGiven h → (x : S) (o : Entity) (n : ℕ)
+    → held_by (line_of o (h.lines x)) ≡ Some n
+    → h.lines (freed_for h x o n) ≢ h.lines x
+free_changes h given x o n held same = phase_changes Released o n (h.lines x) held refl (sym (given _ _) ∙ same)

@@ -273,3 +273,6 @@ lines_sound-with_phase s phase ls h = record {
   one_each = one_each-phase s phase ls h.one_each;
   in_order = subst (IsStrictlySortedBy (slice_cmp nat_cmp)) (sym (keys-with_phase s phase ls)) h.in_order;
 }
+
+-- what keeps lines sound
+pub ruleset staying_sound = (lines_sound-none, lines_sound-with, lines_sound-with_phase)

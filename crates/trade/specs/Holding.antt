@@ -1,9 +1,12 @@
 -- What stocks and accounts do alike: they hold what orders ask for, with a line for each order that asked, until it is
 -- finished or freed.
-use Rattle.std.specs.Prelude.{ℕ, Bool, ◌&&◌, is_none, List, [], Option, Some, None, if◌then◌else◌}
+use Rattle.std.specs.Prelude.{◌≡◌, ◌≢◌, ℕ, Bool, ◌&&◌, is_none, List, [], ◌++◌, Option, Some, None, Result, Ok, Err}
+use Rattle.std.specs.Prelude.{if◌then◌else◌}
+use Rattle.std.specs.declared.alloc.AllocError.{AllocError}
 use Rattle.base.specs.Entity.{Entity}
 use Rattle.envelope.specs.declared.message.Message.{Message}
 use Rattle.envelope.specs.declared.message.Message.TheVariants.{Request, Tentative, Refused, Confirm, Cancel}
+use Rattle.activities.specs.declared.handler.Refusal.{Refusal}
 use Rattle.activities.specs.declared.outs.Out.{Out}
 use Rattle.trade.specs.declared.line_phase.LinePhase.{LinePhase}
 use Rattle.trade.specs.declared.line_phase.LinePhase.TheVariants.{Held, Done, Released}
@@ -59,3 +62,15 @@ on_line_message h x s (Request n) =
 on_line_message h x s Confirm = on_held (held_by (line_of s (h.lines x))) (finished_for h x s) x
 on_line_message h x s Cancel = on_held (held_by (line_of s (h.lines x))) (freed_for h x s) x
 on_line_message h x s m = (x, [])
+
+-- the reaction changes the lines; a refusal doesn't
+abbrev pub ChangesLines : {S : Type 0} → Holding S → S → Result (S × List Out) Refusal → Type 0
+ChangesLines h old (Ok done) = h.lines done.0 ≢ h.lines old
+ChangesLines h old (Err refusal) = ⊥
+
+-- the state is the one after a message, and what that sends is behind the outs; or memory was refused for the lines that
+-- the message changes, and all is as before
+abbrev pub IsTaken : {S : Type 0} → Holding S → S × List Out → S → List Out → S → List Out → Result Unit AllocError
+    → Type 0
+IsTaken h does old before new outs (Ok _) = (new ≡ does.0) × (outs ≡ before ++ does.1)
+IsTaken h does old before new outs (Err _) = (new ≡ old) × (outs ≡ before) × ChangesLines h old (Ok does)

@@ -6,4 +6,5 @@ pub mod Holding
 pub mod Stocks
 pub mod Accounts
 pub mod Sound
-pub mod Places
+pub mod LineTree
+pub mod Following

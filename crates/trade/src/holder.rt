@@ -1,11 +1,10 @@
 //! What stocks and accounts do alike: they hold what orders ask for.
 
-ghost use Rattle.std.specs.Prelude.{◌≡◌, true, false, Some, None, OnOk, OnErr};
+ghost use Rattle.std.specs.Prelude.{◌≡◌, true, false, List, Some, None, OnOk, OnErr};
 ghost use Rattle.base.specs.declared.entity.Kind.TheVariants.{Order};
-ghost use Rattle.activities.specs.Applied.{IsAtomic};
 ghost use Rattle.trade.specs.Holding.{Holding, held_for, refused_to, finished_for, freed_for, held_by, on_request};
-ghost use Rattle.trade.specs.Holding.{on_line_message};
-ghost use Rattle.trade.specs.Lines.{line_of};
+ghost use Rattle.trade.specs.Holding.{on_line_message, IsTaken};
+ghost use Rattle.trade.specs.Lines.{Line, line_of};
 
 use crate::Lines;
 use activities::Outs;
@@ -17,6 +16,9 @@ use std::alloc::{AllocError, Global};
 pub trait Holder {
     /// Its lines, what fits, and what changes besides the lines.
     ghost holding: { Holding Self };
+
+    /// The lines that a state is given are its lines.
+    ghost given: { (x : Self) (ls : List Line) → holding.lines (holding.with_lines x ls) ≡ ls };
 
     /// Its lines.
     fn lines(&self) -> &Lines
@@ -48,21 +50,29 @@ pub trait Holder {
         ensures err { OnErr result (self.new ≡ self.old) };
 
     /// Finishes what is held for an order: it is shipped, or billed.
-    fn finish(&mut self, order: &Entity, number: Number)
+    ///
+    /// # Errors
+    /// Where a growth was refused; nothing has changed then.
+    fn finish(&mut self, order: &Entity, number: Number) -> Result<(), AllocError>
         requires { held_by (line_of order.now (holding.lines self.old)) ≡ Some number }
-        ensures { self.new ≡ finished_for holding self.old order.now number };
+        ensures ok { OnOk result (self.new ≡ finished_for holding self.old order.now number) }
+        ensures err { OnErr result (self.new ≡ self.old) };
 
     /// Frees what is held for an order.
-    fn free(&mut self, order: &Entity, number: Number)
+    ///
+    /// # Errors
+    /// Where a growth was refused; nothing has changed then.
+    fn free(&mut self, order: &Entity, number: Number) -> Result<(), AllocError>
         requires { held_by (line_of order.now (holding.lines self.old)) ≡ Some number }
-        ensures { self.new ≡ freed_for holding self.old order.now number };
+        ensures ok { OnOk result (self.new ≡ freed_for holding self.old order.now number) }
+        ensures err { OnErr result (self.new ≡ self.old) };
 }
 
 /// Takes a message in: a request counts from an order without a line, a confirm and a cancel go to the sender's line,
 /// and anything else changes nothing.
 ///
 /// # Errors
-/// Where a growth was refused for a request's line or its answer; nothing has changed then.
+/// Where a growth was refused for a line that changes; nothing has changed then. What changes no line wants no memory.
 pub fn take_line_message<H: Holder>(
     alloc: Global,
     holder: &mut H,
@@ -70,8 +80,8 @@ pub fn take_line_message<H: Holder>(
     message: Message,
     outs: &mut Outs,
 ) -> Result<(), AllocError>
-    ensures { IsAtomic (on_line_message H.holding holder.old sender.now message) holder.old outs.old holder.new outs.new
-        result }
+    ensures { IsTaken H.holding (on_line_message H.holding holder.old sender.now message) holder.old outs.old holder.new
+        outs.new result }
 {
     match message {
         Message::Request(number) => {
@@ -84,12 +94,12 @@ pub fn take_line_message<H: Holder>(
         }
         Message::Confirm => {
             if let Some(number) = holder.lines().held_for(sender) {
-                holder.finish(sender, number);
+                holder.finish(sender, number)?;
             }
         }
         Message::Cancel => {
             if let Some(number) = holder.lines().held_for(sender) {
-                holder.free(sender, number);
+                holder.free(sender, number)?;
             }
         }
         Message::Tentative | Message::Refused => {}
@@ -107,8 +117,8 @@ fn ask<H: Holder>(
 ) -> Result<(), AllocError>
     requires order { order.now.kind ≡ Order }
     requires new { line_of order.now (H.holding.lines holder.old) ≡ None }
-    ensures { IsAtomic (on_request H.holding holder.old order.now number) holder.old outs.old holder.new outs.new
-        result }
+    ensures { IsTaken H.holding (on_request H.holding holder.old order.now number) holder.old outs.old holder.new
+        outs.new result }
 {
     let fits = holder.fits(number);
     let answer = if fits {
@@ -120,13 +130,31 @@ fn ask<H: Holder>(
     let before = outs.as_slice().len();
     let copy = order.copy(alloc)?;
     outs.tell(alloc, order, answer)?;
-    let done = if fits {
-        holder.hold(copy, number)
-    } else {
-        holder.refuse(copy, number)
-    };
-    if done.is_err() {
-        outs.truncate(before);
+    match add_line(holder, copy, number, fits) {
+        Ok(()) => Ok(()),
+        Err(refused) => {
+            outs.truncate(before);
+            Err(refused)
+        }
     }
-    done
+}
+
+/// An order without a line gets one: so much is held where it fits, else refused.
+fn add_line<H: Holder>(
+    holder: &mut H,
+    order: Entity,
+    number: Number,
+    fits: bool,
+) -> Result<(), AllocError>
+    requires order { order.kind ≡ Order }
+    requires new { line_of order (H.holding.lines holder.old) ≡ None }
+    requires fits { fits ≡ H.holding.fits holder.old number }
+    ensures ok { OnOk result (holder.new ≡ (on_request H.holding holder.old order number).0) }
+    ensures err { OnErr result (holder.new ≡ holder.old) }
+{
+    if fits {
+        holder.hold(order, number)
+    } else {
+        holder.refuse(order, number)
+    }
 }

@@ -30,6 +30,7 @@ mod items;
 mod laws;
 mod line;
 mod line_phase;
+mod line_tree;
 mod order_lines;
 mod status;
 

@@ -84,10 +84,13 @@ impl Line {
         }
     }
 
-    /// It is in this phase from now on.
-    pub(crate) fn set_phase(&mut self, phase: LinePhase)
-        ensures { self.new ≡ record self.old { phase = phase } }
+    /// The line in this phase.
+    ///
+    /// # Errors
+    /// Where a growth was refused.
+    pub(crate) fn in_phase(&self, alloc: Global, phase: LinePhase) -> Result<Line, AllocError>
+        ensures { IfOk result (λ l. l ≡ record self.now { phase = phase }) }
     {
-        self.phase = phase;
+        Ok(Line::new(self.order.copy(alloc)?, self.number, phase))
     }
 }

@@ -1,63 +1,74 @@
 //! The lines of a stock or an account.
 
-ghost use Rattle.std.specs.Prelude.{◌≡◌, ◌<◌, ◌^◌, [], None, length, option_copied, IfOk, IfErr, OnOk, OnErr};
+ghost use Rattle.std.specs.Prelude.{◌≡◌, ◌≤◌, ◌^◌, [], None, option_copied, IfOk, OnOk, OnErr, MatchOption};
 ghost use Rattle.base.specs.declared.entity.Kind.TheVariants.{Order};
 ghost use Rattle.trade.specs.Lines.{line_of, with_line, with_line_phase, total};
+ghost use Rattle.trade.specs.LineTree.{items};
 ghost use Rattle.trade.specs.Holding.{held_by};
-ghost use Rattle.trade.specs.Places.{IsPlaceOf, IsPlaceFor};
 ghost use Rattle.trade.specs.Sound.{AreLinesSound};
 
+use crate::line_tree::{self, Tree};
 use crate::{Line, LinePhase};
 use base::{Entity, Number};
 use std::alloc::{AllocError, Global};
+use std::fmt;
 use std::marker::Model;
+use std::sync::Arc;
 
 /// Lines of orders, one an order, in order of the orders' keys: contracts see their list.
 ///
-/// A line is found by halving, and one that comes anew moves those behind it.
-#[derive(Debug, Drop)]
+/// They stand in a balanced tree whose parts are shared among copies: a copy takes no memory, and what changes a line
+/// of `n` makes about log2 `n` parts anew.
+#[derive(Drop)]
 pub struct Lines {
-    items: Vec<Line>,
+    alloc: Global,
+    root: Option<Arc<Tree>>,
 }
 
 impl Model for Lines {
     ghost use Rattle.std.specs.Prelude.{List};
     ghost use Rattle.trade.specs.Lines.{Line};
+    ghost use Rattle.trade.specs.LineTree.{lines_in};
     ghost use Rattle.trade.specs.Sound.{AreLinesSound};
 
     ghost Value = { List Line };
 
-    ghost view = { λ l. l.items.items };
+    ghost view = { lines_in };
 
-    ghost invariant = { λ l. AreLinesSound l.items.items };
+    ghost invariant = { λ l. AreLinesSound (lines_in l) };
 }
 
 impl Lines {
     /// No line yet.
+    #[tactic(auto, using(crate::proofs::LineLists::staying_sound))]
     pub fn new(alloc: Global) -> Lines
         ensures { result ≡ [] }
     {
-        Lines {
-            items: Vec::new(alloc),
-        }
+        Lines { alloc, root: None }
     }
 
-    /// All of them, in order.
-    pub fn as_slice(&self) -> &[Line]
-        ensures value { result.now ≡ self.now }
+    /// Copies of all of them, in order.
+    ///
+    /// # Errors
+    /// Where a growth was refused.
+    pub fn to_vec(&self) -> Result<Vec<Line>, AllocError>
+        ensures value { IfOk result (λ lines. lines.items ≡ self.now) }
         ensures sound { AreLinesSound self.now }
-        ensures room { length result.now < 2 ^ 63 }
     {
-        self.items.as_slice()
+        let mut lines = Vec::new(self.alloc);
+        if let Some(root) = &self.root {
+            line_tree::push_all(self.alloc, root.as_ref(), &mut lines)?;
+        }
+        Ok(lines)
     }
 
     /// The line of an order, if it has one.
     pub fn find(&self, order: &Entity) -> Option<&Line>
         ensures { option_copied result ≡ line_of order.now self.now }
     {
-        match self.place(order) {
-            Ok(at) => Some(&self.items[at]),
-            Err(_) => None,
+        match &self.root {
+            Some(root) => line_tree::find(root.as_ref(), order),
+            None => None,
         }
     }
 
@@ -73,6 +84,7 @@ impl Lines {
     ///
     /// # Errors
     /// Where a growth was refused; the lines are as they were then.
+    #[tactic(auto, using(crate::proofs::LineLists::staying_sound))]
     pub fn insert(
         &mut self,
         order: Entity,
@@ -84,67 +96,75 @@ impl Lines {
         ensures ok { OnOk result (self.new ≡ with_line (record { order = order; n = number; phase = phase }) self.old) }
         ensures err { OnErr result (self.new ≡ self.old) }
     {
-        match self.place(&order) {
-            // `new` says so: the search finds what `line_of` has, since an order has one line.
-            Ok(_) => unreachable!(),
-            Err(at) => Ok(self.items.insert(at, Line::new(order, number, phase))?),
+        let line = Arc::new(self.alloc, Line::new(order, number, phase))?;
+        let root = self.root_with(line)?;
+        self.root = Some(root);
+        Ok(())
+    }
+
+    /// The tree of these lines and one more.
+    fn root_with(&self, line: Arc<Line>) -> Result<Arc<Tree>, AllocError>
+        requires { line.value.order.kind ≡ Order }
+        ensures { IfOk result (λ t. items t.value ≡ with_line line.value self.now) }
+    {
+        match &self.root {
+            Some(root) => line_tree::with_line(self.alloc, root, line),
+            None => line_tree::of_one(self.alloc, line),
         }
     }
 
     /// The order's line is in this phase from now on, if it has one.
-    pub fn set_phase(&mut self, order: &Entity, phase: LinePhase)
-        ensures { self.new ≡ with_line_phase order.now phase self.old }
-    {
-        match self.place(order) {
-            Ok(at) => {
-                let line = &mut self.items[at];
-                line.set_phase(phase);
-            }
-            Err(_) => {}
-        }
-    }
-
-    /// How much the lines in a phase are for, together.
-    pub fn total(&self, phase: LinePhase) -> u128
-        ensures total { result ≡ total phase self.now }
-        ensures sound { AreLinesSound self.now }
-    {
-        let mut total = 0;
-        for line in &self.items {
-            total += u128::from(line.share_of(phase));
-        }
-        total
-    }
-
-    /// Equal lines, in memory of their own.
     ///
     /// # Errors
-    /// Where a growth was refused.
-    pub fn copy(&self, alloc: Global) -> Result<Lines, AllocError>
-        ensures { IfOk result (λ l. l ≡ self.now) }
+    /// Where a growth was refused; the lines are as they were then.
+    #[tactic(auto, using(crate::proofs::LineLists::staying_sound))]
+    pub fn set_phase(&mut self, order: &Entity, phase: LinePhase) -> Result<(), AllocError>
+        ensures ok { OnOk result (self.new ≡ with_line_phase order.now phase self.old) }
+        ensures err { OnErr result (self.new ≡ self.old) }
     {
-        let items = copy_all(alloc, &self.items)?;
-        Ok(Lines { items })
+        if let Some(root) = &self.root {
+            let root = line_tree::with_phase(self.alloc, root, order, phase)?;
+            self.root = Some(root);
+        }
+        Ok(())
     }
 
-    /// Where the order's line is, or where it would go.
-    fn place(&self, order: &Entity) -> Result<usize, usize>
-        ensures found { IfOk result (IsPlaceOf order.now self.now) }
-        ensures absent { IfErr result (IsPlaceFor order.now self.now) }
+    /// How much the lines in a phase are for, together; `None` from 2^64 on.
+    pub fn total(&self, phase: LinePhase) -> Option<u64>
+        ensures total { MatchOption result (2 ^ 64 ≤ total phase self.now) (λ sum. sum ≡ total phase self.now) }
+        ensures sound { AreLinesSound self.now }
     {
-        // Entities are compared by their kinds first; all lines are of orders, so that their keys alone tell where one
-        // stands.
-        self.items.binary_search_by(|line| line.order().cmp(order))
+        match &self.root {
+            Some(root) => line_tree::total(root.as_ref(), phase),
+            None => Some(0),
+        }
+    }
+
+    /// Equal lines, which share their parts with these. It takes no memory.
+    ///
+    /// # Errors
+    /// Where the parts have too many owners to count: 2^63 - 1.
+    pub fn copy(&self) -> Result<Lines, AllocError>
+        ensures { IfOk result (λ l. l ≡ self.now) }
+    {
+        let root = match &self.root {
+            Some(root) => Some(root.clone()?),
+            None => None,
+        };
+        Ok(Lines {
+            alloc: self.alloc,
+            root,
+        })
     }
 }
 
-/// Equal lines, in the same order.
-fn copy_all(alloc: Global, lines: &[Line]) -> Result<Vec<Line>, AllocError>
-    ensures { IfOk result (λ l. l.items ≡ lines.now) }
-{
-    let mut copies = Vec::with_capacity(alloc, lines.len())?;
-    for line in lines {
-        copies.push(line.copy(alloc)?)?;
+/// The list of its lines.
+impl fmt::Debug for Lines {
+    fn fmt<W: fmt::Write>(&self, f: &mut fmt::Formatter<W>) -> fmt::Result {
+        let mut list = f.debug_list();
+        if let Some(root) = &self.root {
+            line_tree::show(root.as_ref(), &mut list);
+        }
+        list.finish()
     }
-    Ok(copies)
 }

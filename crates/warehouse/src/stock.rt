@@ -5,7 +5,7 @@ ghost use Rattle.trade.specs.Sound.{IsStockSound};
 ghost use Rattle.trade.specs.Stocks.{on_stock_command, stock_reactions};
 ghost use Rattle.trade.specs.declared.commands.StockCommand.TheVariants.{Receive};
 
-use activities::Refusal;
+use activities::{Parts, Refusal};
 use base::limits::MAX_NUMBER;
 use base::{Entity, Number};
 use std::alloc::{AllocError, Global};
@@ -75,8 +75,8 @@ impl Stock {
             || on_hand > received
             || shipped != received - on_hand
             || held > on_hand
-            || lines.total(LinePhase::Held) != u128::from(held)
-            || lines.total(LinePhase::Done) != u128::from(shipped)
+            || lines.total(LinePhase::Held) != Some(held)
+            || lines.total(LinePhase::Done) != Some(shipped)
         {
             return None;
         }
@@ -118,11 +118,11 @@ impl Stock {
         self.received
     }
 
-    /// An equal stock, in memory of its own.
+    /// An equal stock, which shares its lines with this one. It takes no memory.
     ///
     /// # Errors
-    /// Where a growth was refused.
-    pub fn copy(&self, alloc: Global) -> Result<Stock, AllocError>
+    /// Where the lines have too many owners to count: 2^63 - 1.
+    pub fn copy(&self) -> Result<Stock, AllocError>
         ensures { IfOk result (λ s. s ≡ self.now) }
     {
         Ok(Stock {
@@ -130,7 +130,7 @@ impl Stock {
             held: self.held,
             shipped: self.shipped,
             received: self.received,
-            lines: self.lines.copy(alloc)?,
+            lines: self.lines.copy()?,
         })
     }
 
@@ -148,11 +148,21 @@ impl Stock {
     }
 }
 
+/// An input changes no line but its sender's.
+impl Parts for Stock {
+    ghost use Rattle.trade.specs.Following.{LinesFollow};
+
+    ghost follows = { λ sender old new. LinesFollow sender old.lines new.lines };
+}
+
 // What is on hand and isn't held can be held, and what is finished is shipped.
 impl Holder for Stock {
+    ghost use Rattle.std.specs.Prelude.{refl};
     ghost use Rattle.trade.specs.Stocks.{stock_holding};
 
     ghost holding = { stock_holding };
+
+    ghost given = { λ x ls. refl };
 
     fn lines(&self) -> &Lines {
         &self.lines
@@ -173,16 +183,18 @@ impl Holder for Stock {
         Ok(())
     }
 
-    fn finish(&mut self, order: &Entity, number: Number) {
-        self.lines.set_phase(order, LinePhase::Done);
+    fn finish(&mut self, order: &Entity, number: Number) -> Result<(), AllocError> {
+        self.lines.set_phase(order, LinePhase::Done)?;
         let number = number.get();
         self.on_hand -= number;
         self.held -= number;
         self.shipped += number;
+        Ok(())
     }
 
-    fn free(&mut self, order: &Entity, number: Number) {
-        self.lines.set_phase(order, LinePhase::Released);
+    fn free(&mut self, order: &Entity, number: Number) -> Result<(), AllocError> {
+        self.lines.set_phase(order, LinePhase::Released)?;
         self.held -= number.get();
+        Ok(())
     }
 }

@@ -1,21 +1,21 @@
 //! The handler of the service warehouse.
 
 ghost use Rattle.std.specs.Prelude.{◌≡◌, Ok, Err, IfOk};
-ghost use Rattle.activities.specs.Applied.{IsApplied, IsSending};
+ghost use Rattle.activities.specs.Applied.{IsApplied};
 ghost use Rattle.activities.specs.Reaction.{react};
-ghost use Rattle.trade.specs.Stocks.{stock_reactions};
+ghost use Rattle.trade.specs.Holding.{ChangesLines};
+ghost use Rattle.trade.specs.Stocks.{stock_holding, stock_reactions};
 
 use crate::Stock;
-use activities::{Handler, HandlerFault, Input, Outs, Reacting, take_in};
-use base::{Entity, Kind};
-use envelope::Message;
+use activities::{Handler, HandlerFault, Input, Outs};
+use base::Kind;
 use std::alloc::{AllocError, Global};
 use trade::{StockCommand, take_line_message};
 
 /// What warehouse does with what its stocks take in.
 ///
 /// A stock holds what an order asks for where enough is there and free, and keeps a line for the order: held, and then
-/// shipped or released; or refused. Only a request that is answered wants memory.
+/// shipped or released; or refused. Only what changes a line wants memory.
 pub struct Stocks;
 
 impl Handler for Stocks {
@@ -23,6 +23,7 @@ impl Handler for Stocks {
     ghost use Rattle.std.proofs.lemmas.Bool.{false≢true};
     ghost use Rattle.base.specs.declared.entity.Kind.TheVariants.{Stock as StockKind};
     ghost use Rattle.trade.specs.Stocks.{stock_reactions};
+    ghost use Rattle.trade.proofs.Following.{stocks_follow};
 
     type State = Stock;
 
@@ -44,8 +45,8 @@ impl Handler for Stocks {
         false
     }
 
-    fn copy_state(alloc: Global, state: &Stock) -> Result<Stock, AllocError> {
-        state.copy(alloc)
+    fn copy_state(_alloc: Global, state: &Stock) -> Result<Stock, AllocError> {
+        state.copy()
     }
 
     fn copy_command(_alloc: Global, command: &StockCommand) -> Result<StockCommand, AllocError>
@@ -63,43 +64,20 @@ impl Handler for Stocks {
         outs: &mut Outs,
     ) -> Result<(), HandlerFault>
         ensures applied { IsApplied stock_reactions state.old input.now outs.old state.new outs.new result }
-        ensures memory { result ≡ Err HandlerFault.Memory → IsSending (react stock_reactions state.old input.now) }
+        ensures memory { result ≡ Err HandlerFault.Memory → ChangesLines stock_holding state.old
+            (react stock_reactions state.old input.now) }
     {
-        take_in::<Stocks>(alloc, state, input, outs)
-    }
-
-    ghost none_is_opening = { λ s is. absurd (false≢true is) };
-}
-
-impl Reacting for Stocks {
-    ghost use Rattle.trade.specs.Stocks.{stock_reactions};
-
-    type State = Stock;
-
-    type Command = StockCommand;
-
-    ghost reactions = { stock_reactions };
-
-    fn take_command(
-        _alloc: Global,
-        state: &mut Stock,
-        command: &StockCommand,
-        _outs: &mut Outs,
-    ) -> Result<(), HandlerFault> {
-        match command {
-            StockCommand::Receive(quantity) => state
+        match input {
+            Input::FromSeat(_, StockCommand::Receive(quantity)) => state
                 .receive(*quantity)
                 .map_err(HandlerFault::Business),
+            Input::FromEntity(sender, _, message) => Ok(take_line_message(
+                alloc, state, sender, *message, outs,
+            )?),
         }
     }
 
-    fn take_message(
-        alloc: Global,
-        state: &mut Stock,
-        sender: &Entity,
-        message: Message,
-        outs: &mut Outs,
-    ) -> Result<(), AllocError> {
-        take_line_message(alloc, state, sender, message, outs)
-    }
+    ghost none_is_opening = { λ s is. absurd (false≢true is) };
+
+    ghost follows = { stocks_follow };
 }

@@ -1,5 +1,5 @@
 -- How a row is taken in.
-use Rattle.std.specs.Prelude.{◌≡◌, ℕ, List, [], ◌∷◌, ◌++◌, IsSome, Result}
+use Rattle.std.specs.Prelude.{◌≡◌, ℕ, List, [], ◌∷◌, ◌++◌, IsSome, Result, ⊤}
 use Rattle.base.specs.declared.entity.Kind.{Kind}
 use Rattle.base.specs.declared.pair.Pair.{Pair}
 use Rattle.activities.specs.declared.input.JournalRow.{JournalRow}
@@ -7,6 +7,7 @@ use Rattle.activities.specs.Follow.{HasNextNumber}
 use Rattle.activities.specs.Journal.{handled_of, IsSeated}
 use Rattle.activities.specs.Service.{Service}
 use Rattle.keep.specs.declared.change.Change.{Change}
+use Rattle.keep.specs.declared.change.Change.TheVariants.{State}
 use Rattle.keep.specs.Law.{Tells}
 use Rattle.keep.specs.Seen.{Seen}
 use Rattle.keep.specs.Tables.{Tables, changed}
@@ -14,6 +15,12 @@ use Rattle.endpoint.specs.declared.answer.Committed.{Committed}
 use Rattle.endpoint.specs.declared.fault.EndFault.{EndFault}
 use Rattle.endpoint.specs.Calls.{IsCommitCall, IsCommit}
 use Rattle.endpoint.specs.Matches.{MayBeHeld, AllMatchWithin}
+
+-- none of these changes sets the row of an entity
+abbrev pub SetNoRow : {S C : Type 0} → List (Change S C) → Type 0
+SetNoRow [] = ⊤
+SetNoRow (State e row ∷ cs) = ⊥
+SetNoRow (c ∷ cs) = SetNoRow cs
 
 -- The first changes of a row that is taken in touch handled marks and held letters alone. The marks are then those of
 -- the journal with the row, and letters are held that may be then. A command is from a seat, and a letter is the next

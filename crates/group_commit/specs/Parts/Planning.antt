@@ -1,5 +1,5 @@
 -- How the next step of a group is planned: on top of the changes of those before it, which aren't in the store yet.
-use Rattle.std.specs.Prelude.{◌≡◌, ℕ, ◌+◌, Bool, false, List, length, Option, Some, None, Result, Ok, Err, IfOk, ⊤}
+use Rattle.std.specs.Prelude.{◌≡◌, ℕ, ◌+◌, Bool, false, List, ◌∷◌, length, Option, Some, None, Result, Ok, Err, IfOk, ⊤}
 use Rattle.std.specs.Global.{Vec}
 use Rattle.base.specs.Entity.{Entity}
 use Rattle.base.specs.Order.{same_entity}
@@ -10,6 +10,7 @@ use Rattle.keep.specs.declared.change.Change.{Change}
 use Rattle.keep.specs.declared.change.Change.TheVariants.{Journal, State, Sent, Settled, Handled, Held, NotHeld}
 use Rattle.keep.specs.Law.{Writes}
 use Rattle.keep.specs.Seen.{Seen}
+use Rattle.keep.specs.Steps.{AreSteps}
 use Rattle.keep.specs.Tables.{Tables, changed, ArePlaced}
 use Rattle.keep.specs.declared.fault.KeepFault.{KeepFault}
 use Rattle.keep.specs.declared.fault.KeepFault.TheVariants.{Failed, Memory, WrongFile}
@@ -34,19 +35,30 @@ touches e (Handled p n) = same_entity p.to e
 touches e (Held l) = same_entity l.pair.to e
 touches e (NotHeld p n) = same_entity p.to e
 
-module _ {S C : Type 0} (service : Service S C) where
-  -- a step takes in this envelope, where these changes go before it and the journal has so many rows behind them
+-- the first of these changes is no row of the journal
+abbrev pub BeginsWithNoRow : {S C : Type 0} → List (Change S C) → Type 0
+BeginsWithNoRow (Journal position row ∷ cs) = ⊥
+BeginsWithNoRow cs = ⊤
+
+-- `Follows` tells which states may follow one by an input of this sender
+module _ {S C : Type 0} (service : Service S C) (Follows : Option Entity → S → S → Type 0) where
+  -- A step takes in this envelope, where these changes go before it and the journal has so many rows behind them. What it
+  -- sets follows what stood before, whatever the journal says.
   abbrev pub IsStep : List (Change S C) → (rows : ℕ) → Envelope → Tables S C → Option (Step S C) → Type 0
   IsStep before rows e t None = ⊤
-  IsStep before rows e t (Some step) = TablesMatchJournal service (changed before t)
+  IsStep before rows e t (Some step) =
+      (TablesMatchJournal service (changed before t)
       → rows ≡ length (changed before t).journal
       → TakesOne service e step.told (changed before t) (changed step.changes.items (changed before t))
-      × ArePlaced step.changes.items (changed before t)
+      × ArePlaced step.changes.items (changed before t))
+      × (BeginsWithNoRow step.changes.items × AreSteps Follows step.changes.items (changed before t))
 
-  -- the changes take in the first of these envelopes, where the tables match their journal
+  -- the changes take in the first of these envelopes, where the tables match their journal; and they are steps
   abbrev pub IsGathered : List Envelope → Tables S C → Group S C → Type 0
-  IsGathered es t group = TablesMatchJournal service t
-      → TakesEach service es group.told.items t (changed group.changes.items t) × ArePlaced group.changes.items t
+  IsGathered es t group =
+      (TablesMatchJournal service t
+      → TakesEach service es group.told.items t (changed group.changes.items t) × ArePlaced group.changes.items t)
+      × AreSteps Follows group.changes.items t
 
 -- how many rows the journal has behind a step, where it had so many before
 abbrev pub rows_behind : ℕ → Grouped → ℕ

@@ -8,6 +8,9 @@ use Rattle.activities.specs.declared.outs.Out.{Out}
 use Rattle.keep.specs.declared.change.Change.{Change}
 use Rattle.keep.specs.declared.change.Change.TheVariants.{Journal, State}
 use Rattle.outbox.specs.Numbering.{numbering}
+use Rattle.keep.specs.Tables.{changed}
+use Rattle.group_commit.proofs.Apart.{spares}
+use Rattle.group_commit.proofs.Following.{letter_follows}
 use Rattle.group_commit.proofs.Steps.{letter_step}
 use Rattle.group_commit.proofs.planning.react.Goals as goal
 
@@ -35,23 +38,33 @@ returns-in-Ok-add_rows g c =
     let last : ℕ → Input C → List (Change S C) = λ position input.
     State l.pair.to (row_for service.is_none c.apply.new.state)
     ∷ Journal position (record { entity = l.pair.to; input = input }) ∷ [] in
+    let follows = g.H.State.Parts.follows in
+    let done : S × List Out = (c.apply.new.state, a.0) in
+    let outs = c.as_slice.result.now in
+    let numbered = c.number.new.changes.items in
+    let changes = c.add_rows.new.changes.items in
+    let apart = spares l.pair.to c.args._before.now t c.requires.apart in
+    let reacted = subst R c.in-Ok.ensures a.1 in
+    let changes_are = c.in-Ok-add_rows.ensures ∙ ap (λ n. numbered ++ last n c.in-Ok.input) (sym is)
+    ∙ ap (λ (i : Input C). numbered ++ last c.get.result i) c.in-Ok.ensures in
     record {
       call = e.call;
       doubt = e.doubt;
       clean = λ clean.
           let told = e.clean clean in
-          let fit = told.0 c.in-Ok-true.field-0-test in (
-            letter_step service g.met.H.Handler.none_is_opening t c.args._before.now l c.requires.kind c.requires.apart
-                c.args.rows c.args.state (c.apply.new.state, a.0) c.get.result c.as_slice.result.now
-                c.number.new.changes.items c.add_rows.new.changes.items (subst R c.in-Ok.ensures a.1)
-                (subst IsNumber (sym (is ∙ at.0)) at.1)
-                (is ∙ position_is c.args.rows c.saturating_add.result c.in-Some.position c.saturating_add.ensures at)
-                (c.as_slice.ensures.value ∙ a.2 ∙ ap (λ (os : List Out). os ++ a.0) c.new-outs.ensures)
-                (fit.0 ∙ ap (λ (cs : List (Change S C)). cs ++ numbering t.sent l.pair.to c.as_slice.result.now)
-                c.in-Ok-take_in.ensures) fit.1
-                (c.in-Ok-add_rows.ensures
-                ∙ ap (λ n. c.number.new.changes.items ++ last n c.in-Ok.input) (sym is)
-                ∙ ap (λ (i : Input C). c.number.new.changes.items ++ last c.get.result i) c.in-Ok.ensures),
+          let fit = told.0 c.in-Ok-true.field-0-test in
+          let numbered_is = fit.0
+          ∙ ap (λ (cs : List (Change S C)). cs ++ numbering t.sent l.pair.to outs) c.in-Ok-take_in.ensures in (
+            λ next found. (
+              letter_step service g.met.H.Handler.none_is_opening t c.args._before.now l c.requires.kind c.requires.apart
+                  c.args.rows c.args.state done c.get.result outs numbered changes reacted
+                  (subst IsNumber (sym (is ∙ at.0)) at.1)
+                  (is ∙ position_is c.args.rows c.saturating_add.result c.in-Some.position c.saturating_add.ensures at)
+                  (c.as_slice.ensures.value ∙ a.2 ∙ ap (λ (os : List Out). os ++ a.0) c.new-outs.ensures)
+                  numbered_is fit.1 changes_are next found,
+              letter_follows follows service g.met.H.Handler.follows t (changed c.args._before.now t) l c.args.state done
+                  c.get.result outs numbered changes apart.entity reacted numbered_is changes_are found,
+            ),
             told.1,
           );
     }

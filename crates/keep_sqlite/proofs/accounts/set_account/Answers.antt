@@ -18,9 +18,10 @@ returns-clause-ok g c clean =
     let between : HasCleanDisk cut = omega (arith, c.put_head.ensures.survives.clean, late) in
     let early : HasCleanDisk old = omega (arith, c.take_account_lines.ensures.survives.clean, between) in
     let x = c.args.account.now in
-    let lines = rw (c.as_slice.ensures.value, c.lines.ensures) at c.in_ok-add_lines.ensures.ok clean in
-    let rows = rw (c.as_slice.ensures.value, c.lines.ensures) at c.in_ok-add_lines.ensures.rows in
-    let sound = rw c.lines.ensures at c.as_slice.ensures.sound in
+    let items = rw c.lines.ensures at c.in_ok-lines.ensures.value in
+    let lines = rw (c.as_slice.ensures.value, items) at c.in_ok-add_lines.ensures.ok clean in
+    let rows = rw (c.as_slice.ensures.value, items) at c.in_ok-add_lines.ensures.rows in
+    let sound = rw c.lines.ensures at c.to_vec.ensures.sound in
     sets filing account_rows kind.Account account_line_word accounts_held c.args.key.now
     (account_cells c.args.key.now x)
     x.lines x (λ id. refl) sound rows c.args.count old cut head new (c.requires.filed early) (c.requires.sound early)

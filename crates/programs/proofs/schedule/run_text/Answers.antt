@@ -1,7 +1,7 @@
 use Rattle.std.proofs.lemmas.Result.{err_from_is_err_and}
 use Rattle.programs.proofs.Beginnings.{run_found}
-use Rattle.programs.proofs.Endings.{run_told, unread}
-use Rattle.programs.specs.Opened.{shown}
+use Rattle.programs.proofs.Endings.{are_run_as, run_told, unread}
+use Rattle.programs.specs.Opened.{AreLeftBy, shown}
 use Rattle.programs.specs.Runs.{HasRun}
 use Rattle.programs.proofs.schedule.run_text.Goals as goal
 
@@ -20,10 +20,12 @@ returns g c =
     let accounts = g.S.Accounts.Keep.seen in
     let found = g.S.Stores.found in
     let run = HasRun orders stocks accounts found in
+    let fails = g.S.Stores.fails in
+    let sight = shown orders stocks accounts c.in_ok-keeps.keeps in
+    let out = g.W.Write.contents c.args.out.now in
+    let out' = g.W.Write.contents c.run_events.new.out in
     let events = c.in_ok-events.events.items in
-    let made = c.make_events-made.result in
-    let begun = run_found orders stocks accounts found (shown orders stocks accounts c.in_ok-keeps.keeps)
-    c.in_ok-keeps.ensures.opened _ _ c.make_events-made.ensures.begun in
-    run_told run g.S.Stores.fails c.args.text.now events made.outcomes.items made.is_whole
-    (g.W.Write.contents c.args.out.now) (g.W.Write.contents c.write_made.new.out) c.write_made.result
-    c.in_ok-events.ensures begun c.make_events-made.ensures.all c.write_made.ensures
+    run_told run fails c.args.text.now events out out' c.run_events.result c.in_ok-events.ensures
+    (are_run_as (HasRun orders stocks accounts (AreLeftBy sight)) run (λ _. ⊥) fails
+    (run_found orders stocks accounts found sight c.in_ok-keeps.ensures.opened) (λ fault no. absurd no)
+    events out out' c.run_events.result c.run_events.ensures)

@@ -20,11 +20,11 @@ overflow_sub-self c =
     let number = c.get-number.ensures.value in
     omega arith
 
-pub invariant_of-self : goal.invariant_of-self
-invariant_of-self c =
+pub invariant_of-self-2 : goal.invariant_of-self-2
+invariant_of-self-2 c =
     let at : held_by (line_of c.args.order.now c.self.inside.lines) ≡ Some c.args.number =
     subst (λ (x : AccountState). held_by (line_of c.args.order.now x.lines) ≡ Some c.args.number) (sym c.self.view_is)
     c.requires
     in
-    rw (c.set_phase.ensures, c.get-number.ensures.value)
+    rw (c.in_ok-set_phase.ensures.ok, c.get-number.ensures.value)
     (accounts_keep.finishes (account_in c.self.inside) c.args.order.now c.args.number at c.self.invariant)

@@ -3,10 +3,14 @@ use Rattle.std.proofs.Common.{◌≡◌, arith, sym, subst}
 use Rattle.keep.specs.Tables.{changed}
 use Rattle.activities.proofs.Journals.{command_row}
 use Rattle.endpoint.specs.Calls.{IsCommit, CommitsWithin}
+use Rattle.endpoint.specs.Parts.Handling.{SetNoRow}
 use Rattle.endpoint.proofs.Commands.{command-prepares}
 use Rattle.endpoint.proofs.Kept.{commit-matches}
 use Rattle.endpoint.proofs.Links.{commit_comes}
 use Rattle.endpoint.proofs.endpoint.WindowedEndpoint.commit.Goals as goal
+
+pub handle-requires-clause-rows : goal.handle-requires-clause-rows
+handle-requires-clause-rows g c = subst SetNoRow (sym c.new-changes.ensures.items) tt
 
 pub returns-clause-commit : goal.returns-clause-commit
 returns-clause-commit g c =
