@@ -559,6 +559,13 @@ FILES = {
           " (`IsStatusOf`)."],
          [("schedule_stores", "laws", "a_run_over_files_goes_on"), ("schedule_stores", "running", "run_over_files"),
           ("schedule_stores", "laws", "a_run_in_sql_ends_well")], True),
+        ("Files of version 1",
+         ["In version 1 an order had one stock. `migrate_connection` makes version 2 of such a file, in one transaction: today's"
+          " tables, read from its new rows, are those that its old rows told (`AreRenewed`, `first_tables_of`), a stop leaves the old"
+          " rows or such new ones, and an error what was committed. So a run over three files that were taken over goes on as over any"
+          " that hold good tables."],
+         [("schedule_stores", "laws", "files_taken_over_go_on"), ("keep_sqlite", "migration", "SqliteKeep::migrate_connection"),
+          ("schedule_stores", "migration", "migrate_files")], True),
         ("What is opened",
          ["The stores of a folder, and one service's file."],
          [("keep_sqlite", "specs/Found", "IsFoundIn")]),

@@ -19,37 +19,37 @@ use Rattle.sql_rows.specs.Tables.{AreInOrder}
 use Rattle.sql_rows.specs.declared.service.Service.{Service}
 use Rattle.sql_rows.proofs.Counting.{one_alone}
 use Rattle.keep_sqlite.specs.Filing.{Filing}
-use Rattle.keep_sqlite.specs.Found.{TellsOf, IsTakenOver, IsFoundIn}
+use Rattle.keep_sqlite.specs.Found.{TellsVersion, IsTakenOver, IsFoundIn}
 
 abbrev shown : Row → Row
 shown x = column x 2 ∷ column x 3 ∷ []
 
-module _ (service : Service) (r : Row) (version : column r 0 ≡ Int (pos 2))
+module _ (number : ℕ) (service : Service) (r : Row) (version : column r 0 ≡ Int (pos number))
     (name : column r 1 ≡ Text (name_of service)) (items all : List Row) (is : items ≡ map shown all)
     (one : length items ≡ 1) (at : r ≡ slice_index_or items 0 r) where
   there : length all ≡ 1
   there = sym (length-map all shown) ∙ sym (ap length is) ∙ one
 
-  tells : (rows : List Row) → IsPermutation rows all → TellsOf service rows
+  tells : (rows : List Row) → IsPermutation rows all → TellsVersion number service rows
   tells [] same = absurd (let e = length_permutation [] all same in omega (arith, e, there))
   tells (x ∷ []) same =
       let first : r ≡ shown x = at ∙ ap (λ l. slice_index_or l 0 r) (is ∙ ap (map shown) (one_alone x all same)) in
       record {
-        version = sym (ap (λ y. column y 0) first) ∙ version;
+        version_is = sym (ap (λ y. column y 0) first) ∙ version;
         name = sym (ap (λ y. column y 1) first) ∙ name;
       }
   tells (x ∷ y ∷ rows) same =
       absurd (let e = length_permutation (x ∷ y ∷ rows) all same in omega (arith, e, there))
 
 -- the one row of an answer tells what the one row of the table does
-pub tells_of_table : (cmp : Row → Row → Ordering) (service : Service) (rows items : List Row)
+pub tells_of_table : (cmp : Row → Row → Ordering) (number : ℕ) (service : Service) (rows items : List Row)
     → AreInOrder cmp None shown rows items → length items ≡ 1 → (r : Row) → r ≡ slice_index_or items 0 r
     → {E : Type 0} (result : Result Bool E)
-    → IfOk result (λ t. IsTrue t → (column r 0 ≡ Int (pos 2)) × (column r 1 ≡ Text (name_of service)))
-    → IfOk result (λ t. IsTrue t → TellsOf service rows)
-tells_of_table cmp service rows items a one r at (Ok t) h = λ so.
-    let cells = h so in tells service r cells.0 cells.1 items a.all a.shown one at rows a.same
-tells_of_table cmp service rows items a one r at (Err e) h = tt
+    → IfOk result (λ t. IsTrue t → (column r 0 ≡ Int (pos number)) × (column r 1 ≡ Text (name_of service)))
+    → IfOk result (λ t. IsTrue t → TellsVersion number service rows)
+tells_of_table cmp number service rows items a one r at (Ok t) h = λ so.
+    let cells = h so in tells number service r cells.0 cells.1 items a.all a.shown one at rows a.same
+tells_of_table cmp number service rows items a one r at (Err e) h = tt
 
 -- what is taken over of files that were opened is what they held
 module _ {S C K E : Type 0} (f : Filing S C) (image : Image) (s : State) (of : K → ℕ) (tables : K → Tables S C) where

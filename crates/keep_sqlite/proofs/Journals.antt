@@ -101,19 +101,26 @@ from_by_count count from top xs few small = elim (cases_Bool (nat_le from (count
       ∙ sym (drop_all (from - 1) xs (omega (arith, lt, few)))
 ]
 
+-- an answer shows the rows from a position on, so many of them
+pub shows_from : (rows : List Row) (numbered : AreNumbered 1 rows) (rising : IsRising rows) (from most : ℕ)
+    (items : List Row) → AreInOrder by_position (Some most) shown_entry (filter (is_from (pos from)) rows) items
+    → items ≡ map shown_entry (take most (drop (from - 1) rows))
+shows_from rows numbered rising from most items a =
+    let rises : IsAscending (λ x y. by_position x y ≡ Less) rows =
+    ascending_weaker _ _ (λ x y less. ap (λ o. ordering_then o Equal) less) rows rising.ordered in
+    let all : a.all ≡ drop (from - 1) rows =
+    sorted_unique by_position (key_cmp_total (up ∷ []) 0) (filter (is_from (pos from)) rows) a.all
+    (ascending-filter _ (is_from (pos from)) rows rises) a.same a.sorted
+    ∙ from_on from 1 rows numbered in
+    a.shown ∙ ap (λ l. map shown_entry (take most l)) all
+
 module _ {S C : Type 0} (f : Filing S C) (rows : List Row) (numbered : AreNumbered 1 rows) (rising : IsRising rows)
     (from : ℕ) where
   pub journal_is : (most : ℕ) (items : List Row)
       → AreInOrder by_position (Some most) shown_entry (filter (is_from (pos from)) rows) items
       → map (shown_row f) items ≡ take most (drop (from - 1) (map (row_in f) rows))
   journal_is most items a =
-      let rises : IsAscending (λ x y. by_position x y ≡ Less) rows =
-      ascending_weaker _ _ (λ x y less. ap (λ o. ordering_then o Equal) less) rows rising.ordered in
-      let all : a.all ≡ drop (from - 1) rows =
-      sorted_unique by_position (key_cmp_total (up ∷ []) 0) (filter (is_from (pos from)) rows) a.all
-      (ascending-filter _ (is_from (pos from)) rows rises) a.same a.sorted
-      ∙ from_on from 1 rows numbered in
-      ap (map (shown_row f)) (a.shown ∙ ap (λ l. map shown_entry (take most l)) all)
+      ap (map (shown_row f)) (shows_from rows numbered rising from most items a)
       ∙ shown (take most (drop (from - 1) rows)) ∙ sym (take-map (row_in f) most (drop (from - 1) rows))
       ∙ ap (take most) (sym (drop-map (row_in f) (from - 1) rows))
     where

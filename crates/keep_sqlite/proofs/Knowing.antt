@@ -1,5 +1,5 @@
 -- What is known of states beside the rows, and which changes are steps.
-use Rattle.std.proofs.Common.{◌≡◌, ℕ, Bool, true, false, List, [], ◌∷◌, Option, Some, None, refl, sym, subst}
+use Rattle.std.proofs.Common.{ℕ, Bool, true, false, List, [], ◌∷◌, Option, Some, None, refl, sym, subst}
 use Rattle.std.specs.Prelude.{IsTrue}
 use Rattle.sqlite.specs.State.{State}
 use Rattle.base.specs.Entity.{Entity}

@@ -28,3 +28,6 @@ mod StepRows
 mod HolderSteps
 mod StocksHeld
 mod AccountsHeld
+mod JournalRenewal
+mod Renewals
+mod OrderRenewal

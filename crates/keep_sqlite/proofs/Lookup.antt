@@ -16,7 +16,7 @@ not_true false f = refl
 abbrev pub IsOne : (Row → Bool) → List Row → Type 0
 IsOne p rows = (x y : Row) → Has rows x → Has rows y → p x ≡ true → p y ≡ true → x ≡ y
 
-found_some : (p : Row → Bool) (rows : List Row) (x : Row) → Has rows x → p x ≡ true → (y : Row) × (find p rows ≡ Some y)
+pub found_some : (p : Row → Bool) (rows : List Row) (x : Row) → Has rows x → p x ≡ true → (y : Row) × (find p rows ≡ Some y)
 found_some p [] x h is = absurd h
 found_some p (r ∷ rows) x h is = elim (cases_Bool (p r)) [
   | inl here ↦ (r, rw here refl)

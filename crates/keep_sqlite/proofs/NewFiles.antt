@@ -17,10 +17,10 @@ use Rattle.keep_sqlite.specs.Filing.{Filing}
 use Rattle.keep_sqlite.specs.Tables.{tables_of, marks_in, messages_in, row_in}
 use Rattle.keep_sqlite.specs.Ready.{AreNumbered, IsFiled, IsReady}
 
-no_rows : (rows : List Row) → rows ≡ [] → IsRising rows
+pub no_rows : (rows : List Row) → rows ≡ [] → IsRising rows
 no_rows rows is = subst IsRising (sym is) (record { numbered = tt; ordered = tt })
 
-one_row : (rows : List Row) (more : Row) → rows ≡ (Int (pos 1) ∷ more) ∷ [] → IsRising rows
+pub one_row : (rows : List Row) (more : Row) → rows ≡ (Int (pos 1) ∷ more) ∷ [] → IsRising rows
 one_row rows more is = subst IsRising (sym is) (record { numbered = (refl, tt); ordered = (tt, tt) })
 
 all_rise : (service : Service) (db : Trees)

@@ -34,6 +34,7 @@ use Rattle.keep_sqlite.specs.Orders.{IsNamed}
 use Rattle.keep_sqlite.specs.AddedRows.{AreAdded}
 use Rattle.keep_sqlite.specs.Ready.{IsFiled, Makes}
 use Rattle.keep_sqlite.proofs.Changes.{map_behind, survives_quietly}
+use Rattle.keep_sqlite.proofs.Frames.{IsLeft}
 use Rattle.keep_sqlite.proofs.Keys.{one_key, one_of_text}
 use Rattle.keep_sqlite.proofs.Lookup.{IsOne, not_true, cut_gone, cut_apart, set_here, set_apart}
 use Rattle.keep_sqlite.proofs.Steps.{steps_map}
@@ -218,7 +219,7 @@ module _ (key : List ℕ) (stocks : List Partner) (at : ℕ) (stock : Partner) (
 
 -- ---- in a transaction
 
-survives_itself : (s : State) → Survives s s (λ _. ⊥)
+pub survives_itself : (s : State) → Survives s s (λ _. ⊥)
 survives_itself s = record {
   clean = omega arith;
   shield = λ shielded. shielded;
@@ -242,6 +243,21 @@ orders_apart = record {
   heads_left = λ old new left. left.1.1.1.1.1.0 (λ e. omega (arith, e));
   lines_left = λ old new left. left.1.1.1.1.1.1.0 (λ e. omega (arith, e));
 }
+
+-- a write of heads or of lines leaves the table that tells whose tables they are
+about_left : (tree : ℕ) (B : List Row → List Row → Type 0) (old new : State) → old.now.schema ≡ purchasing
+    → (14 ≡ tree → ⊥) → Edits tree B old new → new.now.trees 14 ≡ old.now.trees 14
+about_left tree B old new has other h =
+    let left = subst (λ s. AllByRecursion (IsLeft tree old.now.trees new.now.trees) s.tables) has h.others in
+    left.1.1.1.1.1.1.1.0 other
+
+pub about_stays : (A B C : List Row → List Row → Type 0) (old a b new : State) → old.now.schema ≡ purchasing
+    → Edits 11 A old a → Edits 9 B a b → Edits 11 C b new → new.now.trees 14 ≡ old.now.trees 14
+about_stays A B C old a b new has lines head more =
+    let second = lines.same_schema ∙ has in
+    about_left 11 C b new (head.same_schema ∙ second) (λ e. omega (arith, e)) more
+    ∙ about_left 9 B a b second (λ e. omega (arith, e)) head
+    ∙ about_left 11 A old a has (λ e. omega (arith, e)) lines
 
 pub one_head : (count : ℕ) (db : Database) → IsFiled purchasing count db → IsDatabase db → (k : List ℕ)
     → IsOne (has_key (text_key k)) (db.trees 9)

@@ -1,5 +1,5 @@
 -- What is found where a store is opened.
-use Rattle.std.specs.Prelude.{◌≡◌, ◌⊎◌, pos, List, [], ◌∷◌}
+use Rattle.std.specs.Prelude.{◌≡◌, ◌⊎◌, ℕ, pos, List, [], ◌∷◌}
 use Rattle.sqlite.specs.declared.error.Error.{Error}
 use Rattle.sqlite.specs.declared.error.Error.TheVariants.{SqliteFailure}
 use Rattle.sqlite.specs.declared.error.ErrorCode.TheVariants.{OutOfMemory, NotADatabase}
@@ -24,16 +24,19 @@ opening_fault (SqliteFailure OutOfMemory) = Memory
 opening_fault (SqliteFailure NotADatabase) = WrongFile
 opening_fault _ = Failed
 
--- the row of the table `about` that tells version 2 of this service
-pub record IsAbout (service : Service) (r : Row) : Type 0 where
-  pub version : column r 2 ≡ Int (pos 2)
+-- the row of the table `about` that tells this version of a service
+pub record IsAbout (version : ℕ) (service : Service) (r : Row) : Type 0 where
+  pub version_is : column r 2 ≡ Int (pos version)
   pub name : column r 3 ≡ Text (name_of service)
 
 -- there is one row, and it tells so
+abbrev pub TellsVersion : ℕ → Service → List Row → Type 0
+TellsVersion version service [] = ⊥
+TellsVersion version service (r ∷ []) = IsAbout version service r
+TellsVersion version service (_ ∷ _ ∷ _) = ⊥
+
 abbrev pub TellsOf : Service → List Row → Type 0
-TellsOf service [] = ⊥
-TellsOf service (r ∷ []) = IsAbout service r
-TellsOf service (_ ∷ _ ∷ _) = ⊥
+TellsOf service rows = TellsVersion 2 service rows
 
 module _ {S C : Type 0} (filing : Filing S C) where
   -- the table `about` of a service's file tells version 2 of it

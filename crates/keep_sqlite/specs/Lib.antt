@@ -6,8 +6,12 @@ pub mod Stepping
 pub mod Law
 pub mod Found
 pub mod Orders
+pub mod FirstVersion
 pub mod Listing
 pub mod AddedRows
 pub mod Holders
 pub mod Stocks
 pub mod Accounts
+pub mod Migration
+pub mod JournalRenewal
+pub mod OrderRenewal

@@ -1,5 +1,5 @@
 -- Which changes are steps, as the writes of a transaction see it.
-use Rattle.std.specs.Prelude.{◌≡◌, Bool, true, false, List, [], ◌∷◌, Option, Some, None, ⊤}
+use Rattle.std.specs.Prelude.{◌≡◌, Bool, true, false, List, ◌∷◌, Option, Some, None, ⊤}
 use Rattle.base.specs.Entity.{Entity}
 use Rattle.activities.specs.Rows.{sender_of}
 use Rattle.keep.specs.Tables.{Tables}

@@ -21,18 +21,20 @@ ghost use Rattle.trade.specs.Accounts.{AccountState};
 ghost use Rattle.trade.specs.Words.{account_line_word};
 ghost use Rattle.keep_sqlite.specs.AddedRows.{AreAdded};
 ghost use Rattle.keep_sqlite.specs.Holders.{line_cells, lines_in, shown_line, state_in};
+ghost use Rattle.keep_sqlite.specs.Migration.{as_today};
 ghost use Rattle.keep_sqlite.specs.Ready.{IsFiled, IsReady, Makes};
 ghost use Rattle.keep_sqlite.specs.Accounts.{accounts, account_cells, account_from};
 
 use crate::filed::Filed;
 use crate::lines::sender_line;
+use crate::progress::Progress;
 use crate::writes::{bound_number, bound_quantity};
 use base::{Entity, Kind};
 use billing::{Account, Accounts};
 use sql_bodies::put_account_line;
 use sql_rows::{
-    Service, add_account_line, put_account, read_account, read_account_lines, take_account,
-    take_account_lines,
+    Service, add_account_line, put_account, read_account, read_account_lines, set_version,
+    take_account, take_account_lines,
 };
 use sqlite::{Alter, Connection, Error, Row, Transaction};
 use std::alloc::{AllocError, Global};
@@ -363,6 +365,18 @@ impl Filed for Accounts {
             Kind::Account => step_account(tx, entity.key(), row, sender, count),
             Kind::Order | Kind::Stock => Err(Error::InvalidQuery),
         }
+    }
+
+    ghost first = { as_today accounts };
+
+    // The rows are as they were: the table `about` alone tells another version.
+    fn renew<S: Alter, P: Progress>(
+        _alloc: Global,
+        tx: &mut Transaction<'_, S>,
+        _progress: &mut P,
+    ) -> Result<(), Error> {
+        set_version(tx, Service::Billing)?;
+        Ok(())
     }
 
     ghost commands = { λ body. refl };

@@ -9,8 +9,10 @@ ghost use Rattle.sqlite.specs.State.{HasCleanDisk, Survives, KeepsCommit};
 ghost use Rattle.keep.specs.Tables.{changed_by};
 ghost use Rattle.keep.specs.declared.change.Change.TheVariants.{State};
 ghost use Rattle.sql_rows.specs.Tables.{Stays};
+ghost use Rattle.keep_sqlite.specs.Migration.{FirstFiling, IsFirst, Renews};
 ghost use Rattle.keep_sqlite.specs.Ready.{IsFiled, IsReady, Makes};
 
+use crate::progress::Progress;
 use activities::Parts;
 use base::Entity;
 use sql_bodies::CommandBody;
@@ -21,6 +23,7 @@ use std::alloc::{AllocError, Global};
 /// A service whose states and commands can stand in a file.
 pub trait Filed {
     ghost use Rattle.keep_sqlite.specs.Filing.{Filing};
+    ghost use Rattle.keep_sqlite.specs.Migration.{FirstFiling};
 
     /// What is kept of an entity.
     type State: Drop + Parts;
@@ -112,6 +115,30 @@ pub trait Filed {
         ensures same_reference { tx.new.conn.ghost_name ≡ tx.old.conn.ghost_name }
         ensures ok { HasCleanDisk (state S.Store tx.new.conn.now)
             → IfOk result (λ count. Makes filing (changed_by (State entity.now (Some row.now))) count
+            (state S.Store tx.old.conn.now) (state S.Store tx.new.conn.now)) }
+        ensures kept { HasCleanDisk (state S.Store tx.new.conn.now)
+            → KeepsCommit (state S.Store tx.old.conn.now) (state S.Store tx.new.conn.now) }
+        ensures survives { Survives (state S.Store tx.old.conn.now) (state S.Store tx.new.conn.now) (λ _. ⊥) };
+
+    /// How its rows stood in version 1.
+    ghost first: { FirstFiling Self.State Self.Command };
+
+    /// Writes the rows of version 1 as those of today. `progress` is told of each row that had to be looked at.
+    ///
+    /// # Errors
+    /// Where the store failed or a growth was refused, and where a row isn't one that version 1 wrote.
+    fn renew<S: Alter, P: Progress>(
+        alloc: Global,
+        tx: &mut Transaction<'_, S>,
+        progress: &mut P,
+    ) -> Result<(), Error>
+        requires first { HasCleanDisk (state S.Store tx.old.conn.now)
+            → IsFirst filing.is_service.service (state S.Store tx.old.conn.now).now }
+        requires sound { HasCleanDisk (state S.Store tx.old.conn.now) → IsDatabase (state S.Store tx.old.conn.now).now }
+        requires inside { HasCleanDisk (state S.Store tx.old.conn.now)
+            → IsTrue (state S.Store tx.old.conn.now).in_transaction }
+        ensures same_reference { tx.new.conn.ghost_name ≡ tx.old.conn.ghost_name }
+        ensures ok { HasCleanDisk (state S.Store tx.new.conn.now) → OnOk result (Renews first filing
             (state S.Store tx.old.conn.now) (state S.Store tx.new.conn.now)) }
         ensures kept { HasCleanDisk (state S.Store tx.new.conn.now)
             → KeepsCommit (state S.Store tx.old.conn.now) (state S.Store tx.new.conn.now) }

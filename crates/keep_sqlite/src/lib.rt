@@ -21,19 +21,26 @@
 
 mod accounts;
 mod filed;
+mod first_version;
 mod founding;
 mod journal;
+mod journal_renewal;
 mod kept;
 mod lines;
 mod listing;
+mod migration;
 mod opening;
 mod order_reads;
+mod order_renewal;
 mod order_writes;
 mod orders;
+mod progress;
 mod reads;
 mod stocks;
 mod writes;
 
 pub use filed::Filed;
 pub use kept::SqliteKeep;
+pub use migration::Migrated;
 pub use opening::opening_fault;
+pub use progress::{Progress, TerminalProgress};

@@ -32,14 +32,14 @@ pub fn opening_fault(error: &Error) -> KeepFault
     }
 }
 
-/// Whether a row tells version 2 of this service.
-fn tells_of(row: &Row, service: Service) -> Result<bool, Error>
+/// Whether a row tells this version of this service.
+pub fn tells_version(row: &Row, version: u64, service: Service) -> Result<bool, Error>
     ensures { IfOk result (λ tells. IsTrue tells
-        → (column row.now 0 ≡ Int (pos 2)) × (column row.now 1 ≡ Text (name_of service))) }
+        → (column row.now 0 ≡ Int (pos version)) × (column row.now 1 ≡ Text (name_of service))) }
 {
-    let version: i64 = row.get(0)?;
+    let told: u64 = row.get(0)?;
     let name: String = row.get(1)?;
-    Ok(version == 2 && name.as_str() == service.name())
+    Ok(told == version && name.as_str() == service.name())
 }
 
 /// Whether the table `about` tells version 2 of this service.
@@ -62,7 +62,7 @@ fn is_of<S: Alter>(conn: &mut Connection<S>, service: Service) -> Result<bool, E
     let [row] = rows.as_slice() else {
         return Ok(false);
     };
-    tells_of(row, service)
+    tells_version(row, 2, service)
 }
 
 /// How many rows the journal has; of 2^63 - 1 and more no less than that.

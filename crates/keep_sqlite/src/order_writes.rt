@@ -8,7 +8,8 @@ ghost use Rattle.sqlite.specs.State.{HasCleanDisk, Survives, KeepsCommit};
 ghost use Rattle.base.specs.Entity.{order_of};
 ghost use Rattle.keep.specs.Tables.{changed_by};
 ghost use Rattle.keep.specs.declared.change.Change.TheVariants.{State};
-ghost use Rattle.sql_rows.specs.Schema.{purchasing};
+ghost use Rattle.sql_rows.specs.Schema.{about_tree, purchasing};
+ghost use Rattle.sql_rows.specs.declared.service.Service.TheVariants.{Purchasing};
 ghost use Rattle.sql_rows.specs.Tables.{IsRising, Puts, Adds, Edits, text_key};
 ghost use Rattle.keep_sqlite.specs.AddedRows.{AreAdded};
 ghost use Rattle.keep_sqlite.specs.Ready.{IsFiled, Makes};
@@ -122,7 +123,7 @@ fn add_lines<S: Alter>(
 }
 
 /// Puts an order in place of what its key has: its lines are taken away first, since they refer to its head.
-fn put_order<S: Alter>(
+pub fn put_order<S: Alter>(
     tx: &mut Transaction<'_, S>,
     key: &str,
     order: &Order,
@@ -137,6 +138,9 @@ fn put_order<S: Alter>(
     ensures ok { HasCleanDisk (state S.Store tx.new.conn.now)
         → IfOk result (λ count. Makes orders (changed_by (State (order_of key.now) (Some (Some order.now)))) count
         (state S.Store tx.old.conn.now) (state S.Store tx.new.conn.now)) }
+    ensures about { HasCleanDisk (state S.Store tx.new.conn.now) → OnOk result
+        ((state S.Store tx.new.conn.now).now.trees (about_tree Purchasing)
+        ≡ (state S.Store tx.old.conn.now).now.trees (about_tree Purchasing)) }
     ensures kept { HasCleanDisk (state S.Store tx.new.conn.now)
         → KeepsCommit (state S.Store tx.old.conn.now) (state S.Store tx.new.conn.now) }
     ensures survives { Survives (state S.Store tx.old.conn.now) (state S.Store tx.new.conn.now) (λ _. ⊥) }

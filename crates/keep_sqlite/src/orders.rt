@@ -1,11 +1,14 @@
 //! Purchasing in files.
 
 ghost use Rattle.std.specs.Prelude.{refl};
+ghost use Rattle.keep_sqlite.specs.Migration.{first_orders};
 ghost use Rattle.keep_sqlite.specs.Orders.{orders};
 
 use crate::filed::Filed;
 use crate::order_reads::find_order;
+use crate::order_renewal::renew_orders;
 use crate::order_writes::{set_order, write_order};
+use crate::progress::Progress;
 use activities::Handler;
 use base::{Entity, Kind};
 use purchasing::{Order, Orders};
@@ -72,6 +75,16 @@ impl Filed for Orders {
             Kind::Order => set_order(tx, entity.key(), row, count),
             Kind::Stock | Kind::Account => Err(Error::InvalidQuery),
         }
+    }
+
+    ghost first = { first_orders };
+
+    fn renew<S: Alter, P: Progress>(
+        alloc: Global,
+        tx: &mut Transaction<'_, S>,
+        progress: &mut P,
+    ) -> Result<(), Error> {
+        renew_orders(alloc, tx, progress)
     }
 
     ghost commands = { λ body. refl };

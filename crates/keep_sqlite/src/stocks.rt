@@ -21,16 +21,19 @@ ghost use Rattle.trade.specs.Stocks.{StockState};
 ghost use Rattle.trade.specs.Words.{stock_line_word};
 ghost use Rattle.keep_sqlite.specs.AddedRows.{AreAdded};
 ghost use Rattle.keep_sqlite.specs.Holders.{line_cells, lines_in, shown_line, state_in};
+ghost use Rattle.keep_sqlite.specs.Migration.{as_today};
 ghost use Rattle.keep_sqlite.specs.Ready.{IsFiled, IsReady, Makes};
 ghost use Rattle.keep_sqlite.specs.Stocks.{stocks, stock_cells, stock_from};
 
 use crate::filed::Filed;
 use crate::lines::sender_line;
+use crate::progress::Progress;
 use crate::writes::{bound_number, bound_quantity};
 use base::{Entity, Kind};
 use sql_bodies::put_stock_line;
 use sql_rows::{
-    Service, add_stock_line, put_stock, read_stock, read_stock_lines, take_stock, take_stock_lines,
+    Service, add_stock_line, put_stock, read_stock, read_stock_lines, set_version, take_stock,
+    take_stock_lines,
 };
 use sqlite::{Alter, Connection, Error, Row, Transaction};
 use std::alloc::{AllocError, Global};
@@ -356,6 +359,18 @@ impl Filed for Stocks {
             Kind::Stock => step_stock(tx, entity.key(), row, sender, count),
             Kind::Order | Kind::Account => Err(Error::InvalidQuery),
         }
+    }
+
+    ghost first = { as_today stocks };
+
+    // The rows are as they were: the table `about` alone tells another version.
+    fn renew<S: Alter, P: Progress>(
+        _alloc: Global,
+        tx: &mut Transaction<'_, S>,
+        _progress: &mut P,
+    ) -> Result<(), Error> {
+        set_version(tx, Service::Warehouse)?;
+        Ok(())
     }
 
     ghost commands = { λ body. refl };

@@ -1,8 +1,9 @@
 //! Runs a schedule, read from standard input, and prints the outcome of each line.
 #![tactic(auto)]
 
+use keep_sqlite::TerminalProgress;
 use programs::{PlainStores, RunFault, StoreChoice, ask, run_over, tell_bad_words, tell_fault};
-use schedule_stores::{FileStores, SqliteStores, run_over_files};
+use schedule_stores::{FileStores, SqliteStores, migrate_files, run_over_files};
 use sqlite::Unknown;
 use std::io::{BufReader, BufWriter, ErrorKind};
 use std::process::ExitCode;
@@ -37,6 +38,19 @@ fn run_in_files(rt: HostRuntime, folder: &str) -> io::Result<u8> {
     }
 }
 
+/// Takes over the files of a folder that are of version 1, which is told on standard output, and runs the schedule then.
+fn run_in_migrated(rt: HostRuntime, folder: &str) -> io::Result<u8> {
+    match migrate_files(
+        &rt,
+        folder,
+        &mut rt.stdout(),
+        &mut TerminalProgress::new(&rt),
+    ) {
+        Ok(()) => run_in_files(rt, folder),
+        Err(fault) => tell_fault(&mut rt.stderr(), fault),
+    }
+}
+
 /// Runs the program over the words of its command line and the standard streams. The answer is the status. Words that
 /// aren't UTF-8 are `InvalidData`, which nothing else here is.
 fn run(rt: HostRuntime) -> io::Result<u8> {
@@ -49,7 +63,18 @@ fn run(rt: HostRuntime) -> io::Result<u8> {
     ) {
         Ok(StoreChoice::Plain) => run_in_maps(rt),
         Ok(StoreChoice::Sqlite) => run_in_sql(rt),
-        Ok(StoreChoice::Files(folder)) => run_in_files(rt, folder),
+        Ok(
+            StoreChoice::Files {
+                folder,
+                migrate: true,
+            },
+        ) => run_in_migrated(rt, folder),
+        Ok(
+            StoreChoice::Files {
+                folder,
+                migrate: false,
+            },
+        ) => run_in_files(rt, folder),
         Err(status) => Ok(status),
     }
 }

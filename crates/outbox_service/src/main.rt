@@ -1,7 +1,7 @@
 //! A service of a transactional outbox: it talks to a broker of STOMP 1.2 on two sockets, and answers lines.
 //!
 //! ```text
-//! outbox-service --service purchasing|warehouse|billing --port PORT [--file PATH] [OPTIONS]
+//! outbox-service --service purchasing|warehouse|billing --port PORT [--file PATH] [--migrate] [OPTIONS]
 //! ```
 //!
 //! It opens two connections to a host's port (127.0.0.1 where no other is named), prints `connected N`, and then answers
@@ -11,7 +11,8 @@
 //! connections are open then, and `await N` answers `journal M` once the journal has N rows. A command of another service
 //! is `refused 60`, a line that can't be read `refused 80`; `--help` lists all.
 //!
-//! - What was answered `committed` is in the tables: in the file of `--file`, or in memory until the program ends.
+//! - What was answered `committed` is in the tables: in the file of `--file`, or in memory until the program ends. With
+//!   `--migrate` a file of version 1 is taken over before all else, and `migrated SERVICE 1 2` printed.
 //! - Letters are sent until their receivers have settled them, and each is handled once, in order of its pair. Four threads
 //!   do that (`service_workers`); this program adds its sockets, its lines and its patience.
 //! - A connection that ends is opened again by itself, at intervals that double from 100 milliseconds to 5 seconds. It's
@@ -36,6 +37,7 @@ mod board;
 mod fault;
 mod gate;
 mod input;
+mod migration;
 mod overdue;
 mod pulse;
 mod rest;

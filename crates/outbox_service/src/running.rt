@@ -6,6 +6,7 @@ ghost use Rattle.shared_endpoint.specs.Keys.{IsHandOf, IsScoutOf, AreSeatsOf};
 use crate::answers::answer_first;
 use crate::board::Board;
 use crate::fault::RunFault;
+use crate::migration::take_over;
 use crate::serving::keep_serving;
 use crate::sockets::Broker;
 use crate::told::Told;
@@ -204,7 +205,8 @@ where
     }
 }
 
-/// Runs the service that is asked for. The runtime is given twice: files and sockets need the system's own.
+/// Runs the service that is asked for. Its file is taken over before it's opened where that is asked for. The runtime is
+/// given twice: files and sockets need the system's own.
 ///
 /// # Errors
 /// Where the file can't be opened, the store failed, or a stream or the system did, or memory was refused at the start.
@@ -216,7 +218,11 @@ where
         service,
         broker,
         file,
+        migrate,
     } = settings;
+    if let (Some(path), true) = (file, migrate) {
+        take_over(host, service, path)?;
+    }
     match service {
         ServiceName::Purchasing => run_at::<Orders, R>(rt, host, file, broker),
         ServiceName::Warehouse => run_at::<Stocks, R>(rt, host, file, broker),

@@ -61,7 +61,9 @@ Answers, where nothing is shown:
 At the end of the input it ends: what came before is handled. It may be killed at any time: with
 `--file` it goes on where it was. Without it the tables end with the program, and then the broker's
 queues and the tables of the other two have to end too. A file belongs to one service, and one
-program has it at a time.
+program has it at a time. One of version 1, where an order had one stock, is taken over by
+`--migrate`: `migrated SERVICE 1 2` is printed before all else. It's as it was or wholly of
+version 2, whenever the program is killed.
 
 Exit status:
   0  the input ended
@@ -79,6 +81,8 @@ pub struct Settings<'a> {
     pub broker: Broker<'a>,
     /// The file that has the tables; else they are in memory.
     pub file: Option<&'a str>,
+    /// Whether a file of version 1 is taken over.
+    pub migrate: bool,
 }
 
 /// The command line, as `clap` has it, where `--service` takes one of these words.
@@ -102,6 +106,10 @@ fn make_command<'a>(alloc: Global, services: &'a [&'a str]) -> Result<Command<'a
         .action(ArgAction::Set)
         .value_name("PATH")
         .help("The file of the tables, which SQLite reads; without it they are in memory");
+    let migrate = Arg::new(alloc, "migrate")
+        .long("migrate")
+        .action(ArgAction::SetTrue)
+        .help("With `--file`: takes a file of version 1 over before it's opened");
     let command = Command::new(alloc, "outbox-service")
         .version(VERSION)
         .about("A service of a transactional outbox, connected to a broker of STOMP 1.2.")
@@ -109,7 +117,8 @@ fn make_command<'a>(alloc: Global, services: &'a [&'a str]) -> Result<Command<'a
         .after_help(LINES)
         .arg(service)?
         .arg(port)?
-        .arg(file)?;
+        .arg(file)?
+        .arg(migrate)?;
     add_options(alloc, command)
 }
 
@@ -166,6 +175,7 @@ fn settings_of<'a>(matches: &ArgMatches<'a>) -> Settings<'a> {
         service: service_of(matches.get_str("service").unwrap_or("")),
         broker: broker_of(matches),
         file: matches.get_str("file"),
+        migrate: matches.get_flag("migrate"),
     }
 }
 

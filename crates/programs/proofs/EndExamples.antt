@@ -221,7 +221,8 @@ words_are_taken keeps are =
 
 -- whatever refers to them
 module _ (keeps : Bor (List (Bor Text))) where
-  -- `--help` asks for help and `--version` for the version, and there is no other option but `--keep` and `--dir`
+  -- `--help` asks for help and `--version` for the version, and there is no other option but these, `--keep`, `--dir`
+  -- and `--migrate`
   words_have_faults : (fault_of (command_line keeps) (behind (codes "--help" ∷ [])) ≡ DisplayHelp ∷ [])
       × (fault_of (command_line keeps) (behind (codes "--version" ∷ [])) ≡ DisplayVersion ∷ [])
       × (fault_of (command_line keeps) (behind (codes "--all" ∷ [])) ≡ UnknownArgument ∷ [])
@@ -232,19 +233,26 @@ module _ (keeps : Bor (List (Bor Text))) where
   not_sqlite : (word : List ℕ) → get_or word 0 0 ≢ 115 → Some word ≡ Some (codes "sqlite") → ⊥
   not_sqlite word other same = other (ap (λ o. get_or (unwrap_or o []) 0 0) same)
 
+  -- the two texts of a flag differ
+  false_flag : Some (codes "false") ≡ Some (codes "true") → ⊥
+  false_flag same = let no = ap (λ o. get_or (unwrap_or o []) 0 0) same in absurd (cc)
+
   -- no words ask for ordered maps, `--keep sqlite` for SQL in memory, and with `--dir` for files; that alone asks for none
   words_ask : (folder : Bor Text) → folder.now ≡ codes "d"
       → IsAskedFor (matches_of (command_line keeps) (behind [])) Plain
       × IsAskedFor (matches_of (command_line keeps) (behind (codes "--keep" ∷ codes "sqlite" ∷ []))) Sqlite
       × IsAskedFor (matches_of (command_line keeps) (behind (codes "--keep=sqlite" ∷ codes "--dir" ∷ codes "d" ∷ [])))
-      (Files folder)
+      (Files folder false)
+      × IsAskedFor (matches_of (command_line keeps)
+      (behind (codes "--migrate" ∷ codes "--keep=sqlite" ∷ codes "--dir" ∷ codes "d" ∷ []))) (Files folder true)
       × IsAskedFor (matches_of (command_line keeps) (behind (codes "--dir" ∷ codes "d" ∷ []))) Plain
       × (IsAskedFor (matches_of (command_line keeps) (behind (codes "--keep" ∷ codes "sqlite" ∷ []))) Plain → ⊥)
   unfolding clap_on_literals
   words_ask folder is = (
     not_sqlite (codes "plain") (omega arith),
     (refl, refl),
-    (refl, ap (λ t. Some t) (sym is)),
+    (refl, ap (λ t. Some t) (sym is), (λ on. absurd (false_flag on), λ off. refl)),
+    (refl, ap (λ t. Some t) (sym is), (λ on. refl, λ off. absurd (false_flag (sym off)))),
     not_sqlite (codes "plain") (omega arith),
     λ h. h refl,
   )

@@ -1,16 +1,21 @@
 -- What is read of the matches of words.
-use Rattle.std.proofs.Common.{◌≡◌, true, false, Option, Some, None, refl, sym, ap, ◌∙◌}
+use Rattle.std.proofs.Common.{◌≡◌, Bool, true, false, Option, Some, None, refl, sym, ap, ◌∙◌}
 use Rattle.std.specs.Prelude.{codes, option_map, unwrap_or, []}
 use Rattle.std.specs.Borrow.{Bor}
 use Rattle.std.specs.Str.{bytes_eq}
 use Rattle.std.proofs.lemmas.Slice.Eq.{bytes_eq-Decides}
-use Rattle.clap.proofs.WalkLemmas.{first_value-rows}
-use Rattle.clap.specs.Matches.{first_value}
+use Rattle.clap.proofs.WalkLemmas.{first_value-rows, one_text-rows}
+use Rattle.clap.specs.Matches.{first_value, one_text}
 use Rattle.clap.specs.Walk.{rows_of}
 use Rattle.clap.specs.Words.{Text, first_of}
 use Rattle.clap.specs.declared.parser.matches.Found.{Found}
 use Rattle.programs.specs.declared.choice.StoreChoice.TheVariants.{Plain, Sqlite, Files}
-use Rattle.programs.specs.Asked.{IsAskedFor}
+use Rattle.programs.specs.Asked.{IsAskedFor, IsFlag}
+
+-- a flag is read as the matches have it
+pub flag_is : (f : Found) (id : Text) (flag : Bool) → (one_text f id ≡ Some (codes "true") → flag ≡ true)
+    → (one_text f id ≡ Some (codes "false") → flag ≡ false) → IsFlag id (rows_of f) flag
+flag_is f id flag on off = (λ is. on (one_text-rows f id ∙ is), λ is. off (one_text-rows f id ∙ is))
 
 module _ (f : Found) (keep dir : Option (Bor Text))
     (keeps : option_map (λ s. s.now) keep ≡ first_value f (codes "keep")) where
@@ -26,11 +31,12 @@ module _ (f : Found) (keep dir : Option (Bor Text))
       (ap (option_map (λ s. s.now)) is ∙ ap (λ t. Some t) ((bytes_eq-Decides name.now (codes "sqlite")).0 (sym same)))
 
   -- `sqlite` with a folder, or without one
-  pub asks_for_files : (name folder : Bor Text) → keep ≡ Some name → true ≡ bytes_eq name.now (codes "sqlite")
+  pub asks_for_files : (name folder : Bor Text) (migrate : Bool) → keep ≡ Some name
+      → true ≡ bytes_eq name.now (codes "sqlite")
       → option_map (λ s. s.now) dir ≡ first_value f (codes "dir") → dir ≡ Some folder
-      → IsAskedFor (rows_of f) (Files folder)
-  asks_for_files name folder is same dirs has =
-      (sqlite_is name is same, first_is (codes "dir") dir _ dirs (ap (option_map (λ s. s.now)) has))
+      → IsFlag (codes "migrate") (rows_of f) migrate → IsAskedFor (rows_of f) (Files folder migrate)
+  asks_for_files name folder migrate is same dirs has flag =
+      (sqlite_is name is same, first_is (codes "dir") dir _ dirs (ap (option_map (λ s. s.now)) has), flag)
 
   pub asks_for_memory : (name : Bor Text) → keep ≡ Some name → true ≡ bytes_eq name.now (codes "sqlite")
       → option_map (λ s. s.now) dir ≡ first_value f (codes "dir") → dir ≡ None → IsAskedFor (rows_of f) Sqlite

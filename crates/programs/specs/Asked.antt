@@ -1,9 +1,9 @@
 -- Which stores the words of the command line ask for.
-use Rattle.std.specs.Prelude.{◌≡◌, List, [], ◌∷◌, map, codes, Some, None, Result, IfOk, IfErr, true}
+use Rattle.std.specs.Prelude.{◌≡◌, List, [], ◌∷◌, map, codes, Some, None, Result, IfOk, IfErr, Bool, true, false}
 use Rattle.std.specs.Borrow.{Bor}
 use Rattle.clap.specs.Simple.{matches_of}
-use Rattle.clap.specs.Words.{App, FailsBy, Row, Rule, Text, fault_of, first_of, kind_of, new_app, new_rule, takes, with_rule}
-use Rattle.clap.specs.declared.builder.ArgAction.TheVariants.{Set}
+use Rattle.clap.specs.Words.{App, FailsBy, Row, Rule, Text, fault_of, first_of, kind_of, new_app, new_rule, one_of, takes, with_rule}
+use Rattle.clap.specs.declared.builder.ArgAction.TheVariants.{Set, SetTrue}
 use Rattle.clap.specs.declared.builder.value_parser.ValueParser.TheVariants as parser
 use Rattle.clap.specs.declared.error.Error.{Error}
 use Rattle.clap.specs.declared.error.kind.ErrorKind.TheVariants.{OutOfMemory}
@@ -29,16 +29,27 @@ keep keeps = record (new_rule (codes "keep")) {
 abbrev pub dir : Rule
 dir = record (new_rule (codes "dir")) { long = Some (codes "dir"); action = Some Set; value_names = 1 }
 
--- the command line takes the program's name, `--keep`, `--dir`, `--help` and `--version`
+-- `--migrate` alone
+abbrev pub migrate : Rule
+migrate = record (new_rule (codes "migrate")) { long = Some (codes "migrate"); action = Some SetTrue }
+
+-- the command line takes the program's name, `--keep`, `--dir`, `--migrate`, `--help` and `--version`
 abbrev pub command_line : Bor (List (Bor Text)) → App
-command_line keeps = with_rule (with_rule (with_version (new_app (codes "outbox-schedule"))) (keep keeps)) dir
+command_line keeps =
+    with_rule (with_rule (with_rule (with_version (new_app (codes "outbox-schedule"))) (keep keeps)) dir) migrate
+
+-- the matches have this flag, or don't
+abbrev pub IsFlag : Text → List Row → Bool → Type 0
+IsFlag id rows flag = (one_of id rows ≡ Some (codes "true") → flag ≡ true)
+    × (one_of id rows ≡ Some (codes "false") → flag ≡ false)
 
 -- The matches of the words ask for these stores: the folder isn't looked at with `plain`.
 abbrev pub IsAskedFor : List Row → StoreChoice → Type 0
 IsAskedFor rows Plain = first_of (codes "keep") rows ≡ Some (codes "sqlite") → ⊥
 IsAskedFor rows Sqlite = (first_of (codes "keep") rows ≡ Some (codes "sqlite")) × (first_of (codes "dir") rows ≡ None)
-IsAskedFor rows (Files folder) =
+IsAskedFor rows (Files folder migrate) =
     (first_of (codes "keep") rows ≡ Some (codes "sqlite")) × (first_of (codes "dir") rows ≡ Some folder.now)
+    × IsFlag (codes "migrate") rows migrate
 
 -- what reading the words answers: the stores that they ask for, or a fault that they have, or that memory was refused
 pub record IsReadAs (keeps : Bor (List (Bor Text))) (words : List Text) (r : Result StoreChoice Error) : Type 0 where

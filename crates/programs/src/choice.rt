@@ -7,6 +7,10 @@ pub enum StoreChoice<'a> {
     Plain,
     /// In memory, in SQL.
     Sqlite,
-    /// In SQL, in the files of this folder.
-    Files(&'a str),
+    /// In SQL, in the files of a folder.
+    Files {
+        folder: &'a str,
+        /// Whether files of version 1 are taken over before they are opened.
+        migrate: bool,
+    },
 }

@@ -22,7 +22,7 @@ use std::io;
 use std::io::{Read, Write};
 
 /// How the program is called.
-const USAGE: &str = "outbox-schedule [--keep plain|sqlite] [--dir PATH] < SCHEDULE";
+const USAGE: &str = "outbox-schedule [--keep plain|sqlite] [--dir PATH] [--migrate] < SCHEDULE";
 
 /// What may stand behind `--keep`.
 const KEEPS: &[&str] = &["plain", "sqlite"];
@@ -64,7 +64,9 @@ Lines of a schedule:
 SERVICE is purchasing, warehouse or billing, CONN is 0 or 1, SEAT is 0 to 15. A key has 1 to 64
 octets, with \\s for a space, \\n for LF, \\r for CR and \\\\ for a backslash. Empty lines and lines that
 begin with # are passed over. The services begin with empty tables, which end with the run; with
-`--keep sqlite --dir PATH` they begin with those that an earlier run left there.
+`--keep sqlite --dir PATH` they begin with those that an earlier run left there. Files of version 1,
+where an order had one stock, are taken over by `--migrate`: `migrated SERVICE 1 2` is printed for
+each, before all else. A file is as it was or wholly of version 2, whenever the program is stopped.
 
 What a line is answered, where nothing is shown:
   committed POS, handled POS             taken in, at this position of the journal
@@ -90,7 +92,8 @@ Exit status:
   0  each line was run, whether it was refused or not
   1  `line N: bad event`: line N is the first that is none of the above, and nothing was run;
      `fault N NAME: SERVICE`: its file can't be opened, and nothing was run: 1 Failed, 2 Memory,
-     3 WrongFile, which is none of this service, or of another version;
+     3 WrongFile, which is none of this service, or of another version; with `--migrate` it can't
+     be taken over either, and is as it was;
      `fault 81 Memory`: the schedule couldn't be held, and nothing was run;
      `fault 2 Device`: a stream failed
   2  the words of the command line are at fault";
@@ -111,6 +114,10 @@ fn make_command<'a>(alloc: Global, keeps: &'a [&'a str]) -> Result<Command<'a>, 
         .action(ArgAction::Set)
         .value_name("PATH")
         .help("With `--keep sqlite`: in this folder, in three files that SQLite reads");
+    let migrate = Arg::new(alloc, "migrate")
+        .long("migrate")
+        .action(ArgAction::SetTrue)
+        .help("With `--dir`: takes over files of version 1 before they are opened");
     let command = Command::new(alloc, "outbox-schedule")
         .version(VERSION)
         .about(
@@ -119,7 +126,8 @@ fn make_command<'a>(alloc: Global, keeps: &'a [&'a str]) -> Result<Command<'a>, 
         .override_usage(USAGE)
         .after_help(LINES)
         .arg(keep)?
-        .arg(dir)?;
+        .arg(dir)?
+        .arg(migrate)?;
     Ok(command)
 }
 
@@ -129,7 +137,10 @@ fn chosen_by<'a>(matches: &ArgMatches<'a>) -> StoreChoice<'a>
 {
     match matches.get_str("keep") {
         Some(name) if name == "sqlite" => match matches.get_str("dir") {
-            Some(folder) => StoreChoice::Files(folder),
+            Some(folder) => StoreChoice::Files {
+                folder,
+                migrate: matches.get_flag("migrate"),
+            },
             None => StoreChoice::Sqlite,
         },
         _ => StoreChoice::Plain,

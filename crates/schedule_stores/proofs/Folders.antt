@@ -22,7 +22,8 @@ use Rattle.keep_sqlite.specs.Accounts.{accounts}
 use Rattle.keep_sqlite.specs.Orders.{orders}
 use Rattle.keep_sqlite.specs.Stocks.{stocks}
 use Rattle.programs.specs.Opened.{AreOpened}
-use Rattle.schedule_stores.specs.Files.{IsOpenedWith, AreFoundIn, IsHeldIn, AreHeldIn}
+use Rattle.keep_sqlite.specs.Migration.{FirstFiling, as_today, first_orders}
+use Rattle.schedule_stores.specs.Files.{IsOpenedWith, AreFoundIn, IsHeldIn, AreHeldIn, IsTakenOverIn, AreTakenOverIn}
 
 none_and_some : {A B : Type 0} (R : A → B → Type 0) (xs : List A) (y : B) (ys : List B) → AllZip R xs []
     → AllZip R xs (y ∷ ys) → ⊥
@@ -63,6 +64,22 @@ all_found p w b left held t found = joined t left
     (found_is orders p left.purchasing t.purchasing held.orders found.orders)
     (found_is stocks w left.warehouse t.warehouse held.stocks found.stocks)
     (found_is accounts b left.billing t.billing held.accounts found.accounts)
+
+-- a file that was taken over holds the tables that its rows told before
+held_from : {S C : Type 0} (first : FirstFiling S C) (filing : Filing S C) (image : Image) (t : Tables S C)
+    → IsTakenOverIn first filing image t → IsHeldIn filing image t
+held_from first filing image t taken = record {
+  db = taken.db;
+  holds = taken.holds;
+  tables = inl (taken.renewed.sound, sym taken.told ∙ sym taken.renewed.tables, taken.renewed.about);
+}
+
+pub all_taken_over : (p w b : Image) (t : AllTables) → AreTakenOverIn p w b t → AreHeldIn p w b t
+all_taken_over p w b t taken = record {
+  orders = held_from first_orders orders p t.purchasing taken.orders;
+  stocks = held_from (as_today stocks) stocks w t.warehouse taken.stocks;
+  accounts = held_from (as_today accounts) accounts b t.billing taken.accounts;
+}
 
 -- of three stores that were opened with such tables a stop leaves no others
 pub all_opened : (P : OrderTables → Type 0) (Q : StockTables → Type 0) (R : AccountTables → Type 0)

@@ -9,6 +9,7 @@ use Rattle.keep.specs.declared.fault.KeepFault.{KeepFault}
 use Rattle.keep_sqlite.specs.Accounts.{accounts}
 use Rattle.keep_sqlite.specs.Filing.{Filing}
 use Rattle.keep_sqlite.specs.Found.{AreIn, IsFoundIn}
+use Rattle.keep_sqlite.specs.Migration.{AreRenewed, FirstFiling, as_today, first_orders, first_tables_of}
 use Rattle.keep_sqlite.specs.Orders.{orders}
 use Rattle.keep_sqlite.specs.Stocks.{stocks}
 use Rattle.laws_stores.specs.Sight.{AllTables, OrderTables, StockTables, AccountTables}
@@ -56,3 +57,17 @@ pub record AreHeldIn (purchasing warehouse billing : Image) (t : AllTables) : Ty
   pub orders : IsHeldIn orders purchasing t.purchasing
   pub stocks : IsHeldIn stocks warehouse t.warehouse
   pub accounts : IsHeldIn accounts billing t.billing
+
+-- an image holds what a file of version 1 became whose rows told these tables
+pub record IsTakenOverIn {S C : Type 0} (first : FirstFiling S C) (filing : Filing S C) (image : Image)
+    (t : Tables S C) : Type 0 where
+  pub old : Trees
+  pub told : first_tables_of first old ≡ t
+  pub db : Trees
+  pub renewed : AreRenewed first filing old db
+  pub holds : HoldsDatabase image db
+
+pub record AreTakenOverIn (purchasing warehouse billing : Image) (t : AllTables) : Type 0 where
+  pub orders : IsTakenOverIn first_orders orders purchasing t.purchasing
+  pub stocks : IsTakenOverIn (as_today stocks) stocks warehouse t.warehouse
+  pub accounts : IsTakenOverIn (as_today accounts) accounts billing t.billing

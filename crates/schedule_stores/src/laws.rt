@@ -9,7 +9,7 @@ ghost use Rattle.schedule_text.specs.declared.outcome.Outcome.{Outcome};
 ghost use Rattle.schedule_runner.specs.Sight.{sight};
 ghost use Rattle.programs.specs.GoodTables.{AreGood, GoesOn};
 ghost use Rattle.programs.specs.Runs.{HasRun};
-ghost use Rattle.schedule_stores.specs.Files.{AreFoundIn, AreHeldIn};
+ghost use Rattle.schedule_stores.specs.Files.{AreFoundIn, AreHeldIn, AreTakenOverIn};
 
 use crate::memory::SqliteStores;
 use billing::Accounts;
@@ -57,4 +57,23 @@ pub fn a_run_over_files_goes_on<O: Start, S: Start, A: Start>()
     stores_are_sound::<FileKeep<Orders, FileStore<FileFrom<O>>>>();
     stores_are_sound::<FileKeep<Stocks, FileStore<FileFrom<S>>>>();
     stores_are_sound::<FileKeep<Accounts, FileStore<FileFrom<A>>>>();
+}
+
+/// The same where the three were of version 1, told good tables by its rows, and were taken over.
+pub fn files_taken_over_go_on<O: Start, S: Start, A: Start>()
+    ensures { (left : AllTables) → AreGood left
+        → AreTakenOverIn (image_at O.Start) (image_at S.Start) (image_at A.Start) left
+        → (events : List Event) (outcomes : List Outcome)
+        (run : HasRun ⟦<FileKeep<Orders, FileStore<FileFrom<O>>> as Keep>⟧.seen
+        ⟦<FileKeep<Stocks, FileStore<FileFrom<S>>> as Keep>⟧.seen
+        ⟦<FileKeep<Accounts, FileStore<FileFrom<A>>> as Keep>⟧.seen
+        (AreFoundIn (image_at O.Start) (image_at S.Start) (image_at A.Start)) events outcomes)
+        → AreClean (sight ⟦<FileKeep<Orders, FileStore<FileFrom<O>>> as Keep>⟧.seen
+        ⟦<FileKeep<Stocks, FileStore<FileFrom<S>>> as Keep>⟧.seen
+        ⟦<FileKeep<Accounts, FileStore<FileFrom<A>>> as Keep>⟧.seen run.last)
+        → GoesOn ⟦<FileKeep<Orders, FileStore<FileFrom<O>>> as Keep>⟧.seen
+        ⟦<FileKeep<Stocks, FileStore<FileFrom<S>>> as Keep>⟧.seen
+        ⟦<FileKeep<Accounts, FileStore<FileFrom<A>>> as Keep>⟧.seen left events outcomes run.first run.last }
+{
+    a_run_over_files_goes_on::<O, S, A>();
 }

@@ -13,6 +13,7 @@ use Rattle.trade.specs.declared.commands.OrderCommand.TheVariants.{Place, Cancel
 use Rattle.trade.specs.declared.commands.StockCommand.TheVariants.{Receive}
 use Rattle.sql_bodies.specs.Bodies.{order_body, stock_body}
 use Rattle.sql_bodies.specs.Columns.{columns_of, read_input}
+use Rattle.sql_bodies.specs.FirstVersion.{first_order_body, read_first_order_command}
 use Rattle.sql_bodies.specs.Reading.{read_order_command, read_stock_command}
 
 -- 3 bolts and 4 nuts, and 500 of ann's limit
@@ -54,6 +55,30 @@ a_receipt_is_no_order = refl
 turned_keys_are_refused : read_stock_command (codes "{\"op\":\"receive\",\"n\":10}") ≡ None
 unfolding serde_json_on_literals digits
 turned_keys_are_refused = refl
+
+-- 3 bolts, and 500 of ann's limit, by version 1
+abbrev first_place : OrderCommand
+first_place = Place (item (codes "bolt") 3 ∷ []) (codes "ann") 500
+
+abbrev first_text : List ℕ
+first_text = codes "{\"account\":\"ann\",\"amount\":500,\"n\":3,\"op\":\"place\",\"stock\":\"bolt\"}"
+
+a_first_placing_is_written : first_order_body first_place ≡ first_text
+unfolding serde_json_on_literals digits
+a_first_placing_is_written = refl
+
+a_first_placing_is_read : read_first_order_command first_text ≡ Some first_place
+unfolding serde_json_on_literals digits is_utf8 chars lib.Utf8.encode
+a_first_placing_is_read = refl
+
+-- each version's placing is nobody's body in the other
+lines_are_refused : read_first_order_command place_text ≡ None
+unfolding serde_json_on_literals digits is_utf8 chars lib.Utf8.encode
+lines_are_refused = refl
+
+one_line_is_refused : read_order_command first_text ≡ None
+unfolding serde_json_on_literals digits is_utf8 chars lib.Utf8.encode
+one_line_is_refused = refl
 
 -- a command has a seat and neither sender nor number
 a_command_has_a_seat : columns_of stock_body (FromSeat 3 (Receive 10))

@@ -1,5 +1,6 @@
 pub mod Compact
 pub mod Written
+pub mod FirstVersion
 pub mod Inputs
 pub mod Words
 pub mod Steps

@@ -33,7 +33,7 @@ use Rattle.sql_bodies.proofs.Compact.{read-compact_text}
 
 -- ---- any command
 
-only_so : {C : Type 0} (body : C → List ℕ) (text : List ℕ) (b : Option C) (c : C)
+pub only_so : {C : Type 0} (body : C → List ℕ) (text : List ℕ) (b : Option C) (c : C)
     → option_and_then (written_so body text) b ≡ Some c → body c ≡ text
 only_so body text None c e = absurd cc
 only_so body text (Some b) c e =
@@ -168,7 +168,7 @@ order_text (Place lines account amount) =
     ∙ append_assoc (join_by line_body (codes ",") lines) (codes "]") (codes ",\"op\":\"place\"}"))
 order_text CancelOrder = refl
 
-order_is_read : (c : OrderCommand) → IsOrderCommand c → read (compact_text (order_data c)) ≡ Some (order_data c)
+pub order_is_read : (c : OrderCommand) → IsOrderCommand c → read (compact_text (order_data c)) ≡ Some (order_data c)
 order_is_read (Place lines account amount) is = read-compact_text (order_data (Place lines account amount))
     (tt, (IsNumber-decimal amount is.0, (lines_have_numbers lines is.2, (tt, tt))))
     (omega (arith, lines_are_shallow lines))

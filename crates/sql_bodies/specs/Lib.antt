@@ -1,5 +1,6 @@
 pub mod Bodies
 pub mod Columns
+pub mod FirstVersion
 pub mod LineRows
 pub mod OrderRows
 pub mod Reading

@@ -1,17 +1,20 @@
 //! What is written is read as the same, and what is read is what is written: each law is the contract of a function
 //! with nothing to do.
 
-ghost use Rattle.std.specs.Prelude.{◌≡◌, ℕ, List, [], ◌∷◌, ◌++◌, Option, Some};
+ghost use Rattle.std.specs.Prelude.{◌≡◌, ℕ, List, [], ◌∷◌, ◌++◌, Option, Some, None};
 ghost use Rattle.std.specs.List.{AllByRecursion};
 ghost use Rattle.std.specs.List.Sorted.{IsPermutation};
 ghost use Rattle.trade.specs.Lines.{Line};
 ghost use Rattle.trade.specs.Orders.{Partner};
 ghost use Rattle.trade.specs.Sound.{AreLinesSound};
 ghost use Rattle.trade.specs.Words.{status_word};
+ghost use Rattle.trade.specs.declared.commands.OrderCommand.TheVariants.{Place};
+ghost use Rattle.trade.specs.declared.items.Item.{Item};
 ghost use Rattle.trade.specs.declared.status.Status.{Status};
 ghost use Rattle.sql_bodies.specs.Bodies.{order_body, stock_body, account_body};
 ghost use Rattle.sql_bodies.specs.Bodies.{IsOrderCommand, IsStockCommand, IsAccountCommand};
 ghost use Rattle.sql_bodies.specs.Columns.{columns_of, read_input, IsInput};
+ghost use Rattle.sql_bodies.specs.FirstVersion.{first_order_body, IsFirstOrderCommand, read_first_order_command};
 ghost use Rattle.sql_bodies.specs.LineRows.{line_from, stock_line_row, account_line_row, lines_with, IsRow};
 ghost use Rattle.sql_bodies.specs.OrderRows.{stocks_in, numbered, stock_row, account_row, order_from, IsStock, IsAccount};
 ghost use Rattle.sql_bodies.specs.Reading.{read_order_command, read_stock_command, read_account_command, IsExact};
@@ -23,6 +26,13 @@ pub fn commands_are_read_as_written()
     ensures orders { IsExact IsOrderCommand order_body read_order_command }
     ensures stocks { IsExact IsStockCommand stock_body read_stock_command }
     ensures accounts { IsExact IsAccountCommand account_body read_account_command }
+{}
+
+/// The body of an order's command of version 1 is that command's alone, and no placing of today's form is one.
+pub fn first_orders_are_read_as_written()
+    ensures orders { IsExact IsFirstOrderCommand first_order_body read_first_order_command }
+    ensures lines { (lines : List Item) (account : List ℕ) (amount : ℕ) → IsOrderCommand (Place lines account amount)
+        → read_first_order_command (order_body (Place lines account amount)) ≡ None }
 {}
 
 /// The columns of an input are that input's alone.

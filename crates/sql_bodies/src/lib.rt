@@ -16,6 +16,7 @@
 mod accounts;
 mod columns;
 mod command;
+mod first_version;
 mod laws;
 mod members;
 mod orders;
@@ -24,8 +25,9 @@ mod stocks;
 
 pub use columns::{read_entity, read_input, read_message};
 pub use command::CommandBody;
+pub use first_version::read_first_order_command;
 pub use laws::{
-    commands_are_read_as_written, inputs_are_read_as_written, rows_are_read_in_any_order,
-    states_are_read_as_written,
+    commands_are_read_as_written, first_orders_are_read_as_written, inputs_are_read_as_written,
+    rows_are_read_in_any_order, states_are_read_as_written,
 };
 pub use states::{push_stock, put_account_line, put_stock_line, read_order, read_partner};

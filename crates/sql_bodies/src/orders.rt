@@ -54,7 +54,7 @@ fn order_value(alloc: Global, command: &OrderCommand) -> Result<Value, AllocErro
 }
 
 /// The line that an object stands for.
-fn line_of(alloc: Global, value: &Value) -> Result<Option<Item>, AllocError>
+pub(crate) fn line_of(alloc: Global, value: &Value) -> Result<Option<Item>, AllocError>
     ensures { IfOk result (λ found. found ≡ line_in (view value.now)) }
 {
     let Some(quantity) = number_at(value, "n") else {

@@ -27,6 +27,7 @@ use Rattle.sql_rows.proofs.Tests.{cast_null, cast_int}
 use Rattle.sql_rows.proofs.Edits.{added}
 use Rattle.sql_rows.proofs.Selects.{shows_all}
 use Rattle.sql_rows.proofs.Services.{idle}
+use Rattle.sql_rows.proofs.Creates.{front, then_shows}
 use Rattle.sql_rows.proofs.CreatingTexts.{made_of}
 
 about_there : (service : Service) → slice_get (schema_of service).tables 7 ≡ Some (about (about_tree service))
@@ -46,7 +47,7 @@ insert_says Purchasing = (refl, (refl, refl))
 insert_says Warehouse = (refl, (refl, refl))
 insert_says Billing = (refl, (refl, refl))
 
-adds : (service : Service) (name : List ℕ) (old new : State) (result : Result ℕ Error)
+pub adds : (service : Service) (name : List ℕ) (old new : State) (result : Result ℕ Error)
     → old.now.schema ≡ schema_of service → IsRising (old.now.trees (about_tree service))
     → ExecutesInside 0 insert (Text name ∷ []) old new result
     → OnOk result (Edits (about_tree service) (Adds (Null ∷ Int (pos 2) ∷ Text name ∷ [])) old new)
@@ -58,7 +59,7 @@ adds service name old new result has rising h =
 
 -- ---- the other tables are as empty as they were
 
-apart : (service : Service) → AllByRecursion (λ t. t.tree ≢ about_tree service) (common_tables ++ own_tables service)
+pub apart : (service : Service) → AllByRecursion (λ t. t.tree ≢ about_tree service) (common_tables ++ own_tables service)
 apart Purchasing = (
   λ e. omega (arith, e),
   (
@@ -93,10 +94,6 @@ apart Billing = (
   ),
 )
 
-front : {X : Type 0} (P : X → Type 0) (xs ys : List X) → AllByRecursion P (xs ++ ys) → AllByRecursion P xs
-front P [] ys all = tt
-front P (x ∷ xs) ys all = (all.0, front P xs ys all.1)
-
 module _ (tree : ℕ) (old new : Trees) where
   still_empty : (tables : List Table) → AllByRecursion (λ t. t.tree ≢ tree → new t.tree ≡ old t.tree) tables
       → AllByRecursion (λ t. t.tree ≢ tree) tables → AllByRecursion (λ t. old t.tree ≡ []) tables
@@ -111,7 +108,7 @@ empty_about Purchasing db none = none.1.1.1.1.1.1.1.0
 empty_about Warehouse db none = none.1.1.1.1.1.1.1.0
 empty_about Billing db none = none.1.1.1.1.1.1.1.0
 
-front_of : (service : Service) (P : Table → Type 0) → AllByRecursion P (schema_of service).tables
+pub front_of : (service : Service) (P : Table → Type 0) → AllByRecursion P (schema_of service).tables
     → AllByRecursion P (common_tables ++ own_tables service)
 front_of Purchasing P all = front P (common_tables ++ own_tables Purchasing) (about 14 ∷ []) all
 front_of Warehouse P all = front P (common_tables ++ own_tables Warehouse) (about 13 ∷ []) all
@@ -145,24 +142,14 @@ founds service old new (Ok count) made h =
 
 pub then_founds : {service : Service} {tables : List Table} {old mid new : State} → Makes tables old mid
     → Founds service mid new → Founds service old new
-then_founds a b = record {
-  is_new = b.is_new;
-  shown = record {
-    was_open = a.shown.was_open;
-    is_open = b.shown.is_open;
-    now_is = b.shown.now_is;
-    committed_is =
-        b.shown.committed_is ∙ a.shown.committed_is;
-    mode = b.shown.mode;
-  };
-}
+then_founds a b = record { is_new = b.is_new; shown = then_shows a.shown b.shown }
 
 -- ---- which service's tables they are
 
 abbrev pub select : List ℕ
 select = codes "SELECT version, service FROM about ORDER BY one"
 
-abbrev versions : ℕ → Query
+abbrev pub versions : ℕ → Query
 versions tree = rows_of tree [] (col 1 2 ∷ col 1 3 ∷ []) (col 1 0 ∷ []) every
 
 pub select_asks : (service : Service) → Asks (schema_of service) select (versions (about_tree service))

@@ -1,7 +1,7 @@
 -- What a write of one table makes of the database, whatever the table.
 use Rattle.std.proofs.Common.{◌≡◌, ◌≢◌, inl, inr, ℕ, ℤ, pos, ◌+ℤ◌, ◌<ℤ◌, List, [], ◌∷◌, ◌++◌, ◌/◌, fold, slice_get}
 use Rattle.std.proofs.Common.{length, Bool, true, false, Some, None, Ok, Err, Result, OnOk, refl, sym, ap, subst, ◌∙◌}
-use Rattle.std.proofs.Common.{arith, Less}
+use Rattle.std.proofs.Common.{arith, Less, map, filter, drop, cond, IsPermutation}
 use Rattle.std.proofs.lemmas.Int.{ints}
 use Rattle.std.proofs.lemmas.Bool.Decides.{nat_tests}
 use Rattle.std.specs.Ordering.{is_eq, int_cmp}
@@ -10,9 +10,10 @@ use Rattle.sqlite.specs.declared.types.Value.TheVariants.{Null, Int}
 use Rattle.sqlite.specs.declared.error.Error.{Error}
 use Rattle.sqlite.specs.Order.{Row}
 use Rattle.sqlite.specs.Source.TheVariants.{Values}
-use Rattle.sqlite.specs.Command.TheVariants.{Insert, InsertOr, Delete}
+use Rattle.sqlite.specs.Command.TheVariants.{Insert, InsertOr, Update, Delete}
 use Rattle.sqlite.specs.Cast.{cast_row}
-use Rattle.sqlite.specs.Rowids.TheVariants.{Chosen}
+use Rattle.sqlite.specs.Edit.{edit_of}
+use Rattle.sqlite.specs.Rowids.TheVariants.{Chosen, Given}
 use Rattle.sqlite.specs.Rows.{mended, stamped}
 use Rattle.sqlite_schema.specs.declared.command.Conflict.TheVariants.{Replace}
 use Rattle.sqlite_value.specs.Order.{value_cmp}
@@ -24,15 +25,17 @@ use Rattle.sqlite_trees.proofs.TreeLemmas.{all-put_row, IsTable-put_row}
 use Rattle.sqlite_sql.specs.Ops.{binary, is_true}
 use Rattle.sqlite_sql.specs.declared.ops.BinaryOp.TheVariants.{Compare}
 use Rattle.sqlite_sql.specs.declared.ops.CompareOp.TheVariants.{Eq}
-use Rattle.sqlite_sql.specs.Term.{Term, holds}
-use Rattle.sqlite_sql.specs.Query.{IsAnswer}
+use Rattle.sqlite_sql.specs.Term.{Term, eval_all, holds}
+use Rattle.sqlite_sql.specs.Query.{IsAnswer, Query, output, output_cmp}
 use Rattle.sqlite_sql.specs.Program.{overlay}
 use Rattle.sqlite_rules.specs.Lists.{Has}
 use Rattle.sqlite_rules.specs.Keys.{AreConflicts, conflicts}
 use Rattle.sqlite_rules.specs.Calls.{ids_of}
 use Rattle.sqlite_rules.specs.Probe.{AreFound}
-use Rattle.sqlite_rules.specs.Edit.{id_in, are_fresh, without_all, next_rowid, with_rowid}
-use Rattle.sqlite_rules.proofs.PlaceLemmas.{next_is_free}
+use Rattle.sqlite_rules.specs.Edit.{id_in, are_fresh, without_all, next_rowid, with_rowid, put_all}
+use Rattle.sqlite_rules.specs.Edit.{edited as edited_by}
+use Rattle.sqlite_rules.proofs.PlaceLemmas.{given, next_is_free}
+use Rattle.sqlite_rules.proofs.ListLemmas.{all_from, has_filtered}
 use Rattle.sqlite_rules.proofs.ProbeLemmas.{rowid_query, found_rowids}
 use Rattle.sqlite_rules.proofs.TableLemmas.{int_is}
 use Rattle.sqlite.specs.Schema.{Schema}
@@ -40,10 +43,12 @@ use Rattle.sqlite.specs.Table.{Table}
 use Rattle.sqlite.specs.Effect.{Database, IsDatabase, Answers, value_rows}
 use Rattle.sqlite.specs.State.{State, Shows, ExecutesInside, KeepsCommit}
 use Rattle.sql_rows.specs.Tables.{Key, has_key, Cells, IsRising, IsCut, IsSet, Puts, Adds, Edits}
-use Rattle.sql_rows.proofs.Queries.{ids}
+use Rattle.sql_rows.proofs.Queries.{every, ids, rows_of}
+use Rattle.sql_rows.proofs.Selects.{in_order, kept_rows, map_map}
+use Rattle.sql_rows.proofs.Updating.{changed, changed_rising, each_same, put_back}
 use Rattle.sql_rows.proofs.Rows.{cut, cut_rising, set, set_rising, none_of}
 use Rattle.sql_rows.proofs.Tests.{key_test, sql_key, AreSolid, eq_test, Joined, joined_is}
-use Rattle.sql_rows.proofs.Steps.{Says, simple, Idle, deletes, replaces, inserts}
+use Rattle.sql_rows.proofs.Steps.{Says, simple, Idle, deletes, replaces, inserts, updates}
 
 -- what is committed stays, whatever the statement answers
 pub keeps : (sql : List ℕ) (given : Row) (old new : State) (r : Result ℕ Error) → ExecutesInside 0 sql given old new r
@@ -240,3 +245,60 @@ module _ (schema : Schema) (at : ℕ) (own_table : Table)
           let made = without gone.2 gone.3 in
           edited (IsCut p) gone.0 gone.1 h.1 gone.6 (subst (IsCut p rows) (sym gone.4) made.0)
           (subst IsRising (sym gone.4) made.1) gone.5
+
+  -- the rows that UPDATE gives other values, each under its rowid, where those that pass have one order alone
+  module _ (terms project : List Term) (p : Row → Bool) (f : Row → Row) (params : Row)
+      (test : (r : Row) → list_all (holds (params ∷ r ∷ [])) terms ≡ p r) (real : overlay old.now.trees [] tree ≡ rows)
+      (shows : (r : Row) → eval_all project (params ∷ r ∷ []) ≡ rowid r ∷ f r)
+      (keeps : (r : Row) → rowid (f r) ≡ rowid r)
+      (fixed : (r : Row) → Has rows r → cast_row (simple own_table) (f r) ≡ f r)
+      (alone : (found : List Row) → IsPermutation (filter p rows) found → found ≡ filter p rows) where
+    abbrev query : Query
+    query = rows_of tree terms project [] every
+
+    abbrev hits : List Row
+    hits = filter p rows
+
+    abbrev source : Row → Row
+    source r = rowid r ∷ f r
+
+    sources_are : (found : List Row) → Answers (record { schema = schema; trees = old.now.trees })
+        (record { lets = []; body = query }) params found
+        → found ≡ map source hits
+    sources_are found asked =
+        let env = λ (r : Row). params ∷ r ∷ [] in
+        let it = in_order query refl refl refl params env hits (overlay old.now.trees [])
+        (kept_rows (λ r. list_all (holds (env r)) terms) p env (overlay old.now.trees [] tree) test
+        ∙ ap (λ l. map env (filter p l)) real)
+        (λ a b. output_cmp query (output query (env a)) (output query (env b))) source None (λ a b. refl) shows refl found
+        (asked.answer Null) in
+        it.shown ∙ ap (map source) (alone it.all it.same)
+
+    news_are : map (λ s. cast_row (simple own_table) (drop 1 s)) (map source hits) ≡ map f hits
+    news_are = map_map (λ s. cast_row (simple own_table) (drop 1 s)) source hits
+        ∙ each_same (λ r. cast_row (simple own_table) (f r)) f hits
+        (all_from (λ r. cast_row (simple own_table) (f r) ≡ f r) hits
+        (λ r h. fixed r (has_filtered p rows r h).0))
+
+    rows_are : (found : List Row) → found ≡ map source hits
+        → edited_by old.now.trees (edit_of old.now.trees (simple own_table) (ids_of found) Given 1 found)
+        ≡ map (changed p f keeps) rows
+    rows_are found is =
+        let ids : ids_of found ≡ ids_of hits = ap ids_of is ∙ map_map (λ r. id_in (rowid r)) source hits in
+        let news : map (λ s. cast_row (simple own_table) (drop 1 s)) found ≡ map f hits =
+        ap (map (λ s. cast_row (simple own_table) (drop 1 s))) is ∙ news_are in
+        ap (put_all (without_all rows (ids_of found))) (given (without_all rows (ids_of found))
+        (map (λ s. cast_row (simple own_table) (drop 1 s)) found) ∙ news)
+        ∙ ap (λ l. put_all (without_all rows l) (map f hits)) ids
+        ∙ put_back p f keeps rows rising.ordered rising.numbered
+
+    pub updated : (sql : List ℕ) → Says schema sql (Update at (record { lets = []; body = query }))
+        → (result : Result ℕ Error) → ExecutesInside 0 sql params old new result
+        → OnOk result (Edits tree (λ before after. after ≡ map (λ r. cond (p r) (f r) r) before) old new)
+    updated sql says (Err e) h = tt
+    updated sql says (Ok count) h =
+        let put = updates schema at own_table there idle sql (record { lets = []; body = query }) params old new count
+        has says h in
+        let becomes = put.4 ∙ rows_are put.2 (sources_are put.2 put.3) in
+        edited (λ before after. after ≡ map (λ r. cond (p r) (f r) r) before) put.0 put.1 h.1 put.6 becomes
+        (subst IsRising (sym becomes) (changed_rising p f keeps rows rising)) put.5

@@ -27,7 +27,7 @@ use Rattle.sql_rows.proofs.Counting.{count_of, shows_count}
 use Rattle.sqlite_sql.specs.Aggregate.{count}
 use Rattle.sql_rows.proofs.Services.{idle}
 
-journal_there : (service : Service) → slice_get (schema_of service).tables 0 ≡ Some journal
+pub journal_there : (service : Service) → slice_get (schema_of service).tables 0 ≡ Some journal
 journal_there Purchasing = refl
 journal_there Warehouse = refl
 journal_there Billing = refl

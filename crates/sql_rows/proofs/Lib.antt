@@ -20,3 +20,7 @@ pub mod CreatingTexts
 pub mod AboutRows
 pub mod SameLists
 pub mod RisingRows
+pub mod FirstVersionRows
+pub mod FirstVersionTables
+pub mod Updating
+pub mod JournalBodies

@@ -5,7 +5,7 @@ use Rattle.std.specs.List.{AllByRecursion}
 use Rattle.sqlite.specs.Order.{Row}
 use Rattle.sqlite.specs.Source.TheVariants.{Values}
 use Rattle.sqlite.specs.Command.{Command}
-use Rattle.sqlite.specs.Command.TheVariants.{Insert, InsertOr, Delete}
+use Rattle.sqlite.specs.Command.TheVariants.{Insert, InsertOr, Update, Delete}
 use Rattle.sqlite_schema.specs.declared.command.Conflict.TheVariants.{Replace}
 use Rattle.sqlite_schema.specs.declared.schema.Keys.{Keys}
 use Rattle.sqlite_schema.specs.declared.program.Program.{Program}
@@ -14,7 +14,7 @@ use Rattle.sqlite_rules.specs.Keys.{AreConflicts}
 use Rattle.sqlite_rules.specs.Calls.{ids_of}
 use Rattle.sqlite_rules.specs.Action.{works, Writes}
 use Rattle.sqlite.specs.Edit.{edit_of}
-use Rattle.sqlite_rules.specs.Edit.{taken_by, are_fresh, without_all, next_rowid, with_rowid, put_all, Applies}
+use Rattle.sqlite_rules.specs.Edit.{taken_by, are_fresh, without_all, next_rowid, with_rowid, put_all, edited, Applies}
 use Rattle.sqlite.specs.Cast.{cast_row}
 use Rattle.sqlite.specs.Rowids.TheVariants.{Chosen, Given}
 use Rattle.sqlite.specs.Effect.{Database, IsDatabase, Answers, value_rows}
@@ -92,6 +92,36 @@ module _ (schema : Schema) (at : ℕ) (own_table : Table) where
         let written = went asked.2 in
         let trees : done.0.trees ≡ written.0 = ap (λ (it : Written). it.trees) (same_value written.2) in
         let step = stepped (mode_of old).keys db written.0 (ids_of asked.0) [] written.1 in (
+          written.0,
+          now ∙ ap (λ (t : Trees). record { schema = schema; trees = t }) trees,
+          asked.0,
+          asked.1,
+          step.rows,
+          step.tables,
+          w.sound,
+        )
+
+    pub updates : (sql : List ℕ) (q : Program) (params : Row) (old new : State) (count : ℕ) → old.now.schema ≡ schema
+        → Says schema sql (Update at q) → ExecutesInside 0 sql params old new (Ok count)
+        → (next : Trees) × (new.now ≡ record { schema = schema; trees = next }) × (found : List Row) × Answers
+        (record { schema = schema; trees = old.now.trees }) q params found
+        × (next tree ≡ edited old.now.trees (edit_of old.now.trees table (ids_of found) Given 1 found))
+        × Untouched old.now.trees next × IsDatabase new.now
+    updates sql q params old new count has says h =
+        let db = old.now.trees in
+        let w = runs_as sql params old new schema has (Update at q) says.0 says.1 count h.0 in
+        let text = statement_of sql (understood schema sql) in
+        let does = subst (λ s. Does old.step_limit (mode_of old) params (record old.now { schema = s }) text None
+        (Update at q) (Ok (w.tally, new.now))) has w.changed in
+        let done = went (subst (λ o. AtPlace (λ t. OnRows (task old params t) (mode_of old) None (Update at q) db) o
+        (Ok (w.tally, new.now))) there does) in
+        let now = ap (λ (p : Tally × Database). p.1) (same_value (went (went done.2).2).2) in
+        let asked = went done.1 in
+        let written = went asked.2 in
+        let trees : done.0.trees ≡ written.0 = ap (λ (it : Written). it.trees) (same_value written.2) in
+        let edit = edit_of db table (ids_of asked.0) Given 1 asked.0 in
+        let step = one_step schema (mode_of old).keys db written.0 edit
+        (idle (mode_of old).keys (taken_by db edit) edit.news) written.1 in (
           written.0,
           now ∙ ap (λ (t : Trees). record { schema = schema; trees = t }) trees,
           asked.0,

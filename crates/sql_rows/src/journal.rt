@@ -2,7 +2,7 @@
 
 ghost use Rattle.std.specs.Prelude.{◌≡◌, ◌≤◌, false, OnOk, IfOk, IsTrue, Some, filter, length, [], ◌∷◌};
 ghost use Rattle.sqlite.specs.Held.{state};
-ghost use Rattle.sqlite.specs.State.{HasCleanDisk, Survives, KeepsCommit};
+ghost use Rattle.sqlite.specs.State.{HasCleanDisk, IsUnchanged, Survives, KeepsCommit};
 ghost use Rattle.sqlite.specs.declared.types.Value.TheVariants.{Null, Int, Text};
 ghost use Rattle.sqlite_sql.specs.Aggregate.{count};
 ghost use Rattle.sqlite_sql.specs.Query.{as_count};
@@ -13,7 +13,7 @@ ghost use Rattle.sql_rows.specs.Schema.{IsService};
 ghost use Rattle.sql_rows.specs.Tables.{IsRising, Adds, Edits, Stays, AreInOrder, is_from, is_within, by_position};
 ghost use Rattle.sql_rows.specs.Tables.{by_position_down, shown_entry};
 
-use crate::statements::{int, read, text, write};
+use crate::statements::{int, read, read_inside, text, write};
 use sqlite::{Alter, Connection, Error, Row, Transaction};
 
 /// Adds a command that a seat gave to an entity.
@@ -142,6 +142,22 @@ pub fn count_rows<S: Alter>(conn: &mut Connection<S>) -> Result<Vec<Row>, Error>
     read(conn, "SELECT count(*) FROM journal", &[])
 }
 
+/// How many rows there are as the transaction sees them, in one row.
+pub fn count_rows_inside<S: Alter>(tx: &mut Transaction<'_, S>) -> Result<Vec<Row>, Error>
+    requires schema { HasCleanDisk (state S.Store tx.old.conn.now)
+        → IsService (state S.Store tx.old.conn.now).now.schema }
+    ensures same_reference { tx.new.conn.ghost_name ≡ tx.old.conn.ghost_name }
+    ensures rows { HasCleanDisk (state S.Store tx.new.conn.now) → IfOk result (λ rows. rows.items
+        ≡ (count (length ((state S.Store tx.old.conn.now).now.trees 0)) ∷ []) ∷ []) }
+    ensures ok { HasCleanDisk (state S.Store tx.new.conn.now)
+        → OnOk result (IsUnchanged (state S.Store tx.old.conn.now) (state S.Store tx.new.conn.now)) }
+    ensures kept { HasCleanDisk (state S.Store tx.new.conn.now)
+        → KeepsCommit (state S.Store tx.old.conn.now) (state S.Store tx.new.conn.now) }
+    ensures survives { Survives (state S.Store tx.old.conn.now) (state S.Store tx.new.conn.now) (λ _. ⊥) }
+{
+    read_inside(tx, "SELECT count(*) FROM journal", &[])
+}
+
 /// How many rows have a position between these two, in one row.
 pub fn count_rows_within<S: Alter>(
     conn: &mut Connection<S>,
@@ -163,6 +179,30 @@ pub fn count_rows_within<S: Alter>(
 {
     read(
         conn,
+        "SELECT count(*) FROM journal WHERE pos >= ?1 AND pos <= ?2",
+        &[int(first), int(last)],
+    )
+}
+
+/// How many rows have a position between these two as the transaction sees them, in one row.
+pub fn count_rows_within_inside<S: Alter>(
+    tx: &mut Transaction<'_, S>,
+    first: i64,
+    last: i64,
+) -> Result<Vec<Row>, Error>
+    requires schema { HasCleanDisk (state S.Store tx.old.conn.now)
+        → IsService (state S.Store tx.old.conn.now).now.schema }
+    ensures same_reference { tx.new.conn.ghost_name ≡ tx.old.conn.ghost_name }
+    ensures rows { HasCleanDisk (state S.Store tx.new.conn.now) → IfOk result (λ rows. rows.items
+        ≡ (count (length (filter (is_within first last) ((state S.Store tx.old.conn.now).now.trees 0))) ∷ []) ∷ []) }
+    ensures ok { HasCleanDisk (state S.Store tx.new.conn.now)
+        → OnOk result (IsUnchanged (state S.Store tx.old.conn.now) (state S.Store tx.new.conn.now)) }
+    ensures kept { HasCleanDisk (state S.Store tx.new.conn.now)
+        → KeepsCommit (state S.Store tx.old.conn.now) (state S.Store tx.new.conn.now) }
+    ensures survives { Survives (state S.Store tx.old.conn.now) (state S.Store tx.new.conn.now) (λ _. ⊥) }
+{
+    read_inside(
+        tx,
         "SELECT count(*) FROM journal WHERE pos >= ?1 AND pos <= ?2",
         &[int(first), int(last)],
     )

@@ -190,7 +190,9 @@ fn run(
     let words: Vec<&str> = line.split_whitespace().collect(alloc)?;
     let status = match ask(alloc, words.as_slice(), out, err) {
         Ok(StoreChoice::Sqlite) => run_in_sql(alloc, input, out, err),
-        Ok(StoreChoice::Plain | StoreChoice::Files(_)) => run_over(alloc, stores, input, out, err),
+        Ok(StoreChoice::Plain | StoreChoice::Files { .. }) => run_over(
+            alloc, stores, input, out, err,
+        ),
         Err(status) => status,
     };
     Ok(End::Status(status))

@@ -1,10 +1,8 @@
 use Rattle.std.proofs.Common.{arith, ◌∙◌, ◌+◌, ◌∷◌, drop, ap, sym, subst}
-use Rattle.std.specs.Prelude.{IsTrue}
 use Rattle.std.proofs.lemmas.List.{drop_more}
 use Rattle.sqlite.specs.Held.{state}
 use Rattle.sqlite.specs.State.{HasCleanDisk}
 use Rattle.keep.specs.Steps.{AreSteps}
-use Rattle.keep.specs.Tables.{changed_by}
 use Rattle.keep_sqlite.specs.Ready.{IsUnderWay}
 use Rattle.keep_sqlite.specs.Tables.{tables_of}
 use Rattle.keep_sqlite.proofs.Changes.{both_keep, one_more, survives_quietly}

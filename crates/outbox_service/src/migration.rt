@@ -1,0 +1,62 @@
+//! A file of version 1, taken over.
+
+use crate::fault::RunFault;
+use billing::Accounts;
+use keep::KeepFault;
+use keep_sqlite::{Filed, Migrated, SqliteKeep, TerminalProgress};
+use purchasing::Orders;
+use schedule_text::ServiceName;
+use sqlite::{FileFrom, FileStore, Unknown};
+use streams::write_octets;
+use warehouse::Stocks;
+
+/// Takes a file over where it's of version 1. What it holds nobody can know.
+fn migrate_file<H: Filed>(host: &HostRuntime, path: &str) -> Result<Migrated, KeepFault> {
+    let mut progress = TerminalProgress::new(host);
+    SqliteKeep::<H, FileStore<FileFrom<Unknown>>>::migrate(host, path, Unknown, &mut progress)
+}
+
+/// Tells by a line on standard output that a file was taken over, where it was.
+fn tell(host: &HostRuntime, done: Result<Migrated, KeepFault>, line: &str) -> Result<(), RunFault> {
+    match done {
+        Ok(migrated) if migrated.from == 1 => match write_octets(
+            &mut host.stdout(),
+            line.as_bytes(),
+        ) {
+            Ok(()) => Ok(()),
+            Err(_) => Err(RunFault::Device),
+        },
+        Ok(_) => Ok(()),
+        Err(fault) => Err(RunFault::of_file(fault)),
+    }
+}
+
+/// Takes the file of a service over where it's of version 1, and tells so on standard output, as `migrated billing 1 2`.
+///
+/// # Errors
+/// Where it can't be taken over: it's as it was. `Device` where standard output failed.
+pub fn take_over(host: &HostRuntime, service: ServiceName, path: &str) -> Result<(), RunFault> {
+    match service {
+        ServiceName::Purchasing => {
+            tell(
+                host,
+                migrate_file::<Orders>(host, path),
+                "migrated purchasing 1 2\n",
+            )
+        }
+        ServiceName::Warehouse => {
+            tell(
+                host,
+                migrate_file::<Stocks>(host, path),
+                "migrated warehouse 1 2\n",
+            )
+        }
+        ServiceName::Billing => {
+            tell(
+                host,
+                migrate_file::<Accounts>(host, path),
+                "migrated billing 1 2\n",
+            )
+        }
+    }
+}
