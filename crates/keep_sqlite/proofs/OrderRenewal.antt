@@ -254,9 +254,6 @@ module _ (old seen : State) (same : IsUnchanged old seen) (first : IsFirst Purch
   pub seen_schema : seen.now.schema ≡ first_purchasing
   seen_schema = ap (λ (d : Database). d.schema) same.0.now_is ∙ first.is
 
-  pub seen_sound : IsDatabase seen.now
-  seen_sound = subst IsDatabase (sym same.0.now_is) was
-
   module _ (empty : State) (replaced : IsReplaced seen empty) where
     common : KeepsRows common_tables old.now.trees empty.now.trees
     common = subst (λ (d : Database). KeepsRows common_tables d.trees empty.now.trees) same.0.now_is replaced.common

@@ -1,6 +1,6 @@
 -- How a transaction ends that writes the rows of version 1 as those of today.
 use Rattle.std.proofs.Common.{◌≡◌, ◌≤◌, ◌⊎◌, inl, inr, false, true, IsTrue, sym, ap, subst, ◌∙◌, true≢false, arith}
-use Rattle.std.proofs.Common.{refl, map, Bool, Result, Ok, Err, IfOk}
+use Rattle.std.proofs.Common.{refl, map, ℕ, Bool, Result, Ok, Err, IfOk}
 use Rattle.std.specs.List.{AllByRecursion}
 use Rattle.sqlite_catalog.specs.Listing.{IsSound}
 use Rattle.sqlite_schema.specs.declared.schema.Schema.{Schema}
@@ -11,13 +11,15 @@ use Rattle.sqlite.specs.Effect.{Database}
 use Rattle.sqlite.specs.State.{State, HasCleanDisk, Shows, KeepsCommit, IsRolledBack, Survives}
 use Rattle.sqlite.specs.Steps.{FailsToCommit}
 use Rattle.sql_rows.specs.FirstVersion.{IsTold, first_about_tree, first_schema_of}
-use Rattle.sql_rows.specs.Schema.{about_tree, schema_of}
+use Rattle.sql_rows.specs.Schema.{about_tree, no_tables, schema_of}
 use Rattle.sql_rows.specs.Tables.{Edits, IsRising, Stays}
 use Rattle.sql_rows.specs.declared.service.Service.{Service}
 use Rattle.sql_rows.specs.declared.service.Service.TheVariants.{Purchasing, Warehouse, Billing}
 use Rattle.keep_sqlite.specs.Filing.{Filing}
-use Rattle.keep_sqlite.specs.Found.{TellsOf, TellsVersion}
-use Rattle.keep_sqlite.specs.Migration.{FirstFiling, AreRenewed, IsFirst, IsFirstFile, Renews, as_today, first_tables_of}
+use Rattle.keep_sqlite.specs.Found.{TellsOf, TellsOfService, TellsVersion}
+use Rattle.keep_sqlite.specs.Migration.{FirstFiling, AreRenewed, IsFirst, IsFirstFile, IsOfToday, Renews, as_today}
+use Rattle.keep_sqlite.specs.Migration.{first_tables_of}
+use Rattle.keep_sqlite.specs.Ready.{IsReady}
 use Rattle.keep_sqlite.specs.Tables.{marks_in, messages_in, row_in}
 use Rattle.keep_sqlite.proofs.Frames.{IsLeft, common_first, common_tables}
 
@@ -112,6 +114,16 @@ first_file service old new stays live settled has rising (Ok t) h = λ so.
       });
       tells = subst (λ (d : Database). TellsVersion 1 service (d.trees (first_about_tree service))) (sym same) (h so);
     }
+
+-- ---- a file that stays
+
+pub is_of_today : {S C : Type 0} (f : Filing S C) (count : ℕ) (s : State) → IsReady f.schema count s
+    → TellsOfService f s.now.trees → IsOfToday f s.committed
+is_of_today f count s ready tells = subst (IsOfToday f) ready.settled (inl (ready.filed.is, tells))
+
+pub is_without_tables : {S C : Type 0} (f : Filing S C) (s : State) → s.now ≡ s.committed → s.now.schema ≡ no_tables
+    → IsOfToday f s.committed
+is_without_tables f s settled none = subst (IsOfToday f) settled (inr none)
 
 -- ---- a file that differs in what the table `about` tells alone
 

@@ -15,7 +15,7 @@ use Rattle.base.specs.declared.entity.Kind.TheVariants as kind
 use Rattle.activities.specs.declared.input.JournalRow.{JournalRow}
 use Rattle.keep.specs.Tables.{Tables}
 use Rattle.sql_rows.specs.FirstVersion.{first_schema_of, first_about_tree}
-use Rattle.sql_rows.specs.Schema.{purchasing}
+use Rattle.sql_rows.specs.Schema.{no_tables, purchasing}
 use Rattle.sql_rows.specs.Tables.{has_key, text_key}
 use Rattle.sql_rows.specs.declared.service.Service.{Service}
 use Rattle.sql_bodies.specs.FirstVersion.{read_first_order_command}
@@ -123,6 +123,10 @@ pub record IsFirstFile (service : Service) (s : State) : Type 0 where
 abbrev pub IsVersions : Migrated → Type 0
 IsVersions m = ((m.from ≡ 1) ⊎ (m.from ≡ 2)) × (m.to ≡ 2)
 
+-- a database of version 2 of this service, or one without tables
+abbrev pub IsOfToday : {S C : Type 0} → Filing S C → Database → Type 0
+IsOfToday filing db = ((db.schema ≡ filing.schema) × TellsOfService filing db.trees) ⊎ (db.schema ≡ no_tables)
+
 -- what was committed was a file of version 1 and is one of version 2 with the same tables; or it was one of version 2, or
 -- had no tables, and is as it was
 abbrev pub IsMigrated : {S C : Type 0} → FirstFiling S C → Filing S C → Migrated → State → State → Type 0
@@ -130,7 +134,7 @@ IsMigrated first filing m old new =
     ((m ≡ record { from = 1; to = 2 })
     × TellsOfFirst filing.is_service.service (old.committed.trees (first_about_tree filing.is_service.service))
     × AreRenewed first filing old.committed.trees new.committed.trees)
-    ⊎ ((m ≡ record { from = 2; to = 2 }) × (new.committed ≡ old.committed))
+    ⊎ ((m ≡ record { from = 2; to = 2 }) × (new.committed ≡ old.committed) × IsOfToday filing new.committed)
 
 -- where nothing was taken over, what was committed stays
 abbrev pub IsRefused : Result (Option Migrated) Error → State → State → Type 0

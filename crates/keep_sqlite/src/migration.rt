@@ -90,6 +90,7 @@ fn renew_all<H: Filed, S: Alter, P: Progress>(
 }
 
 /// The same; none, where the tables are others.
+#[tactic(auto, using(crate::proofs::Renewals::is_of_today, crate::proofs::Renewals::is_without_tables))]
 fn migrate_tables<H: Filed, S: Alter, P: Progress>(
     alloc: Global,
     conn: &mut Connection<S>,

@@ -1,7 +1,6 @@
 //! The tables of version 2 in place of those of version 1. Only purchasing's differ.
 
 ghost use Rattle.std.specs.Prelude.{◌≡◌, OnOk, IsTrue, true, [], ◌∷◌, ◌++◌, pos};
-ghost use Rattle.sqlite.specs.Effect.{IsDatabase};
 ghost use Rattle.sqlite.specs.Held.{state};
 ghost use Rattle.sqlite.specs.State.{HasCleanDisk, KeepsCommit, Survives};
 ghost use Rattle.sqlite.specs.declared.types.Value.TheVariants.{Int, Null, Text};
@@ -189,7 +188,6 @@ pub fn replace_tables<S: Alter>(tx: &mut Transaction<'_, S>) -> Result<usize, Er
         → (state S.Store tx.old.conn.now).now.schema ≡ first_purchasing }
     requires inside { HasCleanDisk (state S.Store tx.old.conn.now)
         → IsTrue (state S.Store tx.old.conn.now).in_transaction }
-    requires sound { HasCleanDisk (state S.Store tx.old.conn.now) → IsDatabase (state S.Store tx.old.conn.now).now }
     ensures same_reference { tx.new.conn.ghost_name ≡ tx.old.conn.ghost_name }
     ensures ok { HasCleanDisk (state S.Store tx.new.conn.now)
         → OnOk result (IsReplaced (state S.Store tx.old.conn.now) (state S.Store tx.new.conn.now)) }

@@ -3,7 +3,7 @@ use Rattle.sqlite.specs.Held.{state}
 use Rattle.sqlite.specs.State.{HasCleanDisk}
 use Rattle.keep_sqlite.specs.OrderRenewal.{AreTold}
 use Rattle.keep_sqlite.proofs.OrderRenewal.{all_keep, all_survive, empty_rises, orders_renewed}
-use Rattle.keep_sqlite.proofs.OrderRenewal.{seen_schema, seen_sound}
+use Rattle.keep_sqlite.proofs.OrderRenewal.{seen_schema}
 use Rattle.keep_sqlite.proofs.order_renewal.renew_orders.Goals as goal
 
 pub replace_tables-requires-clause-schema : goal.replace_tables-requires-clause-schema
@@ -11,13 +11,6 @@ replace_tables-requires-clause-schema g c clean =
     let old = state g.S.Store c.args.tx.now.conn.now in
     let early : HasCleanDisk old = omega (arith, c.read_first_orders_inside.ensures.survives.clean) in
     seen_schema old (state g.S.Store c.read_first_orders_inside.new.tx.conn.now)
-    (c.in_ok-rows.ensures.ok clean) (c.requires.first early) (c.requires.sound early)
-
-pub replace_tables-requires-clause-sound : goal.replace_tables-requires-clause-sound
-replace_tables-requires-clause-sound g c clean =
-    let old = state g.S.Store c.args.tx.now.conn.now in
-    let early : HasCleanDisk old = omega (arith, c.read_first_orders_inside.ensures.survives.clean) in
-    seen_sound old (state g.S.Store c.read_first_orders_inside.new.tx.conn.now)
     (c.in_ok-rows.ensures.ok clean) (c.requires.first early) (c.requires.sound early)
 
 pub renew_journal-requires-clause-rising : goal.renew_journal-requires-clause-rising
