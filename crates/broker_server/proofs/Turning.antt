@@ -1,5 +1,5 @@
 -- A piece that is read, and octets that are written.
-use Rattle.std.proofs.Common.{◌≡◌, ℕ, ◌+◌, Bool, true, false, List, [], ◌∷◌, ◌++◌, ◌-◌, length, take, drop, Option, Ok}
+use Rattle.std.proofs.Common.{◌≡◌, ℕ, ◌+◌, Bool, true, false, List, [], ◌∷◌, ◌++◌, ◌-◌, ◌≤◌, length, take, drop, Option, Ok}
 use Rattle.std.proofs.Common.{refl}
 use Rattle.std.proofs.Common.{sym, ap, ◌∙◌, arith, subst}
 use Rattle.std.specs.List.{find}
@@ -7,10 +7,11 @@ use Rattle.std.specs.Io.KnownBytes.{Consumes}
 use Rattle.std.proofs.Math.Seq.{take-length}
 use Rattle.std.proofs.lemmas.List.{drop-drop, take-append-drop, length-drop, length-take-le, drop_all}
 use Rattle.broker_core.specs.Calls.{out_in, without_first}
+use Rattle.broker_core.specs.Feeding.{Feeds}
 use Rattle.broker_core.specs.Serving.{Server, changing, is_session, session_of, with_session}
 use Rattle.broker_core.specs.declared.session.Session.{Session}
 use Rattle.broker_server.specs.Parts.{PieceAnswer, SomeAnswer, WritesSome}
-use Rattle.broker_server.specs.Turns.{FeedsAll, ReadsIn, some}
+use Rattle.broker_server.specs.Turns.{ReadsIn, some}
 use Rattle.broker_server.specs.Turns.{WritesOut, WriteAnswer, WritesRest, RestAnswer}
 use Rattle.broker_server.specs.declared.turn.Piece.{Piece}
 use Rattle.broker_server.specs.declared.turn.Piece.TheVariants.{Octets}
@@ -19,14 +20,16 @@ use Rattle.broker_server.specs.declared.turn.Written.TheVariants.{All, Blocked, 
 
 -- ---- reading
 
-pub read_whole : (full n : ℕ) (old new : Server) (before after : Option (List ℕ)) (buffer : List ℕ) (count : ℕ)
-    (p : Piece)
-    → p ≡ Octets count → PieceAnswer before after buffer (Ok p) → FeedsAll full n (take count buffer) old new
-    → ReadsIn full n old new before after
-read_whole full n old new before after buffer count (Octets k) e h f =
+pub read_whole : (full n : ℕ) (old new : Server) (before after : Option (List ℕ)) (buffer : List ℕ)
+    (count frames : ℕ) (p : Piece)
+    → p ≡ Octets count → PieceAnswer before after buffer (Ok p) → Feeds full old n (take count buffer) new frames
+    → ReadsIn full n old new before after (record { octets = count; frames = frames })
+read_whole full n old new before after buffer count frames (Octets k) e h f =
     let alike : k ≡ count = cc in
-    some (take count buffer) f (subst (λ m. Consumes before after (take m buffer)) alike h.1)
-read_whole full n old new before after buffer count _ e h f = absurd (cc)
+    let within = subst (λ m. m ≤ length buffer) alike h.0 in
+    some (take count buffer) (sym (length-take-le count buffer within)) f
+    (subst (λ m. Consumes before after (take m buffer)) alike h.1)
+read_whole full n old new before after buffer count frames _ e h f = absurd (cc)
 
 -- ---- writing
 

@@ -9,6 +9,7 @@ use Rattle.broker_server.specs.declared.fault.ReadFault.TheVariants.{Waits, Unta
 use Rattle.broker_server.specs.declared.fault.ReadFault.TheVariants as read
 use Rattle.broker_server.specs.declared.fault.TurnFault.{TurnFault}
 use Rattle.broker_server.specs.declared.fault.TurnFault.TheVariants.{Stream, Memory}
+use Rattle.broker_server.specs.declared.turn.Brought.{Brought}
 use Rattle.broker_server.specs.declared.turn.Turn.{Turn}
 use Rattle.broker_server.specs.declared.turn.Turn.TheVariants as turn
 use Rattle.broker_server.specs.declared.turn.Written.{Written}
@@ -16,15 +17,11 @@ use Rattle.broker_server.specs.declared.turn.Written.TheVariants as written
 
 -- ---- feeding
 
--- a session took a piece, all its whole frames were handled, and messages were dealt until none could be
-pub record FeedsAll (full n : ℕ) (piece : List ℕ) (old new : Server) : Type 0 where
-  pub count : ℕ
-  pub feeds : Feeds full old n piece new count
-
--- What feeding an open session answers. At `Waits` the session has the piece, and goes on at the next feed; at
+-- What feeding an open session answers: at `Ok` the session took the piece, all its whole frames were handled, so many,
+-- and messages were dealt until none could be. At `Waits` the session has the piece, and goes on at the next feed; at
 -- `Untaken` nothing has changed, which never comes of a piece without an octet.
-abbrev pub FedAnswer : ℕ → ℕ → List ℕ → Server → Server → Result (Unit {0}) ReadFault → Type 0
-FedAnswer full n piece old new (Ok _) = FeedsAll full n piece old new
+abbrev pub FedAnswer : ℕ → ℕ → List ℕ → Server → Server → Result ℕ ReadFault → Type 0
+FedAnswer full n piece old new (Ok frames) = Feeds full old n piece new frames
 FedAnswer full n piece old new (Err Waits) = FeedsPart full old n piece new
 FedAnswer full n piece old new (Err (Untaken count)) = (count ≡ length piece) × FeedsNone old n piece new
 FedAnswer full n piece old new (Err read.Stream) = ⊥
@@ -36,11 +33,13 @@ pub record ReadsNone (old new : Server) (before after : Option (List ℕ)) : Typ
   pub same : new ≡ old
   pub kept : Consumes before after []
 
--- the octets that were read are those that the session was fed; or nothing was read
-pub data ReadsIn (full n : ℕ) (old new : Server) (before after : Option (List ℕ)) : Type 0 where
-  some : (piece : List ℕ) → FeedsAll full n piece old new → Consumes before after piece
-      → ReadsIn full n old new before after
-  none : ReadsNone old new before after → ReadsIn full n old new before after
+-- the octets that were read are those that the session was fed, so many, of which so many frames were handled; or nothing
+-- was read
+pub data ReadsIn (full n : ℕ) (old new : Server) (before after : Option (List ℕ)) (brought : Brought) : Type 0 where
+  some : (piece : List ℕ) → brought.octets ≡ length piece → Feeds full old n piece new brought.frames
+      → Consumes before after piece → ReadsIn full n old new before after brought
+  none : brought.octets ≡ 0 → brought.frames ≡ 0 → ReadsNone old new before after
+      → ReadsIn full n old new before after brought
 
 -- the session took the octets that were read, and then memory was refused
 pub record ReadsPart (full n : ℕ) (old new : Server) (before after : Option (List ℕ)) : Type 0 where
@@ -55,13 +54,14 @@ pub record ReadsUntaken (n : ℕ) (old new : Server) (before after : Option (Lis
   pub feeds : FeedsNone old n (take count buffer) new
   pub octets : Consumes before after (take count buffer)
 
--- What a turn of reading answers: what was read is what the session was fed. At `Ended` the stream gave nothing and has
--- no more.
-abbrev pub ReadAnswer : ℕ → ℕ → Server → Server → Option (List ℕ) → Option (List ℕ) → List ℕ → Result Turn ReadFault
-    → Type 0
-ReadAnswer full n old new before after buffer (Ok turn.Ended) = ReadsNone old new before after × IsAtEnd after
-ReadAnswer full n old new before after buffer (Ok turn.Blocked) = ReadsIn full n old new before after
-ReadAnswer full n old new before after buffer (Ok turn.More) = ReadsIn full n old new before after
+-- What a turn of reading answers: what was read is what the session was fed, and how many octets and frames that was. At
+-- `Ended` the stream gave nothing and has no more.
+abbrev pub ReadAnswer : ℕ → ℕ → Server → Server → Option (List ℕ) → Option (List ℕ) → List ℕ
+    → Result (Turn × Brought) ReadFault → Type 0
+ReadAnswer full n old new before after buffer (Ok (turn.Ended, brought)) =
+    ReadsNone old new before after × IsAtEnd after × (brought.octets ≡ 0) × (brought.frames ≡ 0)
+ReadAnswer full n old new before after buffer (Ok (turn.Blocked, brought)) = ReadsIn full n old new before after brought
+ReadAnswer full n old new before after buffer (Ok (turn.More, brought)) = ReadsIn full n old new before after brought
 ReadAnswer full n old new before after buffer (Err read.Stream) = ReadsNone old new before after
 ReadAnswer full n old new before after buffer (Err Waits) = ReadsPart full n old new before after
 ReadAnswer full n old new before after buffer (Err (Untaken count)) = ReadsUntaken n old new before after buffer count

@@ -1,10 +1,8 @@
 //! What memory a loop has taken beforehand: buffers to read into, and a reserve for deals.
 
+use crate::work::MOST;
 use std::alloc::{AllocError, Global};
 use std::mem::replace;
-
-/// The octets that are read of a connection at a turn.
-const BUFFER: usize = 65_536;
 
 /// The buffers that may keep octets at once.
 const SPARES: usize = 8;
@@ -25,10 +23,10 @@ pub(crate) struct Buffers {
 impl Buffers {
     /// All of them. None is taken later.
     pub(crate) fn new(alloc: Global) -> Result<Buffers, AllocError> {
-        let current = Vec::from_elem(alloc, 0u8, BUFFER)?;
+        let current = Vec::from_elem(alloc, 0u8, MOST)?;
         let mut spares = Vec::with_capacity(alloc, SPARES)?;
         for _ in 0..SPARES {
-            spares.push(Vec::from_elem(alloc, 0u8, BUFFER)?)?;
+            spares.push(Vec::from_elem(alloc, 0u8, MOST)?)?;
         }
         Ok(Buffers {
             alloc,
@@ -52,7 +50,7 @@ impl Buffers {
     /// Takes spare ones in the place of those that went with their connections, as far as memory isn't refused.
     pub(crate) fn fill(&mut self) {
         if self.spares.len() < SPARES
-            && let Ok(buffer) = Vec::from_elem(self.alloc, 0u8, BUFFER)
+            && let Ok(buffer) = Vec::from_elem(self.alloc, 0u8, MOST)
         {
             self.give_back(buffer);
         }

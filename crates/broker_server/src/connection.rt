@@ -1,13 +1,15 @@
 //! A connection: its socket, and how far it has come.
 
-ghost use Rattle.std.specs.Prelude.{◌≡◌, false};
+ghost use Rattle.std.specs.Prelude.{◌≡◌, ◌≤◌, false};
 ghost use Rattle.broker_core.specs.Calls.{closed_in};
 ghost use Rattle.broker_core.specs.Serving.{session_of};
 
-use crate::ReadFault;
 use crate::buffers::Buffers;
+use crate::refusals::refusal_in;
 use crate::rest::Rest;
-use crate::turn::{Turn, Written, discard, feed_in, read_in, write_out};
+use crate::turn::{Brought, Turn, Written, discard, feed_in, read_in, write_out};
+use crate::work::{FIRST, Work, next_share};
+use crate::{Ending, ReadFault, TurnFault};
 use base::limits::{MAX_BODY, MAX_LINE, MAX_UNANSWERED};
 use broker_core::{Broker, SessionId};
 use mio::event::Event;
@@ -16,6 +18,7 @@ use mio::{Interest, Registry, Token};
 use std::alloc::Global;
 use std::mem::replace;
 use std::net::Shutdown;
+use std::time::{Duration, Instant};
 
 /// The octets of a frame besides its body: a command's line, those of 33 headers and an empty one, each with its end,
 /// and a NUL.
@@ -52,16 +55,18 @@ enum Due {
 }
 
 /// What came of a step.
-#[derive(Clone, Copy, PartialEq, Eq)]
+#[derive(Clone, Copy)]
 pub(crate) enum Step {
     /// The connection stays as far as it was.
     Stays,
     /// So it does, and something of it waits for memory.
     Waits,
     /// Its session was taken away. The connection has some time left to tell the rest.
-    Leaves,
-    /// It is over, and so is its session.
-    Ends,
+    Leaves(Ending),
+    /// Its session was taken away, and the connection is over.
+    Ends(Ending),
+    /// The connection is over. Its session was taken away before.
+    Closes,
 }
 
 /// A connection of a broker's client.
@@ -77,6 +82,10 @@ pub(crate) struct Connection {
     has_ended: bool,
     /// The octets that were thrown away.
     thrown: usize,
+    /// The octets that it may read at a turn.
+    share: usize,
+    /// When something came last.
+    heard: Instant,
 }
 
 /// What a connection asks of its socket, all the time.
@@ -86,7 +95,7 @@ pub(crate) fn both_ways() -> Interest {
 
 impl Connection {
     /// A connection whose session is open.
-    pub(crate) fn new(stream: TcpStream, session: SessionId) -> Connection {
+    pub(crate) fn new(stream: TcpStream, session: SessionId, now: Instant) -> Connection {
         Connection {
             stream,
             session,
@@ -95,6 +104,8 @@ impl Connection {
             is_blocked: false,
             has_ended: false,
             thrown: 0,
+            share: FIRST,
+            heard: now,
         }
     }
 
@@ -105,7 +116,7 @@ impl Connection {
         registry: &Registry,
         broker: &mut Broker<FULL>,
         event: &Event,
-        buffers: &mut Buffers,
+        work: &mut Work,
     ) -> Step {
         let was_blocked = self.is_blocked;
         if event.is_writable() {
@@ -114,12 +125,12 @@ impl Connection {
         let has_more = event.is_readable() || event.is_read_closed() || event.is_error();
         let step = match self.stage {
             _ if !has_more || self.is_waiting() => Step::Stays,
-            Stage::Serving => self.read(alloc, registry, broker, event, buffers),
-            Stage::Leaving(_) | Stage::Draining => self.throw_away(registry, buffers.current()),
+            Stage::Serving => self.read(alloc, registry, broker, event, work),
+            Stage::Leaving(_) | Stage::Draining => self.throw_away(registry, work),
         };
         let stays = matches!(step, Step::Stays | Step::Waits);
         if stays && was_blocked && !self.is_blocked {
-            return match self.write(registry, broker) {
+            return match self.write(registry, broker, work) {
                 Step::Stays => step,
                 ends => ends,
             };
@@ -134,44 +145,79 @@ impl Connection {
         registry: &Registry,
         broker: &mut Broker<FULL>,
         event: &Event,
-        buffers: &mut Buffers,
+        work: &mut Work,
     ) -> Step {
-        let buffer = buffers.current();
-        if broker.is_closed(self.session) || buffer.is_empty() {
-            return self.leave(alloc, registry, broker);
+        let buffer = work.buffers.current();
+        let room = least_of(self.share, buffer.len());
+        if broker.is_closed(self.session) || room == 0 {
+            return self.leave_closed(alloc, registry, broker, work);
         }
-        match read_in(&mut self.stream, broker, self.session, buffer) {
-            Err(ReadFault::Stream) => return self.end(broker),
-            Err(ReadFault::Waits) => return self.wait(alloc, registry, broker, Due::Frames),
-            Err(ReadFault::Untaken(count)) => {
-                return match buffers.keep() {
-                    Some(octets) => {
-                        self.wait(alloc, registry, broker, Due::Octets(octets, count))
-                    }
-                    None => self.end(broker),
-                };
-            }
-            Ok(Turn::Ended) => {
+        match read_in(&mut self.stream, broker, self.session, &mut buffer[..room]) {
+            Err(fault) => self.keep_unread(alloc, registry, broker, work, fault),
+            Ok((Turn::Ended, _)) => {
                 self.has_ended = true;
-                return self.leave(alloc, registry, broker);
+                self.leave(alloc, registry, broker, work, Ending::Shut)
             }
-            // The end of the octets has no event of its own where it came with the last of them.
-            Ok(Turn::Blocked) if !event.is_read_closed() => {}
-            Ok(_) => {
-                if !self.ask_again(registry) {
-                    return self.end(broker);
+            Ok((turn, brought)) => {
+                self.note(brought, work);
+                // The end of the octets has no event of its own where it came with the last of them.
+                let is_told = turn == Turn::Blocked && !event.is_read_closed();
+                if !is_told && !self.ask_again(registry) {
+                    return self.end(broker, Ending::Stream);
                 }
+                if broker.is_closed(self.session) {
+                    return self.leave_closed(alloc, registry, broker, work);
+                }
+                Step::Stays
             }
         }
-        if broker.is_closed(self.session) {
-            return self.leave(alloc, registry, broker);
+    }
+
+    /// Notes what it brought, and how much it may read next.
+    fn note(&mut self, brought: Brought, work: &mut Work) {
+        if brought.octets > 0 {
+            self.heard = work.now;
+            self.share = next_share(self.share, brought, work.frames);
         }
-        Step::Stays
+        work.figures.note_read(brought.octets);
+        work.figures.note_frames(brought.frames);
+    }
+
+    /// A read came to no end. Has what was read wait where it can.
+    fn keep_unread<const FULL: usize>(
+        &mut self,
+        alloc: Global,
+        registry: &Registry,
+        broker: &mut Broker<FULL>,
+        work: &mut Work,
+        fault: ReadFault,
+    ) -> Step {
+        match fault {
+            ReadFault::Stream => self.end(broker, Ending::Stream),
+            ReadFault::Waits => self.wait(alloc, registry, broker, work, Due::Frames),
+            ReadFault::Untaken(count) => match work.buffers.keep() {
+                Some(octets) => {
+                    work.figures.note_read(count);
+                    self.wait(alloc, registry, broker, work, Due::Octets(octets, count))
+                }
+                None => self.end(broker, Ending::Memory),
+            },
+        }
     }
 
     /// Whether something of it waits for memory.
     fn is_waiting(&self) -> bool {
         !matches!(self.due, Due::Nothing)
+    }
+
+    /// Whether nothing came of it for so long. While something of it waits for memory nothing is read.
+    pub(crate) fn is_idle(&self, now: Instant, most: Duration) -> bool {
+        matches!(self.stage, Stage::Serving)
+            && !self.is_waiting()
+            && match self.heard.checked_add(most) {
+                Some(last) => last <= now,
+                None => false,
+            }
     }
 
     /// Has something wait, unless the session is over.
@@ -180,10 +226,13 @@ impl Connection {
         alloc: Global,
         registry: &Registry,
         broker: &mut Broker<FULL>,
+        work: &mut Work,
         due: Due,
     ) -> Step {
+        self.heard = work.now;
         if broker.is_closed(self.session) {
-            return self.leave(alloc, registry, broker);
+            give_back(due, &mut work.buffers);
+            return self.leave_closed(alloc, registry, broker, work);
         }
         self.due = due;
         Step::Waits
@@ -196,31 +245,35 @@ impl Connection {
         alloc: Global,
         registry: &Registry,
         broker: &mut Broker<FULL>,
-        buffers: &mut Buffers,
+        work: &mut Work,
     ) -> Step {
         if !self.is_waiting() {
             return Step::Stays;
         }
         let due = replace(&mut self.due, Due::Nothing);
         if broker.is_closed(self.session) {
-            give_back(due, buffers);
-            return self.leave(alloc, registry, broker);
+            give_back(due, &mut work.buffers);
+            return self.leave_closed(alloc, registry, broker, work);
         }
         match feed_due(broker, self.session, &due) {
             Err(ReadFault::Stream) | Err(ReadFault::Untaken(_)) => {
-                return self.wait(alloc, registry, broker, due);
+                return self.wait(alloc, registry, broker, work, due);
             }
             Err(ReadFault::Waits) => {
-                give_back(due, buffers);
-                return self.wait(alloc, registry, broker, Due::Frames);
+                give_back(due, &mut work.buffers);
+                return self.wait(alloc, registry, broker, work, Due::Frames);
             }
-            Ok(()) => give_back(due, buffers),
+            Ok(frames) => {
+                give_back(due, &mut work.buffers);
+                self.heard = work.now;
+                work.figures.note_frames(frames);
+            }
         }
         if broker.is_closed(self.session) {
-            return self.leave(alloc, registry, broker);
+            return self.leave_closed(alloc, registry, broker, work);
         }
         if !self.ask_again(registry) {
-            return self.end(broker);
+            return self.end(broker, Ending::Stream);
         }
         Step::Stays
     }
@@ -230,45 +283,67 @@ impl Connection {
         &mut self,
         registry: &Registry,
         broker: &mut Broker<FULL>,
+        work: &mut Work,
     ) -> Step {
         match self.stage {
-            Stage::Serving => self.write_session(registry, broker),
-            Stage::Leaving(_) => self.write_rest(registry),
+            Stage::Serving => self.write_session(registry, broker, work),
+            Stage::Leaving(_) => self.write_rest(registry, work),
             Stage::Draining => Step::Stays,
         }
+    }
+
+    /// Writes what the socket takes of its session's octets, and counts it.
+    fn write_some<const FULL: usize>(
+        &mut self,
+        broker: &mut Broker<FULL>,
+        work: &mut Work,
+    ) -> Result<Written, TurnFault> {
+        let before = broker.out(self.session).len();
+        let written = write_out(&mut self.stream, broker, self.session)?;
+        let left = match written {
+            Written::All => 0,
+            Written::Blocked | Written::Again => broker.out(self.session).len(),
+        };
+        work.figures.note_written(before.saturating_sub(left));
+        Ok(written)
     }
 
     fn write_session<const FULL: usize>(
         &mut self,
         registry: &Registry,
         broker: &mut Broker<FULL>,
+        work: &mut Work,
     ) -> Step {
         if !self.is_blocked {
-            match write_out(&mut self.stream, broker, self.session) {
-                Err(_) => return self.end(broker),
+            match self.write_some(broker, work) {
+                Err(_) => return self.end(broker, Ending::Stream),
                 Ok(Written::All) => return Step::Stays,
                 Ok(Written::Blocked) => self.is_blocked = true,
                 Ok(Written::Again) => {
                     if !self.ask_again(registry) {
-                        return self.end(broker);
+                        return self.end(broker, Ending::Stream);
                     }
                     self.is_blocked = true;
                 }
             }
         }
         if broker.out(self.session).len() > MAX_UNREAD {
-            return self.end(broker);
+            return self.end(broker, Ending::Unread);
         }
         Step::Stays
     }
 
-    fn write_rest(&mut self, registry: &Registry) -> Step {
+    fn write_rest(&mut self, registry: &Registry, work: &mut Work) -> Step {
         let Stage::Leaving(rest) = &mut self.stage else {
             return Step::Stays;
         };
-        match rest.write(&mut self.stream) {
-            Err(_) => Step::Ends,
-            Ok(Written::All) => self.shut(Step::Stays),
+        let before = rest.len();
+        let written = rest.write(&mut self.stream);
+        work.figures.note_written(before.saturating_sub(rest.len()));
+        match written {
+            Err(_) => Step::Closes,
+            Ok(Written::All) if self.is_over_by_shutting() => Step::Closes,
+            Ok(Written::All) => Step::Stays,
             Ok(Written::Blocked) => {
                 self.is_blocked = true;
                 Step::Stays
@@ -281,28 +356,45 @@ impl Connection {
     }
 
     /// Throws away what comes in behind the end of its session.
-    fn throw_away(&mut self, registry: &Registry, buffer: &mut Vec<u8>) -> Step {
+    fn throw_away(&mut self, registry: &Registry, work: &mut Work) -> Step {
+        let buffer = work.buffers.current();
         if buffer.is_empty() {
-            return Step::Ends;
+            return Step::Closes;
         }
         match discard(&mut self.stream, buffer) {
-            Err(_) => Step::Ends,
+            Err(_) => Step::Closes,
             Ok((_, Turn::Blocked)) => Step::Stays,
             Ok((_, Turn::Ended)) => {
                 self.has_ended = true;
                 match self.stage {
-                    Stage::Draining => Step::Ends,
+                    Stage::Draining => Step::Closes,
                     Stage::Serving | Stage::Leaving(_) => Step::Stays,
                 }
             }
             Ok((count, Turn::More)) => {
+                work.figures.note_read(count);
                 self.thrown = self.thrown.saturating_add(count);
                 if self.thrown > MAX_THROWN {
-                    return Step::Ends;
+                    return Step::Closes;
                 }
                 self.stays_if_asked(registry)
             }
         }
+    }
+
+    /// Takes a session away that is over by an ERROR or a DISCONNECT.
+    fn leave_closed<const FULL: usize>(
+        &mut self,
+        alloc: Global,
+        registry: &Registry,
+        broker: &mut Broker<FULL>,
+        work: &mut Work,
+    ) -> Step {
+        let why = match refusal_in(broker.out(self.session)) {
+            Some(refusal) => Ending::Refused(refusal),
+            None => Ending::Disconnect,
+        };
+        self.leave(alloc, registry, broker, work, why)
     }
 
     /// Writes what the socket takes, and takes the session away with what is left.
@@ -311,46 +403,49 @@ impl Connection {
         alloc: Global,
         registry: &Registry,
         broker: &mut Broker<FULL>,
+        work: &mut Work,
+        why: Ending,
     ) -> Step {
-        let Ok(written) = write_out(&mut self.stream, broker, self.session) else {
-            return self.end(broker);
+        let Ok(written) = self.write_some(broker, work) else {
+            return self.end(broker, why);
         };
         if broker.out(self.session).len() > MAX_UNREAD {
-            return self.end(broker);
+            return self.end(broker, why);
         }
         let Ok(rest) = Rest::of(alloc, broker, self.session) else {
-            return Step::Ends;
+            return Step::Ends(why);
         };
         self.stage = Stage::Leaving(rest);
         self.is_blocked = true;
         match written {
-            Written::All => self.shut(Step::Leaves),
-            Written::Blocked => Step::Leaves,
-            Written::Again if self.ask_again(registry) => Step::Leaves,
-            Written::Again => Step::Ends,
+            Written::All if self.is_over_by_shutting() => Step::Ends(why),
+            Written::All | Written::Blocked => Step::Leaves(why),
+            Written::Again if self.ask_again(registry) => Step::Leaves(why),
+            Written::Again => Step::Ends(why),
         }
     }
 
-    /// All is written: shuts this side. Unless the connection is over by that, the answer is `step`.
-    fn shut(&mut self, step: Step) -> Step {
+    /// All is written: shuts this side. Whether the connection is over by that.
+    fn is_over_by_shutting(&mut self) -> bool {
         self.stage = Stage::Draining;
-        if self.has_ended || self.stream.shutdown(Shutdown::Write).is_err() {
-            return Step::Ends;
-        }
-        step
+        self.has_ended || self.stream.shutdown(Shutdown::Write).is_err()
     }
 
     /// Takes the session away at once.
-    fn end<const FULL: usize>(&mut self, broker: &mut Broker<FULL>) -> Step {
+    pub(crate) fn end<const FULL: usize>(
+        &mut self,
+        broker: &mut Broker<FULL>,
+        why: Ending,
+    ) -> Step {
         broker.drop_session(self.session);
-        Step::Ends
+        Step::Ends(why)
     }
 
     fn stays_if_asked(&mut self, registry: &Registry) -> Step {
         if self.ask_again(registry) {
             Step::Stays
         } else {
-            Step::Ends
+            Step::Closes
         }
     }
 
@@ -363,12 +458,20 @@ impl Connection {
     }
 }
 
+/// The lesser of two numbers.
+fn least_of(one: usize, other: usize) -> usize
+    ensures one { result ≤ one }
+    ensures other { result ≤ other }
+{
+    if one < other { one } else { other }
+}
+
 /// Feeds what waits.
 fn feed_due<const FULL: usize>(
     broker: &mut Broker<FULL>,
     session: SessionId,
     due: &Due,
-) -> Result<(), ReadFault>
+) -> Result<usize, ReadFault>
     requires { closed_in (session_of session broker.old) ≡ false }
 {
     match due {

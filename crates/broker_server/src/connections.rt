@@ -1,7 +1,8 @@
 //! The connections that a loop serves.
 
-use crate::buffers::Buffers;
 use crate::connection::{Connection, Step, both_ways, token_of};
+use crate::work::Work;
+use crate::{Ending, News, Watch};
 use broker_core::{Broker, SessionId};
 use mio::Registry;
 use mio::event::Event;
@@ -14,6 +15,9 @@ use std::time::{Duration, Instant};
 
 /// The seconds that a connection has to tell the rest when its session is over.
 const LEAVE_SECONDS: u64 = 5;
+
+/// The connections that are found idle at once.
+const IDLE: usize = 256;
 
 /// A connection that leaves, and until when.
 #[derive(Drop)]
@@ -46,49 +50,55 @@ impl Connections {
         }
     }
 
-    /// Takes in a connection and opens its session. Where that fails the connection is closed, and nothing else has
-    /// changed. There is room then to note that it waits for memory.
+    /// How many there are.
+    pub(crate) fn len(&self) -> usize {
+        self.open.len()
+    }
+
+    /// Takes in a connection and opens its session: the answer is its number. Where that fails the connection is
+    /// closed, and nothing else has changed. There is room then to note that it waits for memory.
     pub(crate) fn take_in<const FULL: usize>(
         &mut self,
         registry: &Registry,
         broker: &mut Broker<FULL>,
         mut stream: TcpStream,
-    ) -> io::Result<()> {
+        now: Instant,
+    ) -> io::Result<u64> {
         stream.set_nodelay(true)?;
         self.open.reserve(1)?;
         self.waiting.reserve(self.open.len().saturating_add(1))?;
         let Ok(session) = broker.open() else {
             return Err(io::Error::from(ErrorKind::OutOfMemory));
         };
-        let registered = registry.register(&mut stream, token_of(session), both_ways());
-        if registered.is_err() {
+        if let Err(fault) = registry.register(&mut stream, token_of(session), both_ways()) {
             broker.drop_session(session);
-            return registered;
+            return Err(fault);
         }
         let number = session.number();
         if self
             .open
-            .insert(number, Connection::new(stream, session))
+            .insert(number, Connection::new(stream, session, now))
             .is_err()
         {
             broker.drop_session(session);
+            return Err(io::Error::from(ErrorKind::OutOfMemory));
         }
-        Ok(())
+        Ok(number)
     }
 
     /// Has a connection do what its socket is ready for.
-    pub(crate) fn handle<const FULL: usize>(
+    pub(crate) fn handle<W: Watch, const FULL: usize>(
         &mut self,
         registry: &Registry,
         broker: &mut Broker<FULL>,
         event: &Event,
-        buffers: &mut Buffers,
-        now: Instant,
+        work: &mut Work,
+        watch: &W,
     ) {
         let number = event.token().0 as u64;
         if let Some(connection) = self.open.get_mut(&number) {
-            let step = connection.handle(self.alloc, registry, broker, event, buffers);
-            self.follow(broker, number, step, now);
+            let step = connection.handle(self.alloc, registry, broker, event, work);
+            self.follow(broker, number, step, work.now, watch);
         }
     }
 
@@ -98,30 +108,34 @@ impl Connections {
     }
 
     /// Goes on with what waits for memory, once each.
-    pub(crate) fn go_on<const FULL: usize>(
+    pub(crate) fn go_on<W: Watch, const FULL: usize>(
         &mut self,
         registry: &Registry,
         broker: &mut Broker<FULL>,
-        buffers: &mut Buffers,
-        now: Instant,
+        work: &mut Work,
+        watch: &W,
     ) {
         for _ in 0..self.waiting.len() {
             let Some(number) = self.waiting.pop_front() else {
                 return;
             };
             if let Some(connection) = self.open.get_mut(&number) {
-                let step = connection.go_on(self.alloc, registry, broker, buffers);
-                self.follow(broker, number, step, now);
+                match connection.go_on(self.alloc, registry, broker, work) {
+                    // That was told when it began to wait.
+                    Step::Waits => self.wait(broker, number, watch),
+                    step => self.follow(broker, number, step, work.now, watch),
+                }
             }
         }
     }
 
     /// Writes to each connection for which octets have come, together: the answer is whether there was one.
-    pub(crate) fn write<const FULL: usize>(
+    pub(crate) fn write<W: Watch, const FULL: usize>(
         &mut self,
         registry: &Registry,
         broker: &mut Broker<FULL>,
-        now: Instant,
+        work: &mut Work,
+        watch: &W,
     ) -> bool {
         let mut some = false;
         for _ in 0..u64::MAX {
@@ -131,8 +145,8 @@ impl Connections {
             some = true;
             let number = session.number();
             if let Some(connection) = self.open.get_mut(&number) {
-                let step = connection.write(registry, broker);
-                self.follow(broker, number, step, now);
+                let step = connection.write(registry, broker, work);
+                self.follow(broker, number, step, work.now, watch);
             }
         }
         some
@@ -145,46 +159,104 @@ impl Connections {
         }
     }
 
+    /// Ends those of which nothing came for so long, up to 256 of them: the answer is whether there may be more. It
+    /// takes no memory.
+    pub(crate) fn end_idle<W: Watch, const FULL: usize>(
+        &mut self,
+        broker: &mut Broker<FULL>,
+        now: Instant,
+        most: Duration,
+        watch: &W,
+    ) -> bool {
+        let (found, count) = self.find_idle(now, most);
+        for number in found.iter().take(count) {
+            if let Some(connection) = self.open.get_mut(number) {
+                let step = connection.end(broker, Ending::Idle);
+                self.follow(broker, *number, step, now, watch);
+            }
+        }
+        count == IDLE
+    }
+
+    /// Finds some of which nothing came for so long, and how many.
+    fn find_idle(&self, now: Instant, most: Duration) -> ([u64; IDLE], usize) {
+        let mut found = [0; IDLE];
+        let mut count: usize = 0;
+        for (number, connection) in &self.open {
+            if count < IDLE && connection.is_idle(now, most) {
+                found[count] = *number;
+                count += 1;
+            }
+        }
+        (found, count)
+    }
+
     /// Takes away those whose time is over.
-    pub(crate) fn expire(&mut self, now: Instant) {
+    pub(crate) fn expire<W: Watch>(&mut self, now: Instant, watch: &W) {
         for _ in 0..u64::MAX {
             match self.leaving.front() {
                 Some(leave) if leave.until <= now => {}
                 _ => return,
             }
             if let Some(leave) = self.leaving.pop_front() {
-                self.open.remove(&leave.number);
+                self.close(leave.number, watch);
             }
         }
     }
 
+    /// Closes a connection whose session was taken away before, where it isn't closed yet.
+    fn close<W: Watch>(&mut self, number: u64, watch: &W) {
+        if self.open.remove(&number).is_some() {
+            watch.tell(News::Closed { number });
+        }
+    }
+
+    /// Notes that something of a connection waits for memory.
+    fn wait<W: Watch, const FULL: usize>(
+        &mut self,
+        broker: &mut Broker<FULL>,
+        number: u64,
+        watch: &W,
+    ) {
+        if self.waiting.push_back(number).is_err() {
+            broker.drop_session(SessionId::new(number));
+            self.end(number, Ending::Memory, watch);
+            self.close(number, watch);
+        }
+    }
+
+    /// A session was taken away.
+    fn end<W: Watch>(&mut self, number: u64, why: Ending, watch: &W) {
+        self.has_dropped = true;
+        watch.tell(News::Ended { number, why });
+    }
+
     /// Does what a step asks for.
-    fn follow<const FULL: usize>(
+    fn follow<W: Watch, const FULL: usize>(
         &mut self,
         broker: &mut Broker<FULL>,
         number: u64,
         step: Step,
         now: Instant,
+        watch: &W,
     ) {
         match step {
             Step::Stays => {}
             Step::Waits => {
-                if self.waiting.push_back(number).is_err() {
-                    broker.drop_session(SessionId::new(number));
-                    self.has_dropped = true;
-                    self.open.remove(&number);
-                }
+                watch.tell(News::Waits { number });
+                self.wait(broker, number, watch);
             }
-            Step::Leaves => {
-                self.has_dropped = true;
+            Step::Leaves(why) => {
+                self.end(number, why, watch);
                 if !self.gives_time(number, now) {
-                    self.open.remove(&number);
+                    self.close(number, watch);
                 }
             }
-            Step::Ends => {
-                self.has_dropped = true;
-                self.open.remove(&number);
+            Step::Ends(why) => {
+                self.end(number, why, watch);
+                self.close(number, watch);
             }
+            Step::Closes => self.close(number, watch),
         }
     }
 

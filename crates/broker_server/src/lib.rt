@@ -10,7 +10,8 @@
 //! serve(rt, alloc, &mut broker, &mut listener, &stop)?;
 //! ```
 //!
-//! It ends when another thread calls [`Stop::ask`].
+//! It ends when another thread calls [`Stop::ask`]. [`serve_watched`] does the same with [`ServeOptions`] and somebody
+//! who is told what happens, a [`Watch`].
 //!
 //! ```rust
 //! pub fn a_server_is_asked_to_end() -> bool {
@@ -20,8 +21,12 @@
 //! }
 //! ```
 //!
-//! - Of a connection at most 65,536 octets are read at a turn, so that others come to theirs. All that a turn brought
-//!   is handled, and then the answers are written together.
+//! - A turn has 4,096 frames, which the sockets that are ready share, but 32 each at least. Of a connection 1,024
+//!   octets are read at its first turn. Where they had more frames than its share, fewer are read at its next, as many
+//!   as its share had taken and 512 at least; where it had sent as many octets as were read, and they had half of its
+//!   share of frames at most, twice as many, up to 65,536. So one that sends many small frames holds up the others no
+//!   longer than one that sends few. Once a turn has brought 4,096 frames, what it brought is answered, and the sockets
+//!   that are left of it come next. The answers of a turn are written together.
 //! - A connection with more than 25,740,400 octets left that its client doesn't read is dropped, and so is one whose
 //!   read or write fails: its subscriptions end, and what was out to them goes to others. Nothing ever waits for it.
 //!   These are 8 MiB besides 16 of the longest messages, as many as are out to a subscription at once, so that a client
@@ -45,14 +50,18 @@ mod connection;
 mod connections;
 mod fault;
 mod laws;
+mod refusals;
 mod rest;
 mod serving;
 mod stop;
 mod turn;
+mod watching;
+mod work;
 
 pub use fault::{ReadFault, ServeFault, TurnFault};
 pub use laws::what_is_read_is_handled_once_and_in_order;
 pub use rest::Rest;
-pub use serving::serve;
+pub use serving::{ServeOptions, serve, serve_watched};
 pub use stop::Stop;
-pub use turn::{Turn, Written, discard, feed_in, read_in, write_out};
+pub use turn::{Brought, Turn, Written, discard, feed_in, read_in, write_out};
+pub use watching::{Ending, Figures, News, Watch};

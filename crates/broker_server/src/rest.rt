@@ -1,6 +1,6 @@
 //! What is left to be written when a session is over.
 
-ghost use Rattle.std.specs.Prelude.{◌≡◌, [], IfOk};
+ghost use Rattle.std.specs.Prelude.{◌≡◌, [], length, IfOk};
 ghost use Rattle.broker_core.specs.Calls.{dropped, out_in};
 ghost use Rattle.broker_core.specs.Serving.{session_of};
 ghost use Rattle.broker_server.specs.Turns.{RestAnswer};
@@ -38,6 +38,13 @@ impl Rest {
             octets: Vec::new(alloc),
             from: 0,
         }
+    }
+
+    /// How many octets are left.
+    pub fn len(&self) -> usize
+        ensures { result ≡ length self.now }
+    {
+        self.octets.len() - self.from
     }
 
     /// Takes a session away, with what is left to be written for it: its subscriptions end, and what was out to them is

@@ -2,14 +2,15 @@
 
 use crate::buffers::{Buffers, Reserve};
 use crate::connections::Connections;
-use crate::{ServeFault, Stop};
+use crate::work::{FRAMES, Interval, Work};
+use crate::{News, ServeFault, Stop, Watch};
 use broker_core::Broker;
-use mio::net::TcpListener;
+use mio::net::{TcpListener, TcpStream};
 use mio::{Events, Interest, Poll, Token};
 use std::alloc::Global;
 use std::io;
 use std::io::ErrorKind;
-use std::net::Net;
+use std::net::{Net, SocketAddr};
 use std::sync::Wait;
 use std::time::{Clock, Duration, Instant};
 
@@ -25,14 +26,40 @@ const ACCEPTS: usize = 64;
 /// The milliseconds after which the loop looks at the stop, at the time, and at what was refused.
 const TICK: u64 = 100;
 
+/// What a loop does besides serving.
+#[derive(Clone, Copy, Debug)]
+pub struct ServeOptions {
+    /// For how long a connection may be silent: then it is closed. Else for ever.
+    pub idle: Option<Duration>,
+    /// After how long figures are told, again and again. Else never.
+    pub figures: Option<Duration>,
+}
+
+impl ServeOptions {
+    /// Nothing.
+    pub fn new() -> ServeOptions {
+        ServeOptions {
+            idle: None,
+            figures: None,
+        }
+    }
+}
+
 /// What a loop works with.
 #[derive(Drop)]
 struct Server {
     poll: Poll,
     events: Events<Global>,
-    buffers: Buffers,
+    /// How many of the events were handled.
+    handled: usize,
+    work: Work,
     reserve: Reserve,
     connections: Connections,
+    options: ServeOptions,
+    /// When it is looked for connections that are silent.
+    look: Interval,
+    /// When figures are told.
+    figures: Interval,
     /// Connections may wait to be taken in.
     may_accept: bool,
     /// The system refused to take one in: it is tried again at each turn.
@@ -58,13 +85,30 @@ pub fn serve<R: Net + Wait + Clock, const FULL: usize>(
     listener: &mut TcpListener,
     stop: &Stop,
 ) -> Result<(), ServeFault> {
-    let mut server = Server::open(rt, alloc, listener)?;
+    serve_watched(rt, alloc, broker, listener, stop, ServeOptions::new(), &())
+}
+
+/// The same, with options, and somebody who is told what happens. Where serving ends, all connections do, and none is
+/// told of.
+///
+/// # Errors
+/// Those of [`serve`].
+pub fn serve_watched<R: Net + Wait + Clock, W: Watch, const FULL: usize>(
+    rt: &R,
+    alloc: Global,
+    broker: &mut Broker<FULL>,
+    listener: &mut TcpListener,
+    stop: &Stop,
+    options: ServeOptions,
+    watch: &W,
+) -> Result<(), ServeFault> {
+    let mut server = Server::open(rt, alloc, listener, options)?;
     for _ in rt.forever() {
         if stop.is_asked() {
             server.connections.drop_sessions(broker);
             return Ok(());
         }
-        if server.turn(rt, broker, listener).is_err() {
+        if server.turn(rt, broker, listener, watch).is_err() {
             server.connections.drop_sessions(broker);
             return Err(ServeFault::Device);
         }
@@ -74,21 +118,28 @@ pub fn serve<R: Net + Wait + Clock, const FULL: usize>(
 
 impl Server {
     /// Nobody is connected yet.
-    fn open<R: Net>(
+    fn open<R: Net + Clock>(
         rt: &R,
         alloc: Global,
         listener: &mut TcpListener,
+        options: ServeOptions,
     ) -> Result<Server, ServeFault> {
         let events = Events::with_capacity(alloc, EVENTS).map_err(|_| ServeFault::Memory)?;
         let buffers = Buffers::new(alloc).map_err(|_| ServeFault::Memory)?;
         let reserve = Reserve::new(alloc).map_err(|_| ServeFault::Memory)?;
         let poll = open_poll(rt, listener).map_err(|_| ServeFault::Device)?;
+        let now = Instant::now(rt).map_err(|_| ServeFault::Device)?;
+        let second = Duration::from_secs(1);
         Ok(Server {
             poll,
             events,
-            buffers,
+            handled: 0,
+            work: Work::new(buffers, now),
             reserve,
             connections: Connections::new(alloc),
+            options,
+            look: Interval::new(options.idle.map(|_| second), now),
+            figures: Interval::new(options.figures, now),
             may_accept: true,
             was_refused: false,
             may_deal: false,
@@ -111,60 +162,100 @@ impl Server {
         }
     }
 
+    /// Waits for sockets, where all that were ready have had their turn, and shares the turn's frames among them.
+    fn gather(&mut self) -> io::Result<()> {
+        if self.handled >= self.events.iter().len() {
+            let wait = self.wait();
+            self.poll.poll(&mut self.events, Some(wait))?;
+            self.handled = 0;
+            self.work.share(self.events.iter().len());
+        }
+        Ok(())
+    }
+
     /// Waits for sockets, and does what they are ready for.
-    fn turn<R: Clock, const FULL: usize>(
+    fn turn<R: Clock, W: Watch, const FULL: usize>(
         &mut self,
         rt: &R,
         broker: &mut Broker<FULL>,
         listener: &TcpListener,
+        watch: &W,
     ) -> io::Result<()> {
-        let wait = self.wait();
-        self.poll.poll(&mut self.events, Some(wait))?;
-        let now = Instant::now(rt)?;
+        self.gather()?;
+        self.work.now = Instant::now(rt)?;
         self.connections
-            .go_on(self.poll.registry(), broker, &mut self.buffers, now);
-        for event in &self.events {
-            if event.token() == LISTENER {
-                self.may_accept = true;
-            } else {
-                self.connections.handle(
-                    self.poll.registry(),
-                    broker,
-                    event,
-                    &mut self.buffers,
-                    now,
-                );
-            }
-        }
+            .go_on(self.poll.registry(), broker, &mut self.work, watch);
+        self.handle(broker, watch);
         if self.may_accept || self.was_refused {
-            self.accept(broker, listener);
+            self.accept(broker, listener, watch);
         }
         self.deal(broker);
-        self.has_written = self.connections.write(self.poll.registry(), broker, now);
+        self.has_written = self
+            .connections
+            .write(self.poll.registry(), broker, &mut self.work, watch);
         self.take_again();
-        self.connections.expire(now);
+        self.connections.expire(self.work.now, watch);
         // A server has no use for what was accepted, and the list would grow.
-        let _ = broker.take_accepted();
+        let accepted = broker.take_accepted();
+        self.work.figures.note_accepted(accepted.len());
+        self.tell(broker, watch);
         Ok(())
     }
 
+    /// Has connections do what their sockets are ready for, in order, until all have or these are frames enough for a
+    /// turn: the next one goes on behind them.
+    fn handle<W: Watch, const FULL: usize>(&mut self, broker: &mut Broker<FULL>, watch: &W) {
+        let most = self.work.figures.frames.saturating_add(FRAMES as u64);
+        for event in self.events.iter().skip(self.handled) {
+            self.handled = self.handled.saturating_add(1);
+            if event.token() == LISTENER {
+                self.may_accept = true;
+                continue;
+            }
+            self.connections
+                .handle(self.poll.registry(), broker, event, &mut self.work, watch);
+            if self.work.figures.frames >= most {
+                return;
+            }
+        }
+    }
+
+    /// Ends what is silent, and tells the figures, where it is time for that.
+    fn tell<W: Watch, const FULL: usize>(&mut self, broker: &mut Broker<FULL>, watch: &W) {
+        let now = self.work.now;
+        if let Some(most) = self.options.idle
+            && self.look.is_due(now)
+            && self.connections.end_idle(broker, now, most, watch)
+        {
+            self.look.hurry(now);
+        }
+        if self.figures.is_due(now) {
+            self.work.figures.connections = self.connections.len() as u64;
+            watch.tell(News::Figures(self.work.figures));
+        }
+    }
+
     /// Takes in the connections that wait, up to 64 of them.
-    fn accept<const FULL: usize>(&mut self, broker: &mut Broker<FULL>, listener: &TcpListener) {
+    fn accept<W: Watch, const FULL: usize>(
+        &mut self,
+        broker: &mut Broker<FULL>,
+        listener: &TcpListener,
+        watch: &W,
+    ) {
+        let was_refused = self.was_refused;
         self.may_accept = true;
         self.was_refused = false;
         for _ in 0..ACCEPTS {
             match listener.accept() {
-                Ok((stream, _)) => {
-                    // Where it can't be served it is closed, and others go on.
-                    let _ = self
-                        .connections
-                        .take_in(self.poll.registry(), broker, stream);
-                }
+                Ok((stream, peer)) => self.take_in(broker, stream, peer, watch),
                 Err(error) => match error.kind() {
                     ErrorKind::ConnectionAborted | ErrorKind::Interrupted => {}
                     kind => {
                         self.may_accept = false;
                         self.was_refused = kind != ErrorKind::WouldBlock;
+                        if self.was_refused && !was_refused {
+                            watch.tell(News::NoDescriptor);
+                        }
                         return;
                     }
                 },
@@ -172,11 +263,32 @@ impl Server {
         }
     }
 
+    /// Takes a connection in. Where it can't be served it is closed, and others go on.
+    fn take_in<W: Watch, const FULL: usize>(
+        &mut self,
+        broker: &mut Broker<FULL>,
+        stream: TcpStream,
+        peer: SocketAddr,
+        watch: &W,
+    ) {
+        let registry = self.poll.registry();
+        match self
+            .connections
+            .take_in(registry, broker, stream, self.work.now)
+        {
+            Ok(number) => {
+                self.work.figures.note_opened();
+                watch.tell(News::Opened { number, peer });
+            }
+            Err(_) => watch.tell(News::Unopened { peer }),
+        }
+    }
+
     /// Takes again what was let go of the reserve, and, where nothing has to be kept, spare buffers that are gone.
     fn take_again(&mut self) {
         self.reserve.take_again();
         if !self.is_short() {
-            self.buffers.fill();
+            self.work.buffers.fill();
         }
     }
 

@@ -21,6 +21,21 @@ pub enum Turn {
     Ended,
 }
 
+/// What a turn of reading brought its session.
+#[derive(Clone, Copy, Debug, PartialEq, Eq)]
+pub struct Brought {
+    /// The octets that were read, and fed.
+    pub octets: usize,
+    /// The frames that were handled.
+    pub frames: usize,
+}
+
+/// No octet was read, so that no frame was handled.
+const NOTHING: Brought = Brought {
+    octets: 0,
+    frames: 0,
+};
+
 /// What a turn of writing came to.
 #[derive(Clone, Copy, Debug, PartialEq, Eq)]
 pub enum Written {
@@ -61,8 +76,8 @@ fn read_piece<S: Read>(stream: &mut S, buffer: &mut [u8]) -> Result<Piece, TurnF
     }
 }
 
-/// Feeds octets to an open session, and handles them as far as its frames are whole. With no octets it goes on with the
-/// frames that wait since memory was refused to them.
+/// Feeds octets to an open session, and handles them as far as its frames are whole: the answer is how many frames.
+/// With no octets it goes on with the frames that wait since memory was refused to them.
 ///
 /// # Errors
 /// - `Waits` where memory was refused behind the taking of the octets: the frames before were handled, and the next
@@ -73,12 +88,12 @@ pub fn feed_in<const FULL: usize>(
     broker: &mut Broker<FULL>,
     session: SessionId,
     piece: &[u8],
-) -> Result<(), ReadFault>
+) -> Result<usize, ReadFault>
     requires { closed_in (session_of session broker.old) ≡ false }
     ensures { FedAnswer FULL session piece.now broker.old broker.new result }
 {
     match broker.feed(session, piece) {
-        Ok(_) => Ok(()),
+        Ok(frames) => Ok(frames),
         Err(BrokerFault::Memory { took: true }) => Err(ReadFault::Waits),
         Err(BrokerFault::Memory { took: false }) => Err(ReadFault::Untaken(piece.len())),
         Err(BrokerFault::NoSession) => unreachable!(),
@@ -87,7 +102,8 @@ pub fn feed_in<const FULL: usize>(
 }
 
 /// Reads once from the stream of an open session, at most as many octets as `buffer` has, and feeds them to the
-/// session: each octet that was read is fed once, behind those before, and handled as far as its frames are whole.
+/// session: each octet that was read is fed once, behind those before, and handled as far as its frames are whole. The
+/// answer tells how many octets and frames that were.
 ///
 /// # Errors
 /// - `Stream` where the read failed, and then nothing was read;
@@ -101,7 +117,7 @@ pub fn read_in<S: Read, const FULL: usize>(
     broker: &mut Broker<FULL>,
     session: SessionId,
     buffer: &mut [u8],
-) -> Result<Turn, ReadFault>
+) -> Result<(Turn, Brought), ReadFault>
     requires open { closed_in (session_of session broker.old) ≡ false }
     requires room { 0 < length buffer.old }
     ensures { ReadAnswer FULL session broker.old broker.new (S.remaining stream.old) (S.remaining stream.new) buffer.new
@@ -114,16 +130,20 @@ pub fn read_in<S: Read, const FULL: usize>(
     };
     match piece {
         Piece::Octets(count) => {
-            feed_in(broker, session, &buffer[..count])?;
+            let frames = feed_in(broker, session, &buffer[..count])?;
+            let brought = Brought {
+                octets: count,
+                frames,
+            };
             if count < buffer.len() {
-                Ok(Turn::Blocked)
+                Ok((Turn::Blocked, brought))
             } else {
-                Ok(Turn::More)
+                Ok((Turn::More, brought))
             }
         }
-        Piece::Blocked => Ok(Turn::Blocked),
-        Piece::Ended => Ok(Turn::Ended),
-        Piece::Interrupted => Ok(Turn::More),
+        Piece::Blocked => Ok((Turn::Blocked, NOTHING)),
+        Piece::Ended => Ok((Turn::Ended, NOTHING)),
+        Piece::Interrupted => Ok((Turn::More, NOTHING)),
     }
 }
 

@@ -1,0 +1,115 @@
+//! What a loop tells of what happens.
+
+use std::net::SocketAddr;
+use thiserror::Error;
+
+/// Why a connection ended: the first cause, where there are several.
+#[derive(Clone, Copy, Debug, Error)]
+pub enum Ending {
+    /// Its client has shut its side.
+    #[error("its client has shut it")]
+    Shut,
+    /// Its client took leave.
+    #[error("DISCONNECT")]
+    Disconnect,
+    /// A frame was refused: the number and the name that its ERROR tells.
+    #[error("ERROR {0}")]
+    Refused(&'static str),
+    /// More octets are left for it than may be.
+    #[error("its client doesn't read: too much is left for it")]
+    Unread,
+    /// A read or a write failed, or the system doesn't wait for the socket any more.
+    #[error("its stream failed")]
+    Stream,
+    /// Memory was refused where it can't wait for some.
+    #[error("out of memory")]
+    Memory,
+    /// Nothing came of it for as long as it may be silent.
+    #[error("nothing came for too long")]
+    Idle,
+}
+
+/// What a loop has done since it began.
+#[derive(Clone, Copy, Debug)]
+pub struct Figures {
+    /// The connections that there are now: those too whose session is over, while the rest is told to them.
+    pub connections: u64,
+    /// The connections that were taken in.
+    pub opened: u64,
+    /// The frames that were handled.
+    pub frames: u64,
+    /// The messages that were accepted.
+    pub accepted: u64,
+    /// The octets that were read, but for those behind which memory was refused.
+    pub read: u64,
+    /// The octets that were written.
+    pub written: u64,
+}
+
+impl Figures {
+    /// Nothing was done.
+    pub fn new() -> Figures {
+        Figures {
+            connections: 0,
+            opened: 0,
+            frames: 0,
+            accepted: 0,
+            read: 0,
+            written: 0,
+        }
+    }
+
+    /// A connection was taken in.
+    pub(crate) fn note_opened(&mut self) {
+        self.opened = self.opened.saturating_add(1);
+    }
+
+    /// So many octets were written.
+    pub(crate) fn note_written(&mut self, count: usize) {
+        self.written = self.written.saturating_add(count as u64);
+    }
+
+    /// So many octets were read.
+    pub(crate) fn note_read(&mut self, count: usize) {
+        self.read = self.read.saturating_add(count as u64);
+    }
+
+    /// So many frames were handled.
+    pub(crate) fn note_frames(&mut self, count: usize) {
+        self.frames = self.frames.saturating_add(count as u64);
+    }
+
+    /// So many messages were accepted.
+    pub(crate) fn note_accepted(&mut self, count: usize) {
+        self.accepted = self.accepted.saturating_add(count as u64);
+    }
+}
+
+/// What happened. A connection is named by the number of its session, which no other has.
+#[derive(Clone, Copy, Debug)]
+pub enum News {
+    /// A connection was taken in.
+    Opened { number: u64, peer: SocketAddr },
+    /// There is no memory for a new connection, or the system refuses it: it is closed.
+    Unopened { peer: SocketAddr },
+    /// The system has no descriptor left: connections wait until one is free.
+    NoDescriptor,
+    /// Memory was refused to something of a connection, which waits for some.
+    Waits { number: u64 },
+    /// A connection ended: its session was taken away.
+    Ended { number: u64, why: Ending },
+    /// Behind its end all was told to it, or the time for that was over: its socket is closed.
+    Closed { number: u64 },
+    /// The time of the figures has come.
+    Figures(Figures),
+}
+
+/// Who is told what happens, between the steps of the loop: as long as that takes, nobody is served.
+pub trait Watch {
+    /// This happened.
+    fn tell(&self, news: News);
+}
+
+impl Watch for () {
+    fn tell(&self, _news: News) {}
+}

@@ -1,0 +1,103 @@
+//! What a turn works with, besides the broker and its connections.
+
+use crate::Figures;
+use crate::buffers::Buffers;
+use crate::turn::Brought;
+use std::time::{Duration, Instant};
+
+/// The octets that are read of a connection at a turn: at most, at least, and at first.
+pub(crate) const MOST: usize = 65_536;
+
+const LEAST: usize = 512;
+
+pub(crate) const FIRST: usize = 1_024;
+
+/// The frames that a turn may bring. Behind them the rest waits for the next turn, and the answers are written first.
+pub(crate) const FRAMES: usize = 4_096;
+
+/// The frames of these that a connection may bring at least, however many are ready.
+const FEW: usize = 32;
+
+/// What is the same for all connections at a turn.
+#[derive(Drop)]
+pub(crate) struct Work {
+    pub(crate) buffers: Buffers,
+    pub(crate) figures: Figures,
+    /// When the turn began.
+    pub(crate) now: Instant,
+    /// The frames that each connection may bring.
+    pub(crate) frames: usize,
+}
+
+impl Work {
+    /// Nothing was done yet.
+    pub(crate) fn new(buffers: Buffers, now: Instant) -> Work {
+        Work {
+            buffers,
+            figures: Figures::new(),
+            now,
+            frames: FRAMES,
+        }
+    }
+
+    /// Shares the frames of a turn among so many sockets that are ready.
+    pub(crate) fn share(&mut self, ready: usize) {
+        if ready > 0 {
+            self.frames = (FRAMES / ready).max(FEW);
+        }
+    }
+}
+
+/// The octets that a connection may read next, where it read at most `share` of them last. Where they had more frames
+/// than it may bring, as many as these would have had by that; where there were more octets and much fewer frames,
+/// twice as many.
+pub(crate) fn next_share(share: usize, brought: Brought, frames: usize) -> usize {
+    if brought.frames > frames {
+        let each = brought.octets / brought.frames;
+        each.saturating_mul(frames).clamp(LEAST, MOST)
+    } else if brought.octets >= share && brought.frames <= frames / 2 {
+        share.saturating_mul(2).min(MOST)
+    } else {
+        share
+    }
+}
+
+/// What is due again and again, or never.
+#[derive(Clone, Copy, Debug)]
+pub(crate) struct Interval {
+    every: Option<Duration>,
+    next: Instant,
+}
+
+impl Interval {
+    /// It is due after this time first.
+    pub(crate) fn new(every: Option<Duration>, now: Instant) -> Interval {
+        let mut interval = Interval { every, next: now };
+        interval.pass(now);
+        interval
+    }
+
+    /// It is due again after its time: never, where the clock has no such time.
+    fn pass(&mut self, now: Instant) {
+        if let Some(every) = self.every {
+            match now.checked_add(every) {
+                Some(next) => self.next = next,
+                None => self.every = None,
+            }
+        }
+    }
+
+    /// Whether it is due now.
+    pub(crate) fn is_due(&mut self, now: Instant) -> bool {
+        if self.every.is_none() || self.next > now {
+            return false;
+        }
+        self.pass(now);
+        true
+    }
+
+    /// It is due again at once.
+    pub(crate) fn hurry(&mut self, now: Instant) {
+        self.next = now;
+    }
+}
