@@ -40,12 +40,12 @@ class Closed(Exception):
 
 
 class Client:
-    def __init__(self, port, seconds=10, receive_buffer=None):
-        self.socket = socket.socket()
+    def __init__(self, port, seconds=10, receive_buffer=None, address="127.0.0.1"):
+        self.socket = socket.socket(socket.AF_INET6 if ":" in address else socket.AF_INET)
         if receive_buffer:
             self.socket.setsockopt(socket.SOL_SOCKET, socket.SO_RCVBUF, receive_buffer)
         self.socket.settimeout(seconds)
-        self.socket.connect(("127.0.0.1", port))
+        self.socket.connect((address, port))
         self.socket.setsockopt(socket.IPPROTO_TCP, socket.TCP_NODELAY, 1)
         self.held = b""
 

@@ -1,23 +1,32 @@
-//! A message broker of STOMP 1.2 on a port of 127.0.0.1.
+//! A message broker of STOMP 1.2 on a port: of 127.0.0.1, or of the address of `--listen`.
 //!
-//! It prints `listening PORT` once clients can connect, and serves them until it is killed.
+//! It prints `listening PORT` once clients can connect, and serves them until it is killed, or with
+//! `--until-input-ends` until its standard input ends.
 #![tactic(auto)]
 
+mod input;
+mod plan;
+mod told;
 mod words;
 
 use base::limits::MAX_QUEUED;
 use broker_core::Broker;
-use broker_server::{ServeFault, Stop, serve};
+use broker_server::{ServeFault, Stop, serve_watched};
 use clap::error::ErrorKind as WordFault;
 use command_line::{tell_bad_words, tell_words};
+use input::wait_for_end;
+use log::sink::Console;
+use log::{Logged, info};
 use mio::net::TcpListener;
+use plan::{Plan, plan_of};
 use std::io::{ErrorKind, Write};
-use std::net::{Ipv4Addr, Net, SocketAddr};
+use std::net::{Net, SocketAddr};
 use std::process::ExitCode;
 use std::sync::Wait;
 use std::time::Clock;
-use std::{env, io};
-use words::{USAGE, read_port};
+use std::{env, io, thread};
+use told::{TARGET, Told};
+use words::{Settings, USAGE, read_settings};
 
 /// Tells on standard error why the program ends with status 1.
 fn tell_fault(rt: &impl Eprint, fault: ServeFault) -> io::Result<u8> {
@@ -26,8 +35,8 @@ fn tell_fault(rt: &impl Eprint, fault: ServeFault) -> io::Result<u8> {
 }
 
 /// Listens on a port and tells which: where 0 was asked for, it is one that the system picked.
-fn listen<R: Net + Print>(rt: &R, port: u16) -> io::Result<TcpListener> {
-    let listener = TcpListener::bind(rt, SocketAddr::from((Ipv4Addr::LOCALHOST, port)))?;
+fn listen<R: Net + Print>(rt: &R, address: SocketAddr) -> io::Result<TcpListener> {
+    let listener = TcpListener::bind(rt, address)?;
     let bound = listener.local_addr()?.port();
     let mut out = io::writer(rt);
     writeln!(out, "listening {bound}")?;
@@ -35,27 +44,44 @@ fn listen<R: Net + Print>(rt: &R, port: u16) -> io::Result<TcpListener> {
     Ok(listener)
 }
 
-/// Serves a port. The answer is the status.
-fn run_broker<R: Net + Wait + Clock + Print + Eprint + AllocGlobal>(
+/// Serves a listener until it's asked to stop, and tells what happens. The answer is the status.
+fn serve_all<R: Net + Wait + Clock>(
     rt: &R,
-    port: u16,
+    host: &HostRuntime,
+    mut listener: TcpListener,
+    plan: Plan,
+    stop: &Stop,
 ) -> io::Result<u8> {
-    let Ok(mut listener) = listen(rt, port) else {
-        return tell_fault(rt, ServeFault::Device);
-    };
-    let mut broker: Broker<MAX_QUEUED> = Broker::new(rt.alloc());
-    match serve(rt, rt.alloc(), &mut broker, &mut listener, &Stop::new()) {
-        Ok(()) => Ok(0),
-        Err(fault) => tell_fault(rt, fault),
+    let log = Logged::new(*host, plan.level, Console(*host));
+    if let Ok(address) = listener.local_addr() {
+        info!(log; target: TARGET, "listening on {address}");
+    }
+    let mut broker: Broker<MAX_QUEUED> = Broker::new(host.alloc());
+    let told = Told::new(&log);
+    let served = serve_watched(
+        rt,
+        host.alloc(),
+        &mut broker,
+        &mut listener,
+        stop,
+        plan.options,
+        &told,
+    );
+    match served {
+        Ok(()) => {
+            info!(log; target: TARGET, "its input has ended");
+            Ok(0)
+        }
+        Err(fault) => tell_fault(host, fault),
     }
 }
 
-/// The port that the words of the command line ask for; or the status, where they ask for something else, which is told
-/// then.
-fn read_words(rt: &HostRuntime) -> io::Result<Result<u16, u8>> {
+/// What is to be served, and how; or the status, where the words of the command line ask for something else or it can't be
+/// had, which is told then.
+fn begin(rt: &HostRuntime) -> io::Result<Result<(TcpListener, Plan), u8>> {
     let words: Vec<String> = env::args(rt)?.collect(rt.alloc())?;
-    match read_port(rt.alloc(), words.as_slice()) {
-        Ok(port) => Ok(Ok(port)),
+    match read_settings(rt.alloc(), words.as_slice()) {
+        Ok(settings) => open(rt, settings),
         Err(error) if error.kind() == WordFault::OutOfMemory => {
             Err(io::Error::from(ErrorKind::OutOfMemory))
         }
@@ -63,18 +89,53 @@ fn read_words(rt: &HostRuntime) -> io::Result<Result<u16, u8>> {
     }
 }
 
-fn main(rt: HostRuntime) -> io::Result<ExitCode> {
-    let status = match read_words(&rt) {
-        Ok(Ok(port)) => run_broker(&rt, port)?,
-        Ok(Err(status)) => status,
-        Err(error) if error.kind() == ErrorKind::OutOfMemory => {
-            tell_fault(&rt, ServeFault::Memory)?
+/// Opens what these settings ask for.
+fn open(rt: &HostRuntime, settings: Settings<'_>) -> io::Result<Result<(TcpListener, Plan), u8>> {
+    match plan_of(settings) {
+        Ok(plan) => match listen(rt, plan.address) {
+            Ok(listener) => Ok(Ok((listener, plan))),
+            Err(_) => Ok(Err(tell_fault(rt, ServeFault::Device)?)),
+        },
+        Err(text) => {
+            eprintln!(rt; "{text}")?;
+            Ok(Err(2))
         }
+    }
+}
+
+/// Tells why nothing could begin. The answer is the status.
+fn tell_error(rt: &HostRuntime, error: io::Error) -> io::Result<u8> {
+    match error.kind() {
+        ErrorKind::OutOfMemory => tell_fault(rt, ServeFault::Memory),
         // Words that aren't UTF-8, which nothing else here is.
-        Err(error) if error.kind() == ErrorKind::InvalidData => {
-            tell_bad_words(&mut rt.stderr(), USAGE)?
-        }
-        Err(error) => return Err(error),
+        ErrorKind::InvalidData => tell_bad_words(&mut rt.stderr(), USAGE),
+        _ => Err(error),
+    }
+}
+
+fn main(rt: HostRuntime) -> io::Result<ExitCode> {
+    let (listener, plan) = match begin(&rt) {
+        Ok(Ok(begun)) => begun,
+        Ok(Err(status)) => return Ok(ExitCode::from(status)),
+        Err(error) => return Ok(ExitCode::from(tell_error(&rt, error)?)),
     };
-    Ok(ExitCode::from(status))
+    let stop = Stop::new();
+    if !plan.until_input_ends {
+        let status = serve_all(&rt, &rt, listener, plan, &stop)?;
+        return Ok(ExitCode::from(status));
+    }
+    // Where serving ends by itself the program does so too, whatever its input does.
+    let (status, ()) = thread::join(
+        &rt,
+        || {
+            let status = serve_all(&rt, &rt, listener, plan, &stop);
+            stop.ask();
+            status
+        },
+        || {
+            wait_for_end(&rt, rt.alloc(), &mut rt.reader(), &stop);
+            stop.ask();
+        },
+    );
+    Ok(ExitCode::from(status?))
 }

@@ -2,23 +2,40 @@
 
 ghost use Rattle.std.specs.Prelude.{◌≡◌, true, map, IfErr, IfOk};
 ghost use Rattle.clap.specs.Words.{FailsBy, app_of, fault_of, kind_of, takes};
-ghost use Rattle.outbox_broker.specs.Usage.{command_line};
+ghost use Rattle.outbox_broker.specs.Usage.{command_line, plain_command_line};
 
 use clap::error::ErrorKind;
-use clap::{Arg, ArgAction, Command, Error, value_parser};
+use clap::{Arg, ArgAction, ArgMatches, Command, Error, value_parser};
 use std::alloc::{AllocError, Global};
 use std::convert::AsStr;
 
 /// How the program is called.
-pub const USAGE: &str = "outbox-broker --port <PORT>";
+pub const USAGE: &str = "outbox-broker --port <PORT> [--listen <ADDRESS>] [OPTIONS]";
+
+/// Where it listens, where nothing else is said.
+const ADDRESS: &str = "127.0.0.1";
+
+/// What is told, where nothing else is said.
+const LEVEL: &str = "error";
 
 /// What `--version` tells behind the program's name.
 const VERSION: &str = "0.1.0";
 
 /// What the broker is and isn't, for `--help`.
 const PROFILE: &str = "\
-It listens on 127.0.0.1 alone, prints `listening PORT` when clients can connect, and serves until it
-is killed. Messages are kept in memory: they don't outlive it.
+It prints `listening PORT` when clients can connect, and serves until it's killed, or with
+`--until-input-ends` until its standard input ends: its connections are closed then, and the status
+is 0. Messages are kept in memory: they don't outlive it. It listens on 127.0.0.1 alone, or on the
+address of `--listen`, as 0.0.0.0 or :: for all that the machine has. There is no login and no TLS:
+whoever can reach the address may send, take and read all messages.
+
+What this machine is short of is told on standard error, a line each; with --log warn also which
+client is sent away and why, as `[WARN  outbox-broker] connection 7 ended: ..`, with --log info also
+who connects and leaves, with --log debug also sockets that close and what waits for memory. While
+standard error takes nothing nobody is served. With --figures a line
+`figures connections=N opened=N frames=N accepted=N read=N written=N` comes again and again: how
+many connections there are, and since the start how many were opened, frames handled, messages
+accepted, and octets read and written.
 
 What it offers of STOMP 1.2:
   CONNECT and STOMP    version 1.2 must be accepted; no login is asked for, no heart-beats are offered
@@ -42,6 +59,23 @@ Exit status:
      the time; `fault 34 Memory`: out of memory at the start
   2  the words of the command line are at fault";
 
+/// What the words ask for.
+#[derive(Clone, Copy, Debug)]
+pub struct Settings<'a> {
+    /// The port to listen on; with 0 the system picks one.
+    pub port: u16,
+    /// The text of the address to listen on.
+    pub address: &'a str,
+    /// Whether it ends when its standard input does.
+    pub until_input_ends: bool,
+    /// The word for what is told.
+    pub log: &'a str,
+    /// After how many seconds figures are told, again and again.
+    pub figures: Option<u64>,
+    /// For how many seconds a connection may be silent.
+    pub idle: Option<u64>,
+}
+
 /// The command line, as `clap` has it.
 fn make_command<'a>(alloc: Global) -> Result<Command<'a>, AllocError>
     ensures { IfOk result (λ command. app_of command ≡ command_line) }
@@ -53,25 +87,85 @@ fn make_command<'a>(alloc: Global) -> Result<Command<'a>, AllocError>
         .value_name("PORT")
         .help("The port to listen on; with 0 the system picks one")
         .value_parser(value_parser!(u16));
+    let listen = Arg::new(alloc, "listen")
+        .long("listen")
+        .action(ArgAction::Set)
+        .value_name("ADDRESS")
+        .default_value(ADDRESS)
+        .help("The address to listen on, of IPv4 or IPv6");
+    let until_input_ends = Arg::new(alloc, "until-input-ends")
+        .long("until-input-ends")
+        .action(ArgAction::SetTrue)
+        .help("Ends with status 0 when standard input ends");
     let command = Command::new(alloc, "outbox-broker")
         .version(VERSION)
         .about("A message broker of STOMP 1.2, over TCP.")
         .override_usage(USAGE)
         .after_help(PROFILE)
-        .arg(port)?;
+        .arg(port)?
+        .arg(listen)?
+        .arg(until_input_ends)?;
+    add_options(alloc, command)
+}
+
+/// The command line with what is told, and how long a connection may be silent.
+fn add_options<'a>(alloc: Global, command: Command<'a>) -> Result<Command<'a>, AllocError>
+    ensures { app_of command.entry ≡ plain_command_line → IfOk result (λ all. app_of all ≡ command_line) }
+{
+    let log = Arg::new(alloc, "log")
+        .long("log")
+        .action(ArgAction::Set)
+        .value_name("LEVEL")
+        .default_value(LEVEL)
+        .help("What to tell on standard error: off, error, warn, info or debug");
+    let figures = Arg::new(alloc, "figures")
+        .long("figures")
+        .action(ArgAction::Set)
+        .value_name("SECONDS")
+        .help("Tells figures on standard error every so many seconds")
+        .value_parser(value_parser!(u16));
+    let idle = Arg::new(alloc, "idle")
+        .long("idle")
+        .action(ArgAction::Set)
+        .value_name("SECONDS")
+        .help("Closes a connection of which nothing came for so long; LFs count too")
+        .value_parser(value_parser!(u16));
+    let command = command.arg(log)?.arg(figures)?.arg(idle)?;
     Ok(command)
 }
 
-/// Reads the words of the command line, the program's name first: `--port` with a number is all that they may be, but
-/// for `--help` and `--version`.
-pub fn read_port<'a, S: AsStr>(alloc: Global, words: &'a [S]) -> Result<u16, Error>
+/// So many seconds, where they are given and aren't none.
+fn seconds_of(matches: &ArgMatches<'_>, name: &str) -> Option<u64> {
+    match matches.get_one::<u16>(name) {
+        Some(seconds) if seconds > 0 => Some(u64::from(seconds)),
+        _ => None,
+    }
+}
+
+/// What the words ask for, whose matches these are.
+fn settings_of<'a>(matches: &ArgMatches<'a>) -> Settings<'a> {
+    Settings {
+        port: matches.get_one::<u16>("port").unwrap_or(0),
+        address: matches.get_str("listen").unwrap_or(ADDRESS),
+        until_input_ends: matches.get_flag("until-input-ends"),
+        log: matches.get_str("log").unwrap_or(LEVEL),
+        figures: seconds_of(matches, "figures"),
+        idle: seconds_of(matches, "idle"),
+    }
+}
+
+/// Reads the words of the command line, the program's name first.
+///
+/// # Errors
+/// Where they ask for no run: help, the version, or a fault of theirs.
+pub fn read_settings<'a, S: AsStr>(alloc: Global, words: &'a [S]) -> Result<Settings<'a>, Error>
     ensures takes { IfErr result (λ e. takes command_line (map S.text words.now) ≡ true
         → kind_of e ≡ ErrorKind.OutOfMemory) }
     ensures fails { FailsBy (fault_of command_line (map S.text words.now)) result }
 {
     let command: Command<'a> = make_command(alloc)?;
     match command.try_get_matches_from(words) {
-        Ok(matches) => Ok(matches.get_one::<u16>("port").unwrap_or(0)),
+        Ok(matches) => Ok(settings_of(&matches)),
         Err(error) => Err(error),
     }
 }

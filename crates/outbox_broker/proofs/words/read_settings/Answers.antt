@@ -2,7 +2,7 @@ use Rattle.std.proofs.Common.{◌≡◌, true, [], sym, subst, refl}
 use Rattle.std.specs.Prelude.{map}
 use Rattle.clap.specs.Words.{App, HasKind, fault_of, is_simple_and_free, takes}
 use Rattle.outbox_broker.specs.Usage.{command_line}
-use Rattle.outbox_broker.proofs.words.read_port.Goals as goal
+use Rattle.outbox_broker.proofs.words.read_settings.Goals as goal
 
 -- the command is one of those whose faults are known
 is_known : is_simple_and_free command_line ≡ true

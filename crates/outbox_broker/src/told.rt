@@ -1,0 +1,67 @@
+//! What is told on standard error of what happens.
+
+use broker_server::{Ending, Figures, News, Watch};
+use log::{Log, debug, error, info, warn};
+
+/// Of what the lines tell.
+pub const TARGET: &str = "outbox-broker";
+
+/// Tells what happens by lines of a log, and the figures whatever its level is.
+#[derive(Drop)]
+pub struct Told<'a, R> {
+    rt: &'a R,
+}
+
+impl<'a, R> Told<'a, R> {
+    /// By this runtime's log.
+    pub fn new(rt: &'a R) -> Told<'a, R> {
+        Told { rt }
+    }
+}
+
+/// Tells that a connection ended. That a client goes, however it does, is told as what happens; that it is sent away is
+/// a warning; and what this machine is short of is an error.
+fn tell_end<R: Log>(rt: &R, number: u64, why: Ending) {
+    match why {
+        Ending::Shut | Ending::Disconnect | Ending::Stream => {
+            info!(rt; target: TARGET, "connection {number} ended: {why}");
+        }
+        Ending::Refused(_) | Ending::Unread | Ending::Idle => {
+            warn!(rt; target: TARGET, "connection {number} ended: {why}");
+        }
+        Ending::Memory => error!(rt; target: TARGET, "connection {number} ended: {why}"),
+    }
+}
+
+/// Tells the figures. Where standard error takes no more nobody would read them.
+fn tell_figures<R: Eprint>(rt: &R, of: Figures) {
+    let _ = eprintln!(rt;
+        "figures connections={} opened={} frames={} accepted={} read={} written={}",
+        of.connections, of.opened, of.frames, of.accepted, of.read, of.written
+    );
+}
+
+impl<R: Log + Eprint> Watch for Told<'_, R> {
+    fn tell(&self, news: News) {
+        let rt = self.rt;
+        match news {
+            News::Opened { number, peer } => {
+                info!(rt; target: TARGET, "connection {number} opened by {peer}");
+            }
+            News::Unopened { peer } => {
+                error!(rt; target: TARGET, "no memory for a connection: {peer} is sent away");
+            }
+            News::NoDescriptor => {
+                error!(rt; target: TARGET, "no descriptor is left: connections wait for one");
+            }
+            News::Waits { number } => {
+                debug!(rt; target: TARGET, "connection {number} waits for memory");
+            }
+            News::Ended { number, why } => tell_end(rt, number, why),
+            News::Closed { number } => {
+                debug!(rt; target: TARGET, "connection {number} is closed");
+            }
+            News::Figures(figures) => tell_figures(rt, figures),
+        }
+    }
+}
