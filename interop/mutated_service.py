@@ -82,7 +82,7 @@ class Wire(Client):
 
     def __init__(self, taken, sent):
         self.socket, self.held, self.sent = taken, b"", sent
-        taken.settimeout(20)
+        taken.settimeout(120)
         taken.setsockopt(socket.IPPROTO_TCP, socket.TCP_NODELAY, 1)
         self.expect("CONNECT")
         self.send("CONNECTED", {"version": "1.2", "heart-beat": "0,0"})
