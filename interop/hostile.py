@@ -320,7 +320,7 @@ def few_descriptors():
         for client in clients:
             client.close()
         return (f"{len(first)} were served, {len(second)} when these had gone, {len(third)} more later; the broker took {spent:.2f} s of processor meanwhile",
-                # the honest client may not be counted yet, and what the broker inherited may lie above the limit
+                # what the broker inherited may lie above the limit
                 len(first) in range(18, 23) and len(second) >= 18 and spent < 0.5)
     finally:
         resource.prlimit(PID, resource.RLIMIT_NOFILE, limits)
@@ -391,6 +391,9 @@ def main():
         before, opened = memory(), descriptors()
         honest = Honest()
         honest.start()
+        # (it's served before the others come, who may take all there is)
+        while not honest.trips and not honest.fault:
+            time.sleep(0.001)
         start = time.monotonic()
         try:
             told, is_right = function()
