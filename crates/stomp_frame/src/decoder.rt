@@ -1,11 +1,12 @@
 //! The decoder: frames from the pieces of a text.
 
-ghost use Rattle.std.specs.Prelude.{◌≡◌, ◌<◌, ◌^◌, [], length, false};
+ghost use Rattle.std.specs.Prelude.{◌≡◌, ◌≢◌, ◌<◌, ◌^◌, [], ◌++◌, length, false, IfOk, OnOk, OnErr};
 ghost use Rattle.stomp_frame.specs.Decoding.{Nexts, FeedsDecoder};
 
 use crate::reading::{Found, Progress, after_gap, read_frame};
 use crate::{Frame, FrameFault};
-use std::alloc::Global;
+use bytes::BytesMut;
+use std::alloc::{AllocError, Global};
 use std::marker::Model;
 
 /// Where it holds nothing, no more room than this is kept: frames of some headers fit, and a large one isn't paid for
@@ -21,9 +22,8 @@ const RESTING: usize = 32_768;
 #[derive(Debug, Drop)]
 pub struct Decoder<const BODY: usize> {
     alloc: Global,
-    octets: Vec<u8>,
-    // where the octets begin that no frame was read from yet
-    start: usize,
+    // those that no frame was read from yet
+    octets: BytesMut,
     // how far these are read
     progress: Progress,
     failed: bool,
@@ -50,8 +50,7 @@ impl<const BODY: usize> Decoder<BODY> {
     {
         Decoder {
             alloc,
-            octets: Vec::new(alloc),
-            start: 0,
+            octets: BytesMut::new(alloc),
             progress: Progress::Line(0),
             failed: false,
         }
@@ -69,14 +68,7 @@ impl<const BODY: usize> Decoder<BODY> {
         if self.failed {
             return Err(FrameFault::Failed);
         }
-        if piece.is_empty() {
-            return Ok(());
-        }
-        // once the larger part was read, so that no octet is moved more often than others are read
-        if self.start > self.octets.len() / 2 {
-            self.move_to_front();
-        }
-        self.octets.extend_from_slice(piece)?;
+        append(self.alloc, &mut self.octets, piece)?;
         Ok(())
     }
 
@@ -92,8 +84,9 @@ impl<const BODY: usize> Decoder<BODY> {
         if self.failed {
             return Err(FrameFault::Failed);
         }
-        let (_, held) = self.octets.split_at(self.start);
-        let text = after_gap(held);
+        let begins = is_at_start(&self.progress);
+        let text = after_gap(self.octets.as_slice());
+        let len = text.len();
         match read_frame(self.alloc, BODY, &mut self.progress, text) {
             Ok(Some(found)) => {
                 let Found {
@@ -102,13 +95,13 @@ impl<const BODY: usize> Decoder<BODY> {
                     body,
                     left,
                 } = found;
-                self.start = self.octets.len() - left;
+                self.octets.advance(self.octets.len() - left);
                 self.progress = Progress::Line(0);
                 Ok(Some(Frame::of(self.alloc, command, headers, body)))
             }
             Ok(None) => {
-                self.start = self.octets.len() - text.len();
-                self.shrink();
+                self.octets.advance(self.octets.len() - len);
+                self.settle(begins);
                 Ok(None)
             }
             Err(fault) => {
@@ -129,31 +122,91 @@ impl<const BODY: usize> Decoder<BODY> {
         ensures value { result ≡ length self.now.octets }
         ensures small { result < 2 ^ 63 }
     {
-        self.octets.len() - self.start
+        self.octets.len()
     }
 
-    /// Moves what it holds to the front of its memory.
-    fn move_to_front(&mut self)
+    /// Moves what it holds to the front of its memory where a frame begins, and gives memory back where it has much
+    /// more than it needs.
+    fn settle(&mut self, begins: bool)
         ensures { self.new ≡ self.old }
     {
-        let held = self.octets.len() - self.start;
-        self.octets.copy_within(self.start.., 0);
-        self.octets.truncate(held);
-        self.start = 0;
-    }
-
-    /// Gives memory back where it has much more than it needs.
-    fn shrink(&mut self)
-        ensures { self.new ≡ self.old }
-    {
-        // a frame that isn't whole fits into it twice, and a piece
-        let room = match self.held_len() {
-            0 => RESTING,
-            _ => BODY.saturating_mul(4),
-        };
-        if self.octets.capacity() > room {
-            self.move_to_front();
-            self.octets.shrink_to(room / 2);
+        // only what is held of a frame when it begins, so that no octet is moved twice
+        if begins {
+            move_to_front(&mut self.octets);
+        }
+        let held = self.octets.len();
+        if held == 0 {
+            shrink(self.alloc, &mut self.octets, RESTING / 2, RESTING / 2);
+        } else {
+            // a frame that isn't whole fits into it, and a piece
+            let most = BODY.saturating_mul(2).max(held);
+            shrink(self.alloc, &mut self.octets, most, held);
         }
     }
+}
+
+/// Whether no octet of a frame is known to go on with it.
+fn is_at_start(progress: &Progress) -> bool {
+    matches!(progress, Progress::Line(0))
+}
+
+/// Appends a piece.
+fn append(alloc: Global, octets: &mut BytesMut, piece: &[u8]) -> Result<(), AllocError>
+    ensures ok { OnOk result (octets.new.items ≡ octets.old.items ++ piece.now) }
+    ensures err { OnErr result (octets.new.items ≡ octets.old.items) }
+    ensures some { OnErr result (piece.now ≢ []) }
+{
+    if octets.capacity() < piece.len() && octets.is_empty() {
+        return begin_with(alloc, octets, piece);
+    }
+    octets.extend_from_slice(piece)
+}
+
+/// Makes a piece the octets, where there are none, in memory of its own length: no room of that has to be filled first.
+#[cold]
+#[inline(never)]
+fn begin_with(alloc: Global, octets: &mut BytesMut, piece: &[u8]) -> Result<(), AllocError>
+    ensures ok { OnOk result (octets.new.items ≡ piece.now) }
+    ensures err { OnErr result ((octets.new.items ≡ octets.old.items) × (piece.now ≢ [])) }
+{
+    if piece.is_empty() {
+        octets.clear();
+        return Ok(());
+    }
+    *octets = BytesMut::copy_from_slice(alloc, piece)?;
+    Ok(())
+}
+
+/// Moves the octets to the front of their memory.
+fn move_to_front(octets: &mut BytesMut)
+    ensures { octets.new.items ≡ octets.old.items }
+{
+    if octets.is_empty() {
+        octets.clear();
+    } else {
+        // there is room for one octet more than behind them only once they are moved
+        let more = octets.capacity() - octets.len() + 1;
+        let _ = octets.try_reclaim(more);
+    }
+}
+
+/// Where they have more room than `most`, takes memory for `kept` octets in its place. At most twice the room that
+/// is seen is allocated.
+fn shrink(alloc: Global, octets: &mut BytesMut, most: usize, kept: usize)
+    ensures { octets.new.items ≡ octets.old.items }
+{
+    if octets.capacity() > most {
+        if let Ok(less) = copy_into(alloc, octets.as_slice(), kept) {
+            *octets = less;
+        }
+    }
+}
+
+/// A copy that has room for so many octets.
+fn copy_into(alloc: Global, octets: &[u8], room: usize) -> Result<BytesMut, AllocError>
+    ensures { IfOk result (λ b. b.items ≡ octets.now) }
+{
+    let mut copy = BytesMut::with_capacity(alloc, room)?;
+    copy.extend_from_slice(octets)?;
+    Ok(copy)
 }
