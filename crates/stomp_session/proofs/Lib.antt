@@ -1,5 +1,6 @@
 pub mod Accepting
 pub mod Framing
+pub mod Measuring
 pub mod Owning
 pub mod ReplyExamples
 pub mod RequestExamples

@@ -75,7 +75,11 @@ impl Outgoing {
         ensures room { self.old.room ≤ self.new.room }
     {
         self.start += count;
-        if self.start > self.octets.len() / 2 {
+        if self.start == self.octets.len() {
+            // Mostly all were taken: nothing is left that would have to move.
+            self.octets.clear();
+            self.start = 0;
+        } else if self.start > self.octets.len() / 2 {
             drop(self.octets.drain(..self.start));
             self.start = 0;
         }

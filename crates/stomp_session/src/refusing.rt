@@ -1,6 +1,6 @@
 //! Why a frame is refused at once.
 
-ghost use Rattle.std.specs.Prelude.{◌≡◌, filter, length};
+ghost use Rattle.std.specs.Prelude.{◌≡◌, filter, length, nat_lt};
 ghost use Rattle.std.specs.List.{list_any};
 ghost use Rattle.stomp_session.specs.Headers.{has_none, has_long, is_own, offers_version};
 ghost use Rattle.stomp_session.specs.Requests.{opens, is_server, lacks, is_large, refusal_of};
@@ -79,11 +79,25 @@ fn has_long(frame: &Frame<MAX_BODY>, name: &str) -> bool
     }
 }
 
+/// Whether any value has more octets than may be echoed.
+fn has_any_long(headers: &[Header]) -> bool
+    ensures { result ≡ list_any (λ h. nat_lt MAX_ECHOED (length h.value)) headers.now }
+{
+    headers
+        .iter()
+        .any(|header| header.value().len() > MAX_ECHOED)
+}
+
 /// Whether one of these values has more octets than may be echoed.
 fn exceeds_any(frame: &Frame<MAX_BODY>, names: &[&str]) -> bool
     ensures { result ≡ list_any (λ name. has_long frame.now name.now) names.now }
 {
-    names.iter().any(|name| has_long(frame, name))
+    // The values alone first: the names are looked for only where one of them is so long.
+    if has_any_long(frame.headers()) {
+        names.iter().any(|name| has_long(frame, name))
+    } else {
+        false
+    }
 }
 
 /// Whether a value that is echoed is too long, or a SEND has too many headers of its own.
@@ -92,8 +106,7 @@ fn is_large(frame: &Frame<MAX_BODY>) -> bool
 {
     match frame.command() {
         Command::Send => {
-            exceeds_any(frame, &["receipt", "transaction"])
-                || own_count(frame.headers()) > MAX_OWN_HEADERS
+            exceeds_any(frame, &["receipt", "transaction"]) || has_many_own(frame.headers())
         }
         Command::Subscribe | Command::Unsubscribe => exceeds_any(frame, &["receipt", "id"]),
         Command::Ack | Command::Nack => exceeds_any(frame, &["receipt", "id", "transaction"]),
@@ -120,6 +133,18 @@ fn own_count(headers: &[Header]) -> usize
     ensures { result ≡ length (filter is_own headers.now) }
 {
     headers.iter().filter(|header| is_own(header)).count()
+}
+
+/// Whether a SEND has more headers of its own than it may have.
+fn has_many_own(headers: &[Header]) -> bool
+    ensures { result ≡ nat_lt MAX_OWN_HEADERS (length (filter is_own headers.now)) }
+{
+    // All are counted first: they are seldom so many.
+    if headers.len() > MAX_OWN_HEADERS {
+        own_count(headers) > MAX_OWN_HEADERS
+    } else {
+        false
+    }
 }
 
 /// Whether 1.2 is one of the versions between commas.
