@@ -1,5 +1,5 @@
 -- What the containers of a broker's queues hold.
-use Rattle.std.specs.Prelude.{◌≡◌, ◌≢◌, ℕ, Bool, ◌==◌, ◌&&◌, nat_le, not, if◌then◌else◌, List, [], ◌∷◌, ◌++◌, length}
+use Rattle.std.specs.Prelude.{◌≡◌, ◌≢◌, ◌+◌, ◌-◌, ℕ, Bool, ◌==◌, ◌&&◌, nat_le, not, if◌then◌else◌, List, [], ◌∷◌, ◌++◌, length}
 use Rattle.std.specs.Prelude.{filter, Option}
 use Rattle.std.specs.Prelude.{Some, None}
 use Rattle.std.specs.Option.{unwrap_or}
@@ -102,6 +102,14 @@ without_number number q = record q { numbers = without number q.numbers }
 -- a queue with this count
 abbrev pub counting : ℕ → Queue → Queue
 counting count q = record q { count = count }
+
+-- a queue with one message more, at the end, which is counted
+abbrev pub with_counted : Place → Queue → Queue
+with_counted place q = record q { numbers = q.numbers ++ place ∷ []; count = q.count + 1 }
+
+-- a queue that counts one message fewer, if it counts any
+abbrev pub counting_fewer : Queue → Queue
+counting_fewer q = record q { count = q.count - 1 }
 
 -- a queue that is ready from this number on
 abbrev pub ready_from : ℕ → Queue → Queue

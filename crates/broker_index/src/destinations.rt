@@ -1,11 +1,11 @@
 //! The destinations of a broker.
 
-ghost use Rattle.std.specs.Prelude.{◌≡◌, ◌≢◌, ◌<◌, ℕ, [], true, false, map, All, Some, IfNone, IfOk, IfSome, OnOk};
+ghost use Rattle.std.specs.Prelude.{◌≡◌, ◌≢◌, ◌<◌, ◌^◌, ◌-◌, ℕ, [], true, false, map, All, Some, IfNone, IfOk, IfSome, OnOk};
 ghost use Rattle.std.specs.Prelude.{OnErr};
 ghost use Rattle.std.specs.Option.{option_copied, option_map, option_and_then, ForSome};
 ghost use Rattle.slab.specs.Slab.{get};
 ghost use Rattle.broker_index.specs.Index.{Sets, is_idle, opened, queue_at, unless_idle, with_number, without_number};
-ghost use Rattle.broker_index.specs.Index.{counting, ready_from};
+ghost use Rattle.broker_index.specs.Index.{counting, counting_fewer, ready_from, with_counted};
 ghost use Rattle.broker_index.specs.Index.{with_subscriber, without_subscriber, taken_from};
 ghost use Rattle.broker_index.specs.Named.{IsIndexed, queues_in};
 ghost use Rattle.broker_index.specs.declared.destinations.Destination.{Destination};
@@ -212,6 +212,40 @@ impl Destinations {
             Some(key) => {
                 self.last = key;
                 self.slab[key].queue.set_count(count);
+            }
+            None => {}
+        }
+    }
+
+    /// Adds a message behind all others of the queue of this name, if there is one, and counts it.
+    ///
+    /// # Errors
+    /// Where memory is refused; then nothing has changed.
+    pub fn push_counted(&mut self, name: &Text, place: Place) -> Result<(), AllocError>
+        requires above { ForSome (queue_at self.old name.now) (λ q. All (λ p. p.number < place.number) q.numbers) }
+        requires room { ForSome (queue_at self.old name.now) (λ q. q.count < 2 ^ 64 - 1) }
+        ensures ok { OnOk result (Sets (queue_at self.old) (queue_at self.new) name.now
+            (option_map (with_counted place) (queue_at self.old name.now))) }
+        ensures err { OnErr result (self.new ≡ self.old) }
+    {
+        match find_queue(&self.slab, &self.keys, self.last, name) {
+            Some(key) => {
+                self.last = key;
+                self.slab[key].queue.push_counted(place)
+            }
+            None => Ok(()),
+        }
+    }
+
+    /// Counts one message fewer of the queue of this name that isn't gone, if there is one. It takes no memory.
+    pub fn lower_count(&mut self, name: &Text)
+        ensures { Sets (queue_at self.old) (queue_at self.new) name.now (option_map counting_fewer
+            (queue_at self.old name.now)) }
+    {
+        match find_queue(&self.slab, &self.keys, self.last, name) {
+            Some(key) => {
+                self.last = key;
+                self.slab[key].queue.lower_count();
             }
             None => {}
         }

@@ -44,14 +44,25 @@ pub(crate) fn find_key<T: Keyed>(slab: &Slab<T>, number: u64, hint: usize) -> Op
     }
 }
 
-/// The value that has this number, if one has.
+/// The value that has this number, looked for everywhere.
+fn search_value<'a, T: Keyed>(slab: &'a Slab<T>, number: u64) -> Option<&'a T>
+    requires { is_rising T.number_of (in_order T.number_of slab.now.slots) ≡ true }
+    ensures { option_copied result ≡ find (λ v. T.number_of v == number) (in_order T.number_of slab.now.slots) }
+{
+    match search_key(slab, number) {
+        Some(key) => slab.get(key),
+        None => None,
+    }
+}
+
+/// The value that has this number, if one has: the one at the hint, mostly, which is looked up once.
 pub(crate) fn find_value<'a, T: Keyed>(slab: &'a Slab<T>, number: u64, hint: usize) -> Option<&'a T>
     requires { is_rising T.number_of (in_order T.number_of slab.now.slots) ≡ true }
     ensures { option_copied result ≡ find (λ v. T.number_of v == number) (in_order T.number_of slab.now.slots) }
 {
-    match find_key(slab, number, hint) {
-        Some(key) => slab.get(key),
-        None => None,
+    match slab.get(hint) {
+        Some(value) if value.key_number() == number => Some(value),
+        _ => search_value(slab, number),
     }
 }
 

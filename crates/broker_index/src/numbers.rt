@@ -100,6 +100,10 @@ fn first_index(places: &VecDeque<Place>, number: u64) -> usize
     if most == 0 || places[most - 1].number < number {
         return most;
     }
+    // Or that before it is, as where what came last is looked for.
+    if most == 1 || places[most - 2].number < number {
+        return most - 1;
+    }
     search(places, number, most)
 }
 

@@ -3,9 +3,9 @@
 //! The two lists are the truth. `ready_from` and `taker_from` are hints: where to look first, never behind what is
 //! looked for, so that one that is too low costs a longer search and no other answer.
 
-ghost use Rattle.std.specs.Prelude.{◌≡◌, ◌<◌, ◌++◌, ◌∷◌, [], ◌≤◌, ◌⊎◌, All, IfSome, OnOk, OnErr};
+ghost use Rattle.std.specs.Prelude.{◌≡◌, ◌<◌, ◌++◌, ◌∷◌, ◌^◌, ◌-◌, [], ◌≤◌, ◌⊎◌, All, IfSome, OnOk, OnErr};
 ghost use Rattle.std.specs.List.{find};
-ghost use Rattle.broker_index.specs.Index.{empty_queue, is_from, is_idle, without};
+ghost use Rattle.broker_index.specs.Index.{counting_fewer, empty_queue, is_from, is_idle, with_counted, without};
 
 use crate::Place;
 use crate::numbers::Places;
@@ -112,6 +112,23 @@ impl StoredQueue {
         ensures { self.new ≡ record self.old { count = count } }
     {
         self.count = count;
+    }
+
+    pub(crate) fn push_counted(&mut self, place: Place) -> Result<(), AllocError>
+        requires above { All (λ p. p.number < place.number) self.old.numbers }
+        requires room { self.old.count < 2 ^ 64 - 1 }
+        ensures ok { OnOk result (self.new ≡ with_counted place self.old) }
+        ensures err { OnErr result (self.new ≡ self.old) }
+    {
+        self.numbers.push(place)?;
+        self.count += 1;
+        Ok(())
+    }
+
+    pub(crate) fn lower_count(&mut self)
+        ensures { self.new ≡ counting_fewer self.old }
+    {
+        self.count = self.count.saturating_sub(1);
     }
 
     pub(crate) fn set_ready_from(&mut self, number: u64)
