@@ -7,8 +7,8 @@ use Rattle.std.specs.Str.{bytes_eq}
 use Rattle.std.proofs.lemmas.Bool.{cases_Bool, eqb-true, and_parts}
 use Rattle.broker_book.specs.declared.parts.Sent.{Sent}
 use Rattle.broker_book.specs.Books.{Fate, is_for}
-use Rattle.broker_index.specs.Index.{Kept, Queue, Sets, opened, empty_queue, is_idle, unless_idle, with_number}
-use Rattle.broker_index.specs.Index.{with_subscriber, counting}
+use Rattle.broker_index.specs.Index.{Kept, Queue, Sets, opened, empty_queue, is_idle, unless_idle, with_counted}
+use Rattle.broker_index.specs.Index.{with_subscriber}
 use Rattle.broker_index.specs.declared.places.Place.{Place}
 use Rattle.broker_queues.specs.Parts.Queues.{LooksFrom}
 use Rattle.broker_queues.specs.Parts.Facts.{kept_at, lists, queue_of, living_as, message_of}
@@ -54,20 +54,12 @@ opens a b name sets d = elim (cases_Bool (bytes_eq name d)) [
 ]
 
 -- a message is listed at its end, and counted
-pub number_added : (a b c e : List ℕ → Option Queue) (name : List ℕ) (place : Place) (count : ℕ)
-    → count ≡ (queue_of a name).count + 1
-    → Sets a b name (Some (opened (a name))) → Sets b c name (option_map (with_number place) (b name))
-    → Sets c e name (option_map (counting count) (c name)) → Becomes (adding place) a e name
-number_added a b c e name place count is p q r =
-    becomes (adding place) a e name at (λ d other. ap opened (r.others d other ∙ q.others d other ∙ p.others d other))
-  where
-    at : queue_of e name ≡ adding place (queue_of a name)
-    at =
-        let two : c name ≡ Some (with_number place (opened (a name))) =
-        q.at ∙ ap (λ o. option_map (with_number place) o) p.at in
-        let three : e name ≡ Some (counting count (with_number place (opened (a name)))) =
-        r.at ∙ ap (λ o. option_map (counting count) o) two in
-        ap opened three ∙ ap (λ n. counting n (with_number place (opened (a name)))) is
+pub number_added : (a b c : List ℕ → Option Queue) (name : List ℕ) (place : Place)
+    → Sets a b name (Some (opened (a name))) → Sets b c name (option_map (with_counted place) (b name))
+    → Becomes (adding place) a c name
+number_added a b c name place p q =
+    becomes (adding place) a c name (ap opened (q.at ∙ ap (λ o. option_map (with_counted place) o) p.at))
+    (λ d other. ap opened (q.others d other ∙ p.others d other))
 
 -- a subscriber is listed at its end
 pub subscriber_added : (a b c : List ℕ → Option Queue) (name : List ℕ) (place : Place)

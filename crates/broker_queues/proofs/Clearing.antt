@@ -7,7 +7,7 @@ use Rattle.std.specs.List.{list_any}
 use Rattle.std.specs.Option.{option_map}
 use Rattle.std.proofs.lemmas.Bool.{cases_Bool, cases_eq, eq-eqb, eqb-true}
 use Rattle.broker_book.specs.declared.parts.Subscription.{Subscription}
-use Rattle.broker_book.specs.Books.{Fate, out_to}
+use Rattle.broker_book.specs.Books.{Fate, Ready, Out, out_to}
 use Rattle.broker_index.specs.Index.{Kept, Subscriber, entries_without, has_age, has_number, without_entries}
 use Rattle.broker_index.specs.declared.places.Entry.{Entry}
 use Rattle.broker_index.specs.declared.places.Place.{Place}
@@ -16,6 +16,7 @@ use Rattle.broker_queues.specs.Parts.Held.{Turns, TurnsAll, entries_of}
 use Rattle.broker_queues.specs.Parts.Facts.{kept_at, subscriber_at, notes}
 use Rattle.broker_queues.specs.Parts.Storing.{Cleared, Clearing, Clears, Forgets, NoneGone, SweepsOne, SweptOne, Tidies}
 use Rattle.broker_queues.specs.Parts.Storing.{first_stale, is_gone, is_stale}
+use Rattle.broker_queues.specs.Parts.Undoing.{is_out_fate}
 use Rattle.broker_queues.specs.Parts.Whole.{Holding, IsSound}
 use Rattle.broker_queues.proofs.Answering.{IsHolder, the_holder}
 use Rattle.broker_queues.proofs.Finding.{IsMapped, any_implies, find_map, find_none, find_passes, is_mapped}
@@ -79,7 +80,7 @@ fewer_noted age kept e old new stale is = by_subscriber (subscriber_at age old) 
         ap (λ l. subscriber_at age l) is ∙ forgets_at age e.number old
         ∙ ap (λ o. option_map (without_entries age e.number) o) at
         ∙ ap (λ t. Some t) (forgets_own age e.number s own) in
-        rw (now, at) (fewer (is_stale kept s.subscription) s.entries e (sym found))
+        rw (now, at) (fewer (is_stale kept) s.entries e (sym found))
 
 -- ---- what is left
 
@@ -108,14 +109,17 @@ swept_more h i j age n subs before is_so f = record {
       ∙ before.others b other;
 }
 
+-- what isn't out is out to none
+not_out : (s : Subscription) (f : Option Fate) → not (passes is_out_fate f) ≡ true
+    → passes (out_to s.session s.id) f ≡ false
+not_out s None off = refl
+not_out s (Some Ready) off = refl
+not_out s (Some (Out x i n)) off = let never : false ≡ true = off in cc
+
 -- the stale delivery isn't out to the subscriber
-stale_off : (kept : List Kept) (s : Subscription) (e : Entry) → is_stale kept s e ≡ true
+stale_off : (kept : List Kept) (s : Subscription) (e : Entry) → is_stale kept e ≡ true
     → passes (out_to s.session s.id) (fate_of_kept (kept_at e.number kept)) ≡ false
-stale_off kept s e stale = elim (cases_Bool (passes (out_to s.session s.id) (fate_of_kept (kept_at e.number kept)))) [
-  | inl on ↦
-      let never : false ≡ true = ap not (sym on) ∙ stale in cc
-  | inr off ↦ off
-]
+stale_off kept s e stale = not_out s (fate_of_kept (kept_at e.number kept)) stale
 
 module _ (i j : Holding) (age : ℕ) (s : Subscriber) (e : Entry) (subs : List Subscriber) (t : Clearing age s i)
     (is_so : subs ≡ map (without_entries age e.number) i.subscribers) (f : Forgets (record i { subscribers = subs })
@@ -146,22 +150,19 @@ out_stays test (Some f) on = refl
 
 module _ (i : Holding) (age : ℕ) (s : Subscriber) (t : Clearing age s i)
     (none : first_stale i.kept (subscriber_at age i.subscribers) ≡ None) where
-  no_stale : list_any (is_stale i.kept t.now.subscription) t.now.entries ≡ false
+  no_stale : list_any (is_stale i.kept) t.now.entries ≡ false
   no_stale =
-      find_none (is_stale i.kept t.now.subscription) t.now.entries
+      find_none (is_stale i.kept) t.now.entries
       (sym (ap (λ o. first_stale i.kept o) t.sits) ∙ none)
 
-  -- whether a fate is out to it
-  abbrev out : Fate → Bool
-  out = out_to t.now.subscription.session t.now.subscription.id
-
-  out_still : (n : ℕ) → notes n t.now.entries ≡ true → passes out (fate_of_kept (kept_at n i.kept)) ≡ true
-  out_still n noted = elim (cases_Bool (passes out (fate_of_kept (kept_at n i.kept)))) [
+  out_still : (n : ℕ) → notes n t.now.entries ≡ true → passes is_out_fate (fate_of_kept (kept_at n i.kept)) ≡ true
+  out_still n noted = elim (cases_Bool (passes is_out_fate (fate_of_kept (kept_at n i.kept)))) [
     | inl on ↦ on
     | inr off ↦
-        let any : list_any (is_stale i.kept t.now.subscription) t.now.entries ≡ true =
-        any_implies {A = Entry} (λ e. e.number == n) (is_stale i.kept t.now.subscription)
-        (λ e same. ap (λ m. not (passes out (fate_of_kept (kept_at m i.kept)))) (eqb-true e.number n same) ∙ ap not off)
+        let any : list_any (is_stale i.kept) t.now.entries ≡ true =
+        any_implies {A = Entry} (λ e. e.number == n) (is_stale i.kept)
+        (λ e same. ap (λ m. not (passes is_out_fate (fate_of_kept (kept_at m i.kept)))) (eqb-true e.number n same)
+        ∙ ap not off)
         t.now.entries noted in
         let never : true ≡ false = sym any ∙ no_stale in
         cc
@@ -172,12 +173,11 @@ module _ (i : Holding) (age : ℕ) (s : Subscriber) (t : Clearing age s i)
     now = t.now;
     sits = t.sits;
     subscription = t.subscription;
-    entries = out_still;
     kept = λ n k there noted. elim (t.kept n k there noted) [
       | inl still ↦ still
       | inr here ↦
           let fate : fate_of_kept (kept_at n i.kept) ≡ k.fate = ap fate_of_kept there in
-          out_stays out k.fate (ap (λ f. passes out f) (sym fate) ∙ out_still n here)
+          out_stays is_out_fate k.fate (ap (λ f. passes is_out_fate f) (sym fate) ∙ out_still n here)
     ];
   }
 
@@ -192,8 +192,8 @@ forgets_stale i is age e subs stale is_so = by_subscriber (subscriber_at age i.s
         → Tidies i (record i { subscribers = subs })
     by_subscriber None at found = let never : Some e ≡ None = found in cc
     by_subscriber (Some s) at found =
-        let on : is_stale i.kept s.subscription e ≡ true =
-        find_passes (is_stale i.kept s.subscription) s.entries e (sym found) in
+        let on : is_stale i.kept e ≡ true =
+        find_passes (is_stale i.kept) s.entries e (sym found) in
         forgot i is age e.number s at (stale_off i.kept s.subscription e on) subs is_so
 
 -- ---- an answer leaves none gone

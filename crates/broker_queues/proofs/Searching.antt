@@ -121,6 +121,12 @@ seeks_ready kept last number name old new q found there is sets first = record {
     by_found None e = tt
     by_found (Some p) e = omega (arith, now, e)
 
+-- it does so already
+pub looks_there : (name : List ℕ) (queues : List ℕ → Option Queue) (q : Queue) (number : ℕ) → queues name ≡ Some q
+    → q.ready_from ≡ number
+    → Sets queues queues name (option_map (ready_from number) (queues name))
+looks_there name queues q number there is = record { at = rw (there, ← is) refl; others = λ d other. refl }
+
 -- nothing is there
 pub seeks_no_taker : (subscribers : List Subscriber) (given last : ℕ) (name : List ℕ) (queues : List ℕ → Option Queue)
     → All (λ s. s.age < last) subscribers → queues name ≡ None
@@ -163,3 +169,9 @@ seeks_taker subscribers given last age name old new q found young there is sets 
     by_found : (o : Option Place) → age ≡ number_or o last → IfSome o (λ p. (queue_of new name).taker_from ≤ p.number)
     by_found None e = tt
     by_found (Some p) e = omega (arith, now, e)
+
+-- it does so already
+pub takes_there : (name : List ℕ) (queues : List ℕ → Option Queue) (q : Queue) (age : ℕ) → queues name ≡ Some q
+    → q.taker_from ≡ age
+    → Sets queues queues name (option_map (taken_from age) (queues name))
+takes_there name queues q age there is = record { at = rw (there, ← is) refl; others = λ d other. refl }

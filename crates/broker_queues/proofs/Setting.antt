@@ -6,6 +6,7 @@ use Rattle.std.specs.Str.{bytes_eq}
 use Rattle.std.proofs.lemmas.Bool.{cases_Bool}
 use Rattle.std.proofs.lemmas.Slice.Eq.{bytes_eq-Decides}
 use Rattle.broker_index.specs.Index.{Queue, Sets, opened, empty_queue, ready_from, taken_from, counting}
+use Rattle.broker_index.specs.Index.{counting_fewer}
 use Rattle.broker_queues.specs.Parts.Facts.{queue_of}
 use Rattle.broker_queues.specs.Parts.Whole.{Lowers}
 use Rattle.broker_queues.specs.Parts.Queues.{LooksFrom, TakesFrom, CountsFewer}
@@ -100,6 +101,12 @@ pub takes_already : (queues : List ℕ → Option Queue) (name : List ℕ) (age 
     → TakesFrom queues queues name age
 takes_already queues name age earlier = record { lowers = Lowers-same queues; counts = λ d. refl; from = earlier }
 
+-- a queue that counts one fewer counts so many
+fewer_as : (old : List ℕ → Option Queue) (name : List ℕ) (o : Option Queue) → old name ≡ o
+    → option_map counting_fewer o ≡ option_map (counting ((queue_of old name).count - 1)) o
+fewer_as old name None is = refl
+fewer_as old name (Some q) is = rw is refl
+
 pub counts_fewer : (old new : List ℕ → Option Queue) (name : List ℕ) (count : ℕ) → count ≡ (queue_of old name).count - 1
     → Sets old new name (option_map (counting count) (old name)) → CountsFewer old new name
 counts_fewer old new name count fewer sets = record {
@@ -125,3 +132,10 @@ counts_fewer old new name count fewer sets = record {
             ap opened (sets.at ∙ ap (λ o. option_map (counting count) o) is) in
             rw (e, is) refl
         by_queue (Some q) is = rw (at_name (counting count) old new name q is sets) fewer
+
+-- one fewer is counted at once
+pub lowers_count : (old new : List ℕ → Option Queue) (name : List ℕ)
+    → Sets old new name (option_map counting_fewer (old name)) → CountsFewer old new name
+lowers_count old new name sets =
+    counts_fewer old new name ((queue_of old name).count - 1) refl
+    (record { at = sets.at ∙ fewer_as old name (old name) refl; others = sets.others })

@@ -1,6 +1,6 @@
 -- A loop over a subscriber's deliveries.
 use Rattle.std.proofs.Common.{◌≡◌, ◌<◌, ◌+◌, ℕ, length, get_or, take, Bool, true, false, List}
-use Rattle.std.proofs.Common.{[], ◌∷◌, ◌++◌, map, Option, Some, None, refl, sym, ap, ◌∙◌}
+use Rattle.std.proofs.Common.{[], ◌∷◌, ◌++◌, map, Option, Some, None, refl, sym, ap, ◌∙◌, arith}
 use Rattle.std.specs.Option.{option_map}
 use Rattle.std.proofs.lemmas.List.{take_more, get_or_default}
 use Rattle.broker_book.specs.declared.parts.Subscription.{Subscription}
@@ -127,6 +127,18 @@ pub counts_out : (s : Subscription) (answered : Option ℕ) (f : Option Fate) �
     → passes (out_to s.session s.id) f ≡ true
 counts_out s None f on = on
 counts_out s (Some answered) f on = covered_out s answered f on
+
+-- a place among the deliveries that the subscriber has now is one among those that it had
+pub within : (h i : Holding) (age : ℕ) (s : Subscriber) (answered : Option ℕ) (again : Bool) (index : ℕ)
+    (u : Subscriber) (es : List Entry)
+    → Some u ≡ subscriber_at age i.subscribers → es ≡ u.entries
+    → Turns h age s (back again) (counts_in s.subscription answered) (take index s.entries) i → index < length es
+    → index < length s.entries
+within h i age s answered again index u es there list t short =
+    let both : Some u ≡ Some t.now = there ∙ t.sits in
+    let same : u ≡ t.now = cc in
+    let lists : es ≡ s.entries = list ∙ ap (λ (v : Subscriber). v.entries) same ∙ t.entries in
+    omega (arith, ap length lists)
 
 module _ (h i : Holding) (is : IsSound h) (age : ℕ) (s : Subscriber) (again : Bool) (answered : Option ℕ) (index : ℕ)
     (u : Subscriber) (es : List Entry)

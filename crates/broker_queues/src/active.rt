@@ -3,7 +3,7 @@
 //! All of it is a hint: a name here says only that its destination is to be looked at. What holds is one thing, that a
 //! destination is awake where a ready message and a subscriber with credit are.
 
-ghost use Rattle.std.specs.Prelude.{◌≡◌, ◌<◌, true, length, remove, OnOk};
+ghost use Rattle.std.specs.Prelude.{◌≡◌, ◌<◌, true, length, remove, IfOk, OnOk};
 ghost use Rattle.std.specs.List.{list_any};
 ghost use Rattle.std.specs.Str.{bytes_eq};
 ghost use Rattle.broker_queues.specs.Parts.Queues.{awake_in};
@@ -19,6 +19,8 @@ pub struct Active {
     pub alloc: Global,
     pub names: Vec<Text>,
     pub all: bool,
+    /// The name that was put to sleep last, for where it wakes again: it is mostly the same one.
+    pub rested: Option<Text>,
 }
 
 /// Whether a name is among names.
@@ -36,14 +38,28 @@ impl Active {
         self.all || has(&self.names, name)
     }
 
+    /// A name in memory of its own.
+    fn own(&mut self, name: &Text) -> Result<Text, AllocError>
+        ensures text { IfOk result (λ text. text ≡ name.now) }
+        ensures names { self.new.names ≡ self.old.names }
+        ensures all { self.new.all ≡ self.old.all }
+    {
+        if let Some(text) = self.rested.take() {
+            if text.same(name) {
+                return Ok(text);
+            }
+        }
+        name.copy(self.alloc)
+    }
+
     /// Notes a name.
     fn note(&mut self, name: &Text) -> Result<(), AllocError>
         ensures wakes { Wakes (awake_in self.old.all self.old.names.items)
             (awake_in self.new.all self.new.names.items) }
         ensures awake { OnOk result (awake_in self.new.all self.new.names.items name.now ≡ true) }
     {
-        let copy = name.copy(self.alloc)?;
-        self.names.push(copy)?;
+        let text = self.own(name)?;
+        self.names.push(text)?;
         Ok(())
     }
 
@@ -53,7 +69,7 @@ impl Active {
         ensures names { self.new.names.items ≡ remove self.old.names.items index }
         ensures all { self.new.all ≡ self.old.all }
     {
-        drop(self.names.remove(index));
+        self.rested = Some(self.names.remove(index));
     }
 
     /// From now on something may be due at a destination.

@@ -25,16 +25,6 @@ pub struct Pick {
     pub taker: Place,
 }
 
-/// Whether a pick's message has at most this number.
-fn is_at_most(best: Option<Pick>, number: u64) -> bool
-    ensures { result ≡ is_at_most best number }
-{
-    match best {
-        Some(pick) => pick.message.number <= number,
-        None => false,
-    }
-}
-
 /// The pick with the earlier message.
 fn earlier(best: Option<Pick>, pick: Pick) -> Pick
     ensures { result ≡ earlier best pick }
@@ -58,8 +48,12 @@ impl Parts {
         ensures { result ≡ is_at_most best (queue_of (queue_at self.now.destinations)
             (slice_index_or self.now.active.names.items index [])).ready_from }
     {
-        let from = ready_from(&self.destinations, &self.active.names[index]);
-        is_at_most(best, from)
+        match best {
+            Some(pick) => {
+                pick.message.number <= ready_from(&self.destinations, &self.active.names[index])
+            }
+            None => false,
+        }
     }
 
     /// The deal of the destination at a place among those that are awake, if one can be made there. The destination
@@ -89,7 +83,7 @@ impl Parts {
         let mut best = None;
         let mut index = 0;
         while index < self.active.names.len() {
-            // The hint first: it is one look-up, and saves the walk where a message can't be the first.
+            // The hint first: it is one look-up at most, and saves the walk where a message can't be the first.
             if self.is_behind(index, best) {
                 index += 1;
             } else if let Some(pick) = self.look(index) {

@@ -9,10 +9,12 @@ ghost use Rattle.broker_index.specs.Index.{places_at};
 ghost use Rattle.broker_index.specs.Standing.{fate_of};
 ghost use Rattle.broker_queues.specs.Parts.Facts.{kept_at, subscriber_at};
 ghost use Rattle.broker_queues.specs.Parts.Fates.{back, counts_in, fate_of_kept, is_held, is_held_at, passes};
-ghost use Rattle.broker_queues.specs.Parts.Held.{Responds, TakesBack, TurnsAll, TurnsNext, entries_of, holding_of};
+ghost use Rattle.broker_queues.specs.Parts.Held.{Responds, TakesBack, TurnsAll, TurnsNext, TurnsPast, entries_of};
+ghost use Rattle.broker_queues.specs.Parts.Held.{holding_of};
 ghost use Rattle.broker_queues.specs.Parts.Storing.{Clears, NoneGone, Sweeps, SweepsOne, first_stale, is_stale};
+ghost use Rattle.broker_queues.specs.Parts.Undoing.{is_out_fate};
 ghost use Rattle.broker_queues.specs.Parts.Whole.{IsSound};
-ghost use Rattle.std.specs.Prelude.{◌&&◌, ◌==◌, ◌≡◌, find, length};
+ghost use Rattle.std.specs.Prelude.{◌&&◌, ◌==◌, ◌≡◌, ◌≤◌, find, length};
 ghost use Rattle.std.specs.Str.{bytes_eq};
 
 use crate::destinations::{free, mark};
@@ -45,8 +47,9 @@ pub fn covers(standing: &Standing, subscription: &Subscription, answered: Option
 {
     match standing {
         Standing::Out(holder) => match answered {
-            Some(answered) => belongs(holder, subscription)
-                && subscription.mode.reaches(answered, holder.ack),
+            // The number first: it tells most of a subscription's deliveries apart, and is quicker than a name.
+            Some(answered) => subscription.mode.reaches(answered, holder.ack)
+                && belongs(holder, subscription),
             None => belongs(holder, subscription),
         },
         Standing::Ready | Standing::Gone => false,
@@ -58,7 +61,17 @@ fn is_standing_as(standing: &Standing, subscription: &Subscription, ack: u64) ->
     ensures { result ≡ passes (out_as subscription.now.session subscription.now.id ack) (fate_of standing.now) }
 {
     match standing {
-        Standing::Out(holder) => { belongs(holder, subscription) && holder.ack == ack }
+        Standing::Out(holder) => holder.ack == ack && belongs(holder, subscription),
+        Standing::Ready | Standing::Gone => false,
+    }
+}
+
+/// Whether a message that is there is out.
+pub fn is_out(standing: &Standing) -> bool
+    ensures { result ≡ passes is_out_fate (fate_of standing.now) }
+{
+    match standing {
+        Standing::Out(_) => true,
         Standing::Ready | Standing::Gone => false,
     }
 }
@@ -146,6 +159,28 @@ impl Parts {
         }
     }
 
+    /// Where the first of a subscriber's deliveries is, from a place on, for which an answer to the delivery `answered`
+    /// counts; behind all, where there is none.
+    fn next_covered(&self, age: u64, age_key: usize, from: usize, answered: Option<u64>) -> usize
+        ensures behind { from ≤ result }
+        ensures passes { TurnsPast (holding_of self.now) age from answered result }
+    {
+        let Some(subscriber) = self.subscribers.get(age, age_key) else {
+            return from;
+        };
+        let entries = subscriber.entries();
+        let subscription = subscriber.subscription();
+        let mut index = from;
+        while index < entries.len() {
+            let entry = entries[index];
+            if self.is_covered(entry.number, entry.key, subscription, answered) {
+                return index;
+            }
+            index += 1;
+        }
+        index
+    }
+
     /// Takes back the deliveries of a subscriber for which an answer to the delivery `answered` counts, without an
     /// answer all: their messages are ready again, or else gone. It does the same where memory is refused.
     pub fn answer(&mut self, age: u64, age_key: usize, answered: Option<u64>, again: bool)
@@ -153,8 +188,10 @@ impl Parts {
     {
         // No entry goes here, so the places stay: what is stale is swept once nothing can be undone any more.
         let len = self.entries_len(age, age_key);
-        for index in 0..len {
+        let mut index = self.next_covered(age, age_key, 0, answered);
+        while index < len {
             self.answer_one(age, age_key, index, answered, again);
+            index = self.next_covered(age, age_key, index + 1, answered);
         }
     }
 
@@ -210,32 +247,40 @@ impl Parts {
         self.first_held(self.sessions.get(session), ack)
     }
 
-    /// The first of these deliveries that isn't out to a subscription any more.
-    fn first_stale_in(&self, entries: &[Entry], subscription: &Subscription) -> Option<Entry>
-        ensures { result ≡ find (is_stale self.now.messages subscription.now) entries.now }
+    /// Whether a message isn't out.
+    fn is_stale(&self, entry: &Entry) -> bool
+        ensures { result ≡ is_stale self.now.messages entry.now }
+    {
+        match self.messages.get(entry.number, entry.key) {
+            Some(stored) => !is_out(stored.standing()),
+            None => true,
+        }
+    }
+
+    /// The first of these deliveries whose message isn't out any more.
+    fn first_stale_in(&self, entries: &[Entry]) -> Option<Entry>
+        ensures { result ≡ find (is_stale self.now.messages) entries.now }
     {
         for entry in entries {
-            if !self.is_covered(entry.number, entry.key, subscription, None) {
+            if self.is_stale(entry) {
                 return Some(*entry);
             }
         }
         None
     }
 
-    /// The first of a subscriber's deliveries that isn't out to it any more.
+    /// The first of a subscriber's deliveries whose message isn't out any more.
     fn first_stale(&self, age: u64, age_key: usize) -> Option<Entry>
         ensures { result ≡ first_stale self.now.messages (subscriber_at age self.now.subscribers) }
     {
         match self.subscribers.get(age, age_key) {
-            Some(subscriber) => {
-                self.first_stale_in(subscriber.entries(), subscriber.subscription())
-            }
+            Some(subscriber) => self.first_stale_in(subscriber.entries()),
             None => None,
         }
     }
 
-    /// Forgets a subscriber's deliveries that aren't out to it any more, and takes out their messages that are gone. It
-    /// takes no memory.
+    /// Forgets a subscriber's deliveries whose messages aren't out any more, and takes out those that are gone. A message
+    /// that is out to another one is left for later, which spares a look at names. It takes no memory.
     pub fn sweep(&mut self, age: u64, age_key: usize)
         ensures sweeps { Sweeps (holding_of self.old) (holding_of self.new) }
         ensures clears { Clears (holding_of self.old) age (holding_of self.new) }

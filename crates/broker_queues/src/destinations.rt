@@ -75,9 +75,7 @@ fn take_from(destinations: &mut Destinations, name: &Text, age: u64)
 pub fn count_fewer(destinations: &mut Destinations, name: &Text)
     ensures { CountsFewer (queue_at destinations.old) (queue_at destinations.new) name.now }
 {
-    // Where the parts agree the message that goes is counted. That isn't required here, so it must not wrap.
-    let count = count(destinations, name).saturating_sub(1);
-    destinations.set_count(name, count);
+    destinations.lower_count(name);
 }
 
 /// Tells a message's destination that the message is ready again, or else that it has one living message fewer.
@@ -122,14 +120,10 @@ pub fn add_number(
     ensures ok { OnOk result (Becomes (adding place) (queue_at destinations.old) (queue_at destinations.new) name.now) }
     ensures err { OnErr result (Closes (queue_at destinations.old) (queue_at destinations.new)) }
 {
-    let count = count(destinations, name) + 1;
     destinations.open(name)?;
     // A queue that was opened in vain is closed again, or names that nothing goes to would pile up.
-    match destinations.push_number(name, place) {
-        Ok(()) => {
-            destinations.set_count(name, count);
-            Ok(())
-        }
+    match destinations.push_counted(name, place) {
+        Ok(()) => Ok(()),
         Err(error) => {
             destinations.close(name);
             Err(error)
@@ -271,7 +265,11 @@ pub fn seek_ready(
     };
     let found = first_ready(messages, queue, last, name);
     // At what was found and not behind it: another destination's deal may be made first.
-    destinations.set_ready_from(name, number_or(found, last));
+    let from = number_or(found, last);
+    if queue.ready_from() == from {
+        return found;
+    }
+    destinations.set_ready_from(name, from);
     found
 }
 
@@ -289,6 +287,10 @@ pub fn seek_taker(
         return None;
     };
     let found = first_taker(subscribers, queue, given, last, name);
-    destinations.set_taker_from(name, number_or(found, last));
+    let from = number_or(found, last);
+    if queue.taker_from() == from {
+        return found;
+    }
+    destinations.set_taker_from(name, from);
     found
 }

@@ -57,6 +57,7 @@ impl<const FULL: usize> Queues<FULL> {
                     alloc,
                     names: Vec::new(alloc),
                     all: false,
+                    rested: None,
                 },
                 last: 0,
                 given: 0,

@@ -9,14 +9,12 @@ ghost use Rattle.broker_index.specs.Standing.{fate_of};
 ghost use Rattle.broker_queues.specs.Parts.Begun.{Acts, AnswersNoted, Applies, CountsMore, LetsGo, NotesAll, NotesOne};
 ghost use Rattle.broker_queues.specs.Parts.Begun.{PutsAccepted, PutsBack, PutsBackAll, SweepsAll, TakesLast, Undoes};
 ghost use Rattle.broker_queues.specs.Parts.Begun.{Unputs, UnputsAll};
-ghost use Rattle.broker_queues.specs.Parts.Fates.{passes};
 ghost use Rattle.broker_queues.specs.Parts.Held.{holding_of};
 ghost use Rattle.broker_queues.specs.Parts.Storing.{NoneGone, Sweeps};
-ghost use Rattle.broker_queues.specs.Parts.Undoing.{is_out_fate};
 ghost use Rattle.broker_queues.specs.Parts.Whole.{IsSound};
 ghost use Rattle.std.specs.Prelude.{◌+◌, ◌-◌, ◌<◌, ◌≡◌};
 
-use crate::deliveries::covers;
+use crate::deliveries::{covers, is_out};
 use crate::destinations::{count, count_fewer};
 use crate::parts::Parts;
 use broker_book::{Accepted, Action, QueueFault, Sent, Shared, Subscription};
@@ -40,16 +38,6 @@ pub struct Logged {
 pub struct UndoLog {
     pub answers: Vec<Logged>,
     pub keys: Vec<usize>,
-}
-
-/// Whether a message is out.
-fn is_out(standing: &Standing) -> bool
-    ensures { result ≡ passes is_out_fate (fate_of standing.now) }
-{
-    match standing {
-        Standing::Out(_) => true,
-        Standing::Ready | Standing::Gone => false,
-    }
 }
 
 /// One more, where that isn't above the most that can be.

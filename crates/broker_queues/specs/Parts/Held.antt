@@ -68,6 +68,12 @@ TurnsNext old age index answered again new = (h : Holding) (s : Subscriber) → 
     → Turns h age s (back again) (counts_in s.subscription answered) (take index s.entries) old
     → Turns h age s (back again) (counts_in s.subscription answered) (take (index + 1) s.entries) new
 
+-- deliveries were passed over, from one place to another, whatever began
+abbrev pub TurnsPast : Holding → ℕ → ℕ → Option ℕ → ℕ → Type 0
+TurnsPast now age from answered index = (h : Holding) (s : Subscriber) (again : Bool) → IsSound h
+    → Turns h age s (back again) (counts_in s.subscription answered) (take from s.entries) now
+    → Turns h age s (back again) (counts_in s.subscription answered) (take index s.entries) now
+
 -- all were
 abbrev pub TurnsAll : Holding → ℕ → Option ℕ → Bool → Holding → Type 0
 TurnsAll old age answered again new = (s : Subscriber) → IsSound old → subscriber_at age old.subscribers ≡ Some s

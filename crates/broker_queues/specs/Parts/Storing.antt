@@ -15,6 +15,7 @@ use Rattle.broker_index.specs.declared.places.Entry.{Entry}
 use Rattle.broker_index.specs.declared.places.Place.{Place}
 use Rattle.broker_queues.specs.Parts.Fates.{fate_of_kept, passes}
 use Rattle.broker_queues.specs.Parts.Queues.{Frees}
+use Rattle.broker_queues.specs.Parts.Undoing.{is_out_fate}
 use Rattle.broker_queues.specs.Parts.Facts.{kept_at, subscriber_at, living_of, subscriptions_of, lists, notes, queue_of}
 use Rattle.broker_queues.specs.Parts.Whole.{Holding, IsSound, Leaves, LooksElsewhere, Puts, book_of}
 
@@ -104,14 +105,14 @@ pub record Forgets (old : Holding) (n : ℕ) (new : Holding) : Type 0 where
   pub kept : (m : ℕ) (k : Kept) → kept_at m new.kept ≡ Some k → kept_at m old.kept ≡ Some k
   pub gone : (m : ℕ) (k : Kept) → kept_at m new.kept ≡ Some k → m ≡ n → is_gone k.fate ≡ false
 
--- whether a delivery isn't out to a subscription any more
-abbrev pub is_stale : List Kept → Subscription → Entry → Bool
-is_stale kept s e = not (passes (out_to s.session s.id) (fate_of_kept (kept_at e.number kept)))
+-- whether the message of a delivery isn't out any more
+abbrev pub is_stale : List Kept → Entry → Bool
+is_stale kept e = not (passes is_out_fate (fate_of_kept (kept_at e.number kept)))
 
--- the first of a subscriber's deliveries that isn't out to it any more
+-- the first of a subscriber's deliveries whose message isn't out any more
 abbrev pub first_stale : List Kept → Option Subscriber → Option Entry
 first_stale kept None = None
-first_stale kept (Some s) = find (is_stale kept s.subscription) s.entries
+first_stale kept (Some s) = find (is_stale kept) s.entries
 
 -- Of the messages that a subscriber noted none is gone and still kept, but for those that it notes yet.
 pub record Clearing (age : ℕ) (s : Subscriber) (new : Holding) : Type 0 where
@@ -121,13 +122,11 @@ pub record Clearing (age : ℕ) (s : Subscriber) (new : Holding) : Type 0 where
   pub kept : (n : ℕ) (k : Kept) → kept_at n new.kept ≡ Some k → notes n s.entries ≡ true
       → (is_gone k.fate ≡ false) ⊎ (notes n now.entries ≡ true)
 
--- A subscriber notes what is out to it alone, and of the messages that it noted none is gone and still kept.
+-- Of the messages that a subscriber noted none is gone and still kept.
 pub record Cleared (age : ℕ) (s : Subscriber) (new : Holding) : Type 0 where
   pub now : Subscriber
   pub sits : subscriber_at age new.subscribers ≡ Some now
   pub subscription : now.subscription ≡ s.subscription
-  pub entries : (n : ℕ) → notes n now.entries ≡ true
-      → passes (out_to now.subscription.session now.subscription.id) (fate_of_kept (kept_at n new.kept)) ≡ true
   pub kept : (n : ℕ) (k : Kept) → kept_at n new.kept ≡ Some k → notes n s.entries ≡ true → is_gone k.fate ≡ false
 
 -- so it is then for the subscriber of an age

@@ -1,16 +1,14 @@
-use Rattle.std.proofs.Common.{◌+◌, ap}
 use Rattle.broker_index.specs.Index.{queue_at}
 use Rattle.broker_queues.proofs.Adding.{closes_again, number_added}
 use Rattle.broker_queues.proofs.destinations.add_number.Goals as goal
 
 pub returns-in-Err-clause-err : goal.returns-in-Err-clause-err
 returns-in-Err-clause-err c =
-    closes_again (queue_at c.args.destinations.now) (queue_at c.push_number.new.self) (queue_at c.close.new.self)
+    closes_again (queue_at c.args.destinations.now) (queue_at c.push_counted.new.self) (queue_at c.close.new.self)
     c.args.name.now
     (rw (← c.in-Err.ensures.err) at c.in_ok-open.ensures.ok) c.close.ensures
 
 pub returns-in-Ok-clause-ok : goal.returns-in-Ok-clause-ok
 returns-in-Ok-clause-ok c =
-    number_added (queue_at c.args.destinations.now) (queue_at c.open.new.self) (queue_at c.push_number.new.self)
-    (queue_at c.set_count.new.self) c.args.name.now c.args.place (c.count-count.result + 1)
-    (ap (λ n. n + 1) c.count-count.ensures) c.in_ok-open.ensures.ok c.in-Ok.ensures.ok c.set_count.ensures
+    number_added (queue_at c.args.destinations.now) (queue_at c.open.new.self) (queue_at c.push_counted.new.self)
+    c.args.name.now c.args.place c.in_ok-open.ensures.ok c.in-Ok.ensures.ok

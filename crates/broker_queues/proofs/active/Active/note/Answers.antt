@@ -3,6 +3,6 @@ use Rattle.broker_queues.proofs.active.Active.note.Goals as goal
 
 pub returns-clause-awake : goal.returns-clause-awake
 returns-clause-awake c =
-    rw c.in_ok-push.ensures.items (noted_name c.args.self.now.all c.args.self.now.names.items c.in_ok-copy.copy
+    rw c.in_ok-push.ensures.items (noted_name c.own.new.self.all c.own.new.self.names.items c.in_ok-text.text
     c.args.name.now
-    c.in_ok-copy.ensures)
+    c.in_ok-text.ensures.text)

@@ -1,4 +1,4 @@
-use Rattle.std.proofs.Common.{◌≡◌, Some, take}
+use Rattle.std.proofs.Common.{◌≡◌, ◌-◌, Some, take}
 use Rattle.broker_index.specs.Index.{Subscriber}
 use Rattle.broker_queues.specs.Parts.Fates.{back, counts_in}
 use Rattle.broker_queues.specs.Parts.Held.{Turns, holding_of}
@@ -12,3 +12,6 @@ invariant-loop-index l =
     → Turns (holding_of l.initial.self) l.age s (back l.again) (counts_in s.subscription l.answered)
     (take l.index s.entries)
     (holding_of l.self)
+
+abbrev pub decreases-loop-index : goal.decreases-loop-index
+decreases-loop-index l = l.len - l.index

@@ -5,5 +5,4 @@ use Rattle.broker_queues.proofs.parts.Parts.first_stale_in.Given as goal
 
 abbrev pub invariant-loop-entry : goal.invariant-loop-entry
 invariant-loop-entry l =
-    find (is_stale l.self.messages l.subscription) l.entries
-    ≡ find (is_stale l.self.messages l.subscription) (drop l.entry-index l.entries)
+    find (is_stale l.self.messages) l.entries ≡ find (is_stale l.self.messages) (drop l.entry-index l.entries)
