@@ -3,7 +3,7 @@ use Rattle.std.proofs.Common.{◌≡◌, ℕ, suc, zero, ◌+◌, ◌<◌, ◌�
 use Rattle.std.proofs.Common.{take, drop}
 use Rattle.std.proofs.Common.{get_or, Option, Some, None}
 use Rattle.std.proofs.Common.{refl, sym, ap, ◌∙◌, arith, drop-cons, inl, inr, Result, Ok, Err}
-use Rattle.std.specs.Prelude.{◌==◌, ◌||◌, slice_set, OnOk, OnErr}
+use Rattle.std.specs.Prelude.{◌==◌, ◌||◌, remove, slice_set, OnOk, OnErr}
 use Rattle.std.specs.List.{find, list_any, position, slice_get}
 use Rattle.std.specs.List.Sorted.{IsSearchInRange, IsBinarySearchResult, IsNonDecreasingBy}
 use Rattle.std.specs.Ordering.{nat_cmp, ordering_index}
@@ -186,6 +186,42 @@ pub rising_others : (n low last : ℕ) (ss : List Session) → AreRising low ss 
 rising_others n low last [] r = r
 rising_others n low last (s ∷ ss) r =
     others_step n low last s ss (is_session n s) refl r.0 (rising_others n s.number last ss r.1)
+
+-- the session at a place is above what all are
+above_got : (low last : ℕ) (ss : List Session) (at : ℕ) (s : Session) → AreRising low ss last
+    → slice_get ss at ≡ Some s
+    → low < s.number
+above_got low last [] at s r get = cc
+above_got low last (x ∷ ss) zero s r get =
+    let m : x ≡ s = cc in
+    let k : x.number ≡ s.number = ap (λ (y : Session). y.number) m in
+    let l : low < x.number = r.0 in omega arith
+above_got low last (x ∷ ss) (suc at) s r get =
+    let k : x.number < s.number = above_got x.number last ss at s r.1 get in
+    let l : low < x.number = r.0 in omega arith
+
+-- those above a number are others than its own
+all_others : (n low last : ℕ) (ss : List Session) → AreRising low ss last → n ≤ low → others n ss ≡ ss
+all_others n low last [] r h = refl
+all_others n low last (s ∷ ss) r h =
+    let l : low < s.number = r.0 in
+    let b : n < s.number = omega arith in
+    rw (other_above s.number n b) (ap (λ l. s ∷ l) (all_others n s.number last ss r.1 (omega arith)))
+
+-- without the session at its place are the others
+pub removed : (n low last : ℕ) (ss : List Session) (at : ℕ) (s : Session) → AreRising low ss last
+    → slice_get ss at ≡ Some s
+    → s.number ≡ n
+    → remove ss at ≡ others n ss
+removed n low last [] at s r get k = cc
+removed n low last (x ∷ ss) zero s r get k =
+    let m : x ≡ s = cc in
+    let is : x.number ≡ n = ap (λ (y : Session). y.number) m ∙ k in
+    rw (same_number x.number n is) (sym (all_others n x.number last ss r.1 (omega arith)))
+removed n low last (x ∷ ss) (suc at) s r get k =
+    let a : x.number < s.number = above_got x.number last ss at s r.1 get in
+    let b : x.number < n = omega arith in
+    rw (other x.number n b) (ap (λ l. x ∷ l) (removed n x.number last ss at s r.1 get k))
 
 -- a session at a place is another one of its number
 pub kept_at : (last : ℕ) (ss news : List Session) (at : ℕ) (s t : Session) → AreRising 0 ss last

@@ -1,5 +1,5 @@
 -- What the decoder answers, as what a session takes.
-use Rattle.std.proofs.Common.{◌≡◌, Bool, false, refl, sym, ap, ◌∙◌}
+use Rattle.std.proofs.Common.{◌≡◌, Bool, false, sym, ap, ◌∙◌}
 use Rattle.std.specs.Prelude.{Option, Some, None, Ok, Err}
 use Rattle.base.specs.declared.limits.TheConstants.{MAX_BODY}
 use Rattle.stomp_frame.specs.Decoding.{Held, Nexts}
@@ -22,10 +22,6 @@ same old new w v e =
     let at_decoder = λ (d : Held). record old { decoder = d; waiting = new.waiting } in
     let at_waiting = λ (x : Option Decided). record old { waiting = x } in
     ap at_decoder e ∙ ap at_waiting (v ∙ sym w)
-
-pub none_of : (o : Option Decided) → ((x : Decided) → o ≡ Some x → ⊥) → o ≡ None
-none_of None h = refl
-none_of (Some x) h = absurd (h x refl)
 
 pub meets : (old new : Incoming) (fault : FrameFault) → is_memory fault ≡ false → old.waiting ≡ None
     → new.waiting ≡ None

@@ -1,6 +1,6 @@
 //! What a session was fed.
 
-ghost use Rattle.std.specs.Prelude.{◌≡◌, ◌<◌};
+ghost use Rattle.std.specs.Prelude.{◌≡◌, ◌<◌, None};
 ghost use Rattle.broker_core.specs.Feeding.{answer_of};
 ghost use Rattle.broker_core.specs.Parts.Taking.{NextAnswer, PieceAnswer, is_memory, left_of};
 ghost use Rattle.broker_core.specs.Serving.{nothing_incoming};
@@ -57,9 +57,21 @@ impl Incoming {
     pub fn next(&mut self, server: ServerSession) -> Result<Next, AllocError>
         ensures { NextAnswer server self.old self.new result }
     {
-        if let Some(decided) = self.waiting.take() {
-            return Ok(Next::Frame(decided));
+        // Looked at before it is taken: mostly nothing waits, and what might is large to move.
+        if self.waiting.is_none() {
+            return self.decode(server);
         }
+        match self.waiting.take() {
+            Some(decided) => Ok(Next::Frame(decided)),
+            None => unreachable!(),
+        }
+    }
+
+    /// Takes the frame that begins the octets out, where nothing waits.
+    fn decode(&mut self, server: ServerSession) -> Result<Next, AllocError>
+        requires { self.old.waiting ≡ None }
+        ensures { NextAnswer server self.old self.new result }
+    {
         match self.decoder.next() {
             Ok(Some(frame)) => Ok(Next::Frame(decide(server, frame))),
             Ok(None) => Ok(Next::Nothing),

@@ -8,7 +8,7 @@ ghost use Rattle.std.specs.Prelude.{◌≡◌, ◌<◌, ◌≤◌, ◌++◌, ◌
 ghost use Rattle.std.specs.Option.{option_copied};
 ghost use Rattle.std.specs.List.{find, position};
 ghost use Rattle.broker_book.specs.Books.{Book};
-ghost use Rattle.broker_core.specs.Calls.{FreshAnswer, OpenAnswer, dropped, is_fresh, new_session, others, out_in};
+ghost use Rattle.broker_core.specs.Calls.{FreshAnswer, OpenAnswer, dropped, is_fresh, new_session, out_in};
 ghost use Rattle.broker_core.specs.Calls.{without_first};
 ghost use Rattle.broker_core.specs.Parts.Taking.{BegunAnswer, PlaceAnswer, StepAnswer};
 ghost use Rattle.broker_core.specs.Parts.Rising.{FreshPlace, IsFreshAt, StandsAt};
@@ -116,10 +116,10 @@ impl Sessions {
         ensures { let old = broker_of queues.old self.old in
             broker_of queues.new self.new ≡ dropped number old (find (is_session number) self.old.sessions) }
     {
-        if self.get(number).is_some() {
+        if let Some(at) = self.place(number) {
             queues.end(number);
             // The hints stay as they are: what they name now is looked at before it counts.
-            remove_from(&mut self.items, number);
+            drop(self.items.remove(at));
         }
     }
 
@@ -263,10 +263,4 @@ fn push_new(items: &mut Vec<Session>, alloc: Global, number: u64) -> Result<(), 
 {
     items.push(Session::new(alloc, number))?;
     Ok(())
-}
-
-fn remove_from(items: &mut Vec<Session>, number: u64)
-    ensures { items.new.items ≡ others number items.old.items }
-{
-    items.retain(|session| !(session.number == number));
 }
