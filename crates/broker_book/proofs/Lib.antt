@@ -5,5 +5,6 @@ pub mod Kept
 pub mod Known
 pub mod Numbers
 pub mod Orderly
+pub mod Wrapped
 mod RunExamples
 mod Examples

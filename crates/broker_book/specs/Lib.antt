@@ -3,4 +3,5 @@ pub mod Faults
 pub mod Known
 pub mod Laws
 pub mod Runs
+pub mod Sizes
 pub mod Steps

@@ -18,6 +18,7 @@ mod fault;
 mod laws;
 mod parts;
 mod shared;
+mod sizes;
 
 pub use fault::QueueFault;
 pub use laws::{
@@ -26,3 +27,4 @@ pub use laws::{
 };
 pub use parts::{Accepted, Action, Mode, Sent, Subscription};
 pub use shared::Shared;
+pub use sizes::{ACTION_OVERHEAD, MESSAGE_OVERHEAD};

@@ -4,5 +4,6 @@ pub mod Feeding
 pub mod Parts
 pub mod Performing
 pub mod Serving
+pub mod Sizes
 pub mod Streams
 pub mod Words

@@ -1,11 +1,15 @@
 //! The broker.
 
-ghost use Rattle.std.specs.Prelude.{◌≡◌, ◌<◌, ◌≤◌, ℕ, [], length};
+ghost use Rattle.std.specs.Prelude.{◌≡◌, ◌<◌, ◌≤◌, ◌%◌, ◌^◌, ℕ, [], length};
+ghost use Rattle.std.specs.List.{list_any};
+ghost use Rattle.broker_book.specs.Books.{out_of};
+ghost use Rattle.broker_book.specs.Sizes.{held_octets};
 ghost use Rattle.broker_core.specs.Calls.{FreshAnswer, OpenAnswer, closed_in, dropped, empty, out_in, without_first};
 ghost use Rattle.broker_core.specs.Feeding.{DispatchAnswer, FeedAnswer};
 ghost use Rattle.broker_core.specs.Parts.Rising.{StandsAt};
 ghost use Rattle.broker_core.specs.Parts.Taking.{TurnAnswer};
 ghost use Rattle.broker_core.specs.Serving.{changing, session_of};
+ghost use Rattle.broker_core.specs.Sizes.{kept_in};
 
 use crate::sessions::Sessions;
 use crate::{BrokerFault, SessionId};
@@ -135,6 +139,32 @@ impl<const FULL: usize> Broker<FULL> {
             Some(session) => session.closed,
             None => true,
         }
+    }
+
+    /// What the messages of all queues are counted as together, for a limit on memory: for each its octets, those of its
+    /// destination, headers and body, and 512 more for what keeping it takes; modulo 2^64. It takes no memory.
+    pub fn octets(&self) -> u64
+        ensures { result ≡ held_octets self.now.book.living % 2 ^ 64 }
+    {
+        self.queues.octets()
+    }
+
+    /// What the open transactions of a session keep, counted in the same way: a SEND as its message, and 32 more for
+    /// each action; modulo 2^64. It is 0 where there is no such session. It takes no memory.
+    pub fn kept(&self, session: SessionId) -> u64
+        ensures { result ≡ kept_in (session_of session self.now) % 2 ^ 64 }
+    {
+        match self.sessions.get(session.number()) {
+            Some(session) => session.transactions.octets(),
+            None => 0,
+        }
+    }
+
+    /// Whether a message is out to a session, and unanswered. It takes no memory.
+    pub fn has_unanswered(&self, session: SessionId) -> bool
+        ensures { result ≡ list_any (λ m. out_of session m.fate) self.now.book.living }
+    {
+        self.queues.has_unanswered(session.number())
     }
 
     /// Takes a session away: its subscriptions end, what is out to them is ready again, and its transactions and octets

@@ -38,6 +38,10 @@
 //! }
 //! ```
 //!
+//! For a limit on memory it tells what its messages are counted as together ([`Broker::octets`]), what a session's open
+//! transactions keep ([`Broker::kept`]), and whether a session has something to answer ([`Broker::has_unanswered`]),
+//! without a look at each message.
+//!
 //! | Number | Refusal of a frame |
 //! |---|---|
 //! | 20 | BadFrame: the octets are no frame |

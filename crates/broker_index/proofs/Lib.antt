@@ -1,4 +1,5 @@
 pub mod Aged
+pub mod Counting
 pub mod Named
 pub mod Numbered
 pub mod Searches

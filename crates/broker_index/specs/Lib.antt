@@ -1,4 +1,5 @@
 pub mod Aged
+pub mod Held
 pub mod Index
 pub mod Named
 pub mod Places

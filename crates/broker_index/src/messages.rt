@@ -3,11 +3,15 @@
 //! The messages' own numbers are the truth. A slab's key that was told for a number is a hint: it is tried first, and
 //! whoever stands there by now is asked for its number.
 
-ghost use Rattle.std.specs.Prelude.{◌≡◌, ◌==◌, ◌<◌, ◌++◌, ◌∷◌, [], length, map, filter, not, All, Some, OnOk, OnErr};
+ghost use Rattle.std.specs.Prelude.{◌≡◌, ◌==◌, ◌<◌, ◌++◌, ◌∷◌, ◌%◌, ◌^◌, [], length, map, filter, not, true, All, Some};
+ghost use Rattle.std.specs.Prelude.{OnErr, OnOk};
 ghost use Rattle.std.specs.Option.{option_copied};
 ghost use Rattle.std.specs.List.{find};
 ghost use Rattle.broker_book.specs.Books.{Ready};
-ghost use Rattle.broker_index.specs.Index.{has_number, with_fate};
+ghost use Rattle.broker_book.specs.Sizes.{sent_octets};
+ghost use Rattle.broker_index.specs.Held.{kept_octets, octets_found};
+ghost use Rattle.broker_index.specs.Index.{Kept, has_number, with_fate};
+ghost use Rattle.broker_index.specs.Slots.{in_order, is_rising};
 ghost use Rattle.broker_index.specs.Standing.{fate_of};
 
 use crate::Standing;
@@ -23,15 +27,21 @@ pub struct Stored {
     number: u64,
     sent: Shared<Sent>,
     standing: Standing,
+    /// What the message is counted as, so that it is counted once.
+    octets: u64,
 }
 
 impl Model for Stored {
+    ghost use Rattle.std.specs.Prelude.{◌≡◌, ◌%◌, ◌^◌};
+    ghost use Rattle.broker_book.specs.Sizes.{sent_octets};
     ghost use Rattle.broker_index.specs.Index.{Kept};
     ghost use Rattle.broker_index.specs.Standing.{fate_of};
 
     ghost Value = { Kept };
 
     ghost view = { λ m. record { number = m.number; sent = m.sent; fate = fate_of m.standing } };
+
+    ghost invariant = { λ m. m.octets ≡ sent_octets m.sent % 2 ^ 64 };
 }
 
 impl Keyed for Stored {
@@ -64,6 +74,13 @@ impl Stored {
         &self.standing
     }
 
+    /// What it is counted as, modulo 2^64.
+    fn octets(&self) -> u64
+        ensures { result ≡ sent_octets self.now.sent % 2 ^ 64 }
+    {
+        self.octets
+    }
+
     /// Says where it is from now on.
     fn set_standing(&mut self, standing: Standing)
         ensures { self.new ≡ record self.old { fate = fate_of standing } }
@@ -73,22 +90,36 @@ impl Stored {
 }
 
 /// The messages of a broker, in order of their numbers. A message is found by its number; the key that it was given
-/// makes that quick.
+/// makes that quick. What they are counted as together is kept beside them.
 #[derive(Drop)]
 pub struct Messages {
     slab: Slab<Stored>,
+    octets: u64,
 }
 
 impl Model for Messages {
-    ghost use Rattle.std.specs.Prelude.{◌≡◌, true, List};
+    ghost use Rattle.std.specs.Prelude.{List};
+    ghost use Rattle.broker_index.specs.Held.{AreHeld};
     ghost use Rattle.broker_index.specs.Index.{Kept};
-    ghost use Rattle.broker_index.specs.Slots.{in_order, is_rising};
+    ghost use Rattle.broker_index.specs.Slots.{in_order};
 
     ghost Value = { List Kept };
 
     ghost view = { λ m. in_order (λ (k : Kept). k.number) m.slab.slots };
 
-    ghost invariant = { λ m. is_rising (λ (k : Kept). k.number) (in_order (λ (k : Kept). k.number) m.slab.slots) ≡ true };
+    ghost invariant = { λ m. AreHeld (in_order (λ (k : Kept). k.number) m.slab.slots) m.octets };
+}
+
+/// What the message of this number is counted as, modulo 2^64; 0 where there is none.
+fn octets_at(slab: &Slab<Stored>, number: u64, key: usize) -> u64
+    requires { is_rising (λ (k : Kept). k.number) (in_order (λ (k : Kept). k.number) slab.now.slots) ≡ true }
+    ensures { result
+        ≡ octets_found (find (has_number number) (in_order (λ (k : Kept). k.number) slab.now.slots)) % 2 ^ 64 }
+{
+    match find_value(slab, number, key) {
+        Some(stored) => stored.octets(),
+        None => 0,
+    }
 }
 
 impl Messages {
@@ -98,7 +129,15 @@ impl Messages {
     {
         Messages {
             slab: Slab::new(alloc),
+            octets: 0,
         }
+    }
+
+    /// What the messages are counted as together, modulo 2^64.
+    pub fn octets(&self) -> u64
+        ensures { result ≡ kept_octets self.now % 2 ^ 64 }
+    {
+        self.octets
     }
 
     /// How many messages there are.
@@ -118,12 +157,16 @@ impl Messages {
             ∷ []) }
         ensures err { OnErr result (self.new ≡ self.old) }
     {
+        let octets = sent.get().octets();
         let stored = Stored {
             number,
             sent: sent.share()?,
             standing: Standing::Ready,
+            octets,
         };
-        put_value(&mut self.slab, stored)
+        let key = put_value(&mut self.slab, stored)?;
+        self.octets = self.octets.wrapping_add(octets);
+        Ok(key)
     }
 
     /// The message of this number, if there is one. Its key makes that quick; any other is right too.
@@ -147,6 +190,8 @@ impl Messages {
     pub fn remove(&mut self, number: u64, key: usize)
         ensures { self.new ≡ filter (λ k. not (k.number == number)) self.old }
     {
+        let fewer = octets_at(&self.slab, number, key);
         take_value(&mut self.slab, number, key);
+        self.octets = self.octets.wrapping_sub(fewer);
     }
 }

@@ -33,3 +33,4 @@ pub mod Sweeping
 pub mod Swept
 pub mod Turning
 pub mod Unputting
+pub mod Waiting

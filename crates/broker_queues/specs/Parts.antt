@@ -8,4 +8,5 @@ pub mod Held
 pub mod Queues
 pub mod Storing
 pub mod Undoing
+pub mod Waiting
 pub mod Whole

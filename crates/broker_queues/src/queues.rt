@@ -3,10 +3,11 @@
 //! The book is what the parts stand for, with the SENDs that were accepted since they were last taken. What in the
 //! parts is believed and what is a hint, `parts.rt` says.
 
-ghost use Rattle.std.specs.Prelude.{◌≡◌, ◌==◌, [], OnOk, IfErr, count_by, false, is_some};
+ghost use Rattle.std.specs.Prelude.{◌≡◌, ◌==◌, ◌%◌, ◌^◌, [], OnOk, IfErr, count_by, false, is_some};
 ghost use Rattle.std.specs.List.{list_any};
 ghost use Rattle.broker_book.specs.declared.fault.QueueFault.TheVariants.{Memory};
-ghost use Rattle.broker_book.specs.Books.{empty_book, is_named};
+ghost use Rattle.broker_book.specs.Books.{empty_book, is_named, out_of};
+ghost use Rattle.broker_book.specs.Sizes.{held_octets};
 ghost use Rattle.broker_book.specs.Steps.{Dispatches, Exactly, UnlessMemory, ack_of, apply_of, ended, holder, nack_of};
 ghost use Rattle.broker_book.specs.Steps.{put_of, released, subscribed};
 
@@ -120,6 +121,20 @@ impl<const FULL: usize> Queues<FULL> {
         ensures { result ≡ count_by (λ s. s.session == session) self.now.subscriptions }
     {
         self.parts.sessions.get(session).len()
+    }
+
+    /// Whether a message is out to a session, and unanswered.
+    pub fn has_unanswered(&self, session: u64) -> bool
+        ensures { result ≡ list_any (λ m. out_of session m.fate) self.now.living }
+    {
+        self.parts.has_unanswered(session)
+    }
+
+    /// What the messages that are ready or out are counted as together, modulo 2^64.
+    pub fn octets(&self) -> u64
+        ensures { result ≡ held_octets self.now.living % 2 ^ 64 }
+    {
+        self.parts.messages.octets()
     }
 
     /// Ends a session's subscription of this name: what is out to it is ready again, in its old place. It does the same

@@ -9,6 +9,7 @@ ghost use Rattle.broker_queues.specs.Parts.Facts.{queue_of, subscriptions_of};
 ghost use Rattle.broker_queues.specs.Parts.Held.{holding_of};
 ghost use Rattle.broker_queues.specs.Parts.Storing.{Attaches, Detaches, EndsAll, EndsFirst, EndsOne, ReleasesNamed};
 ghost use Rattle.broker_queues.specs.Parts.Storing.{SubscribesTo, is_named_at};
+ghost use Rattle.broker_queues.specs.Parts.Waiting.{waits_at};
 ghost use Rattle.broker_queues.specs.Parts.Whole.{IsSound};
 ghost use Rattle.std.specs.List.{list_any};
 ghost use Rattle.std.specs.Prelude.{◌<◌, ◌≡◌, All, false, find, length, slice_get};
@@ -136,6 +137,26 @@ impl Parts {
         ensures { result ≡ length (places_at self.now.sessions session) }
     {
         self.sessions.get(session).len()
+    }
+
+    /// Whether a delivery to the subscriber at a place is unanswered.
+    fn waits_at(&self, place: &Place) -> bool
+        ensures { result ≡ waits_at self.now.subscribers place.now }
+    {
+        match self.subscribers.get(place.number, place.key) {
+            Some(subscriber) => subscriber.count() > 0,
+            None => false,
+        }
+    }
+
+    /// Whether a delivery to a subscriber of a session is.
+    pub fn has_unanswered(&self, session: u64) -> bool
+        ensures { result ≡ list_any (waits_at self.now.subscribers) (places_at self.now.sessions session) }
+    {
+        self.sessions
+            .get(session)
+            .iter()
+            .any(|place| self.waits_at(place))
     }
 
     /// The place of its oldest one.

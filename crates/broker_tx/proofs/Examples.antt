@@ -6,6 +6,7 @@ use Rattle.broker_book.specs.declared.parts.Action.TheVariants.{Ack, Nack}
 use Rattle.broker_tx.specs.declared.fault.TransactionFault.TheVariants.{TransactionExists, NoTransaction, Memory}
 use Rattle.broker_tx.specs.declared.fault.TransactionFault.TheVariants.{TooMany}
 use Rattle.broker_tx.specs.Faults.{transaction_fault_number, transaction_fault_name}
+use Rattle.broker_tx.specs.Sizes.{open_octets}
 use Rattle.broker_tx.specs.Transactions.{Transaction, is_open, actions_of, begin_of, add_of, end_of, Exactly}
 use Rattle.broker_tx.specs.Transactions.{UnlessMemory}
 
@@ -24,6 +25,10 @@ names_are_open = (refl, refl, refl)
 actions_are_kept : (actions_of two (codes "t1") ≡ Some []) × (actions_of two (codes "t2") ≡ Some (Ack 7 ∷ []))
     × (actions_of two [] ≡ None)
 actions_are_kept = (refl, refl, refl)
+
+-- what transactions keep is counted, and not that they are open
+actions_are_counted : (open_octets two ≡ 32) × (open_octets (keeping (codes "t") (Ack 7 ∷ Nack 8 ∷ []) ∷ two) ≡ 96)
+actions_are_counted = (refl, refl)
 
 -- the one that begins is the youngest and keeps nothing; an open name begins no second one
 transactions_begin : (begin_of [] (codes "t1") ≡ Ok (keeping (codes "t1") [] ∷ []))

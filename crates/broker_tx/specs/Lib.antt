@@ -1,3 +1,4 @@
 pub mod Faults
 pub mod First
+pub mod Sizes
 pub mod Transactions

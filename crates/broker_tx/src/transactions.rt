@@ -1,9 +1,10 @@
 //! The open transactions of a session, the oldest first.
 
-ghost use Rattle.std.specs.Prelude.{◌≡◌, ◌<◌, ◌∷◌, [], length, filter, not, slice_set, OnOk, OnErr, Some};
+ghost use Rattle.std.specs.Prelude.{◌≡◌, ◌<◌, ◌∷◌, ◌%◌, ◌^◌, [], length, filter, not, slice_set, OnOk, OnErr, Some};
 ghost use Rattle.std.specs.Option.{option_copied};
 ghost use Rattle.std.specs.List.{find, position, slice_get};
 ghost use Rattle.broker_tx.specs.First.{first_changed};
+ghost use Rattle.broker_tx.specs.Sizes.{open_octets, transaction_octets};
 ghost use Rattle.broker_tx.specs.Transactions.{Transaction, Exactly, UnlessMemory, actions_of, add_of, begin_of};
 ghost use Rattle.broker_tx.specs.Transactions.{end_of};
 ghost use Rattle.broker_tx.specs.Transactions.{is_open, is_transaction, with_action};
@@ -20,14 +21,21 @@ use stomp_session::Text;
 struct Open {
     name: Text,
     actions: Vec<Action>,
+    /// What the actions are counted as together.
+    octets: u64,
 }
 
 impl Model for Open {
+    ghost use Rattle.std.specs.Prelude.{◌≡◌, ◌%◌, ◌^◌};
+    ghost use Rattle.std.specs.List.{sum_by};
+    ghost use Rattle.broker_book.specs.Sizes.{action_octets};
     ghost use Rattle.broker_tx.specs.Transactions.{Transaction};
 
     ghost Value = { Transaction };
 
     ghost view = { λ t. record { name = t.name; actions = t.actions.items } };
+
+    ghost invariant = { λ t. t.octets ≡ sum_by action_octets t.actions.items % 2 ^ 64 };
 }
 
 impl Open {
@@ -43,12 +51,21 @@ impl Open {
         self.actions.as_slice()
     }
 
+    /// What its actions are counted as together, modulo 2^64.
+    fn octets(&self) -> u64
+        ensures { result ≡ transaction_octets self.now % 2 ^ 64 }
+    {
+        self.octets
+    }
+
     /// Keeps one action more.
     fn keep(&mut self, action: Action) -> Result<(), AllocError>
         ensures ok { OnOk result (self.new ≡ with_action action self.old) }
         ensures err { OnErr result (self.new ≡ self.old) }
     {
+        let octets = action.octets();
         self.actions.push(action)?;
+        self.octets = self.octets.wrapping_add(octets);
         Ok(())
     }
 }
@@ -83,6 +100,13 @@ impl Transactions {
         ensures { result ≡ length self.now }
     {
         self.items.len()
+    }
+
+    /// What the actions that they keep are counted as together, modulo 2^64.
+    pub fn octets(&self) -> u64
+        ensures { result ≡ open_octets self.now % 2 ^ 64 }
+    {
+        octets_in(&self.items)
     }
 
     /// Whether one of this name is open.
@@ -121,6 +145,7 @@ impl Transactions {
         let open = Open {
             name: name.copy(alloc)?,
             actions: Vec::new(alloc),
+            octets: 0,
         };
         self.items.push(open)?;
         Ok(())
@@ -206,6 +231,16 @@ impl Transactions {
         end_in(&mut self.items, name);
         Ok(())
     }
+}
+
+fn octets_in(items: &[Open]) -> u64
+    ensures { result ≡ open_octets items.now % 2 ^ 64 }
+{
+    let mut octets: u64 = 0;
+    for open in items {
+        octets = octets.wrapping_add(open.octets());
+    }
+    octets
 }
 
 fn keep_at(items: &mut Vec<Open>, at: usize, action: Action) -> Result<(), AllocError>

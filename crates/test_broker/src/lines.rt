@@ -105,6 +105,7 @@ impl Lines {
             "dispatch" => self.broker.dispatch()?,
             "accepted" => return self.accepted(alloc),
             "fresh" => return self.fresh(alloc),
+            "octets" => return Ok(format!(in alloc; "{}", self.broker.octets())?),
             _ => return Err(LineFault::Unknown.into()),
         }
         Ok(String::from_str(alloc, "done")?)
@@ -125,6 +126,9 @@ impl Lines {
             }
             "closed" if self.broker.is_closed(session) => "yes",
             "closed" => "no",
+            "kept" => return Ok(format!(in alloc; "{}", self.broker.kept(session))?),
+            "unanswered" if self.broker.has_unanswered(session) => "yes",
+            "unanswered" => "no",
             _ => return Err(LineFault::Unknown.into()),
         };
         Ok(String::from_str(alloc, text)?)

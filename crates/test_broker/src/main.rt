@@ -13,6 +13,9 @@
 //! - `out N`: the octets for session N that weren't taken yet, or `none`; they are taken;
 //! - `closed N`: `yes` where session N is closed or there is none, or `no`;
 //! - `drop N`: session N is taken away;
+//! - `octets`: what the messages of all queues are counted as together;
+//! - `kept N`: what the open transactions of session N are counted as;
+//! - `unanswered N`: `yes` where a message is out to session N and unanswered, or `no`;
 //! - `accepted`: the SENDs that were accepted since the last such line, or `none`;
 //! - `fresh`: the sessions for which octets were written since they were last named, or `none`.
 //!

@@ -26,7 +26,9 @@
 //! - `queues ack SESSION N`, `queues nack SESSION N`, `queues release SESSION`, `queues end SESSION`, `queues
 //!   accepted`: how many SENDs;
 //! - `broker out SESSION`: how many octets; `broker taken SESSION`: all of them are; `broker closed SESSION`; `broker
-//!   fresh`: whether one more was written to; `broker accepted`: how many SENDs; `broker drop SESSION`;
+//!   fresh`: whether one more was written to; `broker accepted`: how many SENDs; `broker octets` and `broker kept
+//!   SESSION`: what its messages and a session's transactions are counted as; `broker unanswered SESSION`; `broker drop
+//!   SESSION`;
 //! - `client out`: how many octets; `client append`: a DISCONNECT; `client taken`: all of them are; `client count`: the
 //!   number of the next transaction; `client accept`: the RECEIPT's tag; `relay forget`, `relay anew`;
 //! - `frame get NAME`: how many octets its first value has; `frame parts`: it gives its parts and takes them back;

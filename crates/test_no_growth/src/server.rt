@@ -86,6 +86,8 @@ impl BrokerCalls {
             "out" => Ok(Answer::count(self.broker.out(session).len())),
             "taken" => Ok(self.take(session)),
             "closed" => Ok(Answer::whether(self.broker.is_closed(session))),
+            "kept" => Ok(Answer::Number(self.broker.kept(session))),
+            "unanswered" => Ok(Answer::whether(self.broker.has_unanswered(session))),
             "drop" => Ok(self.drop_session(session)),
             _ => Err(LineFault::Unknown.into()),
         }
@@ -96,6 +98,7 @@ impl BrokerCalls {
         match word {
             "accepted" => Ok(Answer::count(self.broker.take_accepted().len())),
             "fresh" => Ok(Answer::whether(self.broker.take_fresh().is_some())),
+            "octets" => Ok(Answer::Number(self.broker.octets())),
             _ => self.answer_session(word, rest),
         }
     }
