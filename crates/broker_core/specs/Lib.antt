@@ -1,4 +1,5 @@
 pub mod Calls
+pub mod Details
 pub mod Faults
 pub mod Feeding
 pub mod Parts

@@ -12,7 +12,7 @@ ghost use Rattle.broker_core.specs.Serving.{changing, session_of};
 ghost use Rattle.broker_core.specs.Sizes.{kept_in};
 
 use crate::sessions::Sessions;
-use crate::{BrokerFault, SessionId};
+use crate::{BrokerFault, Detail, SessionId};
 use broker_book::Accepted;
 use broker_queues::Queues;
 use std::alloc::{AllocError, Global};
@@ -23,6 +23,8 @@ use std::marker::Model;
 pub struct Broker<const FULL: usize> {
     queues: Queues<FULL>,
     sessions: Sessions,
+    /// Of the frame that ended a session at the last feed: for people to read, so contracts don't see it.
+    detail: Option<Detail>,
 }
 
 /// Written by hand, so that a crate that owns a broker cites this, and doesn't prove anew how each of its parts is
@@ -32,6 +34,7 @@ impl<const FULL: usize> Drop for Broker<FULL> {
         let Broker {
             queues: _queues,
             sessions: _sessions,
+            detail: _detail,
         } = self;
     }
 }
@@ -52,6 +55,7 @@ impl<const FULL: usize> Broker<FULL> {
         Broker {
             queues: Queues::new(alloc),
             sessions: Sessions::new(alloc),
+            detail: None,
         }
     }
 
@@ -86,6 +90,7 @@ impl<const FULL: usize> Broker<FULL> {
         let Some(at) = self.sessions.place(session.number()) else {
             return Err(BrokerFault::NoSession);
         };
+        self.detail = None;
         // Each turn takes an octet or the frame that waits, so that the bound is never reached: it shows that the loop
         // ends.
         let Ok(bound) = self.sessions.feed(at, piece) else {
@@ -99,6 +104,13 @@ impl<const FULL: usize> Broker<FULL> {
             }
         }
         unreachable!()
+    }
+
+    /// What was wrong with the frame that ended the session at the last [`feed`](Broker::feed), where that is more than
+    /// its ERROR tells: which header is missing, or why its octets are no frame. It is for a log: no contract says what
+    /// it is, but that asking changes nothing. It takes no memory.
+    pub fn detail(&self) -> Option<Detail> {
+        self.detail
     }
 
     /// Hands out messages until none can be: the lowest number that is ready first, each to the oldest subscription to
@@ -198,7 +210,7 @@ impl<const FULL: usize> Broker<FULL> {
         ensures { (n : ℕ) → StandsAt n self.old.sessions at → TurnAnswer FULL n self.old self.new result }
     {
         let queues = &mut self.queues;
-        let stepped = self.sessions.turn(at, queues)?;
+        let stepped = self.sessions.turn(at, queues, &mut self.detail)?;
         queues.dispatch(&mut self.sessions)?;
         Ok(stepped)
     }

@@ -23,7 +23,7 @@ pub struct Incoming {
 pub enum Next {
     Frame(Result<Asked, Refused>),
     Nothing,
-    Fault,
+    Fault(FrameFault),
 }
 
 impl Incoming {
@@ -79,7 +79,7 @@ impl Incoming {
                 if is_memory(fault) {
                     Err(AllocError)
                 } else {
-                    Ok(Next::Fault)
+                    Ok(Next::Fault(fault))
                 }
             }
         }

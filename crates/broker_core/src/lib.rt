@@ -58,6 +58,7 @@
 
 mod asked;
 mod broker;
+mod detail;
 mod fault;
 mod incoming;
 mod laws;
@@ -69,6 +70,7 @@ mod words;
 mod written;
 
 pub use broker::Broker;
+pub use detail::Detail;
 pub use fault::{BrokerFault, FrameRefusal};
 pub use laws::{
     frames_are_handled_once_and_in_order, handled_frames_were_fed, taken_frames_are_spelled,

@@ -9,6 +9,7 @@ ghost use Rattle.broker_core.specs.Parts.Taking.{PartTurn, SessionPieceAnswer, l
 ghost use Rattle.broker_core.specs.Serving.{Part, part, served, refused, closing, closing_if, closed_of, writing};
 
 use crate::asked::{Asked, Form};
+use crate::detail::{Detail, detail_of};
 use crate::fault::HandlerFault;
 use crate::incoming::{Incoming, Next};
 use crate::perform::perform;
@@ -61,11 +62,13 @@ impl Session {
     }
 
     /// Takes the next frame out of what it was fed and does what is decided; `false` where there is none, and where a
-    /// fault of the octets has ended it. Where memory is refused to what is done, the frame waits.
+    /// fault of the octets has ended it. Where memory is refused to what is done, the frame waits. Where what was wrong
+    /// with a frame has more to it than its refusal tells, it's put into `detail`.
     pub fn turn<const FULL: usize>(
         &mut self,
         alloc: Global,
         queues: &mut Queues<FULL>,
+        detail: &mut Option<Detail>,
     ) -> Result<bool, AllocError>
         ensures { PartTurn FULL (part queues.old self.old) (part queues.new self.new) result }
     {
@@ -74,15 +77,18 @@ impl Session {
         }
         match self.incoming.next(self.server)? {
             Next::Nothing => Ok(false),
-            Next::Fault => {
+            Next::Fault(fault) => {
                 self.refuse(alloc, queues, FrameRefusal::BadFrame, None)?;
+                *detail = Some(Detail::Octets(fault));
                 Ok(false)
             }
             Next::Frame(decided) => {
+                let more = detail_of(&decided);
                 if let Err(decided) = self.serve(alloc, queues, decided) {
                     self.incoming.waiting = Some(decided);
                     return Err(AllocError);
                 }
+                *detail = more;
                 Ok(true)
             }
         }

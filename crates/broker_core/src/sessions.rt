@@ -16,7 +16,7 @@ ghost use Rattle.broker_core.specs.Serving.{broker_of, in_roster, is_session};
 ghost use Rattle.broker_core.specs.declared.session.Session.{Session};
 
 use crate::session::Session;
-use crate::{BrokerFault, SessionId};
+use crate::{BrokerFault, Detail, SessionId};
 use broker_book::{Sent, Subscription};
 use broker_queues::{Queues, Sink};
 use std::alloc::{AllocError, Global};
@@ -147,18 +147,19 @@ impl Sessions {
     }
 
     /// Takes the next frame of the session at a place and makes its step; `false` where there is none, and where a
-    /// fault of the octets has ended it.
+    /// fault of the octets has ended it. What was wrong with it besides is put into `detail`.
     pub fn turn<const FULL: usize>(
         &mut self,
         at: usize,
         queues: &mut Queues<FULL>,
+        detail: &mut Option<Detail>,
     ) -> Result<bool, AllocError>
         requires { at < length self.old.sessions }
         ensures { (n : ℕ) → StandsAt n self.old.sessions at
             → StepAnswer FULL n (broker_of queues.old self.old) (broker_of queues.new self.new) result }
     {
         let was_fresh = self.items[at].fresh;
-        let done = self.items[at].turn(self.alloc, queues);
+        let done = self.items[at].turn(self.alloc, queues, detail);
         note(&self.items, at, was_fresh, &mut self.noted);
         done
     }

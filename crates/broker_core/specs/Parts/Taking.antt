@@ -60,7 +60,7 @@ SessionPieceAnswer piece old new (Err _) =
 abbrev pub NextAnswer : {E : Type 0} → Bool → Incoming → Incoming → Result Next E → Type 0
 NextAnswer connected old new (Ok (Frame decided)) = DecidesNext connected old decided new
 NextAnswer connected old new (Ok Nothing) = HasNone old new
-NextAnswer connected old new (Ok Fault) = MeetsFault old new
+NextAnswer connected old new (Ok (Fault _)) = MeetsFault old new
 NextAnswer connected old new (Err _) = new ≡ old
 
 -- whether a fault of the decoder is want of memory
