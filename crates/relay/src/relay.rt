@@ -24,7 +24,6 @@ use stomp_client::{ClientFault, ClientSession, Stage};
 
 /// What was sent of each pair on a connection: contracts see the last number of each pair, 0 where nothing was sent.
 /// And a cursor: up to a place all that stood in the outbox was sent, when the journal had so many rows.
-#[derive(Drop)]
 pub struct Relay {
     pub(crate) alloc: Global,
     // The truth: what isn't above its pair's mark was sent, and isn't sent again.
@@ -32,6 +31,18 @@ pub struct Relay {
     // A hint, which saves reads: without it a filling reads more rows, and sends the same.
     pub(crate) behind: Option<Place>,
     pub(crate) rows: u64,
+}
+
+/// Written by hand, so that a crate that owns a relay doesn't prove anew how its marks are dropped.
+impl Drop for Relay {
+    fn drop(self) {
+        let Relay {
+            alloc: _,
+            marks: _marks,
+            behind: _behind,
+            rows: _,
+        } = self;
+    }
 }
 
 impl Relay {

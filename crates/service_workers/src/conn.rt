@@ -34,7 +34,6 @@ const MANY: usize = 1024;
 pub(crate) const WINDOW: usize = 1024;
 
 /// A connection of a service: what carries its octets, its client, and what was sent on it.
-#[derive(Drop)]
 pub struct Conn<L: Drop> {
     link: L,
     pub(crate) channel: Channel,
@@ -47,6 +46,21 @@ pub struct Conn<L: Drop> {
     must_subscribe: bool,
     // Whether octets came since it was asked last.
     has_come: bool,
+}
+
+/// Written by hand, so that a crate that owns connections doesn't prove anew how each of their parts is dropped.
+impl<L: Drop> Drop for Conn<L> {
+    fn drop(self) {
+        let Conn {
+            link: _link,
+            channel: _channel,
+            relay: _relay,
+            on_way: _,
+            prefetch: _,
+            must_subscribe: _,
+            has_come: _,
+        } = self;
+    }
 }
 
 /// What a reader finds.

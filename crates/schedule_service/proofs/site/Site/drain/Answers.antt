@@ -1,6 +1,6 @@
 use Rattle.std.proofs.Common.{subst}
 use Rattle.keep.specs.Failing.{through}
-use Rattle.endpoint.specs.Calls.{ComesBy}
+use Rattle.endpoint.specs.Calls.{ComesBy, StillMatches}
 use Rattle.schedule_service.specs.Deeds.{HeldMay}
 use Rattle.schedule_service.proofs.Doing.{drains_open}
 use Rattle.schedule_service.proofs.Going.{comes_goes}
@@ -12,6 +12,12 @@ returns-in-Some-clause-did g c =
     c.args.mail.now c.drain_over.new.self c.drain_over.new.mail c.take_channel.new.self c.take_channel.result
     c.in-Some.is
     c.take_channel.ensures.takes c.drain_over.ensures.did
+
+-- what was taken out isn't the endpoint
+pub returns-in-Some-clause-matches : goal.returns-in-Some-clause-matches
+returns-in-Some-clause-matches g c =
+    subst (λ e. StillMatches (through g.K.Keep.seen) e c.drain_over.new.self.endpoint g.H.Handler.service)
+    c.take_channel.ensures.store c.drain_over.ensures.matches
 
 pub returns-in-Some-clause-comes : goal.returns-in-Some-clause-comes
 returns-in-Some-clause-comes g c =
