@@ -16,7 +16,7 @@ use service_workers::Resting;
 use shared_endpoint::{Seat, Shared};
 use std::alloc::Global;
 use std::io;
-use std::io::Write;
+use std::io::{ErrorKind, Write};
 use std::sync::Wait;
 use std::time::Duration;
 
@@ -197,14 +197,19 @@ where
         if board.has_ended() {
             break;
         }
-        match input.next(Duration::from_millis(PATIENCE))? {
-            Came::Line(line) => {
+        match input.next(Duration::from_millis(PATIENCE)) {
+            Ok(Came::Line(line)) => {
                 let ask = read_ask(alloc, line.as_slice());
                 answer(rt, alloc, shared, seat, board, ask, &mut out)?;
                 out.flush()?;
             }
-            Came::Nothing => (),
-            Came::End => break,
+            Ok(Came::Nothing) => (),
+            Ok(Came::End) => break,
+            // The line isn't lost: it waits until there is memory.
+            Err(error) if error.kind() == ErrorKind::OutOfMemory => {
+                board.wait_at_seat(rt, Duration::from_millis(MOMENT));
+            }
+            Err(error) => return Err(error),
         }
     }
     Ok(())

@@ -19,7 +19,6 @@ const FIRST: u64 = 100;
 const LONGEST: u64 = 5_000;
 
 /// What the threads of the program tell each other.
-#[derive(Drop)]
 pub struct Board {
     /// Where the two readers wait.
     zero: Rest,
@@ -45,6 +44,30 @@ pub struct Board {
     has_ended: AtomicBool,
     is_over: AtomicBool,
     is_broken: AtomicBool,
+}
+
+/// Written by hand, so that an owner doesn't prove at each of its exits how each part is dropped.
+impl Drop for Board {
+    fn drop(self) {
+        let Board {
+            zero: _zero,
+            one: _one,
+            worker: _worker,
+            relay: _relay,
+            seat: _seat,
+            begun: _,
+            due: _due,
+            pause: _pause,
+            opened: _opened,
+            asked: _asked,
+            answered: _answered,
+            open: _open,
+            settles: _settles,
+            has_ended: _has_ended,
+            is_over: _is_over,
+            is_broken: _is_broken,
+        } = self;
+    }
 }
 
 impl Board {

@@ -1,6 +1,7 @@
 //! Why the program ends with status 1.
 
 use keep::KeepFault;
+use std::io::ErrorKind;
 use thiserror::Error;
 
 /// Why the program ends with status 1.
@@ -21,14 +22,14 @@ pub enum RunFault {
     /// The store has failed.
     #[error("fault 63 StoreFailed: the store failed")]
     Store,
-    /// Memory was refused at the start.
+    /// Memory was refused at the start, or to what its lines are read with.
     #[error("fault 81 Memory: out of memory")]
     Memory,
 }
 
 impl RunFault {
     ghost use Rattle.std.specs.Prelude.{◌≡◌};
-    ghost use Rattle.outbox_service.specs.Faults.{fault_of_file};
+    ghost use Rattle.outbox_service.specs.Faults.{fault_of_file, fault_of_kind};
 
     /// Why a file couldn't be opened.
     pub fn of_file(fault: KeepFault) -> RunFault
@@ -38,6 +39,16 @@ impl RunFault {
             KeepFault::Failed => RunFault::Unopened,
             KeepFault::Memory => RunFault::FileMemory,
             KeepFault::WrongFile => RunFault::WrongFile,
+        }
+    }
+
+    /// Why a stream, or what threads wait with, failed.
+    pub fn of_kind(kind: ErrorKind) -> RunFault
+        ensures { result ≡ fault_of_kind kind }
+    {
+        match kind {
+            ErrorKind::OutOfMemory => RunFault::Memory,
+            _ => RunFault::Device,
         }
     }
 }

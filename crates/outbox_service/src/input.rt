@@ -20,12 +20,22 @@ const TOKEN: Token = Token(0);
 const LONGEST: usize = 4_096;
 
 /// Waits for the standard input.
-#[derive(Drop)]
 struct Waits {
     poll: Poll,
     events: Events<Global>,
     /// A file can't be waited for: it is always ready.
     is_file: bool,
+}
+
+/// Written by hand, so that an owner doesn't prove at each of its exits how each part is dropped.
+impl Drop for Waits {
+    fn drop(self) {
+        let Waits {
+            poll: _poll,
+            events: _events,
+            is_file: _,
+        } = self;
+    }
 }
 
 /// What came.
@@ -40,7 +50,6 @@ pub enum Came {
 }
 
 /// The lines of a reader that is the standard input.
-#[derive(Drop)]
 pub struct InputLines<I: BufRead + Drop> {
     alloc: Global,
     input: I,
@@ -48,6 +57,19 @@ pub struct InputLines<I: BufRead + Drop> {
     /// What came and wasn't given yet.
     text: Vec<u8>,
     has_ended: bool,
+}
+
+/// Written by hand, so that an owner doesn't prove at each of its exits how each part is dropped.
+impl<I: BufRead + Drop> Drop for InputLines<I> {
+    fn drop(self) {
+        let InputLines {
+            alloc: _,
+            input: _input,
+            waits: _waits,
+            text: _text,
+            has_ended: _,
+        } = self;
+    }
 }
 
 impl Waits {
@@ -122,8 +144,8 @@ impl<I: BufRead + Drop> InputLines<I> {
         Ok(Some(line))
     }
 
-    /// Reads what is there. What no line can have isn't kept.
-    fn read(&mut self) -> io::Result<()> {
+    /// Keeps what is there, and nothing that no line can have. Where memory is refused it's there still.
+    fn keep(&mut self) -> io::Result<()> {
         let piece = self.input.fill_buf()?;
         let count = piece.len();
         self.text.extend_from_slice(piece)?;
@@ -132,13 +154,20 @@ impl<I: BufRead + Drop> InputLines<I> {
         if !self.text.contains(&b'\n') {
             self.text.truncate(LONGEST);
         }
-        self.waits.again()
+        Ok(())
+    }
+
+    /// Reads what is there. Also where memory is refused it's told again that there is something.
+    fn read(&mut self) -> io::Result<()> {
+        let kept = self.keep();
+        self.waits.again()?;
+        kept
     }
 
     /// The next line, or what else came within this time.
     ///
     /// # Errors
-    /// Where the reader failed, or memory was refused.
+    /// Where the reader failed, or memory was refused: then nothing is lost, and the next call tries again.
     pub fn next(&mut self, most: Duration) -> io::Result<Came> {
         if let Some(line) = self.take_line()? {
             return Ok(Came::Line(line));

@@ -52,8 +52,9 @@ where
     requires hand { IsHandOf shared.now hand }
     requires scout { IsScoutOf shared.now scout }
 {
-    let Ok(board) = Board::new(host, alloc) else {
-        return Err(RunFault::Device);
+    let board = match Board::new(host, alloc) {
+        Ok(board) => board,
+        Err(error) => return Err(RunFault::of_kind(error.kind())),
     };
     let (_served, answered) = thread::join(
         rt,
@@ -70,7 +71,7 @@ where
     match answered {
         _ if board.is_broken() => Err(RunFault::Store),
         Ok(()) => Ok(()),
-        Err(_) => Err(RunFault::Device),
+        Err(error) => Err(RunFault::of_kind(error.kind())),
     }
 }
 

@@ -25,11 +25,21 @@ const MOMENT: u64 = 100;
 const PARTING: u64 = 1_000;
 
 /// The place of one of the two connections.
-#[derive(Drop)]
 struct Slot {
     number: u8,
     conn: Option<Conn<Socket>>,
     pulse: Pulse,
+}
+
+/// Written by hand, so that an owner doesn't prove at each of its exits how each part is dropped.
+impl Drop for Slot {
+    fn drop(self) {
+        let Slot {
+            number: _,
+            conn: _conn,
+            pulse: _,
+        } = self;
+    }
 }
 
 impl Slot {
@@ -133,10 +143,19 @@ fn tell_silence<R: Log>(rt: &R, number: u8, silence: Silence) {
 }
 
 /// The two connections of the service.
-#[derive(Drop)]
 struct Conns {
     zero: Slot,
     one: Slot,
+}
+
+/// Written by hand, so that an owner doesn't prove at each of its exits how each part is dropped.
+impl Drop for Conns {
+    fn drop(self) {
+        let Conns {
+            zero: _zero,
+            one: _one,
+        } = self;
+    }
 }
 
 impl Conns {

@@ -85,79 +85,123 @@ pub struct Settings<'a> {
     pub migrate: bool,
 }
 
+// Each option is made where it's added: one that waited for others would be dropped, part by part, at each exit of theirs.
+
+/// With `--service`, which takes one of these words.
+fn with_service<'a>(
+    alloc: Global,
+    command: Command<'a>,
+    services: &'a [&'a str],
+) -> Result<Command<'a>, AllocError> {
+    command.arg(
+        Arg::new(alloc, "service")
+            .long("service")
+            .required(true)
+            .action(ArgAction::Set)
+            .value_name("SERVICE")
+            .help("Which of the three services it is")
+            .value_parser(services),
+    )
+}
+
+/// With `--port`.
+fn with_port<'a>(alloc: Global, command: Command<'a>) -> Result<Command<'a>, AllocError> {
+    command.arg(
+        Arg::new(alloc, "port")
+            .long("port")
+            .required(true)
+            .action(ArgAction::Set)
+            .value_name("PORT")
+            .help("The broker's port")
+            .value_parser(value_parser!(u16)),
+    )
+}
+
+/// With an option that takes a text.
+fn with_text<'a>(
+    alloc: Global,
+    command: Command<'a>,
+    name: &'a str,
+    value: &'a str,
+    help: &'a str,
+) -> Result<Command<'a>, AllocError> {
+    command.arg(
+        Arg::new(alloc, name)
+            .long(name)
+            .action(ArgAction::Set)
+            .value_name(value)
+            .help(help),
+    )
+}
+
+/// With an option that takes a name, and has this one where nothing is said.
+fn with_name<'a>(
+    alloc: Global,
+    command: Command<'a>,
+    name: &'a str,
+    default: &'a str,
+    help: &'a str,
+) -> Result<Command<'a>, AllocError> {
+    command.arg(
+        Arg::new(alloc, name)
+            .long(name)
+            .action(ArgAction::Set)
+            .value_name("NAME")
+            .default_value(default)
+            .help(help),
+    )
+}
+
+/// With `--migrate`.
+fn with_migrate<'a>(alloc: Global, command: Command<'a>) -> Result<Command<'a>, AllocError> {
+    command.arg(
+        Arg::new(alloc, "migrate")
+            .long("migrate")
+            .action(ArgAction::SetTrue)
+            .help("With `--file`: takes a file of version 1 over before it's opened"),
+    )
+}
+
+/// With `--prefetch`.
+fn with_prefetch<'a>(alloc: Global, command: Command<'a>) -> Result<Command<'a>, AllocError> {
+    command.arg(
+        Arg::new(alloc, "prefetch")
+            .long("prefetch")
+            .action(ArgAction::Set)
+            .value_name("N")
+            .help(
+                "How many messages the broker is to hand out ahead of acknowledgements, 1 to 65535",
+            )
+            .value_parser(value_parser!(u16)),
+    )
+}
+
 /// The command line, as `clap` has it, where `--service` takes one of these words.
 fn make_command<'a>(alloc: Global, services: &'a [&'a str]) -> Result<Command<'a>, AllocError> {
-    let service = Arg::new(alloc, "service")
-        .long("service")
-        .required(true)
-        .action(ArgAction::Set)
-        .value_name("SERVICE")
-        .help("Which of the three services it is")
-        .value_parser(services);
-    let port = Arg::new(alloc, "port")
-        .long("port")
-        .required(true)
-        .action(ArgAction::Set)
-        .value_name("PORT")
-        .help("The broker's port")
-        .value_parser(value_parser!(u16));
-    let file = Arg::new(alloc, "file")
-        .long("file")
-        .action(ArgAction::Set)
-        .value_name("PATH")
-        .help("The file of the tables, which SQLite reads; without it they are in memory");
-    let migrate = Arg::new(alloc, "migrate")
-        .long("migrate")
-        .action(ArgAction::SetTrue)
-        .help("With `--file`: takes a file of version 1 over before it's opened");
     let command = Command::new(alloc, "outbox-service")
         .version(VERSION)
         .about("A service of a transactional outbox, connected to a broker of STOMP 1.2.")
         .override_usage(USAGE)
-        .after_help(LINES)
-        .arg(service)?
-        .arg(port)?
-        .arg(file)?
-        .arg(migrate)?;
+        .after_help(LINES);
+    let command = with_service(alloc, command, services)?;
+    let command = with_port(alloc, command)?;
+    let file = "The file of the tables, which SQLite reads; without it they are in memory";
+    let command = with_text(alloc, command, "file", "PATH", file)?;
+    let command = with_migrate(alloc, command)?;
     add_options(alloc, command)
 }
 
 /// The command line with what a broker may ask for besides.
 fn add_options<'a>(alloc: Global, command: Command<'a>) -> Result<Command<'a>, AllocError> {
-    let address = Arg::new(alloc, "address")
-        .long("address")
-        .action(ArgAction::Set)
-        .value_name("NAME")
-        .default_value(ADDRESS)
-        .help("Where the broker is: a name or an address");
-    let host = Arg::new(alloc, "host")
-        .long("host")
-        .action(ArgAction::Set)
-        .value_name("NAME")
-        .default_value(HOST)
-        .help("Which of the broker's hosts is meant, as RabbitMQ's virtual host");
-    let login = Arg::new(alloc, "login")
-        .long("login")
-        .action(ArgAction::Set)
-        .value_name("NAME")
-        .help("The user, where the broker asks for one");
-    let passcode = Arg::new(alloc, "passcode")
-        .long("passcode")
-        .action(ArgAction::Set)
-        .value_name("TEXT")
-        .help("The user's passcode, which goes over the wire as it is");
-    let prefetch = Arg::new(alloc, "prefetch")
-        .long("prefetch")
-        .action(ArgAction::Set)
-        .value_name("N")
-        .help("How many messages the broker is to hand out ahead of acknowledgements, 1 to 65535")
-        .value_parser(value_parser!(u16));
-    command
-        .arg(address)?
-        .arg(host)?
-        .arg(login)?
-        .arg(passcode)?
-        .arg(prefetch)
+    let address = "Where the broker is: a name or an address";
+    let command = with_name(alloc, command, "address", ADDRESS, address)?;
+    let host = "Which of the broker's hosts is meant, as RabbitMQ's virtual host";
+    let command = with_name(alloc, command, "host", HOST, host)?;
+    let login = "The user, where the broker asks for one";
+    let command = with_text(alloc, command, "login", "NAME", login)?;
+    let passcode = "The user's passcode, which goes over the wire as it is";
+    let command = with_text(alloc, command, "passcode", "NAME", passcode)?;
+    with_prefetch(alloc, command)
 }
 
 /// Which service a word names.
