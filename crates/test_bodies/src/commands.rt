@@ -33,18 +33,44 @@ fn items(alloc: Global, words: &[&str]) -> Result<Items, CallFault> {
     Ok(Items::from_vec(items))
 }
 
-/// The body of a command that words name.
+/// The body of the command that places an order.
+fn placing(
+    alloc: Global,
+    account: &str,
+    amount: &str,
+    lines: &[&str],
+) -> Result<String, CallFault> {
+    let lines = items(alloc, lines)?;
+    let account = key(alloc, account)?;
+    let amount = natural(amount)?;
+    let command = OrderCommand::Place {
+        lines,
+        account,
+        amount,
+    };
+    Ok(command.body(alloc)?)
+}
+
+/// The body of a command of a stock, or of an account.
+fn receiving(alloc: Global, number: &str) -> Result<String, CallFault> {
+    let number = natural(number)?;
+    Ok(StockCommand::Receive(number).body(alloc)?)
+}
+
+fn limiting(alloc: Global, number: &str) -> Result<String, CallFault> {
+    let number = natural(number)?;
+    Ok(AccountCommand::SetLimit(number).body(alloc)?)
+}
+
+/// The body of a command that words name: each arm is one call.
 pub fn write(alloc: Global, words: &[&str]) -> Result<String, CallFault> {
     match words {
-        ["order", "place", account, amount, lines @ ..] => Ok(OrderCommand::Place {
-            lines: items(alloc, lines)?,
-            account: key(alloc, account)?,
-            amount: natural(amount)?,
-        }
-        .body(alloc)?),
-        ["order", "cancel"] => Ok(OrderCommand::CancelOrder.body(alloc)?),
-        ["stock", number] => Ok(StockCommand::Receive(natural(number)?).body(alloc)?),
-        ["account", number] => Ok(AccountCommand::SetLimit(natural(number)?).body(alloc)?),
+        ["order", "place", account, amount, lines @ ..] => placing(alloc, account, amount, lines),
+        ["order", "cancel"] => OrderCommand::CancelOrder
+            .body(alloc)
+            .map_err(CallFault::from),
+        ["stock", number] => receiving(alloc, number),
+        ["account", number] => limiting(alloc, number),
         _ => Err(CallFault::Line(LineFault::Unknown)),
     }
 }

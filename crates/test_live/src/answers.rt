@@ -119,8 +119,9 @@ fn push_meeting<R: Wait + Threads + Sync>(
     alloc: Global,
     out: &mut String,
     door: Door<'_>,
-    meeting: Meeting,
+    word: &str,
 ) -> Result<(), CallFault> {
+    let meeting = meeting_of(word)?;
     let text = if meets(rt, alloc, door, meeting)? {
         "met"
     } else {
@@ -146,8 +147,9 @@ fn push_over_tcp<R: Wait + Threads + Sync>(
     alloc: Global,
     out: &mut String,
     door: Door<'_>,
-    rounds: u64,
+    rounds: &str,
 ) -> Result<(), CallFault> {
+    let rounds = natural(rounds)?;
     let plan = Plan {
         rounds,
         ..Plan::one()
@@ -155,7 +157,44 @@ fn push_over_tcp<R: Wait + Threads + Sync>(
     push_plan(rt, alloc, out, door, plan, true)
 }
 
-/// What the words of a line answer where the broker is on wires.
+/// A run of so many orders, of which at most so many wait at once.
+fn push_many<R: Wait + Threads + Sync>(
+    rt: &R,
+    alloc: Global,
+    out: &mut String,
+    door: Door<'_>,
+    orders: &str,
+    at_once: &str,
+) -> Result<(), CallFault> {
+    let plan = plan_of(orders, at_once, usize::MAX)?;
+    push_plan(rt, alloc, out, door, plan, false)
+}
+
+/// The same where each connection is cut behind so many octets.
+fn push_cut<R: Wait + Threads + Sync>(
+    rt: &R,
+    alloc: Global,
+    out: &mut String,
+    door: Door<'_>,
+    orders: &str,
+    octets: &str,
+) -> Result<(), CallFault> {
+    let plan = plan_of(orders, "4", size(octets)?)?;
+    push_plan(rt, alloc, out, door, plan, false)
+}
+
+/// Which threads are to meet.
+fn meeting_of(word: &str) -> Result<Meeting, LineFault> {
+    match word {
+        "alone" => Ok(Meeting::Alone),
+        "sends" => Ok(Meeting::SendsForIngest),
+        "ingest" => Ok(Meeting::IngestForSend),
+        "reads" => Ok(Meeting::AllForReads),
+        _ => Err(LineFault::Unknown),
+    }
+}
+
+/// What the words of a line answer where the broker is on wires: each arm is one call.
 fn push_on_wires<R: Wait + Threads + Sync>(
     rt: &R,
     alloc: Global,
@@ -165,19 +204,25 @@ fn push_on_wires<R: Wait + Threads + Sync>(
 ) -> Result<(), CallFault> {
     match words {
         ["place"] => push_plan(rt, alloc, out, door, Plan::one(), true),
-        ["many", orders, at_once] => {
-            let plan = plan_of(orders, at_once, usize::MAX)?;
-            push_plan(rt, alloc, out, door, plan, false)
-        }
-        ["cut", orders, octets] => {
-            let plan = plan_of(orders, "4", size(octets)?)?;
-            push_plan(rt, alloc, out, door, plan, false)
-        }
-        ["meet", "alone"] => push_meeting(rt, alloc, out, door, Meeting::Alone),
-        ["meet", "sends"] => push_meeting(rt, alloc, out, door, Meeting::SendsForIngest),
-        ["meet", "ingest"] => push_meeting(rt, alloc, out, door, Meeting::IngestForSend),
-        ["meet", "reads"] => push_meeting(rt, alloc, out, door, Meeting::AllForReads),
+        ["many", orders, at_once] => push_many(rt, alloc, out, door, orders, at_once),
+        ["cut", orders, octets] => push_cut(rt, alloc, out, door, orders, octets),
+        ["meet", word] => push_meeting(rt, alloc, out, door, word),
         _ => Err(LineFault::Unknown.into()),
+    }
+}
+
+/// What the words of a line answer: `tcp` alone wants a broker's socket.
+fn push_answer<R: Wait + Threads + Sync>(
+    rt: &R,
+    host: &HostRuntime,
+    place: SocketAddr,
+    out: &mut String,
+    words: &[&str],
+) -> Result<(), CallFault> {
+    let alloc = host.alloc();
+    match words {
+        ["tcp", rounds] => push_over_tcp(rt, alloc, out, Door::at(host, place), rounds),
+        others => push_on_wires(rt, alloc, out, Door::shut(host), others),
     }
 }
 
@@ -191,12 +236,6 @@ pub fn answer<R: Wait + Threads + Sync>(
     let alloc = host.alloc();
     let words: Vec<&str> = line.split_whitespace().collect(alloc)?;
     let mut out = String::new(alloc);
-    match words.as_slice() {
-        ["tcp", rounds] => {
-            let door = Door::at(host, place);
-            push_over_tcp(rt, alloc, &mut out, door, natural(rounds)?)?
-        }
-        others => push_on_wires(rt, alloc, &mut out, Door::shut(host), others)?,
-    }
+    push_answer(rt, host, place, &mut out, words.as_slice())?;
     Ok(out)
 }

@@ -11,12 +11,23 @@ use stomp_wire::{Link, LinkFault, StreamLink};
 pub type Socket = StreamLink<TcpStream, TcpStream>;
 
 /// The service's end of a wire, or of a socket in its place. Of what comes and goes contracts see nothing.
-#[derive(Drop)]
 pub struct QueueLink<'a> {
     wire: &'a Wire,
     other: Option<&'a Wire>,
     socket: Option<Socket>,
     failures: u64,
+}
+
+/// Written by hand, so that an owner doesn't prove at each of its exits how each part is dropped.
+impl Drop for QueueLink<'_> {
+    fn drop(self) {
+        let QueueLink {
+            wire: _,
+            other: _,
+            socket: _socket,
+            failures: _,
+        } = self;
+    }
 }
 
 impl<'a> QueueLink<'a> {

@@ -26,14 +26,22 @@ use test_script::LineFault;
 use warehouse::Stocks;
 
 /// Its two connections.
-#[derive(Drop)]
 struct Conns<'a> {
     zero: Option<Conn<QueueLink<'a>>>,
     one: Option<Conn<QueueLink<'a>>>,
 }
 
+/// Written by hand, so that an owner doesn't prove at each of its exits how each part is dropped.
+impl Drop for Conns<'_> {
+    fn drop(self) {
+        let Conns {
+            zero: _zero,
+            one: _one,
+        } = self;
+    }
+}
+
 /// One service, with its connections.
-#[derive(Drop)]
 pub struct LiveService<'a, H, K>
 where
     H: Handler,
@@ -43,6 +51,21 @@ where
     pub endpoint: Option<Endpoint<H, K>>,
     watch: &'a Watch<'a>,
     conns: Conns<'a>,
+}
+
+/// Written by hand, so that an owner doesn't prove at each of its exits how each part is dropped.
+impl<H, K> Drop for LiveService<'_, H, K>
+where
+    H: Handler,
+    K: Keep<State = H::State, Command = H::Command> + Drop,
+{
+    fn drop(self) {
+        let LiveService {
+            endpoint: _endpoint,
+            watch: _,
+            conns: _conns,
+        } = self;
+    }
 }
 
 /// A service over tables in memory, with its connections.

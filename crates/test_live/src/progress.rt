@@ -8,7 +8,6 @@ use std::sync::atomic::{AtomicU64, Ordering};
 const TURNS: u64 = 5_000_000;
 
 /// What those who give commands tell each other: how far a run has come.
-#[derive(Drop)]
 pub struct Progress {
     /// What is to be done.
     pub plan: Plan,
@@ -22,6 +21,22 @@ pub struct Progress {
     pub stock_rows: AtomicU64,
     pub account_rows: AtomicU64,
     turns: AtomicU64,
+}
+
+/// Written by hand, so that an owner doesn't prove at each of its exits how each part is dropped.
+impl Drop for Progress {
+    fn drop(self) {
+        let Progress {
+            plan: _,
+            stocks: _stocks,
+            accounts: _accounts,
+            placed: _placed,
+            confirmed: _confirmed,
+            stock_rows: _stock_rows,
+            account_rows: _account_rows,
+            turns: _turns,
+        } = self;
+    }
 }
 
 impl Progress {

@@ -24,12 +24,23 @@ struct Ends {
 }
 
 /// A wire: what goes up is on its way from a service to the broker. It can be cut, and opened again.
-#[derive(Drop)]
 pub struct Wire {
     ends: Mutex<Ends>,
     takes: AtomicU64,
     moves: AtomicU64,
     vain: AtomicU64,
+}
+
+/// Written by hand, so that an owner doesn't prove at each of its exits how each part is dropped.
+impl Drop for Wire {
+    fn drop(self) {
+        let Wire {
+            ends: _ends,
+            takes: _takes,
+            moves: _moves,
+            vain: _vain,
+        } = self;
+    }
 }
 
 /// What came up.

@@ -40,7 +40,45 @@ impl Session {
         }
     }
 
-    /// What a line of these words answers, which is appended.
+    /// A seat raises a mark.
+    fn raise(&mut self, seat: &str, place: &str, number: &str) -> Result<(), CallFault> {
+        let opened = self.opened()?;
+        opened.raise(size(seat)?, size(place)?, natural(number)?)
+    }
+
+    /// A seat reads a mark, which is appended.
+    fn read(&mut self, out: &mut String, seat: &str, place: &str) -> Result<(), CallFault> {
+        let opened = self.opened()?;
+        let read = opened.read(size(seat)?, size(place)?)?;
+        Ok(write!(out, "{read}")?)
+    }
+
+    /// All seats raise a mark, each in a thread of its own.
+    fn raise_by_all<R: Threads + Sync>(
+        &mut self,
+        rt: &R,
+        place: &str,
+        from: &str,
+    ) -> Result<(), CallFault> {
+        let opened = self.opened()?;
+        opened.raise_by_all(rt, size(place)?, natural(from)?)
+    }
+
+    /// All seats raise a mark so often, and it's appended whether it rose for each.
+    fn climb_by_all<R: Threads + Sync>(
+        &mut self,
+        rt: &R,
+        out: &mut String,
+        place: &str,
+        from: &str,
+        times: &str,
+    ) -> Result<(), CallFault> {
+        let (place, from, times) = (size(place)?, natural(from)?, natural(times)?);
+        let is_rising = self.opened()?.climb_by_all(rt, place, from, times)?;
+        Ok(out.push_str(if is_rising { "rising" } else { "falling" })?)
+    }
+
+    /// What a line of these words answers, which is appended: each arm is one call.
     fn answer_words<R: Threads + Sync>(
         &mut self,
         rt: &R,
@@ -50,23 +88,10 @@ impl Session {
     ) -> Result<(), CallFault> {
         match words {
             ["open", places, seats] => self.open(alloc, places, seats),
-            ["raise", seat, place, number] => {
-                self.opened()?
-                    .raise(size(seat)?, size(place)?, natural(number)?)
-            }
-            ["read", seat, place] => {
-                let read = self.opened()?.read(size(seat)?, size(place)?)?;
-                Ok(write!(out, "{read}")?)
-            }
-            ["all", place, from] => {
-                self.opened()?
-                    .raise_by_all(rt, size(place)?, natural(from)?)
-            }
-            ["climb", place, from, times] => {
-                let (place, from, times) = (size(place)?, natural(from)?, natural(times)?);
-                let is_rising = self.opened()?.climb_by_all(rt, place, from, times)?;
-                Ok(out.push_str(if is_rising { "rising" } else { "falling" })?)
-            }
+            ["raise", seat, place, number] => self.raise(seat, place, number),
+            ["read", seat, place] => self.read(out, seat, place),
+            ["all", place, from] => self.raise_by_all(rt, place, from),
+            ["climb", place, from, times] => self.climb_by_all(rt, out, place, from, times),
             ["close"] => self.close(out),
             _ => Err(LineFault::Unknown.into()),
         }

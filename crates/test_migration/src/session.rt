@@ -127,7 +127,39 @@ impl Session {
             .map_err(CallFault::from)
     }
 
-    /// Appends the answer to a line, or nothing where the call gives nothing.
+    /// Both files are empty.
+    fn renew(&mut self, alloc: Global) -> Result<(), CallFault> {
+        self.contents = Contents::empty(alloc);
+        Ok(())
+    }
+
+    /// The log is copied once it has so many frames.
+    fn copy_at(&mut self, text: &str) -> Result<(), CallFault> {
+        self.options.checkpoint_frames = size(text)?;
+        Ok(())
+    }
+
+    /// Answers what rows there are.
+    fn rows<S: Reopenable<Files = Disks> + Drop>(
+        &self,
+        alloc: Global,
+        out: &mut String,
+        text: &str,
+    ) -> Result<(), CallFault> {
+        *out = answer::<S>(alloc, &self.contents, self.options, text)?;
+        Ok(())
+    }
+
+    /// Notes what the tables hold.
+    fn note<S: Reopenable<Files = Disks> + Drop>(
+        &mut self,
+        alloc: Global,
+    ) -> Result<(), CallFault> {
+        self.noted = self.tables::<S>(alloc)?;
+        Ok(())
+    }
+
+    /// Appends the answer to a line, or nothing where the call gives nothing: each arm is one call.
     fn answer_line<S: Reopenable<Files = Disks> + Drop>(
         &mut self,
         alloc: Global,
@@ -136,18 +168,17 @@ impl Session {
     ) -> Result<(), CallFault> {
         let (word, rest) = first_word(line);
         match word {
-            "new" => self.contents = Contents::empty(alloc),
-            "copy-at" => self.options.checkpoint_frames = size(rest)?,
-            "sizes" => self.push_sizes(out)?,
-            "sql" => self.execute::<S>(alloc, out, rest)?,
-            "rows" => *out = answer::<S>(alloc, &self.contents, self.options, rest)?,
-            "migrate" => self.migrate::<S>(alloc, out, rest)?,
-            "open" => self.open::<S>(alloc, out, rest)?,
-            "note" => self.noted = self.tables::<S>(alloc)?,
-            "compare" => self.compare::<S>(alloc, out)?,
-            _ => self.run::<S>(alloc, out, word, rest)?,
+            "new" => self.renew(alloc),
+            "copy-at" => self.copy_at(rest),
+            "sizes" => self.push_sizes(out),
+            "sql" => self.execute::<S>(alloc, out, rest),
+            "rows" => self.rows::<S>(alloc, out, rest),
+            "migrate" => self.migrate::<S>(alloc, out, rest),
+            "open" => self.open::<S>(alloc, out, rest),
+            "note" => self.note::<S>(alloc),
+            "compare" => self.compare::<S>(alloc, out),
+            _ => self.run::<S>(alloc, out, word, rest),
         }
-        Ok(())
     }
 }
 
