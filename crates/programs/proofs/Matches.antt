@@ -4,18 +4,14 @@ use Rattle.std.specs.Prelude.{codes, option_map, unwrap_or, []}
 use Rattle.std.specs.Borrow.{Bor}
 use Rattle.std.specs.Str.{bytes_eq}
 use Rattle.std.proofs.lemmas.Slice.Eq.{bytes_eq-Decides}
-use Rattle.clap.proofs.WalkLemmas.{first_value-rows, one_text-rows}
-use Rattle.clap.specs.Matches.{first_value, one_text}
+use Rattle.clap.proofs.WalkLemmas.{first_value-rows}
+use Rattle.clap.specs.Matches.{first_value}
 use Rattle.clap.specs.Walk.{rows_of}
 use Rattle.clap.specs.Words.{Text, first_of}
 use Rattle.clap.specs.declared.parser.matches.Found.{Found}
+use Rattle.command_line.specs.Matches.{IsFlag}
 use Rattle.programs.specs.declared.choice.StoreChoice.TheVariants.{Plain, Sqlite, Files}
-use Rattle.programs.specs.Asked.{IsAskedFor, IsFlag}
-
--- a flag is read as the matches have it
-pub flag_is : (f : Found) (id : Text) (flag : Bool) → (one_text f id ≡ Some (codes "true") → flag ≡ true)
-    → (one_text f id ≡ Some (codes "false") → flag ≡ false) → IsFlag id (rows_of f) flag
-flag_is f id flag on off = (λ is. on (one_text-rows f id ∙ is), λ is. off (one_text-rows f id ∙ is))
+use Rattle.programs.specs.Asked.{IsAskedFor}
 
 module _ (f : Found) (keep dir : Option (Bor Text))
     (keeps : option_map (λ s. s.now) keep ≡ first_value f (codes "keep")) where

@@ -1,12 +1,13 @@
 -- Which stores the words of the command line ask for.
-use Rattle.std.specs.Prelude.{◌≡◌, List, [], ◌∷◌, map, codes, Some, None, Result, IfOk, IfErr, Bool, true, false}
+use Rattle.std.specs.Prelude.{◌≡◌, List, [], ◌∷◌, map, codes, Some, None, Result, IfOk, IfErr, true}
 use Rattle.std.specs.Borrow.{Bor}
 use Rattle.clap.specs.Simple.{matches_of}
-use Rattle.clap.specs.Words.{App, FailsBy, Row, Rule, Text, fault_of, first_of, kind_of, new_app, new_rule, one_of, takes, with_rule}
+use Rattle.clap.specs.Words.{App, FailsBy, Row, Rule, Text, fault_of, first_of, kind_of, new_app, new_rule, takes, with_rule}
 use Rattle.clap.specs.declared.builder.ArgAction.TheVariants.{Set, SetTrue}
 use Rattle.clap.specs.declared.builder.value_parser.ValueParser.TheVariants as parser
 use Rattle.clap.specs.declared.error.Error.{Error}
 use Rattle.clap.specs.declared.error.kind.ErrorKind.TheVariants.{OutOfMemory}
+use Rattle.command_line.specs.Matches.{IsFlag}
 use Rattle.command_line.specs.Usage.{with_version}
 use Rattle.programs.specs.declared.choice.StoreChoice.{StoreChoice}
 use Rattle.programs.specs.declared.choice.StoreChoice.TheVariants.{Plain, Sqlite, Files}
@@ -37,11 +38,6 @@ migrate = record (new_rule (codes "migrate")) { long = Some (codes "migrate"); a
 abbrev pub command_line : Bor (List (Bor Text)) → App
 command_line keeps =
     with_rule (with_rule (with_rule (with_version (new_app (codes "outbox-schedule"))) (keep keeps)) dir) migrate
-
--- the matches have this flag, or don't
-abbrev pub IsFlag : Text → List Row → Bool → Type 0
-IsFlag id rows flag = (one_of id rows ≡ Some (codes "true") → flag ≡ true)
-    × (one_of id rows ≡ Some (codes "false") → flag ≡ false)
 
 -- The matches of the words ask for these stores: the folder isn't looked at with `plain`.
 abbrev pub IsAskedFor : List Row → StoreChoice → Type 0

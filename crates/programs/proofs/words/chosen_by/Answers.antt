@@ -1,6 +1,7 @@
 use Rattle.std.specs.Prelude.{codes}
 use Rattle.clap.specs.Words.{found_of}
-use Rattle.programs.proofs.Matches.{asks_for_files, asks_for_memory, flag_is, other_name, no_name}
+use Rattle.command_line.proofs.Matches.{flag_is}
+use Rattle.programs.proofs.Matches.{asks_for_files, asks_for_memory, other_name, no_name}
 use Rattle.programs.proofs.words.chosen_by.Goals.{in_default-via-in-Some+else-eq, in_default-via-in_default}
 use Rattle.programs.proofs.words.chosen_by.Goals as goal
 
