@@ -5,8 +5,10 @@ ghost use Rattle.broker_core.specs.Calls.{closed_in};
 ghost use Rattle.broker_core.specs.Serving.{session_of};
 
 use crate::buffers::Buffers;
+use crate::places::Place;
 use crate::refusals::refusal_in;
 use crate::rest::Rest;
+use crate::room::{Holding, is_held_back};
 use crate::turn::{Brought, Turn, Written, discard, feed_in, read_in, write_out};
 use crate::work::{FIRST, Work, next_share};
 use crate::{Ending, ReadFault, TurnFault};
@@ -74,6 +76,7 @@ pub(crate) enum Step {
 pub(crate) struct Connection {
     stream: TcpStream,
     session: SessionId,
+    place: Place,
     stage: Stage,
     due: Due,
     /// The socket takes no more, and tells when it does.
@@ -86,6 +89,12 @@ pub(crate) struct Connection {
     share: usize,
     /// When something came last.
     heard: Instant,
+    /// It has sent a message, where there is a limit of what is held.
+    sends: bool,
+    /// It isn't read since that limit was met, though something may have come.
+    is_held_back: bool,
+    /// What it held when that was counted last.
+    pub(crate) holding: Holding,
 }
 
 /// What a connection asks of its socket, all the time.
@@ -95,10 +104,16 @@ pub(crate) fn both_ways() -> Interest {
 
 impl Connection {
     /// A connection whose session is open.
-    pub(crate) fn new(stream: TcpStream, session: SessionId, now: Instant) -> Connection {
+    pub(crate) fn new(
+        stream: TcpStream,
+        session: SessionId,
+        place: Place,
+        now: Instant,
+    ) -> Connection {
         Connection {
             stream,
             session,
+            place,
             stage: Stage::Serving,
             due: Due::Nothing,
             is_blocked: false,
@@ -106,7 +121,20 @@ impl Connection {
             thrown: 0,
             share: FIRST,
             heard: now,
+            sends: false,
+            is_held_back: false,
+            holding: Holding::new(),
         }
+    }
+
+    /// Where it stands.
+    pub(crate) fn place(&self) -> Place {
+        self.place
+    }
+
+    /// Whether it is the one that stood at a place.
+    pub(crate) fn is_at(&self, place: Place) -> bool {
+        self.place.number == place.number
     }
 
     /// Reads where there is something to read and nothing waits, and writes where the socket takes more again.
@@ -125,7 +153,7 @@ impl Connection {
         let has_more = event.is_readable() || event.is_read_closed() || event.is_error();
         let step = match self.stage {
             _ if !has_more || self.is_waiting() => Step::Stays,
-            Stage::Serving => self.read(alloc, registry, broker, event, work),
+            Stage::Serving => self.read_if_room(alloc, registry, broker, event, work),
             Stage::Leaving(_) | Stage::Draining => self.throw_away(registry, work),
         };
         let stays = matches!(step, Step::Stays | Step::Waits);
@@ -136,6 +164,80 @@ impl Connection {
             };
         }
         step
+    }
+
+    /// Reads for its session, unless it is held back, and notes whether it sends.
+    fn read_if_room<const FULL: usize>(
+        &mut self,
+        alloc: Global,
+        registry: &Registry,
+        broker: &mut Broker<FULL>,
+        event: &Event,
+        work: &mut Work,
+    ) -> Step {
+        self.is_held_back = self.is_to_wait(broker, work);
+        if self.is_held_back {
+            work.room.holds_back = true;
+            // What it has sent behind a failure would get no answer.
+            if event.is_error() {
+                return self.end(broker, Ending::Stream);
+            }
+            return Step::Stays;
+        }
+        if self.sends || !work.room.is_limited() {
+            return self.read(alloc, registry, broker, event, work);
+        }
+        take_accepted(broker, work);
+        let kept = broker.kept(self.session);
+        let step = self.read(alloc, registry, broker, event, work);
+        self.sends = take_accepted(broker, work) || broker.kept(self.session) > kept;
+        step
+    }
+
+    /// Whether it isn't to be read now, since so much is held.
+    fn is_to_wait<const FULL: usize>(&self, broker: &Broker<FULL>, work: &Work) -> bool {
+        let is_full = work.room.is_full_for(self.place.number);
+        let has_unanswered = is_full && broker.has_unanswered(self.session);
+        is_held_back(is_full, self.sends, has_unanswered)
+    }
+
+    /// Whether it isn't read since so much is held.
+    pub(crate) fn is_held_back(&self) -> bool {
+        self.is_held_back
+    }
+
+    /// Has it be read again where it was held back and isn't to wait any more: the socket doesn't tell twice of what
+    /// came meanwhile.
+    pub(crate) fn release<const FULL: usize>(
+        &mut self,
+        registry: &Registry,
+        broker: &mut Broker<FULL>,
+        work: &mut Work,
+    ) -> Step {
+        if !self.is_held_back || self.is_to_wait(broker, work) {
+            return Step::Stays;
+        }
+        self.is_held_back = false;
+        self.heard = work.now;
+        if !self.ask_again(registry) {
+            return self.end(broker, Ending::Stream);
+        }
+        Step::Stays
+    }
+
+    /// What it holds for its client, besides messages in queues.
+    pub(crate) fn find_holding<const FULL: usize>(&self, broker: &Broker<FULL>) -> Holding {
+        match &self.stage {
+            Stage::Serving => Holding {
+                kept: broker.kept(self.session),
+                unread: broker.out(self.session).len() as u64,
+            },
+            Stage::Leaving(rest) => Holding {
+                kept: 0,
+                unread: rest.len() as u64,
+            },
+            Stage::Draining => Holding::new(),
+        }
     }
 
     /// Reads for its session, and takes it away where it is over.
@@ -210,10 +312,12 @@ impl Connection {
         !matches!(self.due, Due::Nothing)
     }
 
-    /// Whether nothing came of it for so long. While something of it waits for memory nothing is read.
+    /// Whether nothing came of it for so long. While something of it waits for memory, or it's held back, nothing is
+    /// read.
     pub(crate) fn is_idle(&self, now: Instant, most: Duration) -> bool {
         matches!(self.stage, Stage::Serving)
             && !self.is_waiting()
+            && !self.is_held_back
             && match self.heard.checked_add(most) {
                 Some(last) => last <= now,
                 None => false,
@@ -278,7 +382,8 @@ impl Connection {
         Step::Stays
     }
 
-    /// Writes what is left for its session, or behind it.
+    /// Writes what is left for its session, or behind it. What was fresh may have been a delivery, behind which it is
+    /// read again where it was held back.
     pub(crate) fn write<const FULL: usize>(
         &mut self,
         registry: &Registry,
@@ -286,7 +391,10 @@ impl Connection {
         work: &mut Work,
     ) -> Step {
         match self.stage {
-            Stage::Serving => self.write_session(registry, broker, work),
+            Stage::Serving => match self.write_session(registry, broker, work) {
+                Step::Stays => self.release(registry, broker, work),
+                step => step,
+            },
             Stage::Leaving(_) => self.write_rest(registry, work),
             Stage::Draining => Step::Stays,
         }
@@ -391,7 +499,10 @@ impl Connection {
         work: &mut Work,
     ) -> Step {
         let why = match refusal_in(broker.out(self.session)) {
-            Some(refusal) => Ending::Refused(refusal),
+            Some(refusal) => match broker.detail() {
+                Some(detail) => Ending::RefusedFor(refusal, detail),
+                None => Ending::Refused(refusal),
+            },
             None => Ending::Disconnect,
         };
         self.leave(alloc, registry, broker, work, why)
@@ -451,11 +562,18 @@ impl Connection {
 
     /// Has the socket tell again of what it is ready for now; `false` where it doesn't.
     fn ask_again(&mut self, registry: &Registry) -> bool {
-        let token = token_of(self.session);
         registry
-            .reregister(&mut self.stream, token, both_ways())
+            .reregister(&mut self.stream, Token(self.place.key), both_ways())
             .is_ok()
     }
+}
+
+/// Takes what was accepted away, and counts it: a server has no use for it, and the list would grow. The answer is
+/// whether there was something.
+pub(crate) fn take_accepted<const FULL: usize>(broker: &mut Broker<FULL>, work: &mut Work) -> bool {
+    let accepted = broker.take_accepted();
+    work.figures.note_accepted(accepted.len());
+    !accepted.is_empty()
 }
 
 /// The lesser of two numbers.
@@ -487,9 +605,4 @@ fn give_back(due: Due, buffers: &mut Buffers) {
     if let Due::Octets(octets, _) = due {
         buffers.give_back(octets);
     }
-}
-
-/// The token of a connection: the number of its session, which no other ever has.
-pub(crate) fn token_of(session: SessionId) -> Token {
-    Token(session.number() as usize)
 }

@@ -1,14 +1,17 @@
 //! The connections that a loop serves.
 
-use crate::connection::{Connection, Step, both_ways, token_of};
+use crate::connection::{Connection, Step, both_ways};
+use crate::places::{Place, Places};
+use crate::room::{Holding, Room};
 use crate::work::Work;
 use crate::{Ending, News, Watch};
 use broker_core::{Broker, SessionId};
-use mio::Registry;
 use mio::event::Event;
 use mio::net::TcpStream;
+use mio::{Registry, Token};
+use slab::Slab;
 use std::alloc::Global;
-use std::collections::{HashMap, VecDeque};
+use std::collections::VecDeque;
 use std::io;
 use std::io::ErrorKind;
 use std::time::{Duration, Instant};
@@ -22,18 +25,32 @@ const IDLE: usize = 256;
 /// A connection that leaves, and until when.
 #[derive(Drop)]
 struct Leave {
-    number: u64,
+    place: Place,
     until: Instant,
 }
 
-/// The connections by the numbers of their sessions, those that leave, the first to go first, and those of which
-/// something waits for memory.
+/// The connections in a slab, whose key is the token of a connection's socket; where each stands, by the number of its
+/// session; those that leave, the first to go first, and those of which something waits for memory.
+///
+/// A key is given again, so one that was kept may be that of another connection now. What leaves and what waits is kept
+/// with the number of its session, and a connection of another number isn't it. An event has room for the key alone,
+/// and events that were gathered at once are handled over several turns, between which connections are taken in. But
+/// numbers rise: a connection whose number is above all that there were when the events were gathered was opened since,
+/// and none of them is its own. One whose number isn't had its key then, and the system tells nothing of a socket that
+/// was closed before.
 #[derive(Drop)]
 pub(crate) struct Connections {
     alloc: Global,
-    open: HashMap<u64, Connection>,
+    open: Slab<Connection>,
+    places: Places,
     leaving: VecDeque<Leave>,
-    waiting: VecDeque<u64>,
+    waiting: VecDeque<Place>,
+    /// What all of them hold, where there is a limit.
+    holding: Holding,
+    /// The highest number that was taken in.
+    last: u64,
+    /// What that was when the events were gathered.
+    gathered: u64,
     /// A session was taken away since the last deal, so messages may go to others.
     pub(crate) has_dropped: bool,
 }
@@ -43,9 +60,13 @@ impl Connections {
     pub(crate) fn new(alloc: Global) -> Connections {
         Connections {
             alloc,
-            open: HashMap::new(alloc),
+            open: Slab::new(alloc),
+            places: Places::new(alloc),
             leaving: VecDeque::new(alloc),
             waiting: VecDeque::new(alloc),
+            holding: Holding::new(),
+            last: 0,
+            gathered: 0,
             has_dropped: false,
         }
     }
@@ -66,27 +87,45 @@ impl Connections {
     ) -> io::Result<u64> {
         stream.set_nodelay(true)?;
         self.open.reserve(1)?;
+        self.places.reserve()?;
         self.waiting.reserve(self.open.len().saturating_add(1))?;
         let Ok(session) = broker.open() else {
             return Err(io::Error::from(ErrorKind::OutOfMemory));
         };
-        if let Err(fault) = registry.register(&mut stream, token_of(session), both_ways()) {
+        let place = Place {
+            key: self.open.vacant_key(),
+            number: session.number(),
+        };
+        if let Err(fault) = registry.register(&mut stream, Token(place.key), both_ways()) {
             broker.drop_session(session);
             return Err(fault);
         }
-        let number = session.number();
-        if self
-            .open
-            .insert(number, Connection::new(stream, session, now))
-            .is_err()
-        {
+        if !self.insert(place, Connection::new(stream, session, place, now)) {
             broker.drop_session(session);
             return Err(io::Error::from(ErrorKind::OutOfMemory));
         }
-        Ok(number)
+        Ok(place.number)
     }
 
-    /// Has a connection do what its socket is ready for.
+    /// Has a new connection stand at its place, the next of the slab; `false` where there is no room.
+    fn insert(&mut self, place: Place, connection: Connection) -> bool {
+        if !self.places.push(place) {
+            return false;
+        }
+        if self.open.insert(connection).is_err() {
+            self.places.remove(place.number);
+            return false;
+        }
+        self.last = place.number;
+        true
+    }
+
+    /// Events are gathered now: they are of the connections that there are.
+    pub(crate) fn gather(&mut self) {
+        self.gathered = self.last;
+    }
+
+    /// Has a connection do what its socket is ready for, unless the one of which the event tells is gone.
     pub(crate) fn handle<W: Watch, const FULL: usize>(
         &mut self,
         registry: &Registry,
@@ -95,10 +134,135 @@ impl Connections {
         work: &mut Work,
         watch: &W,
     ) {
-        let number = event.token().0 as u64;
-        if let Some(connection) = self.open.get_mut(&number) {
-            let step = connection.handle(self.alloc, registry, broker, event, work);
-            self.follow(broker, number, step, work.now, watch);
+        let Token(key) = event.token();
+        if let Some(connection) = self.open.get_mut(key) {
+            let place = connection.place();
+            if place.number <= self.gathered {
+                let step = connection.handle(self.alloc, registry, broker, event, work);
+                self.follow(broker, place, step, work, watch);
+            }
+        }
+    }
+
+    /// Counts anew what a connection holds, where there is a limit.
+    fn count<const FULL: usize>(&mut self, broker: &Broker<FULL>, place: Place, work: &mut Work) {
+        if !work.room.is_limited() {
+            return;
+        }
+        if let Some(connection) = self.open.get_mut(place.key) {
+            let before = connection.holding;
+            connection.holding = connection.find_holding(broker);
+            self.holding = self.holding.without(before).with(connection.holding);
+        }
+        work.room.note(self.held(broker));
+    }
+
+    /// How much is held by all of them, and in queues, where there is a limit.
+    fn held<const FULL: usize>(&self, broker: &Broker<FULL>) -> u64 {
+        broker.octets().saturating_add(self.holding.all())
+    }
+
+    /// How much that is, also where there is none.
+    pub(crate) fn find_held<const FULL: usize>(&self, broker: &Broker<FULL>) -> u64 {
+        let mut held = broker.octets();
+        for (_, connection) in self.open.iter() {
+            held = held.saturating_add(connection.find_holding(broker).all());
+        }
+        held
+    }
+
+    /// Behind a turn: tells whether the limit is met or not any more, and has those that were held back be read again
+    /// where it isn't.
+    pub(crate) fn ease<W: Watch, const FULL: usize>(
+        &mut self,
+        registry: &Registry,
+        broker: &mut Broker<FULL>,
+        work: &mut Work,
+        watch: &W,
+    ) {
+        if !work.room.is_limited() {
+            return;
+        }
+        let held = self.held(broker);
+        work.room.note(held);
+        if let Some(news) = work.room.news(held) {
+            watch.tell(news);
+        }
+        if work.room.is_full() {
+            if let Some(place) = self.choose_spared(&mut work.room) {
+                self.release(registry, broker, place, work, watch);
+            }
+        } else if work.room.holds_back {
+            self.release_all(registry, broker, work, watch);
+        }
+    }
+
+    /// Chooses the connection that is read though the limit is met, where nothing that is taken out of queues could
+    /// give enough memory back: the first that is held back with an open transaction, until none of its own keeps
+    /// anything. It is one at a time, so that its transactions alone come on top. The answer is its place, where it was
+    /// chosen now.
+    fn choose_spared(&self, room: &mut Room) -> Option<Place> {
+        if let Some(number) = room.spared()
+            && self.keeps(number)
+        {
+            return None;
+        }
+        room.spare(None);
+        if room.is_stuck(self.holding.kept) {
+            for (_, connection) in self.open.iter() {
+                if connection.is_held_back() && connection.holding.kept > 0 {
+                    let place = connection.place();
+                    room.spare(Some(place.number));
+                    return Some(place);
+                }
+            }
+        }
+        None
+    }
+
+    /// Whether open transactions of this session keep something.
+    fn keeps(&self, number: u64) -> bool {
+        if let Some(place) = self.places.find(number)
+            && let Some(connection) = self.open.get(place.key)
+        {
+            connection.holding.kept > 0
+        } else {
+            false
+        }
+    }
+
+    /// Has all that were held back be read again.
+    fn release_all<W: Watch, const FULL: usize>(
+        &mut self,
+        registry: &Registry,
+        broker: &mut Broker<FULL>,
+        work: &mut Work,
+        watch: &W,
+    ) {
+        work.room.spare(None);
+        work.room.holds_back = false;
+        // From the end on: where one goes, those that stand behind it had their turn.
+        for index in (0..self.places.len()).rev() {
+            if let Some(place) = self.places.get(index) {
+                self.release(registry, broker, place, work, watch);
+            }
+        }
+    }
+
+    /// Has one that was held back be read again.
+    fn release<W: Watch, const FULL: usize>(
+        &mut self,
+        registry: &Registry,
+        broker: &mut Broker<FULL>,
+        place: Place,
+        work: &mut Work,
+        watch: &W,
+    ) {
+        if let Some(connection) = self.open.get_mut(place.key)
+            && connection.is_held_back()
+        {
+            let step = connection.release(registry, broker, work);
+            self.follow(broker, place, step, work, watch);
         }
     }
 
@@ -116,14 +280,16 @@ impl Connections {
         watch: &W,
     ) {
         for _ in 0..self.waiting.len() {
-            let Some(number) = self.waiting.pop_front() else {
+            let Some(place) = self.waiting.pop_front() else {
                 return;
             };
-            if let Some(connection) = self.open.get_mut(&number) {
+            if let Some(connection) = self.open.get_mut(place.key)
+                && connection.is_at(place)
+            {
                 match connection.go_on(self.alloc, registry, broker, work) {
                     // That was told when it began to wait.
-                    Step::Waits => self.wait(broker, number, watch),
-                    step => self.follow(broker, number, step, work.now, watch),
+                    Step::Waits => self.wait(broker, place, watch),
+                    step => self.follow(broker, place, step, work, watch),
                 }
             }
         }
@@ -143,10 +309,11 @@ impl Connections {
                 return some;
             };
             some = true;
-            let number = session.number();
-            if let Some(connection) = self.open.get_mut(&number) {
+            if let Some(place) = self.places.find(session.number())
+                && let Some(connection) = self.open.get_mut(place.key)
+            {
                 let step = connection.write(registry, broker, work);
-                self.follow(broker, number, step, work.now, watch);
+                self.follow(broker, place, step, work, watch);
             }
         }
         some
@@ -154,8 +321,8 @@ impl Connections {
 
     /// Takes all sessions away: the connections are closed where this is let go.
     pub(crate) fn drop_sessions<const FULL: usize>(&self, broker: &mut Broker<FULL>) {
-        for number in self.open.keys() {
-            broker.drop_session(SessionId::new(*number));
+        for (_, connection) in self.open.iter() {
+            broker.drop_session(SessionId::new(connection.place().number));
         }
     }
 
@@ -164,27 +331,28 @@ impl Connections {
     pub(crate) fn end_idle<W: Watch, const FULL: usize>(
         &mut self,
         broker: &mut Broker<FULL>,
-        now: Instant,
+        work: &mut Work,
         most: Duration,
         watch: &W,
     ) -> bool {
-        let (found, count) = self.find_idle(now, most);
-        for number in found.iter().take(count) {
-            if let Some(connection) = self.open.get_mut(number) {
+        let (found, count) = self.find_idle(work.now, most);
+        for key in found.iter().take(count) {
+            if let Some(connection) = self.open.get_mut(*key) {
+                let place = connection.place();
                 let step = connection.end(broker, Ending::Idle);
-                self.follow(broker, *number, step, now, watch);
+                self.follow(broker, place, step, work, watch);
             }
         }
         count == IDLE
     }
 
-    /// Finds some of which nothing came for so long, and how many.
-    fn find_idle(&self, now: Instant, most: Duration) -> ([u64; IDLE], usize) {
+    /// The keys of some of which nothing came for so long, and how many.
+    fn find_idle(&self, now: Instant, most: Duration) -> ([usize; IDLE], usize) {
         let mut found = [0; IDLE];
         let mut count: usize = 0;
-        for (number, connection) in &self.open {
+        for (key, connection) in self.open.iter() {
             if count < IDLE && connection.is_idle(now, most) {
-                found[count] = *number;
+                found[count] = key;
                 count += 1;
             }
         }
@@ -199,14 +367,20 @@ impl Connections {
                 _ => return,
             }
             if let Some(leave) = self.leaving.pop_front() {
-                self.close(leave.number, watch);
+                self.close(leave.place, watch);
             }
         }
     }
 
     /// Closes a connection whose session was taken away before, where it isn't closed yet.
-    fn close<W: Watch>(&mut self, number: u64, watch: &W) {
-        if self.open.remove(&number).is_some() {
+    fn close<W: Watch>(&mut self, place: Place, watch: &W) {
+        let number = place.number;
+        if let Some(connection) = self.open.get(place.key)
+            && connection.is_at(place)
+        {
+            self.holding = self.holding.without(connection.holding);
+            let _ = self.open.try_remove(place.key);
+            self.places.remove(number);
             watch.tell(News::Closed { number });
         }
     }
@@ -215,13 +389,13 @@ impl Connections {
     fn wait<W: Watch, const FULL: usize>(
         &mut self,
         broker: &mut Broker<FULL>,
-        number: u64,
+        place: Place,
         watch: &W,
     ) {
-        if self.waiting.push_back(number).is_err() {
-            broker.drop_session(SessionId::new(number));
-            self.end(number, Ending::Memory, watch);
-            self.close(number, watch);
+        if self.waiting.push_back(place).is_err() {
+            broker.drop_session(SessionId::new(place.number));
+            self.end(place.number, Ending::Memory, watch);
+            self.close(place, watch);
         }
     }
 
@@ -235,36 +409,38 @@ impl Connections {
     fn follow<W: Watch, const FULL: usize>(
         &mut self,
         broker: &mut Broker<FULL>,
-        number: u64,
+        place: Place,
         step: Step,
-        now: Instant,
+        work: &mut Work,
         watch: &W,
     ) {
+        self.count(broker, place, work);
+        let number = place.number;
         match step {
             Step::Stays => {}
             Step::Waits => {
                 watch.tell(News::Waits { number });
-                self.wait(broker, number, watch);
+                self.wait(broker, place, watch);
             }
             Step::Leaves(why) => {
                 self.end(number, why, watch);
-                if !self.gives_time(number, now) {
-                    self.close(number, watch);
+                if !self.gives_time(place, work.now) {
+                    self.close(place, watch);
                 }
             }
             Step::Ends(why) => {
                 self.end(number, why, watch);
-                self.close(number, watch);
+                self.close(place, watch);
             }
-            Step::Closes => self.close(number, watch),
+            Step::Closes => self.close(place, watch),
         }
     }
 
     /// Gives a connection time to leave, if there is memory to note it.
-    fn gives_time(&mut self, number: u64, now: Instant) -> bool {
+    fn gives_time(&mut self, place: Place, now: Instant) -> bool {
         let Some(until) = now.checked_add(Duration::from_secs(LEAVE_SECONDS)) else {
             return false;
         };
-        self.leaving.push_back(Leave { number, until }).is_ok()
+        self.leaving.push_back(Leave { place, until }).is_ok()
     }
 }

@@ -1,6 +1,7 @@
 //! The loop that serves.
 
 use crate::buffers::{Buffers, Reserve};
+use crate::connection::take_accepted;
 use crate::connections::Connections;
 use crate::work::{FRAMES, Interval, Work};
 use crate::{News, ServeFault, Stop, Watch};
@@ -14,8 +15,8 @@ use std::net::{Net, SocketAddr};
 use std::sync::Wait;
 use std::time::{Clock, Duration, Instant};
 
-/// The token of the listener: no session has the number 0.
-const LISTENER: Token = Token(0);
+/// The token of the listener. The others are keys of a slab, each below its capacity, and none is as high as this.
+const LISTENER: Token = Token(usize::MAX);
 
 /// The sockets that a turn handles.
 const EVENTS: usize = 128;
@@ -33,6 +34,10 @@ pub struct ServeOptions {
     pub idle: Option<Duration>,
     /// After how long figures are told, again and again. Else never.
     pub figures: Option<Duration>,
+    /// So many octets may be held by messages in queues, by what open transactions keep and by what is left to be
+    /// written, together: from then on connections that send aren't read, until less is held. Else as many as there is
+    /// memory for.
+    pub memory: Option<u64>,
 }
 
 impl ServeOptions {
@@ -41,6 +46,7 @@ impl ServeOptions {
         ServeOptions {
             idle: None,
             figures: None,
+            memory: None,
         }
     }
 }
@@ -134,7 +140,7 @@ impl Server {
             poll,
             events,
             handled: 0,
-            work: Work::new(buffers, now),
+            work: Work::new(buffers, now, options.memory),
             reserve,
             connections: Connections::new(alloc),
             options,
@@ -168,6 +174,7 @@ impl Server {
             let wait = self.wait();
             self.poll.poll(&mut self.events, Some(wait))?;
             self.handled = 0;
+            self.connections.gather();
             self.work.share(self.events.iter().len());
         }
         Ok(())
@@ -195,9 +202,9 @@ impl Server {
             .write(self.poll.registry(), broker, &mut self.work, watch);
         self.take_again();
         self.connections.expire(self.work.now, watch);
-        // A server has no use for what was accepted, and the list would grow.
-        let accepted = broker.take_accepted();
-        self.work.figures.note_accepted(accepted.len());
+        self.connections
+            .ease(self.poll.registry(), broker, &mut self.work, watch);
+        take_accepted(broker, &mut self.work);
         self.tell(broker, watch);
         Ok(())
     }
@@ -225,12 +232,15 @@ impl Server {
         let now = self.work.now;
         if let Some(most) = self.options.idle
             && self.look.is_due(now)
-            && self.connections.end_idle(broker, now, most, watch)
+            && self
+                .connections
+                .end_idle(broker, &mut self.work, most, watch)
         {
             self.look.hurry(now);
         }
         if self.figures.is_due(now) {
             self.work.figures.connections = self.connections.len() as u64;
+            self.work.figures.held = self.connections.find_held(broker);
             watch.tell(News::Figures(self.work.figures));
         }
     }

@@ -1,5 +1,6 @@
 //! What a loop tells of what happens.
 
+use broker_core::Detail;
 use std::net::SocketAddr;
 use thiserror::Error;
 
@@ -15,6 +16,9 @@ pub enum Ending {
     /// A frame was refused: the number and the name that its ERROR tells.
     #[error("ERROR {0}")]
     Refused(&'static str),
+    /// The same, and what was wrong with the frame besides.
+    #[error("ERROR {0}: {1}")]
+    RefusedFor(&'static str, Detail),
     /// More octets are left for it than may be.
     #[error("its client doesn't read: too much is left for it")]
     Unread,
@@ -44,6 +48,9 @@ pub struct Figures {
     pub read: u64,
     /// The octets that were written.
     pub written: u64,
+    /// The octets that are held now: by messages in queues, by what open transactions keep, and by what is left to be
+    /// written.
+    pub held: u64,
 }
 
 impl Figures {
@@ -56,6 +63,7 @@ impl Figures {
             accepted: 0,
             read: 0,
             written: 0,
+            held: 0,
         }
     }
 
@@ -100,6 +108,10 @@ pub enum News {
     Ended { number: u64, why: Ending },
     /// Behind its end all was told to it, or the time for that was over: its socket is closed.
     Closed { number: u64 },
+    /// So many octets are held, as many as may be or more: connections that send aren't read.
+    Full { held: u64 },
+    /// There is room again: all are read.
+    Freed,
     /// The time of the figures has come.
     Figures(Figures),
 }

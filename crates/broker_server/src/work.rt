@@ -2,6 +2,7 @@
 
 use crate::Figures;
 use crate::buffers::Buffers;
+use crate::room::Room;
 use crate::turn::Brought;
 use std::time::{Duration, Instant};
 
@@ -27,16 +28,19 @@ pub(crate) struct Work {
     pub(crate) now: Instant,
     /// The frames that each connection may bring.
     pub(crate) frames: usize,
+    /// Whether there is room for what connections send.
+    pub(crate) room: Room,
 }
 
 impl Work {
     /// Nothing was done yet.
-    pub(crate) fn new(buffers: Buffers, now: Instant) -> Work {
+    pub(crate) fn new(buffers: Buffers, now: Instant, memory: Option<u64>) -> Work {
         Work {
             buffers,
             figures: Figures::new(),
             now,
             frames: FRAMES,
+            room: Room::new(memory),
         }
     }
 

@@ -1,1 +1,3 @@
 pub mod Usage
+pub mod Asked
+pub mod Plans

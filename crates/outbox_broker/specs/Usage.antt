@@ -58,11 +58,20 @@ idle = record (new_rule (codes "idle")) {
   parser = Some (parser.Signed (pos 0) (pos 65535));
 }
 
+-- octets behind `--memory`
+abbrev pub memory : Rule
+memory = record (new_rule (codes "memory")) {
+  long = Some (codes "memory");
+  action = Some Set;
+  value_names = 1;
+  parser = Some (parser.Unsigned 0 18446744073709551615);
+}
+
 -- the program's name, where it listens and when it ends, `--help` and `--version`
 abbrev pub plain_command_line : App
 plain_command_line =
     with_rule (with_rule (with_rule (with_version (new_app (codes "outbox-broker"))) port) listen) until_input_ends
 
--- the command line takes these, what is told, and how long a connection may be silent
+-- the command line takes these, what is told, how long a connection may be silent, and how much may be held
 abbrev pub command_line : App
-command_line = with_rule (with_rule (with_rule plain_command_line log) figures) idle
+command_line = with_rule (with_rule (with_rule (with_rule plain_command_line log) figures) idle) memory

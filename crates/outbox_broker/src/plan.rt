@@ -1,5 +1,11 @@
 //! What is to be done, once the words are understood.
 
+ghost use Rattle.std.specs.Prelude.{◌≡◌, option_map, MatchOption};
+ghost use Rattle.std.specs.Duration.{as_nanos};
+ghost use Rattle.std.specs.Net.Grammar.{IsIpText};
+ghost use Rattle.std.specs.Net.ToAddrs.{IsHostAndPort};
+ghost use Rattle.outbox_broker.specs.Plans.{PlanAnswer, level_of, nanos_of};
+
 use crate::words::Settings;
 use broker_server::ServeOptions;
 use log::LevelFilter;
@@ -27,7 +33,9 @@ pub struct Plan {
 }
 
 /// The level of a word.
-fn level_of(word: &str) -> Option<LevelFilter> {
+fn level_of(word: &str) -> Option<LevelFilter>
+    ensures { result ≡ level_of word.now }
+{
     match word {
         "off" => Some(LevelFilter::Off),
         "error" => Some(LevelFilter::Error),
@@ -38,23 +46,46 @@ fn level_of(word: &str) -> Option<LevelFilter> {
     }
 }
 
+/// The address of a text, with a port.
+fn address_of(text: &str, port: u16) -> Option<SocketAddr>
+    ensures { MatchOption result ((ip : IpAddr) → ¬ (IsIpText text.now ip)) (IsHostAndPort text.now port) }
+{
+    match IpAddr::from_str(text) {
+        Ok(ip) => Some(SocketAddr::new(ip, port)),
+        Err(_) => None,
+    }
+}
+
+/// So many seconds, where there are some.
+fn duration_of(seconds: Option<u64>) -> Option<Duration>
+    ensures { option_map as_nanos result ≡ option_map nanos_of seconds }
+{
+    match seconds {
+        Some(seconds) => Some(Duration::from_secs(seconds)),
+        None => None,
+    }
+}
+
 /// What the words ask for.
 ///
 /// # Errors
 /// What is told of a word that means nothing.
-pub fn plan_of(settings: Settings<'_>) -> Result<Plan, &'static str> {
-    let Ok(address) = IpAddr::from_str(settings.address) else {
+pub fn plan_of(settings: Settings<'_>) -> Result<Plan, &'static str>
+    ensures { PlanAnswer settings.entry BAD_ADDRESS.now BAD_LEVEL.now result }
+{
+    let Some(address) = address_of(settings.address, settings.port) else {
         return Err(BAD_ADDRESS);
     };
     let Some(level) = level_of(settings.log) else {
         return Err(BAD_LEVEL);
     };
     Ok(Plan {
-        address: SocketAddr::from((address, settings.port)),
+        address,
         level,
         options: ServeOptions {
-            idle: settings.idle.map(Duration::from_secs),
-            figures: settings.figures.map(Duration::from_secs),
+            idle: duration_of(settings.idle),
+            figures: duration_of(settings.figures),
+            memory: settings.memory,
         },
         until_input_ends: settings.until_input_ends,
     })

@@ -26,7 +26,7 @@ fn tell_end<R: Log>(rt: &R, number: u64, why: Ending) {
         Ending::Shut | Ending::Disconnect | Ending::Stream => {
             info!(rt; target: TARGET, "connection {number} ended: {why}");
         }
-        Ending::Refused(_) | Ending::Unread | Ending::Idle => {
+        Ending::Refused(_) | Ending::RefusedFor(_, _) | Ending::Unread | Ending::Idle => {
             warn!(rt; target: TARGET, "connection {number} ended: {why}");
         }
         Ending::Memory => error!(rt; target: TARGET, "connection {number} ended: {why}"),
@@ -36,8 +36,8 @@ fn tell_end<R: Log>(rt: &R, number: u64, why: Ending) {
 /// Tells the figures. Where standard error takes no more nobody would read them.
 fn tell_figures<R: Eprint>(rt: &R, of: Figures) {
     let _ = eprintln!(rt;
-        "figures connections={} opened={} frames={} accepted={} read={} written={}",
-        of.connections, of.opened, of.frames, of.accepted, of.read, of.written
+        "figures connections={} opened={} frames={} accepted={} read={} written={} held={}",
+        of.connections, of.opened, of.frames, of.accepted, of.read, of.written, of.held
     );
 }
 
@@ -60,6 +60,12 @@ impl<R: Log + Eprint> Watch for Told<'_, R> {
             News::Ended { number, why } => tell_end(rt, number, why),
             News::Closed { number } => {
                 debug!(rt; target: TARGET, "connection {number} is closed");
+            }
+            News::Full { held } => {
+                warn!(rt; target: TARGET, "memory: {held} octets are held: who sends isn't read");
+            }
+            News::Freed => {
+                warn!(rt; target: TARGET, "memory: there is room again: all are read");
             }
             News::Figures(figures) => tell_figures(rt, figures),
         }

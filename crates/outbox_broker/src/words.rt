@@ -1,7 +1,9 @@
 //! The words of the command line.
 
-ghost use Rattle.std.specs.Prelude.{◌≡◌, true, map, IfErr, IfOk};
-ghost use Rattle.clap.specs.Words.{FailsBy, app_of, fault_of, kind_of, takes};
+ghost use Rattle.std.specs.Prelude.{◌≡◌, true, map, option_and_then, IfErr, IfOk};
+ghost use Rattle.clap.specs.Words.{FailsBy, app_of, fault_of, found_of, kind_of, matches_of, rows_of, takes};
+ghost use Rattle.command_line.specs.Matches.{number_of};
+ghost use Rattle.outbox_broker.specs.Asked.{AreSettings, unless_zero};
 ghost use Rattle.outbox_broker.specs.Usage.{command_line, plain_command_line};
 
 use clap::error::ErrorKind;
@@ -33,9 +35,15 @@ What this machine is short of is told on standard error, a line each; with --log
 client is sent away and why, as `[WARN  outbox-broker] connection 7 ended: ..`, with --log info also
 who connects and leaves, with --log debug also sockets that close and what waits for memory. While
 standard error takes nothing nobody is served. With --figures a line
-`figures connections=N opened=N frames=N accepted=N read=N written=N` comes again and again: how
-many connections there are, and since the start how many were opened, frames handled, messages
-accepted, and octets read and written.
+`figures connections=N opened=N frames=N accepted=N read=N written=N held=N` comes again and again:
+how many connections there are, since the start how many were opened, frames handled, messages
+accepted, and octets read and written, and how many octets are held now.
+
+With --memory it is counted what messages in queues, open transactions and what is left to be
+written hold together. From so many octets on, until an eighth of them is free, a client that has
+sent a message isn't read: its sends wait until there is room, and none is refused or lost. Clients
+with unanswered deliveries are read on, since answers make room, and so are those that only take.
+What one read of each client brings may come on top. --log warn tells when that begins and ends.
 
 What it offers of STOMP 1.2:
   CONNECT and STOMP    version 1.2 must be accepted; no login is asked for, no heart-beats are offered
@@ -74,6 +82,8 @@ pub struct Settings<'a> {
     pub figures: Option<u64>,
     /// For how many seconds a connection may be silent.
     pub idle: Option<u64>,
+    /// How many octets may be held.
+    pub memory: Option<u64>,
 }
 
 /// The command line, as `clap` has it.
@@ -108,7 +118,7 @@ fn make_command<'a>(alloc: Global) -> Result<Command<'a>, AllocError>
     add_options(alloc, command)
 }
 
-/// The command line with what is told, and how long a connection may be silent.
+/// The command line with what is told, how long a connection may be silent, and how much may be held.
 fn add_options<'a>(alloc: Global, command: Command<'a>) -> Result<Command<'a>, AllocError>
     ensures { app_of command.entry ≡ plain_command_line → IfOk result (λ all. app_of all ≡ command_line) }
 {
@@ -130,31 +140,73 @@ fn add_options<'a>(alloc: Global, command: Command<'a>) -> Result<Command<'a>, A
         .value_name("SECONDS")
         .help("Closes a connection of which nothing came for so long; LFs count too")
         .value_parser(value_parser!(u16));
-    let command = command.arg(log)?.arg(figures)?.arg(idle)?;
+    let memory = Arg::new(alloc, "memory")
+        .long("memory")
+        .action(ArgAction::Set)
+        .value_name("OCTETS")
+        .help("Doesn't read clients that send while so many octets are held")
+        .value_parser(value_parser!(u64));
+    let command = command.arg(log)?.arg(figures)?.arg(idle)?.arg(memory)?;
     Ok(command)
 }
 
+/// A number, where it isn't 0.
+fn unless_zero(number: u64) -> Option<u64>
+    ensures { result ≡ unless_zero number }
+{
+    if number == 0 { None } else { Some(number) }
+}
+
+/// The number of a name, where it's given.
+fn number_of(matches: &ArgMatches<'_>, name: &str) -> Option<u16>
+    ensures { result ≡ number_of 16 name.now (rows_of (found_of matches.now)) }
+{
+    matches.get_one::<u16>(name)
+}
+
 /// So many seconds, where they are given and aren't none.
-fn seconds_of(matches: &ArgMatches<'_>, name: &str) -> Option<u64> {
-    match matches.get_one::<u16>(name) {
-        Some(seconds) if seconds > 0 => Some(u64::from(seconds)),
-        _ => None,
+fn seconds_of(matches: &ArgMatches<'_>, name: &str) -> Option<u64>
+    ensures { result ≡ option_and_then unless_zero (number_of 16 name.now (rows_of (found_of matches.now))) }
+{
+    match number_of(matches, name) {
+        Some(seconds) => unless_zero(u64::from(seconds)),
+        None => None,
+    }
+}
+
+/// So many octets, where they are given and aren't none.
+fn octets_of(matches: &ArgMatches<'_>, name: &str) -> Option<u64>
+    ensures { result ≡ option_and_then unless_zero (number_of 64 name.now (rows_of (found_of matches.now))) }
+{
+    match matches.get_one::<u64>(name) {
+        Some(octets) => unless_zero(octets),
+        None => None,
     }
 }
 
 /// What the words ask for, whose matches these are.
-fn settings_of<'a>(matches: &ArgMatches<'a>) -> Settings<'a> {
+fn settings_of<'a>(matches: &ArgMatches<'a>) -> Settings<'a>
+    ensures { AreSettings (rows_of (found_of matches.now)) result }
+{
+    let port = number_of(matches, "port").unwrap_or(0);
+    let address = matches.get_str("listen").unwrap_or(ADDRESS);
+    let until_input_ends = matches.get_flag("until-input-ends");
+    let log = matches.get_str("log").unwrap_or(LEVEL);
+    let figures = seconds_of(matches, "figures");
+    let idle = seconds_of(matches, "idle");
+    let memory = octets_of(matches, "memory");
     Settings {
-        port: matches.get_one::<u16>("port").unwrap_or(0),
-        address: matches.get_str("listen").unwrap_or(ADDRESS),
-        until_input_ends: matches.get_flag("until-input-ends"),
-        log: matches.get_str("log").unwrap_or(LEVEL),
-        figures: seconds_of(matches, "figures"),
-        idle: seconds_of(matches, "idle"),
+        port,
+        address,
+        until_input_ends,
+        log,
+        figures,
+        idle,
+        memory,
     }
 }
 
-/// Reads the words of the command line, the program's name first.
+/// Reads the words of the command line, the program's name first: what they ask for.
 ///
 /// # Errors
 /// Where they ask for no run: help, the version, or a fault of theirs.
@@ -162,6 +214,7 @@ pub fn read_settings<'a, S: AsStr>(alloc: Global, words: &'a [S]) -> Result<Sett
     ensures takes { IfErr result (λ e. takes command_line (map S.text words.now) ≡ true
         → kind_of e ≡ ErrorKind.OutOfMemory) }
     ensures fails { FailsBy (fault_of command_line (map S.text words.now)) result }
+    ensures asked { IfOk result (AreSettings (matches_of command_line (map S.text words.now))) }
 {
     let command: Command<'a> = make_command(alloc)?;
     match command.try_get_matches_from(words) {

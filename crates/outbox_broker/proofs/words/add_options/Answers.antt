@@ -5,7 +5,7 @@ use Rattle.clap.specs.Words.{Rule, rule_of, with_rule}
 use Rattle.clap.specs.declared.builder.ArgAction.TheVariants.{Set}
 use Rattle.clap.specs.declared.builder.arg.Arg.{Arg}
 use Rattle.clap.specs.declared.builder.value_parser.ValueParser.TheVariants as parser
-use Rattle.outbox_broker.specs.Usage.{log, figures, idle}
+use Rattle.outbox_broker.specs.Usage.{log, figures, idle, memory}
 use Rattle.outbox_broker.proofs.words.add_options.Goals as goal
 
 pub returns : goal.returns
@@ -46,6 +46,20 @@ returns c = λ plain.
     let idle_local : c.value_parser-idle.result.global ≡ false = ap global c.value_parser-idle.ensures.others
     ∙ ap global c.help-2.ensures ∙ ap global c.value_name-3.ensures ∙ ap global c.action-3.ensures
     ∙ ap global c.long-3.ensures ∙ c.new-3.ensures.optional.1 in
-    c.in_ok-command.ensures.shape idle_local
+    let given-memory = c.value_parser-memory.ensures.given in
+    let parser-memory : c.value_parser-memory.result.value_parser ≡ Some (parser.Unsigned 0 18446744073709551615) =
+    given-memory.1 ∙ ap (λ p. Some p) (given-memory.2 ∙ c.value_parser-3.ensures) in
+    let base-memory : rule_of c.help-3.result ≡ record memory { parser = None } = ap rule_of c.help-3.ensures
+    ∙ ap rule_of c.value_name-4.ensures ∙ ap (λ (r : Rule). record r { value_names = 1 }) (ap rule_of c.action-4.ensures
+    ∙ ap (λ (r : Rule). record r { action = Some Set }) (ap rule_of c.long-4.ensures
+    ∙ ap (λ (r : Rule). record r { long = Some (codes "memory") }) c.new-4.ensures.rule)) in
+    let memory_is : rule_of c.value_parser-memory.result ≡ memory = ap rule_of c.value_parser-memory.ensures.others
+    ∙ ap (λ (r : Rule). record r { parser = c.value_parser-memory.result.value_parser }) base-memory
+    ∙ ap (λ p. record memory { parser = p }) parser-memory in
+    let memory_local : c.value_parser-memory.result.global ≡ false = ap global c.value_parser-memory.ensures.others
+    ∙ ap global c.help-3.ensures ∙ ap global c.value_name-4.ensures ∙ ap global c.action-4.ensures
+    ∙ ap global c.long-4.ensures ∙ c.new-4.ensures.optional.1 in
+    c.in_ok-command.ensures.shape memory_local
+    ∙ ap₂ with_rule (c.in_ok-arg-3.ensures.shape idle_local
     ∙ ap₂ with_rule (c.in_ok-arg-2.ensures.shape figures_local
-    ∙ ap₂ with_rule (c.in_ok-arg.ensures.shape log_local ∙ ap₂ with_rule plain log_is) figures_is) idle_is
+    ∙ ap₂ with_rule (c.in_ok-arg.ensures.shape log_local ∙ ap₂ with_rule plain log_is) figures_is) idle_is) memory_is
