@@ -16,6 +16,7 @@ from stomp_model import Bad, Short, Wrong, decoded
 MOST, EARLY = 1 << 40, 256
 ROOM, PER_LETTER = 32 << 20, 6 << 10  # octets that it may hold beyond what it has at rest, and for each letter that it keeps
 LIFE = 100_000  # frames behind which another process takes over
+AHEAD = 8  # bursts that go out at once
 BODY = re.compile(rb'\{"n":([1-9][0-9]*),"op":"request"\}|\{"op":"(tentative|refused|confirm|cancel)"\}')
 REQUEST, CONFIRM = b'{"n":1,"op":"request"}', b'{"op":"confirm"}'
 QUEUE = "/queue/warehouse"
@@ -50,10 +51,6 @@ def letter_of(values, body):
     if not is_entity(values.get("from")) or not is_entity(values.get("to"), ("stock",)):
         return None
     return (values["from"], values["to"]), int(number)
-
-
-class Cut(Exception):
-    """The connection has to be cut."""
 
 
 class Pairs:
@@ -150,11 +147,16 @@ class Steady(threading.Thread):
             self.fault = fault
 
 
+# octets to be sent, and what has to come of them: see `wanted`
+Burst = collections.namedtuple("Burst", "dice number octets told is_cut pairs count behind")
+
+
 class ServiceRun:
     """Bursts of letters to one warehouse after another."""
 
     def __init__(self, seed):
         self.seed, self.told, self.service, self.most, self.longest = seed, collections.Counter(), None, 0, 0.0
+        self.held = None  # a burst that is sent next
 
     def start(self):
         self.listener = socket.create_server(("127.0.0.1", 0))
@@ -179,6 +181,10 @@ class ServiceRun:
     def end(self):
         if self.service:
             self.service.end()
+
+    def meant_well(self):
+        """How many letters of the connection whose letters aren't changed were handled."""
+        return self.told["steady"]
 
     def frames(self, dice):
         """The frames of a burst: letters of some pairs, whose numbers, texts and entities are odd now and then."""
@@ -224,24 +230,39 @@ class ServiceRun:
             if not is_cut:
                 told.append((values["ack"], answer, handled, letter and letter[0]))
 
-    def burst(self, number):
-        dice = random.Random(f"{self.seed} {number}")
-        frames = list(self.frames(dice))
-        octets = mutated(dice, frames) if dice.random() < 0.4 else b"".join(frames)
-        told, is_cut, pairs, count, behind = self.wanted(octets)
-        handled = sum(it[2] for it in told)
-        try:
-            in_pieces(dice, self.wire.socket, octets)
-            self.answers(told, is_cut, pairs)
-        except (Wrong, Closed, OSError, ValueError, TypeError) as fault:
-            raise Wrong(f"{fault if isinstance(fault, Wrong) else repr(fault)}\n     burst {number}, behind {octets!r}") from None
-        self.told["frames"] += count
-        self.told["messages"] += len(told)
+    def bursts(self, number):
+        """Some bursts at once, but one for which the connection is cut alone: the number of the last that was made."""
+        made, self.held = [self.held] if self.held else [], None
+        while not made or len(made) < AHEAD and not made[0].is_cut:
+            number += 1
+            dice = random.Random(f"{self.seed} {number}")
+            frames = list(self.frames(dice))
+            octets = mutated(dice, frames) if dice.random() < 0.4 else b"".join(frames)
+            one = Burst(dice, number, octets, *self.wanted(octets))
+            if made and one.is_cut:
+                self.held = one
+                break
+            made.append(one)
+        for it in made:
+            in_pieces(it.dice, self.wire.socket, it.octets)
+        for it in made:
+            try:
+                self.answers(it.told, it.is_cut, it.pairs)
+            except (Wrong, Closed, OSError, ValueError, TypeError) as fault:
+                told = fault if isinstance(fault, Wrong) else repr(fault)
+                raise Wrong(f"{told}\n     burst {it.number}, behind {it.octets!r}") from None
+            self.count(it)
+        return number
+
+    def count(self, burst):
+        handled = sum(it[2] for it in burst.told)
+        self.told["frames"] += burst.count
+        self.told["messages"] += len(burst.told)
         self.told["letters"] += handled
-        self.told["refused"] += sum(it[1] in ("ACK", "NACK") for it in told)
-        self.least_rows += 0 if is_cut else handled
-        self.most_rows += handled + behind
-        self.told["cuts"] += is_cut
+        self.told["refused"] += sum(it[1] in ("ACK", "NACK") for it in burst.told)
+        self.least_rows += 0 if burst.is_cut else handled
+        self.most_rows += handled + burst.behind
+        self.told["cuts"] += burst.is_cut
 
     def answers(self, told, is_cut, pairs):
         """The answers come, in order; where the connection is cut, a beginning of them, and then its end."""
@@ -268,8 +289,7 @@ class ServiceRun:
         self.start()
         until = min(count, self.told["frames"] + LIFE)
         while self.told["frames"] < until:
-            number += 1
-            self.burst(number)
+            number = self.bursts(number)
             room = ROOM + PER_LETTER * (self.most_rows + 2 * self.steady.count + self.told["refused"])
             if self.service.memory() > self.service.at_rest + room / (1 << 20):
                 raise Wrong(f"the service holds {self.service.memory():.0f} MiB")

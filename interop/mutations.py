@@ -1,10 +1,14 @@
 """Octets of frames that are changed at random, and programs that get them: for `interop/mutated`."""
 import os
+import signal
 import subprocess
 import sys
 
 from services_brokers import TOP
 from stomp_model import Wrong
+
+# a script that is ended ends what it started
+signal.signal(signal.SIGTERM, signal.default_int_handler)
 
 WORDS = [b"\n", b"\r\n", b"\r", b"\0", b":", b"\\", b"\\c", b"\\n", b"\\t", b"\xff", b"\xc3\xbc", b"\xe2\x82", b"0", b"2", b"1.2", b"auto",
          b"client", b"18446744073709551616", b":x\n", b"x\n", b"id:0\n", b"ack:1\n", b"receipt:r\n", b"transaction:t\n",
