@@ -247,11 +247,12 @@ CORE = {
         " which commands come;",
         "- a pair is a sender and a receiver, both entities; a letter is a message with its pair, and with its number among the letters of"
         " that pair;",
-        "- a letter is sent as soon as it stands in the outbox, whether or not a connection has had it, and settled when its sender knows"
-        " that it was handled; a settle is what the receiver tells the sender for that; an envelope is a letter or a settle;",
+        "- a letter is sent as soon as it stands in the outbox, whether or not any connection has carried it; it's settled once its sender"
+        " knows that it was handled; a settle is what the receiver tells the sender for that; an envelope is a letter or a settle;",
         "- a mark of a pair is a number up to which its letters are settled, which the sender keeps, or handled, which the receiver"
         " keeps; a letter that comes too early is held until those before it were handled;",
-        "- the partners of an order are the stock and the account that it asks; its line at one of them is what that has of it;",
+        "- the partners of an order are the one to eight stocks and the one account that it asks; its line at one of them is what that has"
+        " of it;",
         "- a row, where nothing else is said, is one of a journal; the row of an entity is its state in the tables, and a row of the"
         " outbox a letter that stands there;",
         "- a store and a keep are one thing; a content is what a store's tables are, or may be found to be after a stop; a file is in"
@@ -265,7 +266,10 @@ CORE = {
         " [THEOREM-SERVICE.md](THEOREM-SERVICE.md), what one service promises alone; [THEOREM-EVENTS.md](THEOREM-EVENTS.md), what each"
         " single event does, with the octets on their way; [THEOREM-MAIL.md](THEOREM-MAIL.md), what it is for a mail to be genuine;"
         " [THEOREM-JOURNALS.md](THEOREM-JOURNALS.md), the theorem over three journals alone; [THEOREM-PROGRAM.md](THEOREM-PROGRAM.md),"
-        " what the program prints; and [THEOREM-BROKER.md](THEOREM-BROKER.md), the broker's promises, which can be read without this one.",
+        " what the program prints; [THEOREM-FILES.md](THEOREM-FILES.md), that a run over files goes on;"
+        " [THEOREM-THREADS.md](THEOREM-THREADS.md), many threads over one service; [THEOREM-ANY-BROKER.md](THEOREM-ANY-BROKER.md), what"
+        " holds over a broker of other hands; and [THEOREM-BROKER.md](THEOREM-BROKER.md), the promises of this repository's broker, which"
+        " can be read without this page.",
     ],
     "signs": True,
     "cut": OF_EVENTS + OF_MAIL + OF_STORE + OF_SERVICE,
