@@ -6,7 +6,7 @@
 PROMISE = [
     ("no schedule", "`World::run` asks nothing of `events`: each list of them is one. `Event` says what they are, and `did` what each"
      " does, by its outcome."),
-    ("cut connections", "`Cut`, at each octet, since `Carry` says how many go over. What was on its way is lost, and no more"
+    ("cut connections", "`Event::Cut`, at each octet, since `Carry` says how many go over. What was on its way is lost, and no more"
      " (`WorldStep`)."),
     ("lost, reordered", "What is on its way is lost where the connection is cut, and all that a broker has where it stops (`StopBroker`)."
      " What one connection has stays in its order, and so letters come out of theirs where an earlier one was lost, comes again, or waits"
@@ -14,7 +14,7 @@ PROMISE = [
     ("repeated", "`Resend`, a connection that is opened anew, and `Repeat`, which sends again what was ever accepted."),
     ("store failures", "`Fail`, at each read and each transaction, which leaves the old or the new tables. `MayLeave` is what may be found"
      " behind that, of each store by itself; `matching`, `goes`, `told`, `good` and `agree` speak of all of it."),
-    ("stops", "`Stop`, `Reopen` and `StopBroker`, between any two events; amid one, where it calls its store, `Fail`."),
+    ("stops", "`Event::Stop`, `Reopen` and `StopBroker`, between any two events; amid one, where it calls its store, `Fail`."),
     ("loses", "What was answered committed stays in its journal, at its row (`told`). What a journal sends stands in the outbox until it"
      " is marked as settled (`TablesMatchJournal`, by `matching`), and what is marked so its receiver's journal has (`IsGood.settled`, by"
      " `good`)."),
@@ -314,10 +314,10 @@ CORE = {
           "- gives any commands from any seats (`Event::Order`, `Event::Stock`, `Event::Account`);",
           "- lets a service write what stands in its outbox (`Fill`), moves as many octets as it likes between one end of a connection and"
           " the other (`Carry`), and lets frames be handled (`Take`, `Drain`); or lets any of that wait for as long as it likes;",
-          "- cuts connections at any octet (`Cut`), behind which what was on its way is lost, and opens them anew (`Open`);",
+          "- cuts connections at any octet (`Event::Cut`), behind which what was on its way is lost, and opens them anew (`Open`);",
           "- lets what is sent be sent again: by a service (`Resend`), or by the broker, of all that it ever accepted (`Repeat`);",
           "- lets chosen reads fail, and chosen transactions fail and leave the old tables or the new ones (`Fail`);",
-          "- stops services and the broker between any two events (`Stop`, `StopBroker`), behind which a service has its store alone and a"
+          "- stops services and the broker between any two events (`Event::Stop`, `StopBroker`), behind which a service has its store alone and a"
           " broker nothing, and opens stores anew (`Reopen`). What a stop amid an event would leave of its transaction, the old tables or"
           " the new ones, is what `Fail` leaves.",
           "That memory is refused is no event: it may be at any growth, and no clause asks that it isn't.",
@@ -588,8 +588,9 @@ THREADS = {
     "behind": ["docs/THEOREM.md", "docs/THEOREM-STORE.md", "docs/THEOREM-SERVICE.md", "docs/THEOREM-EVENTS.md"],
     "sections": [
         ("Each answer is one thread's",
-         ["A seat, the Hand and the Scout are tokens, each of which one thread has at a time. What a token has *seen* is the service as it"
-          " gave it back last behind an answer that tells of the journal; its *list* is what the journal has of it. `IsOneThreads` says of"
+         ["A seat gives commands, the Hand takes letters and settles in, the Scout reads what is to be sent. These are tokens, each of which"
+          " one thread has at a time. What a token has *seen* is the service as it gave it back last behind an answer that tells of the"
+          " journal; its *list* are the journal's rows that it made. `IsOneThreads` says of"
           " a call: there is a legal journal that begins with the one that the token has seen and has exactly its list (`Continues`),"
           " and the answer is what one thread gets there. It asks that the token is good, as new ones of good tables are"
           " (`tokens_stay_good`), and that no file is in doubt."],
