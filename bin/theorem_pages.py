@@ -519,7 +519,8 @@ PROGRAM = {
         ("A schedule is run as its text says",
          ["What the words of the command line come to, the run over the stores that they ask for, and the run of a text: what is printed"
           " are the lines of the outcomes of its events (`IsRunOf`). They were made one after another, and each did what its outcome says"
-          " (`HasRun`). Where the run had a good start and in the end no file is in doubt, it has a good end: the tables match the journals, the partners of each order agree,"
+          " (`HasRun`). Where the run had a good start and in the end no file is in doubt, it has a good end: the tables match the journals,"
+          " the partners of each order agree,"
           " and the commands that stand in the journals are those that were told (`IsGoodEnd`). Over tables in memory nothing is asked:"
           " the end is always good (`a_run_in_memory_ends_well`). Over stores that are found to have good tables, as those in files that an"
           " earlier run left, the end is good too, and what it leaves another run may begin with (`a_run_goes_on`);"
