@@ -317,7 +317,8 @@ CORE = {
           "- cuts connections at any octet (`Event::Cut`), behind which what was on its way is lost, and opens them anew (`Open`);",
           "- lets what is sent be sent again: by a service (`Resend`), or by the broker, of all that it ever accepted (`Repeat`);",
           "- lets chosen reads fail, and chosen transactions fail and leave the old tables or the new ones (`Fail`);",
-          "- stops services and the broker between any two events (`Event::Stop`, `StopBroker`), behind which a service has its store alone and a"
+          "- stops services and the broker between any two events (`Event::Stop`, `StopBroker`), behind which a service has its store"
+          " alone and a"
           " broker nothing, and opens stores anew (`Reopen`). What a stop amid an event would leave of its transaction, the old tables or"
           " the new ones, is what `Fail` leaves.",
           "That memory is refused is no event: it may be at any growth, and no clause asks that it isn't.",
