@@ -7,6 +7,7 @@ mod Changes
 mod Commits
 mod Reading
 mod Ends
+mod Looks
 mod Rows
 mod Journals
 mod NewFiles

@@ -2,6 +2,7 @@ pub mod Filing
 pub mod Tables
 pub mod Parts
 pub mod Ready
+pub mod Look
 pub mod Stepping
 pub mod Law
 pub mod Found

@@ -6,7 +6,7 @@ ghost use Rattle.sqlite_trees.specs.View.{doubt};
 ghost use Rattle.sqlite.specs.Held.{state};
 ghost use Rattle.sqlite.specs.State.{HasCleanDisk};
 ghost use Rattle.last_states.specs.Known.{known_of, Knows};
-ghost use Rattle.keep.specs.Law.{MoreFailures, Reads, Writes};
+ghost use Rattle.keep.specs.Law.{MoreFailures, Reads, Writes, Reopens};
 ghost use Rattle.keep.specs.Steps.{AreSteps};
 ghost use Rattle.keep.specs.Seen.{keep_end};
 ghost use Rattle.keep.specs.declared.fault.KeepFault.TheVariants.{Failed, Memory};
@@ -15,6 +15,7 @@ ghost use Rattle.sql_rows.specs.Tables.{Stays};
 ghost use Rattle.sqlite_catalog.specs.Listing.{IsSound};
 ghost use Rattle.sqlite.specs.WalFiles.{image_at};
 ghost use Rattle.keep_sqlite.specs.Found.{IsFoundIn, IsTakenOver, TellsOfService};
+ghost use Rattle.keep_sqlite.specs.Look.{IsShut};
 ghost use Rattle.keep_sqlite.specs.Ready.{IsEnd, IsReady};
 ghost use Rattle.keep_sqlite.specs.Law.{kept_prop, ready_prop, seen_of, seen_sound};
 ghost use Rattle.keep_sqlite.specs.Tables.{tables_of};
@@ -24,7 +25,7 @@ use crate::founding::{found, with_tables};
 use crate::journal::find_rows;
 use crate::listing::{find_drainable, find_letters};
 use crate::opening::{examine, opening_fault};
-use crate::reads::{find_handled, find_held, find_sent, find_settled, is_live};
+use crate::reads::{find_handled, find_held, find_sent, find_settled, look};
 use crate::writes::write_all;
 use activities::JournalRow;
 use base::{Entity, Number, Pair};
@@ -82,6 +83,7 @@ impl<H: Filed, S: Alter> SqliteKeep<H, S> {
     }
 
     /// Ends a call whose statements did this. Where they wanted memory, and the connection is open still, nothing failed.
+    /// Where the look at it wants memory too it isn't known to be open, which is told as a failure.
     fn end<R: Drop>(&mut self, done: Result<R, Error>) -> Result<R, KeepFault>
         requires shut { self.old.is_usable ≡ false }
         requires open { HasCleanDisk (state S.Store self.old.conn)
@@ -101,11 +103,11 @@ impl<H: Filed, S: Alter> SqliteKeep<H, S> {
                 Ok(value)
             }
             Err(Error::SqliteFailure(ErrorCode::OutOfMemory)) => {
-                if is_live(&mut self.conn) {
-                    self.is_usable = true;
-                    return Err(KeepFault::Memory);
+                if look(&mut self.conn).is_err() {
+                    return self.fail();
                 }
-                self.fail()
+                self.is_usable = true;
+                Err(KeepFault::Memory)
             }
             Err(_) => self.fail(),
         }
@@ -316,13 +318,21 @@ impl<H: Filed, S: Alter> Keep for SqliteKeep<H, S> {
         self.write(alloc, changes, true)
     }
 
-    fn reopen(&mut self, _alloc: Global) -> Result<(), KeepFault> {
+    fn reopen(&mut self, _alloc: Global) -> Result<(), KeepFault>
+        ensures reopens { Reopens (λ k. seen_of H.filing (state S.Store k.conn) k.is_usable k.failures) self.old self.new
+            (keep_end result) }
+        ensures shut { HasCleanDisk (state S.Store self.new.conn) → result ≡ Err Failed
+            → IsShut (state S.Store self.old.conn) (state S.Store self.new.conn) }
+    {
         self.is_usable = false;
-        if is_live(&mut self.conn) {
-            self.is_usable = true;
-            return Ok(());
+        match look(&mut self.conn) {
+            Ok(()) => {
+                self.is_usable = true;
+                Ok(())
+            }
+            Err(KeepFault::Memory) => Err(KeepFault::Memory),
+            Err(KeepFault::Failed | KeepFault::WrongFile) => self.fail(),
         }
-        self.fail()
     }
 
     ghost sound = { λ k. seen_sound H.filing _ k.is_usable k.failures k.count k.sound k.live

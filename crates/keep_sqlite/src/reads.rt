@@ -1,6 +1,6 @@
 //! What is read of a file. A `_count`, how many rows the journal has, stands for the contracts alone: nothing reads it.
 
-ghost use Rattle.std.specs.Prelude.{◌≡◌, ◌≤◌, false, OnOk, IfOk, IsTrue};
+ghost use Rattle.std.specs.Prelude.{◌≡◌, ◌≤◌, ◌⊎◌, false, OnOk, IfOk, IfErr, IsTrue, Err};
 ghost use Rattle.sqlite_value.specs.Order.{column};
 ghost use Rattle.sqlite_trees.specs.Tree.{Trees};
 ghost use Rattle.sqlite_trees.specs.View.{doubt};
@@ -8,15 +8,18 @@ ghost use Rattle.sqlite.specs.Held.{state};
 ghost use Rattle.sqlite.specs.State.{HasCleanDisk};
 ghost use Rattle.sql_rows.specs.Tables.{Stays};
 ghost use Rattle.keep_sqlite.specs.Tables.{tables_of, message_in};
+ghost use Rattle.keep.specs.declared.fault.KeepFault.TheVariants.{Failed, Memory};
+ghost use Rattle.keep_sqlite.specs.Look.{look_end, IsShut};
 ghost use Rattle.keep_sqlite.specs.Ready.{IsReady, IsFirstMark, IsFirstMessage};
 
 use crate::filed::Filed;
 use crate::writes::bound_number;
 use base::{Number, Pair};
 use envelope::Message;
+use keep::KeepFault;
 use sql_bodies::read_message;
 use sql_rows::{read_handled, read_held, read_marks};
-use sqlite::{Alter, Connection, Error, Row};
+use sqlite::{Alter, Connection, Error, ErrorCode, Row, Statement};
 use std::alloc::Global;
 
 // Where an answer of `read_marks` has the number of the last letter that was sent, and of the last that was settled.
@@ -24,19 +27,45 @@ const SENT: usize = 0;
 
 const SETTLED: usize = 1;
 
-/// Whether the connection is still open. Where memory is short it answers false.
-pub fn is_live<S: Alter>(conn: &mut Connection<S>) -> bool
+/// What a look at the connection tells that ended so.
+fn told_by(done: Result<Statement, Error>) -> Result<(), KeepFault>
+    ensures told { result ≡ look_end done }
+    ensures named { IfErr result (λ fault. (fault ≡ Memory) ⊎ (fault ≡ Failed)) }
+{
+    match done {
+        Err(Error::SqliteFailure(ErrorCode::OutOfMemory)) => Err(KeepFault::Memory),
+        Err(
+            Error::SqliteFailure(
+                ErrorCode::Closed
+                | ErrorCode::SystemIoFailure
+                | ErrorCode::DatabaseCorrupt
+                | ErrorCode::DiskFull,
+            ),
+        ) => Err(KeepFault::Failed),
+        _ => Ok(()),
+    }
+}
+
+/// Looks whether the connection is still open. The text is no statement: where the connection is open it's refused at
+/// its first word, which takes no memory.
+///
+/// # Errors
+/// `Failed` where the connection was shut, or the disk failed. `Memory` where a growth was refused, which tells neither.
+pub fn look<S: Alter>(conn: &mut Connection<S>) -> Result<(), KeepFault>
     requires autocommit { conn.old.in_transaction ≡ false }
     requires settled { HasCleanDisk (state S.Store conn.old) → IsTrue (state S.Store conn.old).is_open
         → (state S.Store conn.old).now ≡ (state S.Store conn.old).committed }
     ensures autocommit { conn.new.in_transaction ≡ false }
-    ensures is_open { HasCleanDisk (state S.Store conn.new) → IsTrue result → IsTrue (state S.Store conn.new).is_open }
+    ensures is_open { HasCleanDisk (state S.Store conn.new) → OnOk result (IsTrue (state S.Store conn.new).is_open) }
+    ensures shut { HasCleanDisk (state S.Store conn.new) → result ≡ Err Failed
+        → IsShut (state S.Store conn.old) (state S.Store conn.new) }
+    ensures named { IfErr result (λ fault. (fault ≡ Memory) ⊎ (fault ≡ Failed)) }
     ensures stays { HasCleanDisk (state S.Store conn.new) → Stays (state S.Store conn.old) (state S.Store conn.new) }
     ensures crash { HasCleanDisk (state S.Store conn.new) → (db : Trees) → (state S.Store conn.new).may_leave db
         → (state S.Store conn.old).may_leave db }
     ensures clean { doubt (state S.Store conn.old).is_clean ≤ doubt (state S.Store conn.new).is_clean }
 {
-    conn.prepare("SELECT 1").is_ok()
+    told_by(conn.prepare("look"))
 }
 
 /// The mark in a column of an answer's first row, or 0.
