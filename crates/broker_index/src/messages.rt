@@ -3,13 +3,13 @@
 //! The messages' own numbers are the truth. A slab's key that was told for a number is a hint: it is tried first, and
 //! whoever stands there by now is asked for its number.
 
-ghost use Rattle.std.specs.Prelude.{◌≡◌, ◌==◌, ◌<◌, ◌++◌, ◌∷◌, ◌%◌, ◌^◌, [], length, map, filter, not, true, All, Some};
-ghost use Rattle.std.specs.Prelude.{OnErr, OnOk};
+ghost use Rattle.std.specs.Prelude.{◌≡◌, ◌==◌, ◌<◌, ◌++◌, ◌∷◌, ◌+◌, ◌-◌, ◌%◌, ◌^◌, [], length, map, filter, not, true, All};
+ghost use Rattle.std.specs.Prelude.{OnErr, OnOk, Some};
 ghost use Rattle.std.specs.Option.{option_copied};
 ghost use Rattle.std.specs.List.{find};
 ghost use Rattle.broker_book.specs.Books.{Ready};
 ghost use Rattle.broker_book.specs.Sizes.{sent_octets};
-ghost use Rattle.broker_index.specs.Held.{kept_octets, octets_found};
+ghost use Rattle.broker_index.specs.Held.{kept_octets, kept_out, octets_found, out_found, out_weight};
 ghost use Rattle.broker_index.specs.Index.{Kept, has_number, with_fate};
 ghost use Rattle.broker_index.specs.Slots.{in_order, is_rising};
 ghost use Rattle.broker_index.specs.Standing.{fate_of};
@@ -81,20 +81,35 @@ impl Stored {
         self.octets
     }
 
-    /// Says where it is from now on.
-    fn set_standing(&mut self, standing: Standing)
-        ensures { self.new ≡ record self.old { fate = fate_of standing } }
+    /// 1 where it is out, else 0.
+    fn unanswered(&self) -> u64
+        ensures { result ≡ out_weight self.now.fate }
     {
+        match &self.standing {
+            Standing::Out(_) => 1,
+            Standing::Ready | Standing::Gone => 0,
+        }
+    }
+
+    /// Says where it is from now on. The answer is how many messages are out then, where so many were; modulo 2^64.
+    fn set_standing(&mut self, standing: Standing, out: u64) -> u64
+        ensures set { self.new ≡ record self.old { fate = fate_of standing } }
+        ensures out { result
+            ≡ ((out + out_weight (fate_of standing)) % 2 ^ 64 + (2 ^ 64 - out_weight self.old.fate)) % 2 ^ 64 }
+    {
+        let before = self.unanswered();
         self.standing = standing;
+        out.wrapping_add(self.unanswered()).wrapping_sub(before)
     }
 }
 
 /// The messages of a broker, in order of their numbers. A message is found by its number; the key that it was given
-/// makes that quick. What they are counted as together is kept beside them.
+/// makes that quick. What they are counted as together is kept beside them, and how many are out.
 #[derive(Drop)]
 pub struct Messages {
     slab: Slab<Stored>,
     octets: u64,
+    out: u64,
 }
 
 impl Model for Messages {
@@ -107,7 +122,7 @@ impl Model for Messages {
 
     ghost view = { λ m. in_order (λ (k : Kept). k.number) m.slab.slots };
 
-    ghost invariant = { λ m. AreHeld (in_order (λ (k : Kept). k.number) m.slab.slots) m.octets };
+    ghost invariant = { λ m. AreHeld (in_order (λ (k : Kept). k.number) m.slab.slots) m.octets m.out };
 }
 
 /// What the message of this number is counted as, modulo 2^64; 0 where there is none.
@@ -122,6 +137,17 @@ fn octets_at(slab: &Slab<Stored>, number: u64, key: usize) -> u64
     }
 }
 
+/// 1 where there is a message of this number and it is out, else 0.
+fn unanswered_at(slab: &Slab<Stored>, number: u64, key: usize) -> u64
+    requires { is_rising (λ (k : Kept). k.number) (in_order (λ (k : Kept). k.number) slab.now.slots) ≡ true }
+    ensures { result ≡ out_found (find (has_number number) (in_order (λ (k : Kept). k.number) slab.now.slots)) }
+{
+    match find_value(slab, number, key) {
+        Some(stored) => stored.unanswered(),
+        None => 0,
+    }
+}
+
 impl Messages {
     /// No messages. It takes no memory.
     pub fn new(alloc: Global) -> Messages
@@ -130,6 +156,7 @@ impl Messages {
         Messages {
             slab: Slab::new(alloc),
             octets: 0,
+            out: 0,
         }
     }
 
@@ -138,6 +165,13 @@ impl Messages {
         ensures { result ≡ kept_octets self.now % 2 ^ 64 }
     {
         self.octets
+    }
+
+    /// How many messages are out, modulo 2^64.
+    pub fn unanswered(&self) -> u64
+        ensures { result ≡ kept_out self.now % 2 ^ 64 }
+    {
+        self.out
     }
 
     /// How many messages there are.
@@ -181,7 +215,7 @@ impl Messages {
         ensures { self.new ≡ map (with_fate number (fate_of standing)) self.old }
     {
         match find_key(&self.slab, number, key) {
-            Some(key) => self.slab[key].set_standing(standing),
+            Some(key) => self.out = self.slab[key].set_standing(standing, self.out),
             None => {}
         }
     }
@@ -191,7 +225,9 @@ impl Messages {
         ensures { self.new ≡ filter (λ k. not (k.number == number)) self.old }
     {
         let fewer = octets_at(&self.slab, number, key);
+        let answered = unanswered_at(&self.slab, number, key);
         take_value(&mut self.slab, number, key);
         self.octets = self.octets.wrapping_sub(fewer);
+        self.out = self.out.wrapping_sub(answered);
     }
 }

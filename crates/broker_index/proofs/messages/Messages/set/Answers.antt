@@ -1,10 +1,10 @@
-use Rattle.std.proofs.Common.{◌≡◌, ◌%◌, ◌^◌, ℕ, map, sym, ap, refl, ◌∙◌}
-use Rattle.broker_index.specs.Held.{kept_octets}
+use Rattle.std.proofs.Common.{◌≡◌, ◌%◌, ◌^◌, ℕ, List, map, sym, ap, refl, ◌∙◌}
+use Rattle.broker_index.specs.Held.{kept_octets, kept_out}
 use Rattle.broker_index.specs.Index.{Kept, with_fate}
 use Rattle.broker_index.specs.Slots.{in_order}
 use Rattle.broker_index.specs.Standing.{fate_of}
-use Rattle.broker_index.proofs.Counting.{held_set}
-use Rattle.broker_index.proofs.Touching.{in_order-touch, in_order-untouched, rising-touch}
+use Rattle.broker_index.proofs.Counting.{held_set, out_set}
+use Rattle.broker_index.proofs.Touching.{found_in_order, in_order-touch, in_order-untouched, rising-touch}
 use Rattle.broker_index.proofs.messages.Messages.set.Goals as goal
 
 pub invariant_of-self : goal.invariant_of-self
@@ -13,9 +13,9 @@ invariant_of-self c =
     let same : c.index_mut.result.now ≡ found.0 = cc (c.index_mut.ensures.value, found.1) in
     let touched = in_order-touch (λ (x : Kept). x.number) (λ k. record k { fate = fate_of c.args.standing }) (λ z. refl)
     c.self.inside.slab.slots c.in-Some.key c.args.number
-    c.index_mut.result.now c.set_standing.new.self c.index_mut.ensures.value
+    c.index_mut.result.now c.set_standing-self-inside.new.self c.index_mut.ensures.value
     (ap (λ (x : Kept). x.number) same ∙ found.2)
-    c.set_standing.ensures c.self.invariant.rising in
+    c.set_standing-self-inside.ensures.set c.self.invariant.rising in
     let before = in_order (λ (x : Kept). x.number) c.self.inside.slab.slots in
     record {
       rising = rising-touch (λ (x : Kept). x.number) (λ k. record k { fate = fate_of c.args.standing }) (λ z. refl)
@@ -23,6 +23,14 @@ invariant_of-self c =
       counted = c.self.invariant.counted
           ∙ ap (λ (n : ℕ). n % 2 ^ 64)
           (sym (ap kept_octets touched ∙ held_set c.args.number (fate_of c.args.standing) before));
+      delivered = c.set_standing-self-inside.ensures.out
+          ∙ out_set c.args.number (fate_of c.args.standing) before c.index_mut.result.now c.self.inside.out
+          c.self.invariant.rising
+          (found_in_order (λ (x : Kept). x.number) c.self.inside.slab.slots c.in-Some.key c.args.number
+          c.index_mut.result.now c.index_mut.ensures.value (ap (λ (x : Kept). x.number) same ∙ found.2)
+          c.self.invariant.rising)
+          c.self.invariant.delivered
+          ∙ ap (λ (ks : List Kept). kept_out ks % 2 ^ 64) (sym touched);
     }
 
 pub returns-in-Some : goal.returns-in-Some
@@ -32,9 +40,9 @@ returns-in-Some c =
     in_order-touch (λ (x : Kept). x.number) (λ k. record k { fate = fate_of c.args.standing }) (λ z. refl)
     c.self.inside.slab.slots
     c.in-Some.key c.args.number
-    c.index_mut.result.now c.set_standing.new.self c.index_mut.ensures.value
+    c.index_mut.result.now c.set_standing-self-inside.new.self c.index_mut.ensures.value
     (ap (λ (x : Kept). x.number) same ∙ found.2)
-    c.set_standing.ensures c.self.invariant.rising
+    c.set_standing-self-inside.ensures.set c.self.invariant.rising
     ∙ ap (map (with_fate c.args.number (fate_of c.args.standing))) c.self.view_is
 
 pub returns-in-None : goal.returns-in-None
