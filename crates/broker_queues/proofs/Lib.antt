@@ -31,6 +31,7 @@ pub mod Setting
 pub mod Subscribing
 pub mod Sweeping
 pub mod Swept
+pub mod Tallying
 pub mod Turning
 pub mod Unputting
 pub mod Waiting

@@ -138,7 +138,7 @@ module _ (h : Holding) (is : IsSound h) (x : ℕ) where
 
 module _ (weight : Sent → ℕ) where
   -- where none is gone, those that are kept are counted as those that live
-  counts_living : (low : ℕ) (kept : List Kept) → rise (λ k. k.number) low kept ≡ true → NoneGone kept
+  pub counts_living : (low : ℕ) (kept : List Kept) → rise (λ k. k.number) low kept ≡ true → NoneGone kept
       → sum_by (λ k. weight k.sent) kept ≡ sum_by (λ m. weight m.sent) (living_of kept)
   counts_living low [] rises none = refl
   counts_living low (k ∷ kept) rises none =

@@ -3,10 +3,10 @@
 //! The book is what the parts stand for, with the SENDs that were accepted since they were last taken. What in the
 //! parts is believed and what is a hint, `parts.rt` says.
 
-ghost use Rattle.std.specs.Prelude.{◌≡◌, ◌==◌, ◌%◌, ◌^◌, [], OnOk, IfErr, count_by, false, is_some};
+ghost use Rattle.std.specs.Prelude.{◌≡◌, ◌==◌, ◌%◌, ◌^◌, [], OnOk, IfErr, count_by, false, is_some, not};
 ghost use Rattle.std.specs.List.{list_any};
 ghost use Rattle.broker_book.specs.declared.fault.QueueFault.TheVariants.{Memory};
-ghost use Rattle.broker_book.specs.Books.{empty_book, is_named, out_of};
+ghost use Rattle.broker_book.specs.Books.{empty_book, is_named, is_ready, out_of};
 ghost use Rattle.broker_book.specs.Sizes.{held_octets};
 ghost use Rattle.broker_book.specs.Steps.{Dispatches, Exactly, UnlessMemory, ack_of, apply_of, ended, holder, nack_of};
 ghost use Rattle.broker_book.specs.Steps.{put_of, released, subscribed};
@@ -74,6 +74,13 @@ impl<const FULL: usize> Queues<FULL> {
         self.parts.last
     }
 
+    /// The last number that a delivery was given, 0 before the first. Those in mode `auto` have none.
+    pub fn given(&self) -> u64
+        ensures { result ≡ self.now.given }
+    {
+        self.parts.given
+    }
+
     /// Accepts a SEND: its message is ready, and has the next number, which [`last`](Queues::last) tells then. What it
     /// brings is shared and not copied.
     ///
@@ -135,6 +142,21 @@ impl<const FULL: usize> Queues<FULL> {
         ensures { result ≡ held_octets self.now.living % 2 ^ 64 }
     {
         self.parts.messages.octets()
+    }
+
+    /// How many messages are ready, modulo 2^64.
+    pub fn ready(&self) -> u64
+        ensures { result ≡ count_by is_ready self.now.living % 2 ^ 64 }
+    {
+        // None is kept that is gone, so those that aren't out are ready.
+        (self.parts.messages.len() as u64).wrapping_sub(self.parts.messages.unanswered())
+    }
+
+    /// How many messages are out, and unanswered; modulo 2^64.
+    pub fn unanswered(&self) -> u64
+        ensures { result ≡ count_by (λ m. not (is_ready m)) self.now.living % 2 ^ 64 }
+    {
+        self.parts.messages.unanswered()
     }
 
     /// Ends a session's subscription of this name: what is out to it is ready again, in its old place. It does the same
