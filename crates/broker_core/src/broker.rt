@@ -1,8 +1,8 @@
 //! The broker.
 
-ghost use Rattle.std.specs.Prelude.{◌≡◌, ◌<◌, ◌≤◌, ◌%◌, ◌^◌, ℕ, [], length};
+ghost use Rattle.std.specs.Prelude.{◌≡◌, ◌<◌, ◌≤◌, ◌%◌, ◌^◌, ℕ, [], count_by, length, not};
 ghost use Rattle.std.specs.List.{list_any};
-ghost use Rattle.broker_book.specs.Books.{out_of};
+ghost use Rattle.broker_book.specs.Books.{is_ready, out_of};
 ghost use Rattle.broker_book.specs.Sizes.{held_octets};
 ghost use Rattle.broker_core.specs.Calls.{FreshAnswer, OpenAnswer, closed_in, dropped, empty, out_in, without_first};
 ghost use Rattle.broker_core.specs.Feeding.{DispatchAnswer, FeedAnswer};
@@ -159,6 +159,29 @@ impl<const FULL: usize> Broker<FULL> {
         ensures { result ≡ held_octets self.now.book.living % 2 ^ 64 }
     {
         self.queues.octets()
+    }
+
+    /// How many messages are ready: in queues, and out to nobody; modulo 2^64. It takes no memory.
+    pub fn ready(&self) -> u64
+        ensures { result ≡ count_by is_ready self.now.book.living % 2 ^ 64 }
+    {
+        self.queues.ready()
+    }
+
+    /// How many messages are out, and unanswered; modulo 2^64. It takes no memory.
+    pub fn unanswered(&self) -> u64
+        ensures { result ≡ count_by (λ m. not (is_ready m)) self.now.book.living % 2 ^ 64 }
+    {
+        self.queues.unanswered()
+    }
+
+    /// How many deliveries that are to be answered were made so far: each has the next number, so it is the last one's. A
+    /// message that came back and goes out again counts again. What goes out in mode `auto` has no number, and doesn't
+    /// count. It takes no memory.
+    pub fn handed_out(&self) -> u64
+        ensures { result ≡ self.now.book.given }
+    {
+        self.queues.given()
     }
 
     /// What the open transactions of a session keep, counted in the same way: a SEND as its message, and 32 more for

@@ -40,7 +40,8 @@
 //!
 //! For a limit on memory it tells what its messages are counted as together ([`Broker::octets`]), what a session's open
 //! transactions keep ([`Broker::kept`]), and whether a session has something to answer ([`Broker::has_unanswered`]),
-//! without a look at each message.
+//! without a look at each message. For who runs it, it tells how many messages are ready ([`Broker::ready`]) or out
+//! ([`Broker::unanswered`]), and how many deliveries were made that are to be answered ([`Broker::handed_out`]).
 //!
 //! | Number | Refusal of a frame |
 //! |---|---|
