@@ -241,6 +241,7 @@ impl Server {
         if self.figures.is_due(now) {
             self.work.figures.connections = self.connections.len() as u64;
             self.work.figures.held = self.connections.find_held(broker);
+            self.work.figures.note_messages(broker);
             watch.tell(News::Figures(self.work.figures));
         }
     }

@@ -1,6 +1,6 @@
 //! What a loop tells of what happens.
 
-use broker_core::Detail;
+use broker_core::{Broker, Detail};
 use std::net::SocketAddr;
 use thiserror::Error;
 
@@ -51,6 +51,12 @@ pub struct Figures {
     /// The octets that are held now: by messages in queues, by what open transactions keep, and by what is left to be
     /// written.
     pub held: u64,
+    /// The deliveries that were made and are to be answered: those in mode `auto` don't count.
+    pub handed: u64,
+    /// The messages that are ready now: in queues, and out to nobody.
+    pub ready: u64,
+    /// The messages that are out now, and unanswered.
+    pub out: u64,
 }
 
 impl Figures {
@@ -64,6 +70,9 @@ impl Figures {
             read: 0,
             written: 0,
             held: 0,
+            handed: 0,
+            ready: 0,
+            out: 0,
         }
     }
 
@@ -90,6 +99,13 @@ impl Figures {
     /// So many messages were accepted.
     pub(crate) fn note_accepted(&mut self, count: usize) {
         self.accepted = self.accepted.saturating_add(count as u64);
+    }
+
+    /// Where its messages are now, and how many deliveries were made.
+    pub(crate) fn note_messages<const FULL: usize>(&mut self, broker: &Broker<FULL>) {
+        self.handed = broker.handed_out();
+        self.ready = broker.ready();
+        self.out = broker.unanswered();
     }
 }
 

@@ -36,8 +36,17 @@ fn tell_end<R: Log>(rt: &R, number: u64, why: Ending) {
 /// Tells the figures. Where standard error takes no more nobody would read them.
 fn tell_figures<R: Eprint>(rt: &R, of: Figures) {
     let _ = eprintln!(rt;
-        "figures connections={} opened={} frames={} accepted={} read={} written={} held={}",
-        of.connections, of.opened, of.frames, of.accepted, of.read, of.written, of.held
+        "figures connections={} opened={} frames={} accepted={} read={} written={} held={} handed={} ready={} out={}",
+        of.connections,
+        of.opened,
+        of.frames,
+        of.accepted,
+        of.read,
+        of.written,
+        of.held,
+        of.handed,
+        of.ready,
+        of.out
     );
 }
 

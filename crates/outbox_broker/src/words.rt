@@ -35,9 +35,11 @@ What this machine is short of is told on standard error, a line each; with --log
 client is sent away and why, as `[WARN  outbox-broker] connection 7 ended: ..`, with --log info also
 who connects and leaves, with --log debug also sockets that close and what waits for memory. While
 standard error takes nothing nobody is served. With --figures a line
-`figures connections=N opened=N frames=N accepted=N read=N written=N held=N` comes again and again:
-how many connections there are, since the start how many were opened, frames handled, messages
-accepted, and octets read and written, and how many octets are held now.
+`figures connections=N opened=N frames=N accepted=N read=N written=N held=N handed=N ready=N out=N`
+comes again and again: how many connections there are, since the start how many were opened, frames
+handled, messages accepted, and octets read and written; how many octets are held now; since the
+start how many deliveries were made that are to be answered, and how many messages are ready now,
+and how many out and unanswered.
 
 With --memory it is counted what messages in queues, open transactions and what is left to be
 written hold together. From so many octets on, until an eighth of them is free, a client that has
