@@ -59,6 +59,24 @@ fn is_at(slab: &Slab<Destination>, key: usize, name: &Text) -> bool
     }
 }
 
+/// The key of the queue of this name as the map tells it. It is seldom asked and long: it stands apart, so that a look at
+/// the hint, at each call, saves no registers for it.
+#[inline(never)]
+fn search_queue(
+    slab: &Slab<Destination>,
+    keys: &BTreeMap<String, usize>,
+    name: &Text,
+) -> Option<usize>
+    requires { IsIndexed slab.now.slots keys.now }
+    ensures found { IfSome result (λ key. (d : Destination) × (get slab.now key ≡ Some d) × (d.name ≡ name.now)) }
+    ensures absent { IfNone result ((key : ℕ) (d : Destination) → get slab.now key ≡ Some d → d.name ≢ name.now) }
+{
+    match keys.get(name.as_str()) {
+        Some(key) => Some(*key),
+        None => None,
+    }
+}
+
 /// The key of the queue of this name: the hint, if that is it, or else the one that the map tells.
 fn find_queue(
     slab: &Slab<Destination>,
@@ -73,10 +91,7 @@ fn find_queue(
     if is_at(slab, hint, name) {
         return Some(hint);
     }
-    match keys.get(name.as_str()) {
-        Some(key) => Some(*key),
-        None => None,
-    }
+    search_queue(slab, keys, name)
 }
 
 /// The names of all queues, in memory of their own.

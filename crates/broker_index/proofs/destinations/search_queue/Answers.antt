@@ -1,7 +1,7 @@
 use Rattle.std.proofs.Common.{sym, ap, ◌∙◌}
 use Rattle.std.specs.BTreeMap.{get_by_text}
 use Rattle.broker_index.proofs.Named.{misled}
-use Rattle.broker_index.proofs.destinations.find_queue.Goals as goal
+use Rattle.broker_index.proofs.destinations.search_queue.Goals as goal
 
 pub returns-in-Some-clause-found : goal.returns-in-Some-clause-found
 returns-in-Some-clause-found c =
