@@ -15,6 +15,7 @@ pub(crate) struct Lines<L: Drop> {
     settles: AtomicU64,
     done: AtomicU64,
     full: AtomicBool,
+    refused: AtomicBool,
 }
 
 /// How many threads are done, once the readers are.
@@ -34,6 +35,7 @@ impl<L: Link + Drop> Lines<L> {
             settles: AtomicU64::new(0),
             done: AtomicU64::new(0),
             full: AtomicBool::new(false),
+            refused: AtomicBool::new(false),
         }
     }
 
@@ -65,6 +67,16 @@ impl<L: Link + Drop> Lines<L> {
     /// The relay waits for a settle, or for none.
     pub fn set_full(&self, is_full: bool) {
         self.full.store(is_full, Ordering::SeqCst);
+    }
+
+    /// No thread could be made for one of them.
+    pub fn refuse(&self) {
+        self.refused.store(true, Ordering::SeqCst);
+    }
+
+    /// Whether one couldn't be.
+    pub fn is_refused(&self) -> bool {
+        self.refused.load(Ordering::SeqCst)
     }
 
     /// How many were.
@@ -147,6 +159,7 @@ impl<L: Link + Drop> Lines<L> {
             settles: _,
             done: _,
             full: _,
+            refused: _,
         } = self;
         [zero.into_inner(), one.into_inner()]
     }
