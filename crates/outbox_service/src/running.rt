@@ -31,7 +31,17 @@ use std::time::Clock;
 use std::{io, thread};
 use warehouse::Stocks;
 
-/// Runs all threads of the service: one answers lines, and the others keep it connected until the lines end.
+/// How the service ended, whose lines were answered so.
+fn end_of(answered: io::Result<()>, board: &Board) -> Result<(), RunFault> {
+    match answered {
+        _ if board.is_broken() => Err(RunFault::Store),
+        Ok(()) => Ok(()),
+        Err(error) => Err(RunFault::of_kind(error.kind())),
+    }
+}
+
+/// Runs all threads of the service: one answers lines, and the others keep it connected until the lines end. Where none
+/// can be made for these, no line is answered.
 fn run_threads<H, K, R>(
     rt: &R,
     host: &HostRuntime,
@@ -56,23 +66,33 @@ where
         Ok(board) => board,
         Err(error) => return Err(RunFault::of_kind(error.kind())),
     };
-    let (_served, answered) = thread::join(
+    let board = &board;
+    thread::scope(
+        thread::scope_env(),
         rt,
-        ||
+        |scope| -> Result<(), RunFault>
+            requires seats { AreSeatsOf shared.now seats.now }
             requires hand { IsHandOf shared.now hand }
             requires scout { IsScoutOf shared.now scout }
             requires handler { IsSend H.row × IsSend H.State.row × IsSend H.Command.row }
             requires store { IsSend K.row }
-        { keep_serving(rt, host, alloc, shared, hand, scout, broker, &board) },
-        || -> io::Result<()>
-            requires seats { AreSeatsOf shared.now seats.now }
-        { answer_first(rt, host, alloc, shared, seats, &board) },
-    );
-    match answered {
-        _ if board.is_broken() => Err(RunFault::Store),
-        Ok(()) => Ok(()),
-        Err(error) => Err(RunFault::of_kind(error.kind())),
-    }
+        {
+            let begun = scope.spawn(
+                move ||
+                    requires hand { IsHandOf shared.now hand }
+                    requires scout { IsScoutOf shared.now scout }
+                { keep_serving(rt, host, alloc, shared, hand, scout, broker, board) },
+            );
+            match begun {
+                Ok(serving) => {
+                    let answered = answer_first(rt, host, alloc, shared, seats, board);
+                    serving.join(rt);
+                    end_of(answered, board)
+                }
+                Err(_) => Err(RunFault::Memory),
+            }
+        },
+    )
 }
 
 /// Runs the service over its store.

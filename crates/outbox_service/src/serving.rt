@@ -242,8 +242,11 @@ where
     let (hand, scout, ended) = run_service(rt, alloc, shared, hand, scout, given, &turn, &stop);
     match ended {
         Ok(left) => conns.put(left),
-        // Memory was refused: the connections are gone, and it's tried again in a moment.
-        Err(_) => thread::sleep(rt, Duration::from_millis(MOMENT)),
+        // The connections are gone, and it's tried again in a moment.
+        Err(_) => {
+            warn!(rt; "memory is refused to the service's threads: connections are opened anew");
+            thread::sleep(rt, Duration::from_millis(MOMENT));
+        }
     }
     (hand, scout)
 }
