@@ -169,6 +169,7 @@ fn serve<'a, H, K, R: Wait + Threads + Sync>(
     scout: Scout<H, K>,
     watch: &Watch<'a>,
     conns: &mut Conns<'a>,
+    begun: &Stop,
     stop: &Stop,
 ) -> (Hand<H, K>, Scout<H, K>)
 where
@@ -181,6 +182,7 @@ where
     ensures hand { IsHandOf shared.now result.0 }
     ensures scout { IsScoutOf shared.now result.1 }
 {
+    begun.ask();
     let zero = conns.zero.take();
     let one = conns.one.take();
     let given = [zero, one];
@@ -196,13 +198,18 @@ where
     (hand, scout)
 }
 
-/// Gives commands by a seat, until the end is asked for.
+/// How many turns of commands it's waited at most until the service's threads have begun.
+const TURNS: u32 = 100_000;
+
+/// Gives commands by a seat, until the end is asked for. It asks for it where the service's threads don't begin: where no
+/// thread can be made for them, they are called once the commands have ended.
 fn command<H, K, R: Wait>(
     rt: &R,
     alloc: Global,
     shared: &Shared<H, K>,
     seat: &mut Seat<H, K>,
     progress: &Progress,
+    begun: &Stop,
     stop: &Stop,
 )
 where
@@ -211,9 +218,14 @@ where
     requires { IsSeatOf shared.now seat.old }
     ensures { IsSeatOf shared.now seat.new × (seat_number seat.new ≡ seat_number seat.old) }
 {
+    let mut turns = 0u32;
     for _ in rt.forever() {
         if stop.asked() {
             break;
+        }
+        turns = turns.saturating_add(1);
+        if turns > TURNS && !begun.asked() {
+            stop.ask();
         }
         let _ = H::turn(rt, alloc, shared, seat, progress);
         thread::yield_now();
@@ -227,6 +239,7 @@ fn command_first<H, K, R: Wait>(
     shared: &Shared<H, K>,
     mut seats: [Seat<H, K>; 16],
     progress: &Progress,
+    begun: &Stop,
     stop: &Stop,
 ) -> [Seat<H, K>; 16]
 where
@@ -235,7 +248,7 @@ where
     requires { AreSeatsOf shared.now seats }
     ensures { AreSeatsOf shared.now result }
 {
-    command(rt, alloc, shared, &mut seats[0], progress, stop);
+    command(rt, alloc, shared, &mut seats[0], progress, begun, stop);
     seats
 }
 
@@ -264,6 +277,7 @@ where
     ensures scout { IsScoutOf shared.now result.0.1 }
     ensures seats { AreSeatsOf shared.now result.1 }
 {
+    let begun = Stop::new();
     thread::join(
         rt,
         || -> (Hand<H, K>, Scout<H, K>)
@@ -273,11 +287,11 @@ where
             requires store { IsSend K.row }
             ensures hand { IsHandOf shared.entry.now result.0 }
             ensures scout { IsScoutOf shared.entry.now result.1 }
-        { serve(rt, alloc, shared, hand, scout, watch, conns, stop) },
+        { serve(rt, alloc, shared, hand, scout, watch, conns, &begun, stop) },
         || -> [Seat<H, K>; 16]
             requires { AreSeatsOf shared.now seats }
             ensures { AreSeatsOf shared.entry.now result }
-        { command_first(rt, alloc, shared, seats, progress, stop) },
+        { command_first(rt, alloc, shared, seats, progress, &begun, stop) },
     )
 }
 

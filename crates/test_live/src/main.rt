@@ -26,6 +26,7 @@
 #![tactic(auto)]
 
 mod answers;
+mod beside;
 mod broker;
 mod commands;
 mod counts;
@@ -42,15 +43,16 @@ mod services;
 mod watch;
 mod wire;
 
+use crate::beside::run_beside;
 use crate::lines::answer_input;
 use base::limits::MAX_QUEUED;
 use broker_core::Broker;
 use broker_server::{Stop, serve};
 use mio::net::TcpListener;
+use std::io;
 use std::io::ErrorKind;
 use std::net::{Ipv4Addr, SocketAddr};
 use std::process::ExitCode;
-use std::{io, thread};
 
 /// The status of a program that was refused a growth.
 const NO_MEMORY: u8 = 3;
@@ -59,17 +61,17 @@ fn main(rt: HostRuntime) -> io::Result<ExitCode> {
     let listener = TcpListener::bind(&rt, SocketAddr::from((Ipv4Addr::LOCALHOST, 0)))?;
     let place = listener.local_addr()?;
     let stop = Stop::new();
-    let (_served, answered) = thread::join(
+    let mut answered = Err(ErrorKind::OutOfMemory.into());
+    run_beside(
         &rt,
         || {
             let mut listener = listener;
             let mut broker: Broker<MAX_QUEUED> = Broker::new(rt.alloc());
-            serve(&rt, rt.alloc(), &mut broker, &mut listener, &stop)
+            let _ = serve(&rt, rt.alloc(), &mut broker, &mut listener, &stop);
         },
         || {
-            let answered = answer_input(&rt, &rt, place);
+            answered = answer_input(&rt, &rt, place);
             stop.ask();
-            answered
         },
     );
     match answered {

@@ -1,6 +1,7 @@
 //! Runs that show that the relay, the worker and the two readers are threads of their own: one waits for what another is
 //! to do meanwhile.
 
+use crate::beside::run_beside;
 use crate::broker::{ServedBroker, Signals};
 use crate::door::Door;
 use crate::fault::CallFault;
@@ -15,7 +16,7 @@ use endpoint::Endpoint;
 use envelope::{Letter, Message};
 use keep_plain::PlainKeep;
 use service_workers::Stop;
-use std::alloc::Global;
+use std::alloc::{AllocError, Global};
 use std::sync::Wait;
 use std::thread;
 use std::thread::Threads;
@@ -49,7 +50,7 @@ fn busy(alloc: Global) -> Result<Alone<Stocks>, CallFault> {
 /// Asks for the end once something was sent and something taken in, or a thread has waited in vain.
 fn watch_over(watch: &Watch, stop: &Stop) {
     for _ in 0..TURNS {
-        if watch.is_met() || watch.is_vain() {
+        if watch.is_met() || watch.is_vain() || stop.asked() {
             break;
         }
         thread::yield_now();
@@ -57,7 +58,7 @@ fn watch_over(watch: &Watch, stop: &Stop) {
     stop.ask();
 }
 
-/// The warehouse, the broker, and one who asks for the end.
+/// The warehouse, the broker, and one who asks for the end. Whether there was a thread for each.
 fn run<'a, R: Wait + Threads + Sync>(
     rt: &R,
     alloc: Global,
@@ -66,21 +67,23 @@ fn run<'a, R: Wait + Threads + Sync>(
     watch: &Watch<'a>,
     served: &mut ServedBroker,
     progress: &Progress,
-) {
+) -> bool {
     let stop = Stop::new();
     let signals = Signals::new(1);
-    thread::join_mut(
+    let mut is_watched = false;
+    let is_served = run_beside(
         rt,
-        &mut || {
-            thread::join_mut(
+        || {
+            is_watched = run_beside(
                 rt,
-                &mut || live_stocks(rt, alloc, live_service, progress, &stop),
-                &mut || watch_over(watch, &stop),
+                || live_stocks(rt, alloc, live_service, progress, &stop),
+                || watch_over(watch, &stop),
             );
             signals.leave();
         },
-        &mut || served.run(rt, wires, &signals),
+        || served.run(rt, wires, &signals),
     );
+    is_served && is_watched
 }
 
 /// Whether two threads meet: a warehouse has an answer to send, and another order's request waits for it at the broker,
@@ -100,7 +103,7 @@ pub fn meets<R: Wait + Threads + Sync>(
     }
     let progress = Progress::new(Plan::nothing());
     live_service.connect(rt, alloc, door, usize::MAX)?;
-    run(
+    let has_run = run(
         rt,
         alloc,
         &mut live_service,
@@ -109,5 +112,8 @@ pub fn meets<R: Wait + Threads + Sync>(
         &mut served,
         &progress,
     );
+    if !has_run {
+        return Err(AllocError.into());
+    }
     Ok(watch.is_met() && !watch.is_vain())
 }

@@ -1,5 +1,6 @@
 //! Three services and the broker, all in threads of their own.
 
+use crate::beside::run_beside;
 use crate::broker::{ServedBroker, Signals};
 use crate::door::Door;
 use crate::fault::CallFault;
@@ -73,7 +74,7 @@ impl Drop for Left {
 }
 
 /// Asks for the end once more connections were cut than before the run, all is handled and nothing moves any more, or no
-/// turn is left.
+/// turn is left; where a thread can't be made, it was asked for.
 fn watch_over<R: Wait>(
     rt: &R,
     wires: &[Wire],
@@ -86,7 +87,8 @@ fn watch_over<R: Wait>(
     let mut quiet = Quiet::new(wires, signals);
     for _ in rt.forever() {
         let is_quiet = quiet.is_now(wires, signals);
-        if all_cuts(watches) > before || progress.is_handled() && is_quiet || progress.is_late() {
+        let is_over = all_cuts(watches) > before || progress.is_handled() && is_quiet;
+        if is_over || progress.is_late() || stop.asked() {
             break;
         }
         progress.turn();
@@ -106,11 +108,14 @@ fn serve_watched<R: Wait + Threads + Sync>(
     progress: &Progress,
     stop: &Stop,
 ) {
-    thread::join_mut(
+    let is_begun = run_beside(
         rt,
-        &mut || watch_over(rt, wires, watches, before, signals, progress, stop),
-        &mut || served.run(rt, wires, signals),
+        || watch_over(rt, wires, watches, before, signals, progress, stop),
+        || served.run(rt, wires, signals),
     );
+    if !is_begun {
+        stop.ask();
+    }
 }
 
 /// How often connections of the three were cut.
@@ -131,11 +136,42 @@ fn live_sellers<'a, R: Wait + Threads + Sync>(
     progress: &Progress,
     stop: &Stop,
 ) {
-    thread::join_mut(
+    let is_begun = run_beside(
         rt,
-        &mut || live_stocks(rt, alloc, storing, progress, stop),
-        &mut || live_accounts(rt, alloc, charging, progress, stop),
+        || live_stocks(rt, alloc, storing, progress, stop),
+        || live_accounts(rt, alloc, charging, progress, stop),
     );
+    if !is_begun {
+        stop.ask();
+    }
+}
+
+/// The service of orders runs until the end is asked for, and the broker as long as somebody needs it.
+fn buy_served<'a, R: Wait + Threads + Sync>(
+    rt: &R,
+    alloc: Global,
+    buying: &mut InMemory<'a, Orders>,
+    wires: &[Wire],
+    watches: &[Watch; 3],
+    before: u64,
+    served: &mut ServedBroker,
+    signals: &Signals,
+    progress: &Progress,
+    stop: &Stop,
+) {
+    let is_begun = run_beside(
+        rt,
+        || {
+            live_orders(rt, alloc, buying, progress, stop);
+            signals.leave();
+        },
+        || {
+            serve_watched(rt, wires, watches, before, served, signals, progress, stop);
+        },
+    );
+    if !is_begun {
+        stop.ask();
+    }
 }
 
 impl<'a> Services<'a> {
@@ -184,7 +220,7 @@ impl<'a> Services<'a> {
             && self.charging.is_settled(alloc)
     }
 
-    /// The services run, with the broker, until somebody asks for the end.
+    /// The services run, with the broker, until somebody asks for the end, or a thread can't be made.
     fn run<R: Wait + Threads + Sync>(
         &mut self,
         rt: &R,
@@ -203,24 +239,15 @@ impl<'a> Services<'a> {
             storing,
             charging,
         } = self;
-        thread::join_mut(
+        run_beside(
             rt,
-            &mut || {
+            || {
                 live_sellers(rt, alloc, storing, charging, progress, &stop);
                 signals.leave();
             },
-            &mut || {
-                thread::join_mut(
-                    rt,
-                    &mut || {
-                        live_orders(rt, alloc, buying, progress, &stop);
-                        signals.leave();
-                    },
-                    &mut || {
-                        serve_watched(
-                            rt, wires, watches, before, served, &signals, progress, &stop,
-                        );
-                    },
+            || {
+                buy_served(
+                    rt, alloc, buying, wires, watches, before, served, &signals, progress, &stop,
                 );
             },
         );
