@@ -188,7 +188,7 @@ WORDS = [
 # ---- examples: of a definition (crate, file, name), the lemma of one that holds and of one that doesn't (crate, file of proofs/, lemma)
 
 TRADE, AGREEMENT, ACCORD = ("trade", "Examples"), ("laws_journals", "Examples"), ("laws_stores", "Examples")
-TOLD, PATH, WORLDS = (("schedule_runner", f"{it}Examples") for it in ("Told", "Path", "Good"))
+TOLD, PATH, WORLDS, WIRE = (("schedule_runner", f"{it}Examples") for it in ("Told", "Path", "Good", "Wire"))
 EXAMPLES = [
     ("activities", "specs/Journal", "state_of", (*TRADE, "states_are_by_order"), None),
     ("activities", "specs/Journal", "sent_of", (*TRADE, "letters_are_by_pair"), None),
@@ -208,6 +208,8 @@ EXAMPLES = [
     ("laws_stores", "specs/Good", "IsGood", (*ACCORD, "others_are_not_good"), (*ACCORD, "others_are_not_good")),
     ("laws_stores", "specs/Good", "AllAgree", (*ACCORD, "all_agree_at_the_end"), (*ACCORD, "released_and_billed")),
     ("schedule_runner", "specs/Good", "IsGoodWorld", (*WORLDS, "worlds_are_good"), (*WORLDS, "services_are_not_good")),
+    ("schedule_runner", "specs/Good", "IsGoodWorld", (*WIRE, "a_letter_on_the_wire_is_good"),
+     (*WIRE, "letters_that_nobody_sent_are_not_good")),
     ("schedule_runner", "specs/Sight", "StaysMatching", (*PATH, "tables_stay_matching"), (*PATH, "tables_stay_matching")),
     ("schedule_runner", "specs/Good", "Agrees", (*WORLDS, "worlds_stay_good"), (*WORLDS, "worlds_stay_good")),
     ("schedule_runner", "specs/Told", "TellsCommand", (*TOLD, "commands_are_told"), (*TOLD, "commands_are_told")),

@@ -50,7 +50,7 @@ module _ (any : TheWorld) where
   -- ---- a good world
 
   -- services that did nothing are good, and so they are with an order placed that nobody has heard of
-  worlds_are_good : IsGoodWorld seen seen seen new × IsGoodWorld seen seen seen done
+  pub worlds_are_good : IsGoodWorld seen seen seen new × IsGoodWorld seen seen seen done
   worlds_are_good = (
     nothing_done,
     opened_good seen seen seen done refl refl refl refl refl refl refl

@@ -17,3 +17,4 @@ mod WorldExamples
 mod PathExamples
 mod ShowExamples
 mod GoodExamples
+mod WireExamples
