@@ -1,30 +1,35 @@
 //! The commands of a run without the service's lock: over the endpoint alone, and under the toolchain's lock.
 
 use crate::fault::CallFault;
-use crate::lines::{empty, push_rows};
+use crate::running::push_rows;
 use crate::tally::{Tally, count, counted};
 use crate::threads::{Alone, shows, stock};
 use base::Entity;
+use keep::Keep;
 use std::alloc::Global;
 use std::sync::{Mutex, Wait};
 use std::thread;
 use std::thread::Threads;
 use test_script::{LineFault, natural, size};
 use trade::StockCommand;
+use warehouse::Stock;
 
 /// Takes in one command, and tells how much came in by it.
-fn receive(
+fn receive<K>(
     alloc: Global,
-    endpoint: &mut Alone,
+    endpoint: &mut Alone<K>,
     place: usize,
     entity: &Entity,
     quantity: u64,
     tally: &Tally,
-) -> u64 {
+) -> u64
+where
+    K: Keep<State = Stock, Command = StockCommand> + Drop,
+{
     let seat = (place % 16) as u8;
     match endpoint.commit(alloc, seat, entity, StockCommand::Receive(quantity)) {
         Ok(_) => {
-            count(&tally.committed);
+            tally.commit(place);
             quantity
         }
         Err(fault) => {
@@ -35,14 +40,20 @@ fn receive(
 }
 
 /// Looks at what is there.
-fn view(alloc: Global, endpoint: &mut Alone, entity: &Entity, total: u64, tally: &Tally) {
+fn view<K>(alloc: Global, endpoint: &mut Alone<K>, entity: &Entity, total: u64, tally: &Tally)
+where
+    K: Keep<State = Stock, Command = StockCommand> + Drop,
+{
     if shows(endpoint.view(alloc, entity), total) {
         count(&tally.viewed);
     }
 }
 
 /// A seat over the endpoint alone: it receives 1, 2, .. into its stock, and looks behind each.
-fn command_alone(alloc: Global, endpoint: &mut Alone, commands: u64, tally: &Tally) {
+fn command_alone<K>(alloc: Global, endpoint: &mut Alone<K>, commands: u64, tally: &Tally)
+where
+    K: Keep<State = Stock, Command = StockCommand> + Drop,
+{
     let Ok(entity) = stock(alloc, 0) else {
         return;
     };
@@ -55,14 +66,17 @@ fn command_alone(alloc: Global, endpoint: &mut Alone, commands: u64, tally: &Tal
 }
 
 /// The same under the toolchain's lock, which each call takes.
-fn command_locked<R: Wait>(
+fn command_locked<K, R: Wait>(
     rt: &R,
     alloc: Global,
-    lock: &Mutex<Alone>,
+    lock: &Mutex<Alone<K>>,
     place: usize,
     commands: u64,
     tally: &Tally,
-) {
+)
+where
+    K: Keep<State = Stock, Command = StockCommand> + Drop,
+{
     let Ok(entity) = stock(alloc, place) else {
         return;
     };
@@ -82,14 +96,17 @@ fn command_locked<R: Wait>(
 }
 
 /// So many seats, each in a thread of its own.
-fn command_all_locked<R: Wait + Threads + Sync>(
+fn command_all_locked<K, R: Wait + Threads + Sync>(
     rt: &R,
     alloc: Global,
-    endpoint: Alone,
+    endpoint: Alone<K>,
     seats: usize,
     commands: u64,
     tally: &Tally,
-) -> Alone {
+) -> Alone<K>
+where
+    K: Keep<State = Stock, Command = StockCommand> + Drop + Send,
+{
     let lock = Mutex::new(endpoint);
     let mut threads = [(); 16];
     thread::for_each_mut(
@@ -105,24 +122,69 @@ fn command_all_locked<R: Wait + Threads + Sync>(
     lock.into_inner()
 }
 
-/// What a line about such a run answers.
-pub fn tell_beside<R: Wait + Threads + Sync>(
+/// Appends what came of such a run.
+fn push_counts<K>(
+    alloc: Global,
+    out: &mut String,
+    endpoint: &mut Alone<K>,
+    tally: &Tally,
+) -> Result<(), CallFault>
+where
+    K: Keep<State = Stock, Command = StockCommand> + Drop,
+{
+    let (committed, viewed) = (counted(&tally.committed), counted(&tally.viewed));
+    write!(out, "committed {committed} viewed {viewed}")?;
+    push_rows(alloc, out, endpoint)
+}
+
+/// A run over the endpoint alone.
+fn tell_alone<K>(
+    alloc: Global,
+    out: &mut String,
+    mut endpoint: Alone<K>,
+    commands: &str,
+) -> Result<(), CallFault>
+where
+    K: Keep<State = Stock, Command = StockCommand> + Drop,
+{
+    let commands = natural(commands)?;
+    let tally = Tally::new(alloc)?;
+    command_alone(alloc, &mut endpoint, commands, &tally);
+    push_counts(alloc, out, &mut endpoint, &tally)
+}
+
+/// A run under the toolchain's lock.
+fn tell_locked<K, R: Wait + Threads + Sync>(
     rt: &R,
     alloc: Global,
     out: &mut String,
+    endpoint: Alone<K>,
+    seats: &str,
+    commands: &str,
+) -> Result<(), CallFault>
+where
+    K: Keep<State = Stock, Command = StockCommand> + Drop + Send,
+{
+    let (seats, commands) = (size(seats)?, natural(commands)?);
+    let tally = Tally::new(alloc)?;
+    let mut endpoint = command_all_locked(rt, alloc, endpoint, seats, commands, &tally);
+    push_counts(alloc, out, &mut endpoint, &tally)
+}
+
+/// What a line about such a run answers: the words behind `beside`.
+pub fn tell_beside<K, R: Wait + Threads + Sync>(
+    rt: &R,
+    alloc: Global,
+    out: &mut String,
+    endpoint: Alone<K>,
     words: &[&str],
-) -> Result<(), CallFault> {
-    let tally = Tally::new();
-    let mut endpoint = empty(alloc);
+) -> Result<(), CallFault>
+where
+    K: Keep<State = Stock, Command = StockCommand> + Drop + Send,
+{
     match words {
-        ["alone", commands] => command_alone(alloc, &mut endpoint, natural(commands)?, &tally),
-        ["mutex", seats, commands] => {
-            let (seats, commands) = (size(seats)?, natural(commands)?);
-            endpoint = command_all_locked(rt, alloc, endpoint, seats, commands, &tally);
-        }
-        _ => return Err(LineFault::Unknown.into()),
+        ["alone", commands] => tell_alone(alloc, out, endpoint, commands),
+        ["mutex", seats, commands] => tell_locked(rt, alloc, out, endpoint, seats, commands),
+        _ => Err(LineFault::Unknown.into()),
     }
-    let (committed, viewed) = (counted(&tally.committed), counted(&tally.viewed));
-    write!(out, "committed {committed} viewed {viewed}")?;
-    push_rows(alloc, out, &mut endpoint)
 }

@@ -1,14 +1,19 @@
 //! The examples of the libraries' pages, and what they give.
 
-use crate::threads::Alone;
-use endpoint::EndFault;
+use endpoint::{EndFault, Endpoint};
 use envelope::{Envelope, Letter};
 use group_commit::{Grouped, take_group};
 use intake::{Intake, Taken};
+use keep::Faulty;
+use keep_plain::PlainKeep;
 use shared_endpoint::Shared;
 use std::alloc::Global;
 use std::sync::Wait;
 use told_lock::{Lock, Lore};
+use warehouse::Stocks;
+
+/// A warehouse over tables in memory, alone.
+type Alone = Endpoint<Stocks, Faulty<PlainKeep<Stocks>>>;
 
 /// Nothing is told of a number.
 struct Untold;

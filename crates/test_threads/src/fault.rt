@@ -2,6 +2,7 @@
 
 use base::EntityFault;
 use endpoint::EndFault;
+use keep::KeepFault;
 use std::alloc::AllocError;
 use test_script::{Fault, LineFault};
 use thiserror::Error;
@@ -18,6 +19,9 @@ pub enum CallFault {
     /// The endpoint's fault.
     #[error(transparent)]
     End(#[from] EndFault),
+    /// The store's fault.
+    #[error(transparent)]
+    Store(#[from] KeepFault),
     /// A growth was refused.
     #[error("out of memory")]
     Memory(#[from(alloc)] AllocError),
@@ -31,6 +35,7 @@ impl Fault for CallFault {
                 | CallFault::Memory(_)
                 | CallFault::Entity(EntityFault::Memory)
                 | CallFault::End(EndFault::Memory)
+                | CallFault::Store(KeepFault::Memory)
         )
     }
 }

@@ -1,14 +1,17 @@
 //! Groups of letters and settles, and what is told of each.
 
+use crate::failing::leaves;
 use crate::fault::CallFault;
-use crate::lines::{empty, leaves};
 use crate::threads::Alone;
 use base::Number;
 use endpoint::EndFault;
 use envelope::{Envelope, Letter, Message};
 use group_commit::{Grouped, take_group};
+use keep::{Faulty, Keep};
 use std::alloc::{AllocError, Global};
 use test_script::{LineFault, natural, number, pair};
+use trade::StockCommand;
+use warehouse::Stock;
 
 /// A letter that asks for one.
 pub fn request(alloc: Global, from: &str, to: &str, numbered: &str) -> Result<Letter, CallFault> {
@@ -48,12 +51,15 @@ fn push_told(out: &mut String, told: &Vec<Grouped>) -> Result<(), AllocError> {
 }
 
 /// A group is taken in.
-fn take(
+fn take<K>(
     alloc: Global,
     out: &mut String,
-    endpoint: &mut Alone,
+    endpoint: &mut Alone<K>,
     group: &Vec<Envelope>,
-) -> Result<(), CallFault> {
+) -> Result<(), CallFault>
+where
+    K: Keep<State = Stock, Command = StockCommand> + Drop,
+{
     match take_group(alloc, endpoint, group.as_slice()) {
         Ok(told) => Ok(push_told(out, &told)?),
         Err(EndFault::StoreFailed) => Ok(out.push_str("failed ")?),
@@ -63,12 +69,15 @@ fn take(
 }
 
 /// Groups are taken in, one behind the other.
-fn take_all(
+fn take_all<K>(
     alloc: Global,
     out: &mut String,
-    endpoint: &mut Alone,
+    endpoint: &mut Alone<K>,
     words: &[&str],
-) -> Result<(), CallFault> {
+) -> Result<(), CallFault>
+where
+    K: Keep<State = Stock, Command = StockCommand> + Drop,
+{
     let mut group = Vec::new(alloc);
     for word in words {
         if *word == "then" {
@@ -83,29 +92,52 @@ fn take_all(
 }
 
 /// The same over a store whose call fails, which is opened again behind them.
-fn fail_and_reopen(
+fn fail_and_reopen<K>(
     alloc: Global,
     out: &mut String,
-    endpoint: &mut Alone,
+    endpoint: &mut Alone<Faulty<K>>,
     call: &str,
     word: &str,
     words: &[&str],
-) -> Result<(), CallFault> {
+) -> Result<(), CallFault>
+where
+    K: Keep<State = Stock, Command = StockCommand> + Drop,
+{
     endpoint.arm(natural(call)?, leaves(word)?);
     take_all(alloc, out, endpoint, words)?;
     endpoint.disarm();
     Ok(endpoint.reopen(alloc)?)
 }
 
-/// What a line about groups answers.
-pub fn tell_groups(alloc: Global, out: &mut String, words: &[&str]) -> Result<(), CallFault> {
-    let mut endpoint = empty(alloc);
+/// What words about groups answer, over this endpoint.
+fn push_groups<K>(
+    alloc: Global,
+    out: &mut String,
+    endpoint: &mut Alone<Faulty<K>>,
+    words: &[&str],
+) -> Result<(), CallFault>
+where
+    K: Keep<State = Stock, Command = StockCommand> + Drop,
+{
     match words {
         ["fail", call, word, words @ ..] => {
-            fail_and_reopen(alloc, out, &mut endpoint, call, word, words)?;
+            fail_and_reopen(alloc, out, endpoint, call, word, words)
         }
-        _ => take_all(alloc, out, &mut endpoint, words)?,
+        _ => take_all(alloc, out, endpoint, words),
     }
+}
+
+/// What a line about groups answers: the words behind `group`.
+pub fn tell_groups<K>(
+    alloc: Global,
+    out: &mut String,
+    mut endpoint: Alone<Faulty<K>>,
+    words: &[&str],
+) -> Result<(), CallFault>
+where
+    K: Keep<State = Stock, Command = StockCommand> + Drop,
+{
+    push_groups(alloc, out, &mut endpoint, words)?;
     let rows = endpoint.journal(alloc, 1, usize::MAX)?;
     Ok(write!(out, "rows {}", rows.len())?)
 }

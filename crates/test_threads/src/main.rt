@@ -10,6 +10,8 @@
 //!   reads the outbox so often;
 //! - `fail CALL LEAVES SEATS COUNT`: the same seats, which don't look, over a store whose CALL-th call fails and leaves
 //!   `old` or `new` tables; then the store is opened again, and takes in one command more;
+//! - `fail CALL LEAVES SEATS COUNT LETTERS READS`: the same while the Hand and the Scout do what they do in `run`, so that
+//!   any of the threads may meet the failure;
 //! - `beside alone COUNT`, `beside mutex SEATS COUNT`: the commands of `run`, with looks, over the service alone, and under
 //!   the toolchain's lock;
 //! - `mark SEATS COUNT LETTERS`: the mark of the journal's length at first, behind such a run once its threads are joined,
@@ -20,6 +22,7 @@
 //!   or else `none` of a group; and then how many `rows` the journal has;
 //! - `group fail CALL LEAVES ITEM .. then ITEM ..`: the same over a store whose CALL-th call fails, as in `fail`: `failed`
 //!   and `unusable` are told of a group then, and the rows behind the store's opening again;
+//! - `sql` and then one of these: the same over tables in SQL;
 //! - `intake threads ZERO ONE`: an intake's readers put ZERO and ONE arrivals, and its worker takes them all, each in a
 //!   thread of its own;
 //! - `intake alone COUNT TAKES`: one thread puts COUNT arrivals by each reader in turn, and takes so many times;
@@ -30,8 +33,13 @@
 //! - `committed`, `viewed`: commands that were taken in, and views that showed all that the seat had received so far;
 //! - `handled`, `read`: letters that were the next of their pair, and reads that gave letters from the first on, and the
 //!   row to which the mark was raised;
-//! - `failed`, `unusable`: commands that the store failed, and that came behind one;
-//! - `rows`, `ordered`: of the journal behind the end, all rows, and those that are the next of their seat or pair.
+//! - `rows`, `ordered`: of the journal behind the end, all rows, and those that are the next of their seat or pair;
+//! - `failed`, `unusable`, `other`: calls that the store failed, that came behind one, and that were refused otherwise;
+//! - `revived`: calls that were taken in or refused otherwise, though the store had failed one before them in their thread;
+//! - `lost`, `more`, `odd`: rows that were told and don't stand behind the store's opening, rows that stand and weren't told,
+//!   and those that aren't the next of their seat or pair;
+//! - `shown`: of the sixteen stocks those that have on hand what their seat's rows received; and `then` the position of the
+//!   command that comes behind, or how many rows it adds.
 //!
 //! The k-th arrival of a reader is k. What is counted:
 //! - `put`, `back`: arrivals that were put, and that came back as they were;
@@ -42,11 +50,15 @@
 mod arrivals;
 mod beside;
 mod examples;
+mod failing;
 mod fault;
 mod grouping;
 mod intake_lines;
 mod lines;
 mod marking;
+mod running;
+mod standing;
+mod stores;
 mod tally;
 mod threads;
 

@@ -1,16 +1,15 @@
-//! A run: what each thread does, and what is there behind it.
+//! A run: what each thread does, over whatever store.
 
 ghost use Rattle.std.specs.Prelude.{◌≡◌};
+ghost use Rattle.std.specs.Thread.{IsSend};
 ghost use Rattle.shared_endpoint.specs.Keys.{IsSeatOf, IsHandOf, IsScoutOf, AreSeatsOf, seat_number};
 
 use crate::fault::CallFault;
 use crate::tally::{Tally, count};
-use activities::{Input, JournalRow};
 use base::{Entity, Number};
-use endpoint::{EndFault, Endpoint, Ingested};
+use endpoint::{EndFault, Endpoint};
 use envelope::{Letter, Message};
-use keep::Faulty;
-use keep_plain::PlainKeep;
+use keep::Keep;
 use shared_endpoint::{Hand, Scout, Seat, Shared};
 use std::alloc::Global;
 use std::sync::Wait;
@@ -20,21 +19,18 @@ use test_script::{LineFault, pair};
 use trade::StockCommand;
 use warehouse::{Stock, Stocks};
 
-/// Tables in memory that fail where they are told to.
-pub type Tables = Faulty<PlainKeep<Stocks>>;
-
-/// A warehouse over them, alone.
-pub type Alone = Endpoint<Stocks, Tables>;
+/// A warehouse over some store, alone.
+pub type Alone<K> = Endpoint<Stocks, K>;
 
 /// The same, shared.
-pub type Together = Shared<Stocks, Tables>;
+pub type Together<K> = Shared<Stocks, K>;
 
 /// Its tokens.
-type OneSeat = Seat<Stocks, Tables>;
+type OneSeat<K> = Seat<Stocks, K>;
 
-pub type TheHand = Hand<Stocks, Tables>;
+pub type TheHand<K> = Hand<Stocks, K>;
 
-pub type TheScout = Scout<Stocks, Tables>;
+pub type TheScout<K> = Scout<Stocks, K>;
 
 /// How much a run is to do.
 #[derive(Clone, Copy)]
@@ -60,30 +56,34 @@ pub fn stock(alloc: Global, place: usize) -> Result<Entity, CallFault> {
     Ok(Entity::read(alloc, names[place % 16])?)
 }
 
-/// Whether a view shows a stock with so much on hand.
+/// Whether a view shows a stock with so much on hand, or none where that is 0.
 pub fn shows(row: Result<Option<Stock>, EndFault>, total: u64) -> bool {
     match row {
         Ok(Some(stock)) => stock.on_hand() == total,
-        _ => false,
+        Ok(None) => total == 0,
+        Err(_) => false,
     }
 }
 
 /// Takes in one command, and tells how much came in by it.
-fn receive<R: Wait>(
+fn receive<K, R: Wait>(
     rt: &R,
     alloc: Global,
-    shared: &Together,
-    seat: &mut OneSeat,
+    shared: &Together<K>,
+    seat: &mut OneSeat<K>,
+    place: usize,
     entity: &Entity,
     quantity: u64,
     tally: &Tally,
 ) -> u64
+where
+    K: Keep<State = Stock, Command = StockCommand> + Drop,
     requires seat { IsSeatOf shared.now seat.old }
     ensures seat { IsSeatOf shared.now seat.new × (seat_number seat.new ≡ seat_number seat.old) }
 {
     match shared.commit(rt, alloc, seat, entity, StockCommand::Receive(quantity)) {
         Ok(_) => {
-            count(&tally.committed);
+            tally.commit(place);
             quantity
         }
         Err(fault) => {
@@ -94,16 +94,18 @@ fn receive<R: Wait>(
 }
 
 /// Looks at what is there, where the seats do.
-fn view<R: Wait>(
+fn view<K, R: Wait>(
     rt: &R,
     alloc: Global,
-    shared: &Together,
-    seat: &mut OneSeat,
+    shared: &Together<K>,
+    seat: &mut OneSeat<K>,
     entity: &Entity,
     total: u64,
     work: Work,
     tally: &Tally,
 )
+where
+    K: Keep<State = Stock, Command = StockCommand> + Drop,
     requires seat { IsSeatOf shared.now seat.old }
     ensures seat { IsSeatOf shared.now seat.new × (seat_number seat.new ≡ seat_number seat.old) }
 {
@@ -117,15 +119,17 @@ fn view<R: Wait>(
 }
 
 /// A seat's thread: it receives 1, 2, .. into its stock.
-fn command<R: Wait>(
+fn command<K, R: Wait>(
     rt: &R,
     alloc: Global,
-    shared: &Together,
-    seat: &mut OneSeat,
+    shared: &Together<K>,
+    seat: &mut OneSeat<K>,
     place: usize,
     work: Work,
     tally: &Tally,
 )
+where
+    K: Keep<State = Stock, Command = StockCommand> + Drop,
     requires seat { IsSeatOf shared.now seat.old }
     ensures seat { IsSeatOf shared.now seat.new × (seat_number seat.new ≡ seat_number seat.old) }
 {
@@ -134,30 +138,27 @@ fn command<R: Wait>(
     };
     let commands = if place < work.seats { work.commands } else { 0 };
     let mut total = 0u64;
+    let mut is_refused = false;
     for done in 0..commands {
-        let more = receive(
-            rt,
-            alloc,
-            shared,
-            seat,
-            &entity,
-            done.saturating_add(1),
-            tally,
-        );
+        let next = done.saturating_add(1);
+        let more = receive(rt, alloc, shared, seat, place, &entity, next, tally);
+        is_refused = tally.meet(is_refused, more == 0);
         total = total.saturating_add(more);
         view(rt, alloc, shared, seat, &entity, total, work, tally);
     }
 }
 
 /// All seats, each in a thread of its own.
-fn command_all<R: Wait + Threads + Sync>(
+fn command_all<K, R: Wait + Threads + Sync>(
     rt: &R,
     alloc: Global,
-    shared: &Together,
-    seats: &mut [OneSeat],
+    shared: &Together<K>,
+    seats: &mut [OneSeat<K>],
     work: Work,
     tally: &Tally,
 )
+where
+    K: Keep<State = Stock, Command = StockCommand> + Drop + Send,
     requires seats { AreSeatsOf shared.now seats.old }
     ensures seats { AreSeatsOf shared.now seats.new }
 {
@@ -165,7 +166,7 @@ fn command_all<R: Wait + Threads + Sync>(
         rt,
         seats,
         16,
-        &|place: usize, seat: &mut OneSeat|
+        &|place: usize, seat: &mut OneSeat<K>|
             requires { IsSeatOf shared.now seat.old }
             ensures { IsSeatOf shared.entry.now seat.new × (seat_number seat.new ≡ seat_number seat.old) }
         {
@@ -175,14 +176,16 @@ fn command_all<R: Wait + Threads + Sync>(
 }
 
 /// The Hand's thread: it takes in the letters 1, 2, .. of an order to a stock.
-fn take_letters<R: Wait>(
+fn take_letters<K, R: Wait>(
     rt: &R,
     alloc: Global,
-    shared: &Together,
-    hand: &mut TheHand,
+    shared: &Together<K>,
+    hand: &mut TheHand<K>,
     work: Work,
     tally: &Tally,
 )
+where
+    K: Keep<State = Stock, Command = StockCommand> + Drop,
     requires hand { IsHandOf shared.now hand.old }
     ensures hand { IsHandOf shared.now hand.new }
 {
@@ -195,159 +198,175 @@ fn take_letters<R: Wait>(
         number,
         message,
     };
+    let mut is_refused = false;
     for done in 0..work.letters {
         let Some(number) = Number::new(done.saturating_add(1)) else {
             return;
         };
         letter.number = number;
-        if let Ok(Ingested::Handled(_)) = shared.ingest(rt, alloc, hand, &letter) {
-            count(&tally.handled);
-        }
+        is_refused = tally.ingest(is_refused, shared.ingest(rt, alloc, hand, &letter));
     }
-}
-
-/// Whether these are the letters 1, 2, .. of their pair.
-fn are_from_first(letters: &Vec<Letter>) -> bool {
-    let mut next = 1u64;
-    for letter in letters {
-        if letter.number.get() != next {
-            return false;
-        }
-        next = next.saturating_add(1);
-    }
-    true
 }
 
 /// The Scout's thread: it reads the outbox from its begin on, and the row of the journal to which the mark was raised.
-fn look<R: Wait>(
+fn look<K, R: Wait>(
     rt: &R,
     alloc: Global,
-    shared: &Together,
-    scout: &mut TheScout,
+    shared: &Together<K>,
+    scout: &mut TheScout<K>,
     work: Work,
     tally: &Tally,
 )
+where
+    K: Keep<State = Stock, Command = StockCommand> + Drop,
     requires scout { IsScoutOf shared.now scout.old }
     ensures scout { IsScoutOf shared.now scout.new }
 {
+    let mut is_refused = false;
     for _ in 0..work.reads {
         let mark = shared.mark(scout);
         let letters = shared.unsettled(rt, alloc, scout, &None, 64);
         let rows = shared.journal(rt, alloc, scout, mark, 1);
-        if let (Ok(letters), Ok(rows)) = (letters, rows) {
-            let is_there = mark == 0 || !rows.is_empty();
-            if is_there && are_from_first(&letters) {
-                count(&tally.read);
-            }
-        }
+        is_refused = tally.look(is_refused, mark, letters, rows);
     }
+}
+
+// What goes to a thread goes by value, and comes back.
+
+/// The seats, which come back.
+fn command_each<K, R: Wait + Threads + Sync>(
+    rt: &R,
+    alloc: Global,
+    shared: &Together<K>,
+    mut seats: [OneSeat<K>; 16],
+    work: Work,
+    tally: &Tally,
+) -> [OneSeat<K>; 16]
+where
+    K: Keep<State = Stock, Command = StockCommand> + Drop + Send,
+    requires { AreSeatsOf shared.now seats }
+    ensures { AreSeatsOf shared.now result }
+{
+    command_all(rt, alloc, shared, &mut seats[..], work, tally);
+    seats
+}
+
+/// The Hand, which comes back.
+fn take_each<K, R: Wait>(
+    rt: &R,
+    alloc: Global,
+    shared: &Together<K>,
+    mut hand: TheHand<K>,
+    work: Work,
+    tally: &Tally,
+) -> TheHand<K>
+where
+    K: Keep<State = Stock, Command = StockCommand> + Drop,
+    requires { IsHandOf shared.now hand }
+    ensures { IsHandOf shared.now result }
+{
+    take_letters(rt, alloc, shared, &mut hand, work, tally);
+    hand
+}
+
+/// The Scout, which comes back.
+fn look_often<K, R: Wait>(
+    rt: &R,
+    alloc: Global,
+    shared: &Together<K>,
+    mut scout: TheScout<K>,
+    work: Work,
+    tally: &Tally,
+) -> TheScout<K>
+where
+    K: Keep<State = Stock, Command = StockCommand> + Drop,
+    requires { IsScoutOf shared.now scout }
+    ensures { IsScoutOf shared.now result }
+{
+    look(rt, alloc, shared, &mut scout, work, tally);
+    scout
 }
 
 /// The Hand and the Scout, each in a thread of its own.
-fn take_and_look<R: Wait + Threads + Sync>(
+fn take_and_look<K, R: Wait + Threads + Sync>(
     rt: &R,
     alloc: Global,
-    shared: &Together,
-    hand: &mut TheHand,
-    scout: &mut TheScout,
+    shared: &Together<K>,
+    hand: TheHand<K>,
+    scout: TheScout<K>,
     work: Work,
     tally: &Tally,
-)
-    requires hand { IsHandOf shared.now hand.old }
-    requires scout { IsScoutOf shared.now scout.old }
-    ensures hand { IsHandOf shared.now hand.new }
-    ensures scout { IsScoutOf shared.now scout.new }
+) -> (TheHand<K>, TheScout<K>)
+where
+    K: Keep<State = Stock, Command = StockCommand> + Drop + Send,
+    requires hand { IsHandOf shared.now hand }
+    requires scout { IsScoutOf shared.now scout }
+    ensures hand { IsHandOf shared.now result.0 }
+    ensures scout { IsScoutOf shared.now result.1 }
 {
-    thread::join_mut(
+    thread::join(
         rt,
-        &mut ||
-            requires { IsHandOf shared.now hand.now }
-            ensures { IsHandOf shared.entry.now hand.exit.now }
-        {
-            take_letters(rt, alloc, shared, hand, work, tally);
-        },
-        &mut ||
-            requires { IsScoutOf shared.now scout.now }
-            ensures { IsScoutOf shared.entry.now scout.exit.now }
-        {
-            look(rt, alloc, shared, scout, work, tally);
-        },
-    );
+        || take_each(rt, alloc, shared, hand, work, tally),
+        || look_often(rt, alloc, shared, scout, work, tally),
+    )
 }
 
-/// All threads of a run.
-pub fn work_all<R: Wait + Threads + Sync>(
+/// All threads of a run: the seats, and the Hand and the Scout, come back.
+pub fn work_all<K, R: Wait + Threads + Sync>(
     rt: &R,
     alloc: Global,
-    shared: &Together,
-    seats: &mut [OneSeat; 16],
-    hand: &mut TheHand,
-    scout: &mut TheScout,
+    shared: &Together<K>,
+    seats: [OneSeat<K>; 16],
+    hand: TheHand<K>,
+    scout: TheScout<K>,
     work: Work,
     tally: &Tally,
-)
-    requires seats { AreSeatsOf shared.now seats.old }
-    requires hand { IsHandOf shared.now hand.old }
-    requires scout { IsScoutOf shared.now scout.old }
-    ensures seats { AreSeatsOf shared.now seats.new }
-    ensures hand { IsHandOf shared.now hand.new }
-    ensures scout { IsScoutOf shared.now scout.new }
+) -> ([OneSeat<K>; 16], (TheHand<K>, TheScout<K>))
+where
+    K: Keep<State = Stock, Command = StockCommand> + Drop + Send,
+    requires seats { AreSeatsOf shared.now seats }
+    requires hand { IsHandOf shared.now hand }
+    requires scout { IsScoutOf shared.now scout }
+    ensures seats { AreSeatsOf shared.now result.0 }
+    ensures hand { IsHandOf shared.now result.1.0 }
+    ensures scout { IsScoutOf shared.now result.1.1 }
 {
-    thread::join_mut(
+    thread::join(
         rt,
-        &mut ||
-            requires { AreSeatsOf shared.now seats.now }
-            ensures { AreSeatsOf shared.entry.now seats.exit.now }
-        {
-            command_all(rt, alloc, shared, &mut seats[..], work, tally);
-        },
-        &mut ||
-            requires { IsHandOf shared.now hand.now × IsScoutOf shared.now scout.now }
-            ensures { IsHandOf shared.entry.now hand.exit.now × IsScoutOf shared.entry.now scout.exit.now }
-        {
-            take_and_look(rt, alloc, shared, hand, scout, work, tally);
-        },
-    );
+        || -> [OneSeat<K>; 16]
+            requires seats { AreSeatsOf shared.now seats }
+            requires store { IsSend K.row }
+            ensures { AreSeatsOf shared.entry.now result }
+        { command_each(rt, alloc, shared, seats, work, tally) },
+        || -> (TheHand<K>, TheScout<K>)
+            requires hand { IsHandOf shared.now hand }
+            requires scout { IsScoutOf shared.now scout }
+            requires store { IsSend K.row }
+            ensures hand { IsHandOf shared.entry.now result.0 }
+            ensures scout { IsScoutOf shared.entry.now result.1 }
+        { take_and_look(rt, alloc, shared, hand, scout, work, tally) },
+    )
 }
 
 /// A run: the endpoint is put under a lock, all threads do their work, and it comes out again.
-pub fn work_together<R: Wait + Threads + Sync>(
+pub fn work_together<K, R: Wait + Threads + Sync>(
     rt: &R,
     alloc: Global,
-    endpoint: Alone,
+    endpoint: Alone<K>,
     work: Work,
     tally: &Tally,
-) -> Result<Alone, CallFault> {
-    let Ok(opened) = Together::open(rt, alloc, endpoint) else {
-        return Err(CallFault::Line(LineFault::Memory));
-    };
-    let shared = opened.0;
-    let mut seats = opened.1;
-    let mut hand = opened.2;
-    let mut scout = opened.3;
-    work_all(
-        rt, alloc, &shared, &mut seats, &mut hand, &mut scout, work, tally,
-    );
-    Ok(shared.close(rt, seats, hand, scout))
-}
-
-/// How many rows of a journal are the next of their seat or pair: a seat's command receives one more than its last one
-/// did, and a letter's number is one more.
-pub fn ordered(rows: &Vec<JournalRow<StockCommand>>) -> u64 {
-    let mut last = [0u64; 17];
-    let mut found = 0u64;
-    for row in rows {
-        let (place, number) = match &row.input {
-            Input::FromSeat(seat, StockCommand::Receive(number)) => (
-                usize::from(*seat % 16),
-                *number,
-            ),
-            Input::FromEntity(_, number, _) => (16, number.get()),
-        };
-        if number == last[place].saturating_add(1) {
-            last[place] = number;
-            found = found.saturating_add(1);
+) -> Result<Alone<K>, CallFault>
+where
+    K: Keep<State = Stock, Command = StockCommand> + Drop + Send,
+{
+    match Together::<K>::open(rt, alloc, endpoint) {
+        Ok(opened) => {
+            let shared = opened.0;
+            let (seats, tokens) = work_all(
+                rt, alloc, &shared, opened.1, opened.2, opened.3, work, tally,
+            );
+            Ok(shared.close(rt, seats, tokens.0, tokens.1))
         }
+        Err(_) => Err(CallFault::Line(LineFault::Memory)),
     }
-    found
 }
