@@ -13,6 +13,12 @@ pub enum CallFault {
     /// No line is so, or a word of it isn't one.
     #[error(transparent)]
     Line(#[from] LineFault),
+    /// No marks are open.
+    #[error("nothing is open")]
+    NotOpen,
+    /// There is no such place or seat, or marks can't have so many.
+    #[error("out of range")]
+    OutOfRange,
     /// A text names no entity.
     #[error(transparent)]
     Entity(#[from] EntityFault),

@@ -7,6 +7,7 @@ use crate::examples::{
 use crate::fault::CallFault;
 use crate::grouping::request;
 use crate::intake_lines::tell_intake;
+use crate::session::Session;
 use crate::stores::{tell_in_memory, tell_in_sql};
 use endpoint::Endpoint;
 use keep::Faulty;
@@ -44,6 +45,7 @@ fn push_answer<R: Wait + Threads + Sync>(
     rt: &R,
     alloc: Global,
     out: &mut String,
+    session: &mut Session,
     words: &[&str],
 ) -> Result<(), CallFault> {
     let [word, rest @ ..] = words else {
@@ -53,7 +55,8 @@ fn push_answer<R: Wait + Threads + Sync>(
         "pages" => show_pages(rt, alloc, out, rest),
         "intake" => tell_intake(rt, alloc, out, rest),
         "sql" => tell_in_sql(rt, alloc, out, rest),
-        _ => tell_in_memory(rt, alloc, out, words),
+        "run" | "fail" | "beside" | "mark" | "group" => tell_in_memory(rt, alloc, out, words),
+        _ => session.tell(rt, alloc, out, words),
     }
 }
 
@@ -61,23 +64,25 @@ fn push_answer<R: Wait + Threads + Sync>(
 fn answer<R: Wait + Threads + Sync>(
     rt: &R,
     alloc: Global,
+    session: &mut Session,
     line: &str,
 ) -> Result<String, CallFault> {
     let words: Vec<&str> = line.split_whitespace().collect(alloc)?;
     let mut out = String::new(alloc);
-    push_answer(rt, alloc, &mut out, words.as_slice())?;
+    push_answer(rt, alloc, &mut out, session, words.as_slice())?;
     Ok(out)
 }
 
 /// Prints the answer to a line, or the line itself where it is empty or a comment.
 fn print_answer<R: AllocGlobal + Print + Wait + Threads + Sync>(
     rt: &R,
+    session: &mut Session,
     line: &str,
 ) -> io::Result<()> {
     if line.is_empty() || line.starts_with('#') {
         return println!(rt; "{line}");
     }
-    match answer(rt, rt.alloc(), line) {
+    match answer(rt, rt.alloc(), session, line) {
         Ok(text) => println!(rt; "{text}"),
         Err(fault) if fault.is_memory() => Err(io::Error::from(ErrorKind::OutOfMemory)),
         Err(fault) => println!(rt; "{fault}"),
@@ -91,8 +96,9 @@ fn print_answer<R: AllocGlobal + Print + Wait + Threads + Sync>(
 pub fn answer_input<R: AllocGlobal + Input + Print + Wait + Threads + Sync>(
     rt: &R,
 ) -> io::Result<()> {
+    let mut session = Session::new();
     for line in rt.lines(rt.alloc()) {
-        print_answer(rt, line?.as_str())?;
+        print_answer(rt, &mut session, line?.as_str())?;
     }
     Ok(())
 }

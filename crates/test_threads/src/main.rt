@@ -1,5 +1,5 @@
-//! Reads lines that name runs of many threads over one service or an intake, or groups of letters, and prints what came of
-//! each.
+//! Reads lines that name runs of many threads over one service, an intake or marks, or groups of letters, and prints what
+//! came of each.
 //!
 //! A comment, which begins with `#`, and an empty line are printed as they are. Each other line has one answer: what
 //! the run came to, or the text of its fault. So the answer to a line of `stdin` stands at the same line of `stdout`,
@@ -27,6 +27,13 @@
 //!   thread of its own;
 //! - `intake alone COUNT TAKES`: one thread puts COUNT arrivals by each reader in turn, and takes so many times;
 //! - `intake gone COUNT`: the same, where the worker is gone;
+//! - `open PLACES SEATS`: marks of 0, in place of those that were open;
+//! - `raise SEAT PLACE N`, `read SEAT PLACE`: seats and places of marks are counted from 0;
+//! - `all PLACE N`: each seat raises the mark, in threads that are joined: seat 0 to N, seat 1 to N + 1 and so on;
+//! - `climb PLACE N TIMES`: each seat, in threads that are joined, raises the mark so often, seat 0 to N, N + 1 and so
+//!   on, seat 1 to N + 1, N + 2 and so on, and reads it after each: `rising` where none ever read less than it had raised
+//!   or read. No seat raises a mark above 2^64 - 1;
+//! - `close`: the marks, once all seats are given back;
 //! - `pages`: the examples of the libraries' pages.
 //!
 //! The k-th command of a seat receives k into a stock of its own. What is counted:
@@ -49,6 +56,7 @@
 
 mod arrivals;
 mod beside;
+mod climbing;
 mod examples;
 mod failing;
 mod fault;
@@ -56,7 +64,9 @@ mod grouping;
 mod intake_lines;
 mod lines;
 mod marking;
+mod opened;
 mod running;
+mod session;
 mod standing;
 mod stores;
 mod tally;

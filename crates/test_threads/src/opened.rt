@@ -3,8 +3,8 @@
 ghost use Rattle.std.specs.Prelude.{◌≡◌, All, vec_len};
 ghost use Rattle.marks.specs.Seats.{IsSeatOf, places_of, seats_of};
 
+use crate::climbing::{climb_by_all, raise_by_all};
 use crate::fault::CallFault;
-use crate::threads::{climb_by_all, raise_by_all};
 use marks::limits::{PLACES, SEATS};
 use marks::{MarkSeat, Marks};
 use std::alloc::Global;

@@ -1,10 +1,10 @@
-//! What stands between two lines.
+//! Lines of marks, and what stands between two of them.
 
 use crate::fault::CallFault;
 use crate::opened::Opened;
 use std::alloc::Global;
 use std::thread::Threads;
-use test_script::{LineFault, natural, or_done, size};
+use test_script::{LineFault, natural, size};
 
 /// The marks that are open, if any are.
 #[derive(Drop)]
@@ -78,7 +78,7 @@ impl Session {
         Ok(out.push_str(if is_rising { "rising" } else { "falling" })?)
     }
 
-    /// What a line of these words answers, which is appended: each arm is one call.
+    /// What a line of these words answers, which is appended where it isn't `done`: each arm is one call.
     fn answer_words<R: Threads + Sync>(
         &mut self,
         rt: &R,
@@ -97,19 +97,18 @@ impl Session {
         }
     }
 
-    /// What a line answers.
-    ///
-    /// # Errors
-    /// Why it has no answer, in place of which the text of the fault is printed.
-    pub fn answer<R: Threads + Sync>(
+    /// What a line of these words answers, which is appended.
+    pub fn tell<R: Threads + Sync>(
         &mut self,
         rt: &R,
         alloc: Global,
-        line: &str,
-    ) -> Result<String, CallFault> {
-        let words: Vec<&str> = line.split_whitespace().collect(alloc)?;
-        let mut out = String::new(alloc);
-        self.answer_words(rt, alloc, &mut out, words.as_slice())?;
-        Ok(or_done(alloc, out)?)
+        out: &mut String,
+        words: &[&str],
+    ) -> Result<(), CallFault> {
+        self.answer_words(rt, alloc, out, words)?;
+        if out.is_empty() {
+            out.push_str("done")?;
+        }
+        Ok(())
     }
 }
