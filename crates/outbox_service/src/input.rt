@@ -56,6 +56,8 @@ pub struct InputLines<I: BufRead + Drop> {
     waits: Waits,
     /// What came and wasn't given yet.
     text: Vec<u8>,
+    /// Whether the reader may hold something that wasn't kept, of which nothing more is told.
+    is_held: bool,
     has_ended: bool,
 }
 
@@ -67,6 +69,7 @@ impl<I: BufRead + Drop> Drop for InputLines<I> {
             input: _input,
             waits: _waits,
             text: _text,
+            is_held: _,
             has_ended: _,
         } = self;
     }
@@ -123,6 +126,7 @@ impl<I: BufRead + Drop> InputLines<I> {
             input,
             waits: Waits::new(rt, alloc)?,
             text: Vec::new(alloc),
+            is_held: false,
             has_ended: false,
         })
     }
@@ -157,9 +161,10 @@ impl<I: BufRead + Drop> InputLines<I> {
         Ok(())
     }
 
-    /// Reads what is there. Also where memory is refused it's told again that there is something.
+    /// Reads what is there. Where memory is refused the reader may hold it already: the next call doesn't wait for more.
     fn read(&mut self) -> io::Result<()> {
         let kept = self.keep();
+        self.is_held = kept.is_err();
         self.waits.again()?;
         kept
     }
@@ -175,7 +180,7 @@ impl<I: BufRead + Drop> InputLines<I> {
         if self.has_ended {
             return Ok(Came::End);
         }
-        if self.waits.is_ready(most) {
+        if self.is_held || self.waits.is_ready(most) {
             self.read()?;
         }
         Ok(Came::Nothing)
