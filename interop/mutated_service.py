@@ -18,6 +18,7 @@ ROOM, PER_LETTER = 32 << 20, 6 << 10  # octets that it may hold beyond what it h
 LIFE = 100_000  # frames behind which another process takes over
 AHEAD = 8  # bursts that go out at once
 BODY = re.compile(rb'\{"n":([1-9][0-9]*),"op":"request"\}|\{"op":"(tentative|refused|confirm|cancel)"\}')
+LINE_ENDS = re.compile(rb"(\r?\n)*")
 REQUEST, CONFIRM = b'{"n":1,"op":"request"}', b'{"op":"confirm"}'
 QUEUE = "/queue/warehouse"
 ODD_NUMBERS = ("1", "2", "3", "0", "01", "-1", "+1", "", " 1", "256", "257", "258", str(MOST), str(MOST + 1), str(1 << 64), "1.0", "x")
@@ -216,8 +217,8 @@ class ServiceRun:
             try:
                 command, headers, body, end = decoded(octets)
             except Short:
-                # what is left must not stand before the next burst
-                return told, is_cut or bool(octets.strip(b"\r\n")), pairs, count, behind
+                # what is left must not stand before the next burst, a CR without its LF either
+                return told, is_cut or not LINE_ENDS.fullmatch(octets), pairs, count, behind
             except Bad:
                 return told, True, pairs, count + 1, behind
             octets, count, values = octets[end:], count + 1, dict(reversed(headers))
