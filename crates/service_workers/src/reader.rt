@@ -23,7 +23,7 @@ enum Turn {
     Over(Option<Cut>),
 }
 
-/// Writes what waits, and reads what came: whether something did.
+/// Writes what waits, and reads once of what came: whether something did.
 fn move_octets<L: Link + Drop, R: Wait>(
     rt: &R,
     alloc: Global,
@@ -56,7 +56,8 @@ fn find<L: Link + Drop, R: Wait>(
     }
 }
 
-/// Puts a MESSAGE into the intake; where that's full, the connection keeps it.
+/// Puts a MESSAGE into the intake; where that's full, the connection keeps it. What comes meanwhile is read on, and held
+/// behind it.
 fn put<L: Link + Drop, R: Wait>(
     rt: &R,
     lines: &Lines<L>,
