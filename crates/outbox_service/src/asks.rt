@@ -24,7 +24,7 @@ pub enum Ask {
     Memory,
 }
 
-/// The line as schedules have it: seat 0 gives each command.
+/// The line as schedules have it, so that one reader serves both: seat 0 gives each command here.
 fn add_seat(alloc: Global, line: &str) -> Result<String, AllocError> {
     match line.split_once(' ') {
         Some((verb, rest)) if matches!(verb, "place" | "cancel" | "receive" | "limit") => {

@@ -55,6 +55,7 @@ fn tell_cut<R: Log>(rt: &R, number: u8, cut: &Cut) {
 }
 
 impl<R: Wait + Clock + Log> Gate<R> for Turn<'_> {
+    // Nothing is to be done before a SEND: `test_live` has threads meet here.
     fn before_send(&self, _rt: &R) {}
 
     fn after_ingest(&self, _rt: &R) {

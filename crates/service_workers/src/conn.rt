@@ -20,7 +20,7 @@ use stomp_frame::{Command, Frame, FrameFault};
 use stomp_wire::{Link, LinkFault};
 use text::read_number;
 
-/// How many octets are read at once, at most.
+/// How many octets are read at once, at most. A link may give fewer: one over a socket gives 4,096.
 const READ: usize = 65_536;
 
 /// How many octets are written at once rather than when the worker rests.
@@ -68,7 +68,7 @@ impl<L: Drop> Drop for Conn<L> {
 pub(crate) enum Found {
     /// No whole frame came.
     Nothing,
-    /// A frame, which is answered.
+    /// A frame that is none for the service, and was dealt with.
     Answered,
     /// The same, and the connection is connected by it.
     Connected,
@@ -229,7 +229,7 @@ impl<L: Link + Drop> Conn<L> {
         }
     }
 
-    /// The next frame that came: all but a MESSAGE are answered here.
+    /// The next frame that came: all but a MESSAGE are dealt with here.
     pub(crate) fn next(&mut self, alloc: Global, kind: Kind) -> Found {
         if self.must_subscribe {
             return self.subscribe(kind);

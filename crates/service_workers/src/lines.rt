@@ -69,28 +69,28 @@ impl<L: Link + Drop> Lines<L> {
         self.full.store(is_full, Ordering::SeqCst);
     }
 
-    /// No thread could be made for one of them.
+    /// A thread couldn't be made.
     pub fn refuse(&self) {
         self.refused.store(true, Ordering::SeqCst);
     }
 
-    /// Whether one couldn't be.
+    /// Whether a thread couldn't be made.
     pub fn is_refused(&self) -> bool {
         self.refused.load(Ordering::SeqCst)
     }
 
-    /// How many were.
+    /// How many settles were taken.
     pub fn settles(&self) -> u64 {
         self.settles.load(Ordering::SeqCst)
     }
 
-    /// A thread is done, for which this one may wait.
+    /// A thread is done: the next one, which may wait for that, is woken.
     pub fn end<G: Gate<R>, R: Wait>(&self, rt: &R, gate: &G, next: Resting) {
         self.done.fetch_add(1, Ordering::SeqCst);
         gate.wake(rt, next);
     }
 
-    /// How many threads are: the readers first, and then the worker.
+    /// How many threads are done: the readers first, and then the worker.
     pub fn done(&self) -> u64 {
         self.done.load(Ordering::SeqCst)
     }
@@ -111,8 +111,8 @@ impl<L: Link + Drop> Lines<L> {
         }
     }
 
-    /// Sends of these letters what isn't sent on a connection, and answers how many of them are. None where it isn't
-    /// there any more.
+    /// Sends of these letters what wasn't sent on a connection, and answers how many of all were, now or before. None
+    /// where the connection isn't there any more.
     pub fn send<R: Wait>(
         &self,
         rt: &R,

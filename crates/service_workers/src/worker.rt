@@ -257,7 +257,8 @@ where
 /// What was prepared doesn't go with what the endpoint answered: the frame isn't the one that was asked for.
 const OTHER: ReceptionFault = ReceptionFault::Client(ClientFault::Unexpected);
 
-/// Writes what is answered to a MESSAGE.
+/// Writes what is answered to a MESSAGE: both halves of its reception, behind the endpoint's answer. Others use the
+/// connection while that is asked, and what was prepared before could be stale then.
 fn finish<L: Link + Drop>(
     alloc: Global,
     conn: &mut Conn<L>,
