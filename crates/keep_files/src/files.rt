@@ -345,6 +345,7 @@ impl<H: Filed, S: Reopenable + Drop> Keep for FileKeep<H, S> {
             f.is_told f.failures f.access) self.old self.new (ArePlaced changes.items) (changed changes.items)
             (keep_end result) }
     {
+        // Where a reopening has failed nobody knows what stands there, so no part of it is left as it was.
         if !self.is_told {
             return self.apply(alloc, changes);
         }
