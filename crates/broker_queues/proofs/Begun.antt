@@ -45,6 +45,7 @@ begins h is = record {
   kept = ap (filter (λ k. nat_le k.number h.last)) (map_nothing h.kept) ∙ up_to h is;
   subscriptions = refl;
   given = refl;
+  distinct = is.distinct;
   last = omega arith;
   held = tt;
   fresh = λ n k there later. absurd (omega (arith, is.last n k there, later));
@@ -106,6 +107,7 @@ noted_begun start h log s answered es now b n = record {
       ∙ before_noted start.last log n.later h.kept b.sound.numbers n.holds ∙ b.kept;
   subscriptions = b.subscriptions;
   given = b.given;
+  distinct = b.distinct;
   last = b.last;
   held = rw n.more (held_append h.subscribers log n.later b.held n.held);
   fresh = b.fresh;
@@ -172,6 +174,7 @@ module _ (start h i : Holding) (log : List Logged) (age : ℕ) (s : Subscriber) 
         ∙ b.kept;
     subscriptions = t.subscriptions ∙ b.subscriptions;
     given = t.given ∙ b.given;
+    distinct = b.distinct;
     last = omega (arith, b.last, t.last);
     held = rw n.more (held_still h.subscribers i.subscribers t.others (log ++ n.later)
         (held_append h.subscribers log n.later b.held n.held));
@@ -227,6 +230,7 @@ module _ (start h i : Holding) (log : List Logged) (sent : Sent) (b : IsBegun st
         (lt-leb (h.last + 1) start.last (omega (arith, b.last))) ∙ b.kept;
     subscriptions = ap subscriptions_of p.subscribers ∙ b.subscriptions;
     given = p.given ∙ b.given;
+    distinct = b.distinct;
     last = omega (arith, b.last, p.last);
     held = rw p.subscribers b.held;
     fresh = put_fresh;
@@ -245,6 +249,7 @@ same_begun start h i log b is kept subscribers last given listed = record {
   kept = ap (before start.last log) kept ∙ b.kept;
   subscriptions = ap subscriptions_of subscribers ∙ b.subscriptions;
   given = given ∙ b.given;
+  distinct = b.distinct;
   last = omega (arith, b.last, last);
   held = rw subscribers b.held;
   fresh = λ m k there later. b.fresh m k (rw kept at there) later;

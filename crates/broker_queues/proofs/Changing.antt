@@ -192,6 +192,7 @@ module _ (h i : Holding) (n : ℕ) (k : Kept) (f : Option Fate) (is : IsSound h)
     ahead = ahead;
     takers = λ a s there. takers_was a s (subscriber_was a s there);
     awake = λ m l a s there ready sits. awake_was m l a s (kept_was m l there) ready (subscriber_was a s sits);
+    distinct = c.distinct;
     numbers = rw (c.kept, rise_edit (λ k. k.number) n (fated f) (λ x. refl) 0 h.kept) is.numbers;
     last = last;
     listed_last = λ d m listed. rw c.last (is.listed_last d m (rw (c.lowers.numbers d) at listed));

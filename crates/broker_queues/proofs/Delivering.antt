@@ -24,6 +24,7 @@ use Rattle.broker_queues.specs.Parts.Storing.{Sweeps, Tidies}
 use Rattle.broker_queues.specs.Parts.Whole.{Holding, IsSound, Changes, Renotes, Picks, book_of}
 use Rattle.broker_queues.proofs.Changing.{changed}
 use Rattle.broker_queues.proofs.Dealing.{dealt}
+use Rattle.broker_queues.proofs.Distinct.{distinct_back, distinct_out}
 use Rattle.broker_queues.proofs.Finding.{find_map, map_map}
 use Rattle.broker_queues.proofs.Living.{count_change}
 use Rattle.broker_queues.proofs.Moving.{renoted}
@@ -82,6 +83,8 @@ module _ (h : Holding) (is : IsSound h) (n : ℕ) (k : Kept) (found : kept_at n 
     free_from = λ a s there out. absurd (never_ready k.fate ready s.subscription.session s.subscription.id out);
     free_awake = λ a s there out. absurd (never_ready k.fate ready s.subscription.session s.subscription.id out);
     noted = λ x j a never. (let no : None ≡ Some (Out x j a) = never in cc);
+    distinct = distinct_back h.given i.given n None h.kept i.kept k found is.distinct (omega (arith, given)) refl
+        (kept ∙ ap (λ f. map (with_fate n f) h.kept) gone);
   }
     where
       weights : (d : List ℕ) → weight (is_for d) (message_of k)
@@ -236,10 +239,11 @@ module _ (h : Holding) (is : IsSound h) (n a : ℕ) (k : Kept) (s : Subscriber) 
       → q ≡ Some (Out s.subscription.session s.subscription.id ack) → count ≡ s.count + 1
       → i.kept ≡ map (with_fate n q) h.kept
       → i.subscribers ≡ map (with_count a count) (map (with_entry a e) h.subscribers)
-      → i.queues ≡ h.queues → i.sessions ≡ h.sessions → i.awake ≡ h.awake → i.last ≡ h.last → h.given ≤ i.given
+      → i.queues ≡ h.queues → i.sessions ≡ h.sessions → i.awake ≡ h.awake → i.last ≡ h.last → ack ≡ h.given + 1
+      → ack ≤ i.given
       → Changes (record h { subscribers = map (with_entry a e) h.subscribers }) n k
       (Some (Out s.subscription.session s.subscription.id ack)) i
-  handed_out i q count out more kept subscribers queues sessions awake last given = record {
+  handed_out i q count out more kept subscribers queues sessions awake last next high = record {
     kept = kept ∙ ap (λ f. map (with_fate n f) h.kept) out;
     subscribers = subscribers ∙ ap (λ c. map (with_count a c) (map (with_entry a e) h.subscribers)) more ∙ counts_one;
     lowers = rw queues (Lowers-same h.queues);
@@ -247,13 +251,15 @@ module _ (h : Holding) (is : IsSound h) (n a : ℕ) (k : Kept) (s : Subscriber) 
     sessions = sessions;
     wakes = λ d on. rw awake on;
     last = last;
-    given = given;
+    given = omega (arith, next, high);
     ready_from = λ never. (let no : Some (Out s.subscription.session s.subscription.id ack) ≡ Some Ready = never in cc);
     ready_awake =
         λ never. (let no : Some (Out s.subscription.session s.subscription.id ack) ≡ Some Ready = never in cc);
     free_from = λ b t there on. absurd (never_ready k.fate ready t.subscription.session t.subscription.id on);
     free_awake = λ b t there on. absurd (never_ready k.fate ready t.subscription.session t.subscription.id on);
     noted = holds_it;
+    distinct = distinct_out h.given i.given n ack s.subscription.session s.subscription.id h.kept k found is.distinct
+        next high i.kept (kept ∙ ap (λ f. map (with_fate n f) h.kept) out);
   }
 
 -- ---- the book takes the deal

@@ -1,6 +1,7 @@
 pub mod Accepting
 pub mod Acting
 pub mod Adding
+pub mod Alone
 pub mod Answering
 pub mod Asking
 pub mod Attaching
@@ -10,6 +11,7 @@ pub mod Choosing
 pub mod Clearing
 pub mod Dealing
 pub mod Delivering
+pub mod Distinct
 pub mod Finding
 pub mod Leaving
 pub mod Listing

@@ -1,8 +1,8 @@
 -- What was noted of a transaction's answers gives back the messages as they were.
-use Rattle.std.proofs.Common.{◌≡◌, ℕ, Bool, true, false, not, ◌&&◌, ◌||◌, List, []}
-use Rattle.std.proofs.Common.{◌∷◌, ◌++◌, map, Option, Some, refl, sym, ap, ◌∙◌, inl, inr}
+use Rattle.std.proofs.Common.{◌≡◌, ℕ, Bool, true, false, not, cond, ◌≤◌, ◌&&◌, ◌||◌, List, []}
+use Rattle.std.proofs.Common.{◌∷◌, ◌++◌, map, Option, Some, None, refl, sym, ap, ◌∙◌, arith, inl, inr}
 use Rattle.std.specs.Prelude.{◌==◌, nat_le, filter}
-use Rattle.std.proofs.lemmas.Bool.{cases_Bool, eqb-true}
+use Rattle.std.proofs.lemmas.Bool.{cases_Bool, eqb-true, le-leb}
 use Rattle.broker_book.specs.Books.{Fate}
 use Rattle.broker_index.specs.Index.{Kept}
 use Rattle.broker_index.specs.Standing.{fate_of}
@@ -45,6 +45,13 @@ undone_number (e ∷ log) k = back_number e.number (fate_of e.standing) (undone 
 pub undone_append : (log later : List Logged) (k : Kept) → undone (log ++ later) k ≡ undone log (undone later k)
 undone_append [] later k = refl
 undone_append (e ∷ log) later k = ap (λ l. with_back e.number (fate_of e.standing) l) (undone_append log later k)
+
+-- what is out stays as it is
+undone_out : (log : List Logged) (k : Kept) → passes is_out_fate k.fate ≡ true → undone log k ≡ k
+undone_out [] k on = refl
+undone_out (e ∷ log) k on =
+    ap (λ l. with_back e.number (fate_of e.standing) l) (undone_out log k on)
+    ∙ back_out e.number (fate_of e.standing) k on
 
 -- a message that wasn't noted stays
 pub unmentioned : (log : List Logged) (k : Kept) → mentions k.number log ≡ false → undone log k ≡ k
@@ -194,3 +201,25 @@ before_put last log kept k later =
 pub before_step : (last : ℕ) (log : List Logged) (e : Logged) (kept : List Kept)
     → before last (log ++ e ∷ []) kept ≡ before last log (map (with_back e.number (fate_of e.standing)) kept)
 before_step last log e kept = ap (λ l. filter (λ k. nat_le k.number last) l) (map_undone log (e ∷ []) kept)
+
+-- what is out was out as it is
+pub before_out : (last n : ℕ) (log : List Logged) (kept : List Kept) (k : Kept) → kept_at n kept ≡ Some k
+    → passes is_out_fate k.fate ≡ true → n ≤ last → kept_at n (before last log kept) ≡ Some k
+before_out last n log [] k found on low = let never : None ≡ Some k = found in cc
+before_out last n log (x ∷ kept) k found on low = elim (cases_Bool (x.number == n)) [
+  | inl here ↦
+      let same : Some x ≡ Some k = rw here at found in
+      let it : x ≡ k = cc in
+      let stays : undone log x ≡ x = undone_out log x (ap (λ (l : Kept). passes is_out_fate l.fate) it ∙ on) in
+      let number : x.number ≡ n = eqb-true x.number n here in
+      let fits : nat_le x.number last ≡ true = le-leb x.number last (omega (arith, number, low)) in
+      rw (stays, fits, here) same
+  | inr off ↦
+      let rest : kept_at n (before last log kept) ≡ Some k = before_out last n log kept k (rw off at found) on low in
+      passed (nat_le (undone log x).number last) (ap (λ m. m == n) (undone_number log x) ∙ off) rest
+]
+  where
+    passed : (b : Bool) → ((undone log x).number == n) ≡ false → kept_at n (before last log kept) ≡ Some k
+        → kept_at n (cond b (undone log x ∷ before last log kept) (before last log kept)) ≡ Some k
+    passed true other rest = rw other rest
+    passed false other rest = rest

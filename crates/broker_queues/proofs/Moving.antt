@@ -1,5 +1,5 @@
 -- Notes and places change: the parts agree as before.
-use Rattle.std.proofs.Common.{◌≡◌, ◌≤◌, ℕ, true, map, Some, refl, sym, ap, ◌∙◌}
+use Rattle.std.proofs.Common.{◌≡◌, ◌≤◌, ℕ, true, map, Some, refl, sym, ap, ◌∙◌, arith}
 use Rattle.std.specs.Prelude.{count_by}
 use Rattle.std.specs.Str.{bytes_eq}
 use Rattle.broker_book.specs.Books.{Ready, out_to, is_named}
@@ -8,6 +8,7 @@ use Rattle.broker_queues.specs.Parts.Facts.{kept_at, subscriber_at, session_at, 
 use Rattle.broker_queues.specs.Parts.Facts.{queue_of, living_of, holds_number, may_have}
 use Rattle.broker_queues.specs.Parts.Facts.{AreNoted}
 use Rattle.broker_queues.specs.Parts.Whole.{Holding, IsSound, Renotes, LooksElsewhere}
+use Rattle.broker_queues.proofs.Distinct.{distinct_still}
 use Rattle.broker_queues.proofs.Finding.{IsMapped, is_mapped, find_map, option_map_map}
 use Rattle.broker_queues.proofs.Rising.{IsAmong, any_at, any_from_at, rise_map}
 
@@ -24,6 +25,8 @@ module _ (h i : Holding) (is : IsSound h) (m : LooksElsewhere h i) where
     takers = λ a s there may. m.takers a s (rw m.subscribers at there) (rw m.given at may);
     awake = λ n k a s there ready sits same may.
         m.awake n k a s (rw m.kept at there) ready (rw m.subscribers at sits) same (rw m.given at may);
+    distinct = distinct_still h.given i.given h.kept i.kept (omega (arith, m.given)) is.distinct
+        (λ n k x j a there out. rw m.kept at there);
     numbers = rw m.kept is.numbers;
     last = λ n k there. rw m.last (is.last n k (rw m.kept at there));
     listed_last = λ d n listed. rw m.last (is.listed_last d n (rw (m.numbers d) at listed));
@@ -124,6 +127,7 @@ module _ (h : Holding) (change : Subscriber
     ahead = is.ahead;
     takers = λ a s there. takers_still a s (was a s there);
     awake = λ n k a s there ready sits. awake_still n k a s there ready (was a s sits);
+    distinct = is.distinct;
     numbers = is.numbers;
     last = is.last;
     listed_last = is.listed_last;

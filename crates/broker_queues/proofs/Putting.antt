@@ -1,5 +1,5 @@
 -- A message is put in, or one that is gone is taken out: the parts agree as before.
-use Rattle.std.proofs.Common.{◌≡◌, ◌≤◌, ℕ, ◌+◌, not, cond, [], ◌∷◌, ◌++◌, Some, None, sym, ◌∙◌, arith, inl, inr}
+use Rattle.std.proofs.Common.{◌≡◌, ◌≤◌, ℕ, ◌+◌, not, cond, List, [], ◌∷◌, ◌++◌, Some, None, sym, ◌∙◌, arith, inl, inr}
 use Rattle.std.specs.Prelude.{◌==◌, ◌⊎◌, filter}
 use Rattle.std.proofs.lemmas.Bool.{cases_Bool, cases_eq, eqb-true}
 use Rattle.broker_book.specs.declared.parts.Sent.{Sent}
@@ -8,6 +8,7 @@ use Rattle.broker_index.specs.Index.{Kept}
 use Rattle.broker_queues.specs.Parts.Facts.{kept_at, subscriber_at}
 use Rattle.broker_queues.specs.Parts.Facts.{ArePlaced, AreCounted, AreNoted, AreCredited, AreAhead, AreAwake}
 use Rattle.broker_queues.specs.Parts.Whole.{Holding, IsSound, Puts, Purges, new_kept}
+use Rattle.broker_queues.proofs.Distinct.{distinct_still}
 use Rattle.broker_queues.proofs.Finding.{or_some}
 use Rattle.broker_queues.proofs.Living.{count_push, count_purge}
 use Rattle.broker_queues.proofs.Rising.{at_push, rise_push, at_filter, at_filter_other, rise_filter}
@@ -45,6 +46,14 @@ module _ (h : Holding) (sent : Sent) (i : Holding) (is : IsSound h) (p : Puts h 
   put_noted m l x j a there out = elim (kept_was m l there) [
     | inl both ↦ let no : Some Ready ≡ Some (Out x j a) = rw both.1 at out in cc
     | inr old ↦ rw p.subscribers (is.noted m l x j a old out)
+  ]
+
+  -- what is out was there
+  put_was : (m : ℕ) (l : Kept) (x : ℕ) (j : List ℕ) (a : ℕ) → kept_at m i.kept ≡ Some l → l.fate ≡ Some (Out x j a)
+      → kept_at m h.kept ≡ Some l
+  put_was m l x j a there out = elim (kept_was m l there) [
+    | inl both ↦ let no : Some Ready ≡ Some (Out x j a) = rw both.1 at out in cc
+    | inr old ↦ old
   ]
 
   put_credited : AreCredited i.kept i.subscribers
@@ -90,6 +99,7 @@ module _ (h : Holding) (sent : Sent) (i : Holding) (is : IsSound h) (p : Puts h 
       is.takers a s (rw p.subscribers at there) (rw p.given at may),
     );
     awake = put_awake;
+    distinct = distinct_still h.given i.given h.kept i.kept (omega (arith, p.given)) is.distinct put_was;
     numbers = rw p.kept (rise_push (λ k. k.number) 0 h.kept (new_kept (h.last + 1) sent) is.numbers (omega arith)
         (λ n y found. omega (arith, is.last n y found)));
     last = put_last;
@@ -141,6 +151,8 @@ module _ (h : Holding) (n : ℕ) (k : Kept) (i : Holding) (is : IsSound h) (foun
     );
     awake = λ m l a s there ready sits same may. p.wakes l.sent.destination
         (is.awake m l a s (left_was m l there).1 ready (rw p.subscribers at sits) same (rw p.given at may));
+    distinct = distinct_still h.given i.given h.kept i.kept (omega (arith, p.given)) is.distinct
+        (λ m l x j a there out. (left_was m l there).1);
     numbers = rw p.kept (rise_filter (λ k. k.number) (λ k. not (k.number == n)) 0 h.kept is.numbers);
     last = λ m l there. rw p.last (is.last m l (left_was m l there).1);
     listed_last = λ d m listed. rw p.last (is.listed_last d m (p.listed d m listed));

@@ -18,16 +18,17 @@ use Rattle.broker_queues.specs.Parts.Fates.{passes, counts_for, recounted, weigh
 use Rattle.broker_queues.specs.Parts.Held.{IsSame}
 use Rattle.broker_queues.specs.Parts.Queues.{CountsFewer}
 use Rattle.broker_queues.specs.Parts.Facts.{kept_at, subscriber_at, subscriptions_of, lists, notes, living_of}
-use Rattle.broker_queues.specs.Parts.Facts.{message_of, holds_number}
+use Rattle.broker_queues.specs.Parts.Facts.{message_of, holds_number, AreDistinct}
 use Rattle.broker_queues.specs.Parts.Facts.{queue_of}
 use Rattle.broker_queues.specs.Parts.Storing.{is_gone}
 use Rattle.broker_queues.specs.Parts.Undoing.{before, is_out_fate, with_back}
 use Rattle.broker_queues.specs.Parts.Whole.{Changes, Holding, IsSound}
 use Rattle.broker_queues.proofs.Begun.{held_front, held_last, held_still}
 use Rattle.broker_queues.proofs.Changing.{changed}
+use Rattle.broker_queues.proofs.Distinct.{changed_or_was, distinct_back, distinct_still}
 use Rattle.broker_queues.proofs.Finding.{find_map, map_map}
 use Rattle.broker_queues.proofs.Living.{count_living, count_change}
-use Rattle.broker_queues.proofs.Logging.{back_it, back_other, back_out, before_step}
+use Rattle.broker_queues.proofs.Logging.{back_it, back_other, back_out, before_out, before_step}
 use Rattle.broker_queues.proofs.Returning.{only_one}
 use Rattle.broker_queues.proofs.Rising.{any_from_at, map_same}
 use Rattle.broker_queues.proofs.Setting.{Lowers-same, lowered, at_name}
@@ -245,9 +246,9 @@ module _ (h i : Holding) (e : Logged) (k : Kept) (is : IsSound h) (found : kept_
       → count ≡ m.holder.count + 1
       → i.kept ≡ map (with_fate e.number (fate_of e.standing)) h.kept
       → i.subscribers ≡ map (with_count e.age count) h.subscribers
-      → i.sessions ≡ h.sessions → i.awake ≡ h.awake → i.last ≡ h.last → i.given ≡ h.given
+      → i.sessions ≡ h.sessions → i.awake ≡ h.awake → i.last ≡ h.last → i.given ≡ h.given → AreDistinct i.given i.kept
       → Changes h e.number k (fate_of e.standing) i
-  out_changes count counts more kept subscribers sessions awake last given = record {
+  out_changes count counts more kept subscribers sessions awake last given distinct = record {
     kept = kept;
     subscribers = subscribers ∙ ap (λ c. map (with_count e.age c) h.subscribers) more ∙ recount_more;
     lowers = counts.lowers;
@@ -265,6 +266,7 @@ module _ (h i : Holding) (e : Logged) (k : Kept) (is : IsSound h) (found : kept_
     free_from = λ a s there on. absurd (never_quiet s on);
     free_awake = λ a s there on. absurd (never_quiet s on);
     noted = λ x j a out. noted_again x j a (sym m.fate ∙ out);
+    distinct = distinct;
   }
     where
       noted_again : (x : ℕ) (j : List ℕ) (a : ℕ)
@@ -297,6 +299,7 @@ module _ (start h : Holding) (log : List Logged) (e : Logged) (b : IsBegun start
       kept = back_first stays;
       subscriptions = b.subscriptions;
       given = b.given;
+      distinct = b.distinct;
       last = b.last;
       held = held_front h.subscribers log (e ∷ []) b.held;
       fresh = b.fresh;
@@ -335,31 +338,15 @@ module _ (start h : Holding) (log : List Logged) (e : Logged) (b : IsBegun start
         | inr other ↦ back_other e.number (fate_of e.standing) l (ne_eqb e.number l.number other)
       ]
 
-  -- it is out again
-  pub back_again : (i : Holding) (k : Kept) → kept_at e.number h.kept ≡ Some k → passes is_out_fate k.fate ≡ false
-      → Changes h e.number k (fate_of e.standing) i → i.given ≡ h.given → IsBegun start log i × (i.last ≡ start.last)
-  back_again i k found off c given = (
-    record {
-      sound = sound;
-      kept = ap (before start.last log) (c.kept
-          ∙ sym (map_same (λ k. k.number) (with_back e.number (fate_of e.standing))
-          (with_fate e.number (fate_of e.standing)) 0 h.kept b.sound.numbers each))
-          ∙ sym (before_step start.last log e h.kept) ∙ b.kept;
-      subscriptions = ap subscriptions_of c.subscribers
-          ∙ map_map (λ s. s.subscription) (recounted k.fate (fate_of e.standing)) h.subscribers ∙ b.subscriptions;
-      given = given ∙ b.given;
-      last = omega (arith, c.last, last);
-      held = held_still h.subscribers i.subscribers (same_recounted h i k.fate (fate_of e.standing) c.subscribers) log
-          (held_front h.subscribers log (e ∷ []) b.held);
-      fresh = λ n l there later. absurd (omega (arith, sound.last n l there, later, c.last, last));
-      listed = λ d n listed later. absurd (omega (arith, sound.listed_last d n listed, later, c.last, last));
-    },
-    c.last ∙ last,
-  )
+  -- with the message as it was, those before what was noted are the same
+  back_kept : (k : Kept) → kept_at e.number h.kept ≡ Some k → passes is_out_fate k.fate ≡ false → (now : List Kept)
+      → now ≡ map (with_fate e.number (fate_of e.standing)) h.kept → before start.last log now ≡ start.kept
+  back_kept k found off now is =
+      ap (before start.last log) (is
+      ∙ sym (map_same (λ k. k.number) (with_back e.number (fate_of e.standing))
+      (with_fate e.number (fate_of e.standing)) 0 h.kept b.sound.numbers each))
+      ∙ sym (before_step start.last log e h.kept) ∙ b.kept
     where
-      sound : IsSound i
-      sound = changed h i e.number k (fate_of e.standing) b.sound found c
-
       each : (l : Kept) → kept_at l.number h.kept ≡ Some l
           → with_back e.number (fate_of e.standing) l ≡ with_fate e.number (fate_of e.standing) l
       each l there = elim (cases_eq e.number l.number) [
@@ -375,6 +362,44 @@ module _ (start h : Holding) (log : List Logged) (e : Logged) (b : IsBegun start
             rw (ne_eqb l.number e.number (λ same. other (sym same))) refl in
             back_other e.number (fate_of e.standing) l (ne_eqb e.number l.number other) ∙ sym stays
       ]
+
+  -- it is out again
+  pub back_again : (i : Holding) (k : Kept) → kept_at e.number h.kept ≡ Some k → passes is_out_fate k.fate ≡ false
+      → Changes h e.number k (fate_of e.standing) i → i.given ≡ h.given → IsBegun start log i × (i.last ≡ start.last)
+  back_again i k found off c given = (
+    record {
+      sound = sound;
+      kept = back_kept k found off i.kept c.kept;
+      subscriptions = ap subscriptions_of c.subscribers
+          ∙ map_map (λ s. s.subscription) (recounted k.fate (fate_of e.standing)) h.subscribers ∙ b.subscriptions;
+      given = given ∙ b.given;
+      distinct = b.distinct;
+      last = omega (arith, c.last, last);
+      held = held_still h.subscribers i.subscribers (same_recounted h i k.fate (fate_of e.standing) c.subscribers) log
+          (held_front h.subscribers log (e ∷ []) b.held);
+      fresh = λ n l there later. absurd (omega (arith, sound.last n l there, later, c.last, last));
+      listed = λ d n listed later. absurd (omega (arith, sound.listed_last d n listed, later, c.last, last));
+    },
+    c.last ∙ last,
+  )
+    where
+      sound : IsSound i
+      sound = changed h i e.number k (fate_of e.standing) b.sound found c
+
+  -- the numbers of deliveries are those of the start
+  pub back_distinct : (i : Holding) (k : Kept) → kept_at e.number h.kept ≡ Some k → passes is_out_fate k.fate ≡ false
+      → i.kept ≡ map (with_fate e.number (fate_of e.standing)) h.kept → i.given ≡ h.given → AreDistinct i.given i.kept
+  back_distinct i k found off kept given =
+      distinct_still start.given i.given start.kept i.kept (omega (arith, given, b.given)) b.distinct
+      (λ n l x j a there out. ap (kept_at n) (sym (back_kept k found off i.kept kept))
+      ∙ before_out start.last n log i.kept l there (ap (λ f. passes is_out_fate f) out) (low n l there))
+    where
+      low : (n : ℕ) (l : Kept) → kept_at n i.kept ≡ Some l → n ≤ start.last
+      low n l there =
+          elim (changed_or_was e.number (fate_of e.standing) h.kept k found n l (ap (kept_at n) (sym kept) ∙ there)) [
+            | inl one ↦ omega (arith, one.0, last, b.sound.last e.number k found)
+            | inr old ↦ omega (arith, last, b.sound.last n l old)
+          ]
 
 -- ---- a message that is ready is gone
 
@@ -404,6 +429,7 @@ gone_changes h i n k name is found ready there fewer kept subscribers sessions a
   free_from = λ a s there on. absurd (never_out s on);
   free_awake = λ a s there on. absurd (never_out s on);
   noted = λ x j a never. let no : None ≡ Some (Out x j a) = never in cc;
+  distinct = distinct_back h.given i.given n None h.kept i.kept k found is.distinct (omega (arith, given)) refl kept;
 }
   where
     never_out : (s : Subscriber) → passes (out_to s.subscription.session s.subscription.id) k.fate ≡ true → ⊥
@@ -444,7 +470,8 @@ restored start h i log e k s was name most count b last found off sits e1 e2 e3 
     let same : s.count ≡ m.holder.count = ap (λ (t : Subscriber). t.count) it in
     let one : count ≡ m.holder.count + 1 = more (omega arith) ∙ ap (λ n. n + 1) same in
     back_again start h log e b last i k found2 off
-    (out_changes h i e k b.sound found2 off m count counts2 one kept subscribers sessions awake lasts given) given
+    (out_changes h i e k b.sound found2 off m count counts2 one kept subscribers sessions awake lasts given
+    (back_distinct start h log e b last i k found2 off kept given)) given
 
 -- nothing of a noted message's subscriber can be missing
 pub no_holder : (start h : Holding) (log : List Logged) (e : Logged) → IsBegun start (log ++ e ∷ []) h

@@ -11,7 +11,9 @@ use Rattle.broker_index.specs.Index.{Kept, Subscriber, Queue, with_fate, with_co
 use Rattle.broker_queues.specs.Parts.Facts.{kept_at, subscriber_at, queue_of, message_of, holds_number}
 use Rattle.broker_queues.specs.Parts.Fates.{passes, counts_for, recounted, weight, fated, back}
 use Rattle.broker_queues.specs.Parts.Queues.{Marks, Frees, awake_in}
+use Rattle.broker_queues.specs.Parts.Undoing.{is_out_fate}
 use Rattle.broker_queues.specs.Parts.Whole.{Holding, IsSound, Changes, Lowers, Wakes}
+use Rattle.broker_queues.proofs.Distinct.{distinct_back}
 use Rattle.broker_queues.proofs.Living.{count_change}
 use Rattle.broker_queues.proofs.Rising.{map_same}
 use Rattle.broker_queues.proofs.Subscribing.{is_out, IsOut, named_from, itself}
@@ -91,6 +93,11 @@ never_out : (again : Bool) (x : ℕ) (i : List ℕ) → passes (out_to x i) (bac
 never_out true x i = refl
 never_out false x i = refl
 
+-- nor is it out at all
+never_back : (again : Bool) → passes is_out_fate (back again) ≡ false
+never_back true = refl
+never_back false = refl
+
 weight_back : (again : Bool) (k : Kept) (d x : ℕ) (i : List ℕ) (a : ℕ) (name : List ℕ) → k.fate ≡ Some (Out x i a)
     → weight (is_for name) (message_of (fated (back again) k)) + cond again 0
     (cond (bytes_eq k.sent.destination name) 1 0)
@@ -155,6 +162,8 @@ module _ (h : Holding) (n age : ℕ) (again : Bool) (k : Kept) (s : Subscriber) 
     free_from = λ a t there out. let it = it_is a t there out in rw (it.0, it.1) f.from;
     free_awake = λ a t there out. let it = it_is a t there out in rw it.1 f.awake;
     noted = isnt_out again;
+    distinct = distinct_back h.given h.given n (back again) h.kept (map (with_fate n (back again)) h.kept) k found
+        is.distinct (omega arith) (never_back again) refl;
   }
 
 -- the same, by what each step says
@@ -186,6 +195,8 @@ taken_back_in h i n age count again fate k s name there q v is found sits on e1 
       free_from = t.free_from;
       free_awake = t.free_awake;
       noted = t.noted;
+      distinct = distinct_back h.given i.given n (back again) h.kept i.kept k found is.distinct (omega (arith, given))
+          (never_back again) (kept ∙ ap (λ to. map (with_fate n to) h.kept) e4);
     }
 
 -- ---- names of what is awake

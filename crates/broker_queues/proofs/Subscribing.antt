@@ -15,6 +15,7 @@ use Rattle.broker_queues.specs.Parts.Facts.{queue_of, living_of, holds_number, n
 use Rattle.broker_queues.specs.Parts.Facts.{AreNoted, AreCredited, AreListening, AreOwned, AreTakers, AreAwake}
 use Rattle.broker_queues.specs.Parts.Fates.{passes}
 use Rattle.broker_queues.specs.Parts.Whole.{Holding, IsSound, Subscribes, Leaves}
+use Rattle.broker_queues.proofs.Distinct.{distinct_still}
 use Rattle.broker_queues.proofs.Finding.{or_some, is_there, is_mapped}
 use Rattle.broker_queues.proofs.Living.{count_zero, weight_fate}
 use Rattle.broker_queues.proofs.Rising.{at_push, rise_push, at_filter, at_filter_other, rise_filter, IsAmong, any_at}
@@ -200,6 +201,8 @@ module _ (h : Holding) (s : Subscriber) (i : Holding) (is : IsSound h) (p : Subs
     ahead = λ n k there ready. omega (arith, p.ready k.sent.destination, is.ahead n k (rw p.kept at there) ready);
     takers = come_takers;
     awake = come_awake;
+    distinct = distinct_still h.given i.given h.kept i.kept (omega (arith, p.given)) is.distinct
+        (λ n k x j a there out. rw p.kept at there);
     numbers = rw p.kept is.numbers;
     last = λ n k there. rw p.last (is.last n k (rw p.kept at there));
     listed_last = λ d n listed. rw p.last (is.listed_last d n (rw (p.numbers d) at listed));
@@ -264,6 +267,8 @@ module _ (h : Holding) (age : ℕ) (s : Subscriber) (i : Holding) (is : IsSound 
     );
     awake = λ n k a t there ready sits same may. p.wakes k.sent.destination
         (is.awake n k a t (rw p.kept at there) ready (left_was a t sits).1 same (rw p.given at may));
+    distinct = distinct_still h.given i.given h.kept i.kept (omega (arith, p.given)) is.distinct
+        (λ n k x j a there out. rw p.kept at there);
     numbers = rw p.kept is.numbers;
     last = λ n k there. rw p.last (is.last n k (rw p.kept at there));
     listed_last = λ d n listed. rw p.last (is.listed_last d n (rw (p.numbers d) at listed));

@@ -57,7 +57,7 @@ module _ (h i : Holding) (is : IsSound h) (age : ℕ) (s : Subscriber) (to : Opt
   }
 
   -- one that does
-  turned_one : (k : Kept) (j : Holding) → kept_at e.number i.kept ≡ Some k → passes test k.fate ≡ true
+  pub turned_one : (k : Kept) (j : Holding) → kept_at e.number i.kept ≡ Some k → passes test k.fate ≡ true
       → Changes i e.number k to j
       → j.given ≡ i.given → Turns h age s to test (es ++ e ∷ []) j
   turned_one k j there on c given = record {

@@ -35,6 +35,7 @@ lowered_last h is none unlisted = record {
   ahead = is.ahead;
   takers = is.takers;
   awake = is.awake;
+  distinct = is.distinct;
   numbers = is.numbers;
   last = λ n k there. kept_lower n k there (is.last n k there);
   listed_last = λ d n listed. listed_lower d n listed (is.listed_last d n listed);
@@ -91,6 +92,7 @@ unput_none start h log b later none = record {
   kept = b.kept;
   subscriptions = b.subscriptions;
   given = b.given;
+  distinct = b.distinct;
   last = omega arith;
   held = b.held;
   fresh = b.fresh;
@@ -138,6 +140,7 @@ module _ (start h i j : Holding) (log : List Logged) (k : Kept) (b : IsBegun sta
     subscriptions = ap subscriptions_of (t.subscribers ∙ c.subscribers)
         ∙ map_map (λ s. s.subscription) (recounted k.fate None) h.subscribers ∙ b.subscriptions;
     given = t.given ∙ given ∙ b.given;
+    distinct = b.distinct;
     last = omega arith;
     held = rw t.subscribers (held_still h.subscribers i.subscribers (same_recounted h i k.fate None c.subscribers) log
         b.held);

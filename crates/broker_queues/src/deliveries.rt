@@ -8,10 +8,12 @@ ghost use Rattle.broker_book.specs.Books.{out_as};
 ghost use Rattle.broker_index.specs.Index.{places_at};
 ghost use Rattle.broker_index.specs.Standing.{fate_of};
 ghost use Rattle.broker_queues.specs.Parts.Facts.{kept_at, subscriber_at};
-ghost use Rattle.broker_queues.specs.Parts.Fates.{back, counts_in, fate_of_kept, is_held, is_held_at, passes};
+ghost use Rattle.broker_queues.specs.Parts.Fates.{back, counts_alone, counts_in, fate_of_kept, is_covered, is_held};
+ghost use Rattle.broker_queues.specs.Parts.Fates.{is_held_at, passes, sole_covered};
 ghost use Rattle.broker_queues.specs.Parts.Held.{Responds, TakesBack, TurnsAll, TurnsNext, TurnsPast, entries_of};
 ghost use Rattle.broker_queues.specs.Parts.Held.{holding_of};
-ghost use Rattle.broker_queues.specs.Parts.Storing.{Clears, NoneGone, Sweeps, SweepsOne, first_stale, is_stale};
+ghost use Rattle.broker_queues.specs.Parts.Storing.{AnswersAlone, Clears, NoneGone, Sweeps, SweepsOne, first_stale};
+ghost use Rattle.broker_queues.specs.Parts.Storing.{is_stale, notes_more};
 ghost use Rattle.broker_queues.specs.Parts.Undoing.{is_out_fate};
 ghost use Rattle.broker_queues.specs.Parts.Whole.{IsSound};
 ghost use Rattle.std.specs.Prelude.{◌&&◌, ◌==◌, ◌≡◌, ◌≤◌, find, length};
@@ -19,7 +21,7 @@ ghost use Rattle.std.specs.Str.{bytes_eq};
 
 use crate::destinations::{free, mark};
 use crate::parts::Parts;
-use broker_book::{QueueFault, Subscription};
+use broker_book::{Mode, QueueFault, Subscription};
 use broker_index::{Entry, Holder, Place, Standing, StoredSubscriber};
 
 /// Where a message is whose delivery is taken back: ready again, or else gone.
@@ -53,6 +55,16 @@ pub fn covers(standing: &Standing, subscription: &Subscription, answered: Option
             None => belongs(holder, subscription),
         },
         Standing::Ready | Standing::Gone => false,
+    }
+}
+
+/// Whether an answer to a delivery counts for it alone.
+fn counts_alone(mode: Mode) -> bool
+    ensures { result ≡ counts_alone mode }
+{
+    match mode {
+        Mode::Client => false,
+        Mode::Auto | Mode::Individual => true,
     }
 }
 
@@ -292,6 +304,71 @@ impl Parts {
         }
     }
 
+    /// The first of these deliveries of a subscription for which an answer to the delivery `answered` counts.
+    fn first_covered_in(
+        &self,
+        entries: &[Entry],
+        subscription: &Subscription,
+        answered: u64,
+    ) -> Option<Entry>
+        ensures { result ≡ find (is_covered self.now.messages subscription.now answered) entries.now }
+    {
+        for entry in entries {
+            if self.is_covered(entry.number, entry.key, subscription, Some(answered)) {
+                return Some(*entry);
+            }
+        }
+        None
+    }
+
+    /// The delivery to the subscriber at a place for which alone an answer to the delivery `answered` counts; none,
+    /// where it may count for more.
+    fn sole_covered(&self, place: &Place, answered: u64) -> Option<Entry>
+        ensures { result ≡ sole_covered self.now.messages answered (subscriber_at place.now.number
+            self.now.subscribers) }
+    {
+        let Some(subscriber) = self.subscribers.get(place.number, place.key) else {
+            return None;
+        };
+        let subscription = subscriber.subscription();
+        if !counts_alone(subscription.mode) {
+            return None;
+        }
+        self.first_covered_in(subscriber.entries(), subscription, answered)
+    }
+
+    /// Takes back one delivery to the subscriber at a place, forgets it, and takes its message out if that is gone
+    /// then. It takes no memory.
+    fn answer_alone(&mut self, entry: &Entry, place: &Place, again: bool)
+        ensures { AnswersAlone (holding_of self.old) place.now.number entry.now.number again (holding_of self.new) }
+    {
+        self.take_back(entry.number, entry.key, place.number, place.key, again);
+        self.subscribers
+            .forget(place.number, place.key, entry.number);
+        self.purge(entry.number, entry.key);
+    }
+
+    /// Whether a subscriber notes more deliveries than are out to it.
+    fn notes_more(&self, age: u64, age_key: usize) -> bool
+        ensures { result ≡ notes_more (subscriber_at age self.now.subscribers) }
+    {
+        match self.subscribers.get(age, age_key) {
+            Some(subscriber) => subscriber.count() < subscriber.entries().len(),
+            None => false,
+        }
+    }
+
+    /// Sweeps a subscriber that notes more deliveries than are out to it: where memory is refused behind a note, it is
+    /// left. It takes no memory.
+    fn sweep_rest(&mut self, age: u64, age_key: usize)
+        ensures sweeps { Sweeps (holding_of self.old) (holding_of self.new) }
+        ensures rest { SweepsOne (holding_of self.old) age (holding_of self.new) }
+    {
+        if self.notes_more(age, age_key) {
+            self.sweep(age, age_key);
+        }
+    }
+
     /// An ACK of a session, or a NACK where the messages are to be ready again; what is gone then is taken out. It does
     /// the same where memory is refused.
     ///
@@ -304,6 +381,12 @@ impl Parts {
         let Some(place) = self.holder(session, ack) else {
             return Err(QueueFault::NoSuchAck);
         };
+        // No two deliveries that are out have one number: the others needn't be looked at.
+        if let Some(entry) = self.sole_covered(&place, ack) {
+            self.answer_alone(&entry, &place, again);
+            self.sweep_rest(place.number, place.key);
+            return Ok(());
+        }
         self.answer(place.number, place.key, Some(ack), again);
         self.sweep(place.number, place.key);
         Ok(())

@@ -16,7 +16,8 @@ use Rattle.broker_index.specs.declared.places.Entry.{Entry}
 use Rattle.broker_queues.specs.declared.transactions.Logged.{Logged}
 use Rattle.broker_queues.specs.Parts.Fates.{counts_in, fate_of_kept, passes}
 use Rattle.broker_queues.specs.Parts.Held.{step_of}
-use Rattle.broker_queues.specs.Parts.Facts.{kept_at, subscriber_at, subscriptions_of, lists, notes, queue_of}
+use Rattle.broker_queues.specs.Parts.Facts.{AreDistinct, kept_at, subscriber_at, subscriptions_of, lists, notes}
+use Rattle.broker_queues.specs.Parts.Facts.{queue_of}
 use Rattle.broker_queues.specs.Parts.Undoing.{AreAll, AreTrue, before, mentions}
 use Rattle.broker_queues.specs.Parts.Storing.{ListsOnly, NoneGone, PutsNone, Tidies, is_gone}
 use Rattle.broker_queues.specs.Parts.Whole.{Changes, Holding, IsSound, Lowers, Puts, book_of}
@@ -46,6 +47,7 @@ pub record IsBegun (start : Holding) (log : List Logged) (now : Holding) : Type 
   pub kept : before start.last log now.kept ≡ start.kept
   pub subscriptions : subscriptions_of now.subscribers ≡ subscriptions_of start.subscribers
   pub given : now.given ≡ start.given
+  pub distinct : AreDistinct start.given start.kept
   pub last : start.last ≤ now.last
   pub held : AreHeld now.subscribers log
   pub fresh : (n : ℕ) (k : Kept) → kept_at n now.kept ≡ Some k → start.last < n → k.fate ≡ Some Ready

@@ -120,6 +120,12 @@ AreTakers given subscribers queues =
     (a : ℕ) (s : Subscriber) → subscriber_at a subscribers ≡ Some s → may_have given s ≡ true
     → (queue_of queues s.subscription.destination).taker_from ≤ a
 
+-- each delivery that is out has a number that was given, and no other message is out under it
+abbrev pub AreDistinct : ℕ → List Kept → Type 0
+AreDistinct given kept =
+    (n m : ℕ) (k l : Kept) (x y : ℕ) (i j : List ℕ) (a : ℕ) → kept_at n kept ≡ Some k → kept_at m kept ≡ Some l
+    → k.fate ≡ Some (Out x i a) → l.fate ≡ Some (Out y j a) → (n ≡ m) × (a ≤ given)
+
 -- a queue with a ready message and a subscriber that may take it is awake
 abbrev pub AreAwake : ℕ → List Kept → List Subscriber → (List ℕ → Bool) → Type 0
 AreAwake given kept subscribers awake =

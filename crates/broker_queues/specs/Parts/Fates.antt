@@ -1,5 +1,7 @@
 -- What a step does with the fates of messages.
-use Rattle.std.specs.Prelude.{ℕ, ◌+◌, ◌-◌, Bool, false, ◌&&◌, if◌then◌else◌, List, Option, Some, None}
+use Rattle.std.specs.Prelude.{ℕ, ◌+◌, ◌-◌, Bool, true, false, ◌&&◌, if◌then◌else◌, List, Option, Some, None, find}
+use Rattle.broker_book.specs.declared.parts.Mode.{Mode}
+use Rattle.broker_book.specs.declared.parts.Mode.TheVariants.{Auto, Client, Individual}
 use Rattle.broker_book.specs.declared.parts.Subscription.{Subscription}
 use Rattle.broker_book.specs.Books.{Fate, Ready, Out, QueuedMessage, out_to}
 use Rattle.broker_book.specs.Books.{out_as}
@@ -50,6 +52,22 @@ fate_of_kept (Some k) = k.fate
 abbrev pub counts_in : Subscription → Option ℕ → Fate → Bool
 counts_in s None = out_to s.session s.id
 counts_in s (Some answered) = covered s answered
+
+-- whether an answer to a delivery counts for it alone
+abbrev pub counts_alone : Mode → Bool
+counts_alone Auto = true
+counts_alone Client = false
+counts_alone Individual = true
+
+-- whether an answer to a delivery of a subscription counts for the message of one
+abbrev pub is_covered : List Kept → Subscription → ℕ → Entry → Bool
+is_covered kept s answered e = passes (covered s answered) (fate_of_kept (kept_at e.number kept))
+
+-- the delivery to a subscriber for which alone an answer counts; none, where it may count for more
+abbrev pub sole_covered : List Kept → ℕ → Option Subscriber → Option Entry
+sole_covered kept answered None = None
+sole_covered kept answered (Some s) =
+    if counts_alone s.subscription.mode then find (is_covered kept s.subscription answered) s.entries else None
 
 -- whether a delivery of this number is out to a subscriber
 abbrev pub is_held : List Kept → ℕ → Subscriber → Bool

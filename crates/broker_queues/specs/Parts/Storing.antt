@@ -1,5 +1,5 @@
 -- What becomes of the parts as messages and subscribers come and go.
-use Rattle.std.specs.Prelude.{◌≡◌, ◌≤◌, ◌+◌, ◌-◌, ◌⊎◌, ℕ, Bool, true, false, not, ◌==◌, if◌then◌else◌}
+use Rattle.std.specs.Prelude.{◌≡◌, ◌≤◌, ◌+◌, ◌-◌, ◌⊎◌, ℕ, Bool, true, false, not, ◌==◌, nat_lt, if◌then◌else◌}
 use Rattle.std.specs.Prelude.{List, [], ◌∷◌, ◌++◌, length, filter, find}
 use Rattle.std.specs.Prelude.{Option, Some, None, Result, Ok, Err}
 use Rattle.std.specs.Str.{bytes_eq}
@@ -13,11 +13,11 @@ use Rattle.broker_book.specs.Steps.{ended, put_of, released, subscribed}
 use Rattle.broker_index.specs.Index.{Kept, Subscriber, Queue, Sets, empty_queue, is_idle, with_subscriber, without}
 use Rattle.broker_index.specs.declared.places.Entry.{Entry}
 use Rattle.broker_index.specs.declared.places.Place.{Place}
-use Rattle.broker_queues.specs.Parts.Fates.{fate_of_kept, passes}
+use Rattle.broker_queues.specs.Parts.Fates.{back, fate_of_kept, passes}
 use Rattle.broker_queues.specs.Parts.Queues.{Frees}
 use Rattle.broker_queues.specs.Parts.Undoing.{is_out_fate}
 use Rattle.broker_queues.specs.Parts.Facts.{kept_at, subscriber_at, living_of, subscriptions_of, lists, notes, queue_of}
-use Rattle.broker_queues.specs.Parts.Whole.{Holding, IsSound, Leaves, LooksElsewhere, Puts, book_of}
+use Rattle.broker_queues.specs.Parts.Whole.{Changes, Holding, IsSound, Leaves, LooksElsewhere, Puts, book_of}
 
 -- ---- the queue of one destination
 
@@ -142,9 +142,29 @@ pub record SweptOne (old : Holding) (age : ℕ) (new : Holding) : Type 0 where
 abbrev pub SweepsOne : Holding → ℕ → Holding → Type 0
 SweepsOne old age new = IsSound old → SweptOne old age new
 
+-- whether a subscriber notes more deliveries than are out to it
+abbrev pub notes_more : Option Subscriber → Bool
+notes_more None = false
+notes_more (Some s) = nat_lt s.count (length s.entries)
+
 -- none of these messages is gone
 abbrev pub NoneGone : List Kept → Type 0
 NoneGone kept = (n : ℕ) (k : Kept) → kept_at n kept ≡ Some k → is_gone k.fate ≡ false
+
+-- A delivery of a message was taken back and forgotten, and the message taken out if it was gone then.
+pub record AnsweredAlone (old : Holding) (n : ℕ) (k : Kept) (again : Bool) (new : Holding) : Type 0 where
+  pub between : Holding
+  pub changes : Changes old n k (back again) between
+  pub given : between.given ≡ old.given
+  pub tidies : Tidies between new
+  pub none_gone : NoneGone old.kept → NoneGone new.kept
+
+-- so it is for a message that is out to the subscriber of an age
+abbrev pub AnswersAlone : Holding → ℕ → ℕ → Bool → Holding → Type 0
+AnswersAlone old age n again new = (k : Kept) (s : Subscriber) → IsSound old → kept_at n old.kept ≡ Some k
+    → subscriber_at age old.subscribers ≡ Some s
+    → passes (out_to s.subscription.session s.subscription.id) k.fate ≡ true
+    → AnsweredAlone old n k again new
 
 -- The parts agree, and nothing that is gone is kept.
 pub record IsTidy (h : Holding) : Type 0 where

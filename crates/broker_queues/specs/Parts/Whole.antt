@@ -9,7 +9,7 @@ use Rattle.broker_book.specs.Books.{Book, Fate, Ready, Out, is_for, is_named, ou
 use Rattle.broker_index.specs.Index.{Kept, Subscriber, Queue, with_fate}
 use Rattle.broker_index.specs.declared.places.Place.{Place}
 use Rattle.broker_queues.specs.Parts.Facts.{ArePlaced, AreCounted, AreNoted, AreCredited}
-use Rattle.broker_queues.specs.Parts.Facts.{AreListening, AreOwned, AreAhead, AreTakers, AreAwake}
+use Rattle.broker_queues.specs.Parts.Facts.{AreListening, AreOwned, AreAhead, AreTakers, AreAwake, AreDistinct}
 use Rattle.broker_queues.specs.Parts.Facts.{rise, kept_at, subscriber_at, session_at, destination_at, lists}
 use Rattle.broker_queues.specs.Parts.Facts.{queue_of, message_of, holds_number, living_of, subscriptions_of, may_have}
 use Rattle.broker_queues.specs.Parts.Fates.{recounted, weight, fated, passes}
@@ -46,6 +46,7 @@ pub record IsSound (h : Holding) : Type 0 where
   pub ahead : AreAhead h.kept h.queues
   pub takers : AreTakers h.given h.subscribers h.queues
   pub awake : AreAwake h.given h.kept h.subscribers h.awake
+  pub distinct : AreDistinct h.given h.kept
   pub numbers : rise (λ k. k.number) 0 h.kept ≡ true
   pub last : (n : ℕ) (k : Kept) → kept_at n h.kept ≡ Some k → n ≤ h.last
   pub listed_last : (d : List ℕ) (n : ℕ) → lists n (queue_of h.queues d).numbers ≡ true → n ≤ h.last
@@ -90,6 +91,7 @@ pub record Changes (old : Holding) (n : ℕ) (k : Kept) (fate : Option Fate) (ne
       → new.awake s.subscription.destination ≡ true
   pub noted : (x : ℕ) (i : List ℕ) (a : ℕ) → fate ≡ Some (Out x i a)
       → list_any (holds_number x i n) old.subscribers ≡ true
+  pub distinct : AreDistinct new.given new.kept
 
 -- the same messages counted at each destination
 abbrev pub SameCounts : (List ℕ → Option Queue) → (List ℕ → Option Queue) → Type 0

@@ -79,7 +79,7 @@ returns-clause-hands g c accepted k s is p auto =
     c.saturating_add-count.result fate more c.set.ensures
     (c.set_count.ensures ∙ ap (λ l. map (with_count c.args.to.number c.saturating_add-count.result) l)
     c.in_ok-note.ensures.ok)
-    refl refl refl refl (omega (arith, next)) in
+    refl refl refl refl next (omega arith) in
     let dealt = out_dealt h is c.args.message.number c.args.to.number k s p c.get-3.result.now
     c.subscription-subscription.result.now sent to accepted i e c.saturating_add-ack.result auto next change refl in
     (dealt.0, (_, dealt.1, c.in_ok-deliver.ensures.ok))
