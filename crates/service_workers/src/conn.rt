@@ -1,6 +1,6 @@
 //! A connection of a service with a broker.
 
-ghost use Rattle.std.specs.Prelude.{◌≡◌, ◌||◌, ◌↔◌, true, false, nat_lt, None, IfOk, IfErr};
+ghost use Rattle.std.specs.Prelude.{◌≡◌, ◌||◌, ◌↔◌, true, false, nat_lt, None, Some, Ok, IsSome, IfOk, IfErr};
 ghost use Rattle.stomp_client.specs.declared.session.Stage.TheVariants.{Connected};
 ghost use Rattle.stomp_frame.specs.declared.command.Command.TheVariants.{Connect};
 ghost use Rattle.stomp_client.specs.Calls.{DisconnectsWithReceipt};
@@ -214,10 +214,15 @@ impl<L: Link + Drop> Conn<L> {
         self.write()
     }
 
-    /// Reads what came, and answers how many octets these are: 0 where there are none now.
+    /// Reads what came, and answers how many octets these are: 0 where there are none now. Nothing is read while a frame
+    /// waits, so that a service that is slower than its broker holds the broker back, and not all that it sends.
     pub(crate) fn read(&mut self, alloc: Global) -> Result<usize, Cut>
-        ensures { IfOk result (λ count. came self.new ≡ came self.old || nat_lt 0 count) }
+        ensures told { IfOk result (λ count. came self.new ≡ came self.old || nat_lt 0 count) }
+        ensures waits { IsSome self.old.channel.waiting → (result ≡ Ok 0) × (self.new ≡ self.old) }
     {
+        if self.channel.waiting.is_some() {
+            return Ok(0);
+        }
         match read_in(alloc, &mut self.link, &mut self.channel, READ) {
             Ok(count) => {
                 self.has_come = self.has_come || count > 0;
@@ -291,7 +296,10 @@ impl<L: Link + Drop> Conn<L> {
     }
 
     /// Keeps a frame that `next` gave, which is the next one again.
-    pub(crate) fn keep(&mut self, frame: Frame<MAX_BODY>) {
+    pub(crate) fn keep(&mut self, frame: Frame<MAX_BODY>)
+        ensures kept { self.old.channel.waiting ≡ None → self.new.channel ≡ record self.old.channel { waiting = Some frame } }
+        ensures rest { self.new ≡ record self.old { channel = self.new.channel } }
+    {
         // A reader keeps one frame at most.
         if self.channel.waiting.is_none() {
             self.channel.put_back(frame);
