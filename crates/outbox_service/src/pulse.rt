@@ -1,5 +1,8 @@
 //! Whether a connection is alive, as far as what comes on it tells.
 
+ghost use Rattle.std.specs.Prelude.{◌≡◌, ◌≤◌, ◌<◌, MatchOption};
+ghost use Rattle.outbox_service.specs.Silences.{given_up_from, reason};
+
 /// How long the broker may take to answer CONNECT, in milliseconds.
 const GREETING: u64 = 10_000;
 
@@ -31,7 +34,9 @@ pub struct Pulse {
 
 impl Pulse {
     /// It's opened now.
-    pub fn new(now: u64) -> Pulse {
+    pub fn new(now: u64) -> Pulse
+        ensures { (result.opened ≡ now) × (result.heard ≡ now) }
+    {
         Pulse {
             opened: now,
             heard: now,
@@ -39,12 +44,16 @@ impl Pulse {
     }
 
     /// Something came.
-    pub fn hear(&mut self, now: u64) {
+    pub fn hear(&mut self, now: u64)
+        ensures { (self.new.opened ≡ self.old.opened) × (self.new.heard ≡ now) }
+    {
         self.heard = now;
     }
 
     /// When it's given up where nothing comes until then.
-    pub fn last(&self, is_connected: bool) -> u64 {
+    pub fn last(&self, is_connected: bool) -> u64
+        ensures { result ≡ given_up_from self.now is_connected }
+    {
         if is_connected {
             let quiet = self.heard.saturating_add(QUIET);
             quiet.min(self.opened.saturating_add(LONGEST))
@@ -54,7 +63,10 @@ impl Pulse {
     }
 
     /// Why it's given up now, if it is.
-    pub fn silence(&self, is_connected: bool, now: u64) -> Option<Silence> {
+    pub fn silence(&self, is_connected: bool, now: u64) -> Option<Silence>
+        ensures { MatchOption result (now < given_up_from self.now is_connected)
+            (λ silence. (given_up_from self.now is_connected ≤ now) × (silence ≡ reason self.now is_connected now)) }
+    {
         if now < self.last(is_connected) {
             None
         } else if !is_connected {
