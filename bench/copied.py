@@ -1,8 +1,8 @@
 #!/usr/bin/env python3
 """Programs that only measure. They are no crates of the repository, so that the gate needn't prove them: bench/programs.txt has them, and
 what they stand on. Each is proved and built in a copy of the crates that it stands on, by `rt ci`, which takes what the gate has proved on
-this machine. Of bench_NAME the folder bench/NAME_program becomes its crate there: *.rt.txt without their .txt are its src/, the rest is
-what `rt ci` runs it on and compares.
+this machine where the kit keeps that (CONTRIBUTING.md). Of bench_NAME the folder bench/NAME_program becomes its crate there: *.rt.txt
+without their .txt are its src/, the rest is what `rt ci` runs it on and compares.
 usage, from anywhere: bench/copied.py NAME..                  prints where each lies; it's built where it or what it stands on has changed
                       bench/copied.py --copy FOLDER NAME..    makes the folder such a copy, to build it there in another way
 The scripts that measure with one find it by bench/program.
