@@ -1,5 +1,6 @@
 //! Why a line has no answer.
 
+use programs::RunFault;
 use std::alloc::AllocError;
 use test_script::{Fault, LineFault};
 use thiserror::Error;
@@ -13,6 +14,9 @@ pub enum CallFault {
     /// What was written isn't text.
     #[error("what was written isn't UTF-8")]
     NotText,
+    /// A schedule wasn't run, or not to its end.
+    #[error(transparent)]
+    Run(#[from] RunFault),
     /// A growth was refused.
     #[error("out of memory")]
     Memory(#[from(alloc)] AllocError),
@@ -22,7 +26,9 @@ impl Fault for CallFault {
     fn is_memory(&self) -> bool {
         matches!(
             self,
-            CallFault::Line(LineFault::Memory) | CallFault::Memory(_)
+            CallFault::Line(LineFault::Memory)
+                | CallFault::Memory(_)
+                | CallFault::Run(RunFault::Memory)
         )
     }
 }

@@ -2,6 +2,7 @@
 
 use crate::devices::Limits;
 use crate::fault::CallFault;
+use crate::pages::push_page;
 use crate::runs::{Devices, push_call, push_each, push_read, push_sizes};
 use crate::stores::stores_fault;
 use std::alloc::{AllocError, Global};
@@ -125,6 +126,7 @@ impl Session {
             "err" => limit(&mut self.devices.err, rest),
             "measure" => push_sizes(alloc, out, self.devices, schedule, rest),
             "read" if rest.is_empty() => push_read(alloc, out, schedule),
+            "page" => push_page(alloc, out, rest),
             "run-each" => push_each(alloc, out, self.devices, (schedule, self.place), rest),
             _ => push_call(alloc, out, self.devices, schedule, line),
         }

@@ -3,6 +3,7 @@
 use crate::disarmed::read_disarmed;
 use crate::fault::CallFault;
 use crate::files::{Failing, FileSession};
+use crate::pages::answer_page;
 use crate::session::Session;
 use crate::store::Empty;
 use keep::KeepFault;
@@ -100,6 +101,7 @@ impl Script for Both {
         match word {
             "plain" => self.answer_plain(alloc, rest),
             "file" => self.files.answer::<Failing>(alloc, rest),
+            "page" => answer_page(alloc, rest),
             _ => self.answer_both(alloc, line),
         }
     }

@@ -3,6 +3,7 @@
 use base::EntityFault;
 use endpoint::EndFault;
 use keep::KeepFault;
+use sqlite::{Error as SqlError, ErrorCode};
 use std::alloc::AllocError;
 use test_script::{Fault, LineFault};
 use thiserror::Error;
@@ -25,6 +26,9 @@ pub enum CallFault {
     /// The endpoint's fault.
     #[error(transparent)]
     End(#[from] EndFault),
+    /// What SQL answered.
+    #[error(transparent)]
+    Sql(#[from] SqlError),
     /// A growth was refused.
     #[error("out of memory")]
     Memory(#[from(alloc)] AllocError),
@@ -39,6 +43,7 @@ impl Fault for CallFault {
                 | CallFault::Entity(EntityFault::Memory)
                 | CallFault::Keep(KeepFault::Memory)
                 | CallFault::End(EndFault::Memory)
+                | CallFault::Sql(SqlError::SqliteFailure(ErrorCode::OutOfMemory))
         )
     }
 }

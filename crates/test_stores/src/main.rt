@@ -56,7 +56,8 @@
 //!   have to have the new tables then. Other tables and another answer are told behind that, with their k. So of a call
 //!   that asks a file n times there are n + 2 runs, and n of them fail.
 //!
-//! `fault store N` and `fault endpoint N` give the text of the fault of this number.
+//! `fault store N` and `fault endpoint N` give the text of the fault of this number. `page LIBRARY` gives what the
+//! example of the page of `sql_rows`, `sql_bodies`, `keep_sqlite` or `keep_files` does.
 //!
 //! In these lines
 //! - a PAIR is two entities, the sender and the receiver, as `order/o1 stock/bolt`;
@@ -74,11 +75,13 @@ mod arrivals;
 mod both;
 mod disarmed;
 mod endpoints;
+mod examples;
 mod failing;
 mod fault;
 mod fault_texts;
 mod files;
 mod handler;
+mod pages;
 mod reads;
 mod session;
 mod store;

@@ -4,9 +4,7 @@ use base::Pair;
 use keep::{Keep, KeepFault};
 use keep_files::FileKeep;
 use keep_sqlite::SqliteKeep;
-use programs::{RunFault, run_text};
 use purchasing::Orders;
-use schedule_stores::SqliteStores;
 use sql_bodies::CommandBody;
 use sql_rows::{Service, create_tables, read_about};
 use sqlite::{Connection, Error, FileStore, Files, MemStore, Options};
@@ -46,10 +44,4 @@ pub fn empty_files_are_opened_twice(alloc: Global) -> Result<bool, KeepFault> {
     )?;
     keep.reopen(alloc)?;
     Ok(keep.usable())
-}
-
-pub fn a_schedule_is_run_in_sql(alloc: Global) -> Result<bool, RunFault> {
-    let mut out = Vec::new(alloc);
-    run_text(alloc, SqliteStores, b"cancel 0 o1\n", &mut out)?;
-    Ok(out.as_slice() == b"refused 61 71\n".as_slice())
 }
