@@ -1,7 +1,10 @@
 //! Why a line has no answer.
 
+use broker_core::BrokerFault;
 use programs::RunFault;
+use schedule_mail::OpenFault;
 use std::alloc::AllocError;
+use stomp_client::ClientFault;
 use test_script::{Fault, LineFault};
 use thiserror::Error;
 
@@ -17,6 +20,9 @@ pub enum CallFault {
     /// A schedule wasn't run, or not to its end.
     #[error(transparent)]
     Run(#[from] RunFault),
+    /// A connection wasn't opened.
+    #[error(transparent)]
+    Open(#[from] OpenFault),
     /// A growth was refused.
     #[error("out of memory")]
     Memory(#[from(alloc)] AllocError),
@@ -29,6 +35,10 @@ impl Fault for CallFault {
             CallFault::Line(LineFault::Memory)
                 | CallFault::Memory(_)
                 | CallFault::Run(RunFault::Memory)
+                | CallFault::Open(
+                    OpenFault::Client(ClientFault::Memory)
+                        | OpenFault::Broker(BrokerFault::Memory { took: _ })
+                )
         )
     }
 }

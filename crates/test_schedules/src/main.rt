@@ -26,7 +26,8 @@
 //! - `run-each FIRST LAST WORD..`: `run WORD..` with each of these numbers in its place: what the first told, the lines
 //!   of each other that differ from it, with its number and theirs, and how many runs there were;
 //! - `run-text`, `run-input`: these calls;
-//! - `page schedule_stores`: what the example of that library's page gives;
+//! - `page LIBRARY`: what the example of this library's page gives, of `programs` or a library of schedules; `page laws`:
+//!   calls those that are laws;
 //! - `tell N`, `tell device`, `tell not-utf8`: a faulty line, a failed stream, or words that aren't text are told.
 //!
 //! A line of what was written to `out` stands behind `>`, one of `err` behind `!`; behind `>-` and `!-` one that lacks
