@@ -63,8 +63,8 @@ impl Buffers {
     }
 }
 
-/// Memory that is kept for deals: where one was refused it is let go, so that others can be made. As far as memory
-/// isn't refused, it is taken again behind the writing, before a frame that waits is tried.
+/// Memory that is kept for deals and for answers: where one was refused it is let go, so that others can be made. As far
+/// as memory isn't refused, it is taken again behind the writing.
 #[derive(Drop)]
 pub(crate) struct Reserve {
     alloc: Global,
@@ -86,6 +86,11 @@ impl Reserve {
     pub(crate) fn let_go(&mut self) {
         self.first = Vec::new(self.alloc);
         self.second = Vec::new(self.alloc);
+    }
+
+    /// Whether all of it is there.
+    pub(crate) fn is_whole(&self) -> bool {
+        !self.first.is_empty() && !self.second.is_empty()
     }
 
     /// Takes again what isn't there, as far as memory isn't refused.

@@ -184,7 +184,7 @@ impl Connection {
             }
             return Step::Stays;
         }
-        if self.sends || !work.room.is_limited() {
+        if self.sends {
             return self.read(alloc, registry, broker, event, work);
         }
         take_accepted(broker, work);
@@ -194,11 +194,23 @@ impl Connection {
         step
     }
 
-    /// Whether it isn't to be read now, since so much is held.
+    /// Whether it isn't to be read now, since so much is held, or memory is refused and what it sends gives none back.
     fn is_to_wait<const FULL: usize>(&self, broker: &Broker<FULL>, work: &Work) -> bool {
-        let is_full = work.room.is_full_for(self.place.number);
+        let is_full = work.room.is_full_for(self.place.number)
+            || (work.room.is_short() && !self.keeps(broker));
         let has_unanswered = is_full && broker.has_unanswered(self.session);
         is_held_back(is_full, self.sends, has_unanswered)
+    }
+
+    /// Whether what it sends may give memory back: answers to deliveries do, and one that has sent no message may come
+    /// to take some.
+    pub(crate) fn may_free<const FULL: usize>(&self, broker: &Broker<FULL>) -> bool {
+        !is_held_back(true, self.sends, broker.has_unanswered(self.session))
+    }
+
+    /// Whether its open transactions keep something, which nobody else can give back.
+    pub(crate) fn keeps<const FULL: usize>(&self, broker: &Broker<FULL>) -> bool {
+        broker.kept(self.session) > 0
     }
 
     /// Whether it isn't read since so much is held.

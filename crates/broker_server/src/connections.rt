@@ -22,6 +22,28 @@ const LEAVE_SECONDS: u64 = 5;
 /// The connections that are found idle at once.
 const IDLE: usize = 256;
 
+/// Which of the connections that wait for memory are to go on.
+#[derive(Clone, Copy)]
+pub(crate) enum Chosen {
+    /// Those that may give memory back.
+    Freeing,
+    /// Those whose open transactions keep something.
+    Keeping,
+    /// All.
+    All,
+}
+
+impl Chosen {
+    /// Whether this one is.
+    fn has<const FULL: usize>(self, connection: &Connection, broker: &Broker<FULL>) -> bool {
+        match self {
+            Chosen::Freeing => connection.may_free(broker),
+            Chosen::Keeping => connection.keeps(broker),
+            Chosen::All => true,
+        }
+    }
+}
+
 /// A connection that leaves, and until when.
 #[derive(Drop)]
 struct Leave {
@@ -180,7 +202,7 @@ impl Connections {
         work: &mut Work,
         watch: &W,
     ) {
-        if !work.room.is_limited() {
+        if !work.room.is_limited() && !work.room.holds_back {
             return;
         }
         let held = self.held(broker);
@@ -192,7 +214,7 @@ impl Connections {
             if let Some(place) = self.choose_spared(&mut work.room) {
                 self.release(registry, broker, place, work, watch);
             }
-        } else if work.room.holds_back {
+        } else if work.room.holds_back && !work.room.is_short() {
             self.release_all(registry, broker, work, watch);
         }
     }
@@ -271,13 +293,27 @@ impl Connections {
         !self.waiting.is_empty()
     }
 
-    /// Goes on with what waits for memory, once each.
+    /// Whether something waits of a connection that may give memory back.
+    pub(crate) fn may_free<const FULL: usize>(&self, broker: &Broker<FULL>) -> bool {
+        for place in self.waiting.iter() {
+            if let Some(connection) = self.open.get(place.key)
+                && connection.is_at(*place)
+                && connection.may_free(broker)
+            {
+                return true;
+            }
+        }
+        false
+    }
+
+    /// Goes on with what waits for memory, once each, of those that are chosen.
     pub(crate) fn go_on<W: Watch, const FULL: usize>(
         &mut self,
         registry: &Registry,
         broker: &mut Broker<FULL>,
         work: &mut Work,
         watch: &W,
+        chosen: Chosen,
     ) {
         for _ in 0..self.waiting.len() {
             let Some(place) = self.waiting.pop_front() else {
@@ -286,7 +322,12 @@ impl Connections {
             if let Some(connection) = self.open.get_mut(place.key)
                 && connection.is_at(place)
             {
-                match connection.go_on(self.alloc, registry, broker, work) {
+                let step = if chosen.has(connection, broker) {
+                    connection.go_on(self.alloc, registry, broker, work)
+                } else {
+                    Step::Waits
+                };
+                match step {
                     // That was told when it began to wait.
                     Step::Waits => self.wait(broker, place, watch),
                     step => self.follow(broker, place, step, work, watch),

@@ -87,6 +87,8 @@ impl Holding {
 pub(crate) struct Room {
     limit: Option<Limit>,
     is_full: bool,
+    /// Memory was refused to what is kept for deals and answers.
+    is_short: bool,
     /// What was told last.
     was_told_full: bool,
     /// The session whose connection is read all the same.
@@ -101,6 +103,7 @@ impl Room {
         Room {
             limit: memory.map(Limit::new),
             is_full: false,
+            is_short: false,
             was_told_full: false,
             spared: None,
             holds_back: false,
@@ -120,6 +123,16 @@ impl Room {
     /// Whether it is, for the connection of a session.
     pub(crate) fn is_full_for(&self, number: u64) -> bool {
         self.is_full && self.spared != Some(number)
+    }
+
+    /// Whether memory is refused to what is kept for deals and answers, so that who sends leaves what there is to them.
+    pub(crate) fn is_short(&self) -> bool {
+        self.is_short
+    }
+
+    /// Whether all is there that is kept for deals and answers.
+    pub(crate) fn note_reserve(&mut self, is_whole: bool) {
+        self.is_short = !is_whole;
     }
 
     /// So much is held now.

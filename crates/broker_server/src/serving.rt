@@ -2,7 +2,7 @@
 
 use crate::buffers::{Buffers, Reserve};
 use crate::connection::take_accepted;
-use crate::connections::Connections;
+use crate::connections::{Chosen, Connections};
 use crate::work::{FRAMES, Interval, Work};
 use crate::{News, ServeFault, Stop, Watch};
 use broker_core::Broker;
@@ -190,8 +190,7 @@ impl Server {
     ) -> io::Result<()> {
         self.gather()?;
         self.work.now = Instant::now(rt)?;
-        self.connections
-            .go_on(self.poll.registry(), broker, &mut self.work, watch);
+        self.go_on(broker, watch);
         self.handle(broker, watch);
         if self.may_accept || self.was_refused {
             self.accept(broker, listener, watch);
@@ -295,9 +294,39 @@ impl Server {
         }
     }
 
+    /// Goes on with what waits for memory: first with that of connections that may give some back, to which the reserve
+    /// goes where it's refused to them too; while not all of the reserve is there, with that of no other but those whose
+    /// transactions keep something.
+    fn go_on<W: Watch, const FULL: usize>(&mut self, broker: &mut Broker<FULL>, watch: &W) {
+        if !self.connections.is_waiting() {
+            return;
+        }
+        self.go_on_with(broker, watch, Chosen::Freeing);
+        if self.connections.may_free(broker) {
+            self.reserve.let_go();
+            self.go_on_with(broker, watch, Chosen::Freeing);
+        }
+        let others = if self.reserve.is_whole() {
+            Chosen::All
+        } else {
+            Chosen::Keeping
+        };
+        self.go_on_with(broker, watch, others);
+    }
+
+    fn go_on_with<W: Watch, const FULL: usize>(
+        &mut self,
+        broker: &mut Broker<FULL>,
+        watch: &W,
+        chosen: Chosen,
+    ) {
+        self.connections.go_on(self.poll.registry(), broker, &mut self.work, watch, chosen);
+    }
+
     /// Takes again what was let go of the reserve, and, where nothing has to be kept, spare buffers that are gone.
     fn take_again(&mut self) {
         self.reserve.take_again();
+        self.work.room.note_reserve(self.reserve.is_whole());
         if !self.is_short() {
             self.work.buffers.fill();
         }
