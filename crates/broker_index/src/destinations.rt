@@ -128,13 +128,19 @@ impl Destinations {
         }
     }
 
-    /// Looks a name up, so that the next calls with it needn't: a hint, and nothing changes.
-    pub fn seek(&mut self, name: &Text)
-        ensures { self.new ≡ self.old }
+    /// What the queue of this name counts, and the number from which it is ready, if there is one. Nothing changes, but
+    /// that the next calls with this name find it at once.
+    pub fn seek(&mut self, name: &Text) -> Option<(usize, u64)>
+        ensures same { self.new ≡ self.old }
+        ensures told { result ≡ option_map (λ q. (q.count, q.ready_from)) (queue_at self.old name.now) }
     {
         match find_queue(&self.slab, &self.keys, self.last, name) {
-            Some(key) => self.last = key,
-            None => {}
+            Some(key) => {
+                self.last = key;
+                let queue = &self.slab[key].queue;
+                Some((queue.count(), queue.ready_from()))
+            }
+            None => None,
         }
     }
 

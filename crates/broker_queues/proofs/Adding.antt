@@ -1,16 +1,16 @@
 -- A message comes to a destination, or a queue that is idle goes.
 use Rattle.std.proofs.Common.{◌≡◌, ◌≤◌, ℕ, ◌+◌, true, false, List, [], ◌∷◌, ◌++◌, length}
 use Rattle.std.proofs.Common.{Option, Some, None, refl, sym, ap, ◌∙◌, arith, inl, inr}
-use Rattle.std.specs.Prelude.{◌==◌, ◌⊎◌}
+use Rattle.std.specs.Prelude.{◌==◌, ◌⊎◌, is_some}
 use Rattle.std.specs.Option.{option_map, option_and_then}
 use Rattle.std.specs.Str.{bytes_eq}
-use Rattle.std.proofs.lemmas.Bool.{cases_Bool, eqb-true, and_parts}
+use Rattle.std.proofs.lemmas.Bool.{cases_Bool, eqb-true, and_parts, leb-true}
 use Rattle.broker_book.specs.declared.parts.Sent.{Sent}
 use Rattle.broker_book.specs.Books.{Fate, is_for}
 use Rattle.broker_index.specs.Index.{Kept, Queue, Sets, opened, empty_queue, is_idle, unless_idle, with_counted}
 use Rattle.broker_index.specs.Index.{with_subscriber}
 use Rattle.broker_index.specs.declared.places.Place.{Place}
-use Rattle.broker_queues.specs.Parts.Queues.{LooksFrom}
+use Rattle.broker_queues.specs.Parts.Queues.{HasTold, LooksFrom, told_count, told_from}
 use Rattle.broker_queues.specs.Parts.Facts.{kept_at, lists, queue_of, living_as, message_of}
 use Rattle.broker_queues.specs.Parts.Fates.{weight}
 use Rattle.broker_queues.specs.Parts.Storing.{Becomes, Closes, ListsOnly, adding}
@@ -52,6 +52,46 @@ opens a b name sets d = elim (cases_Bool (bytes_eq name d)) [
   | inl on ↦ let is : name ≡ d = same_texts name d on in rw (← is) (ap opened sets.at)
   | inr off ↦ ap opened (sets.others d (differs d name off))
 ]
+
+-- it was open, where its queue told something
+pub told_open : (queues : List ℕ → Option Queue) (name : List ℕ) (told : Option (ℕ × ℕ)) → HasTold queues name told
+    → is_some told ≡ true → Sets queues queues name (Some (opened (queues name)))
+told_open queues name told has some = record {
+  at = by_queue (queues name) (ap is_some (sym has) ∙ some);
+  others = λ other differs. refl;
+}
+  where
+    by_queue : (o : Option Queue) → is_some {T = ℕ × ℕ} (option_map (λ q. (q.count, q.ready_from)) o) ≡ true
+        → o ≡ Some (opened o)
+    by_queue None never = let no : false ≡ true = never in cc
+    by_queue (Some q) there = refl
+
+-- what was told is its count
+pub told_counts : (queues : List ℕ → Option Queue) (name : List ℕ) (told : Option (ℕ × ℕ)) → HasTold queues name told
+    → told_count told ≡ (queue_of queues name).count
+told_counts queues name told has = ap told_count has ∙ by_queue (queues name)
+  where
+    by_queue : (o : Option Queue) → told_count (option_map (λ q. (q.count, q.ready_from)) o) ≡ (opened o).count
+    by_queue None = refl
+    by_queue (Some q) = refl
+
+-- and from where it looks, which a message more doesn't change
+pub told_low : (a c : List ℕ → Option Queue) (name : List ℕ) (place : Place) (number : ℕ) (told : Option (ℕ × ℕ))
+    → HasTold a name told → Becomes (adding place) a c name → told_from told number ≡ true
+    → (queue_of c name).ready_from ≤ number
+told_low a c name place number told has b on =
+    omega (arith, same, by_queue (a name) (ap (λ t. told_from t number) (sym has) ∙ on))
+  where
+    same : (queue_of c name).ready_from ≡ (queue_of a name).ready_from
+    same = elim (either (adding place) a c name b name) [
+      | inl it ↦ ap (λ (q : Queue). q.ready_from) it.1
+      | inr it ↦ ap (λ (q : Queue). q.ready_from) it.1
+    ]
+
+    by_queue : (o : Option Queue) → told_from (option_map (λ q. (q.count, q.ready_from)) o) number ≡ true
+        → (opened o).ready_from ≤ number
+    by_queue None low = omega arith
+    by_queue (Some q) low = leb-true q.ready_from number low
 
 -- a message is listed at its end, and counted
 pub number_added : (a b c : List ℕ → Option Queue) (name : List ℕ) (place : Place)

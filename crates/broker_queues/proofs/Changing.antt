@@ -10,7 +10,7 @@ use Rattle.broker_book.specs.Books.{Fate, Ready, Out, out_to, is_for, is_named, 
 use Rattle.broker_index.specs.Index.{Kept, Subscriber, with_fate, has_age}
 use Rattle.broker_queues.specs.Parts.Facts.{kept_at, subscriber_at, session_at, destination_at, lists}
 use Rattle.broker_queues.specs.Parts.Facts.{queue_of, message_of, living_of, holds_number, may_have}
-use Rattle.broker_queues.specs.Parts.Facts.{ArePlaced, AreCounted, AreNoted, AreAhead}
+use Rattle.broker_queues.specs.Parts.Facts.{ArePlaced, AreCounted, AreNoted, AreAhead, IsPast}
 use Rattle.broker_queues.specs.Parts.Fates.{passes, counts_for, recounted, weight, fated}
 use Rattle.broker_queues.specs.Parts.Whole.{Holding, IsSound, Changes}
 use Rattle.broker_queues.proofs.Finding.{IsMapped, is_mapped, find_map, any_map, option_map_map}
@@ -148,8 +148,17 @@ module _ (h i : Holding) (n : ℕ) (k : Kept) (f : Option Fate) (is : IsSound h)
       elim was [
         | inl both ↦ let ready2 : f ≡ Some Ready = rw both.1 at ready in rw both.1 (c.ready_awake ready2)
         | inr old ↦ elim (cases_Bool (passes (out_to w.from.subscription.session w.from.subscription.id) k.fate)) [
-          | inl on ↦ rw (← (bytes_eq-Decides w.from.subscription.destination l.sent.destination).0 same2)
-              (c.free_awake a w.from w.found on)
+          | inl on ↦
+              let e : w.from.subscription.destination ≡ l.sent.destination =
+              (bytes_eq-Decides w.from.subscription.destination l.sent.destination).0 same2 in
+              elim (c.free_awake a w.from w.found on) [
+                | inl awake ↦ rw (← e) awake
+                | inr past ↦
+                    let past2 : IsPast (queue_of i.queues l.sent.destination) = rw e at past in
+                    let listed : lists m (queue_of i.queues l.sent.destination).numbers ≡ true =
+                    rw (c.lowers.numbers l.sent.destination) (is.placed m l old) in
+                    absurd (past2 m listed (omega (arith, c.lowers.ready l.sent.destination, is.ahead m l old ready)))
+              ]
           | inr off ↦ c.wakes l.sent.destination (is.awake m l a w.from old ready w.found same2
               (had_credit w.from off may2))
         ]

@@ -10,7 +10,7 @@ use Rattle.broker_book.specs.Books.{Fate, Ready, Out, out_to, is_for}
 use Rattle.broker_index.specs.Index.{Kept, Subscriber, Queue, with_fate, with_count}
 use Rattle.broker_queues.specs.Parts.Facts.{kept_at, subscriber_at, queue_of, message_of, holds_number}
 use Rattle.broker_queues.specs.Parts.Fates.{passes, counts_for, recounted, weight, fated, back}
-use Rattle.broker_queues.specs.Parts.Queues.{Marks, Frees, awake_in}
+use Rattle.broker_queues.specs.Parts.Queues.{Credits, Marks, awake_in}
 use Rattle.broker_queues.specs.Parts.Undoing.{is_out_fate}
 use Rattle.broker_queues.specs.Parts.Whole.{Holding, IsSound, Changes, Lowers, Wakes}
 use Rattle.broker_queues.proofs.Distinct.{distinct_back}
@@ -109,7 +109,7 @@ module _ (h : Holding) (n age : ℕ) (again : Bool) (k : Kept) (s : Subscriber) 
     (v w : List ℕ → Bool)
     (is : IsSound h) (found : kept_at n h.kept ≡ Some k) (sits : subscriber_at age h.subscribers ≡ Some s)
     (on : passes (out_to s.subscription.session s.subscription.id) k.fate ≡ true)
-    (m : Marks again k.sent.destination n h.queues q h.awake v) (f : Frees s.subscription.destination age q r v w) where
+    (m : Marks again k.sent.destination n h.queues q h.awake v) (f : Credits s.subscription.destination age q r v w) where
   recounts : (d : List ℕ) → (queue_of r d).count + weight (is_for d) (message_of k)
       ≡ (queue_of h.queues d).count + weight (is_for d) (message_of (fated (back again) k))
   recounts d =
@@ -173,13 +173,13 @@ pub taken_back_in : (h i : Holding) (n age count : ℕ) (again : Bool) (fate : O
     → subscriber_at age h.subscribers ≡ Some s
     → passes (out_to s.subscription.session s.subscription.id) k.fate ≡ true
     → name ≡ k.sent.destination → there ≡ s.subscription.destination → count ≡ s.count - 1 → fate ≡ back again
-    → Marks again name n h.queues q h.awake v → Frees there age q i.queues v i.awake
+    → Marks again name n h.queues q h.awake v → Credits there age q i.queues v i.awake
     → i.kept ≡ map (with_fate n fate) h.kept → i.subscribers ≡ map (with_count age count) h.subscribers
     → i.sessions ≡ h.sessions → i.last ≡ h.last → i.given ≡ h.given → Changes h n k (back again) i
 taken_back_in h i n age count again fate k s name there q v is found sits on e1 e2 e3 e4 m f kept subscribers sessions
     last given =
     let m2 : Marks again k.sent.destination n h.queues q h.awake v = rw e1 at m in
-    let f2 : Frees s.subscription.destination age q i.queues v i.awake = rw e2 at f in
+    let f2 : Credits s.subscription.destination age q i.queues v i.awake = rw e2 at f in
     let t = taken_back h n age again k s q i.queues v i.awake is found sits on m2 f2 in
     record {
       kept = kept ∙ ap (λ to. map (with_fate n to) h.kept) e4;

@@ -1,8 +1,8 @@
 -- A walk over places, one after another.
 use Rattle.std.proofs.Common.{◌≡◌, ◌≤◌, ◌<◌, ◌+◌, ℕ, Bool, true, false, List, [], ◌∷◌, Option, Some, None, refl, sym}
-use Rattle.std.proofs.Common.{ap, arith}
+use Rattle.std.proofs.Common.{ap, ◌∙◌, arith}
 use Rattle.std.proofs.Common.{inl, inr}
-use Rattle.std.specs.Prelude.{◌⊎◌, ◌==◌, All, IfSome, find, nat_le}
+use Rattle.std.specs.Prelude.{◌⊎◌, ◌==◌, All, IfSome, find, is_some, nat_le}
 use Rattle.std.specs.List.{list_any}
 use Rattle.std.specs.Option.{option_map}
 use Rattle.std.proofs.lemmas.Bool.{cases_Bool, cases_eq, ne_eqb, leb-false, leb-true}
@@ -10,7 +10,8 @@ use Rattle.std.proofs.lemmas.List.Elements.{All-head, All-tail}
 use Rattle.broker_index.specs.Index.{Kept, Subscriber, Queue, Sets, opened, is_from, ready_from, taken_from}
 use Rattle.broker_index.specs.declared.places.Place.{Place}
 use Rattle.broker_queues.specs.Parts.Dealings.{FirstOf, SeeksReady, SeeksTaker, number_or, opens, takes_more}
-use Rattle.broker_queues.specs.Parts.Facts.{lists, queue_of}
+use Rattle.broker_queues.specs.Parts.Facts.{IsPast, lists, queue_of}
+use Rattle.broker_queues.specs.Parts.Queues.{TakesFrom, next_of}
 use Rattle.broker_queues.proofs.Finding.{find_none, find_passes}
 use Rattle.broker_queues.proofs.Setting.{sets_map, at_name}
 
@@ -43,6 +44,23 @@ below_none from m (p ∷ ps) none listed = elim (cases_Bool (nat_le from p.numbe
         below_none from m ps none2 rest
   ]
 ]
+
+no_some : (o : Option Place) → is_some o ≡ false → o ≡ None
+no_some None none = refl
+no_some (Some p) none = let never : true ≡ false = none in cc
+
+-- a queue that lists none from where it looks is past all that it lists
+pub past : (q : Queue) → is_some (next_of q) ≡ false → IsPast q
+past q none m listed from =
+    let below : m < q.ready_from = below_none q.ready_from m q.numbers
+    (find_none (is_from q.ready_from) q.numbers (no_some (next_of q) none)) listed in
+    absurd (omega (arith, below, from))
+
+-- so it is while it looks from there
+pub past_still : (old new : List ℕ → Option Queue) (name : List ℕ) (age : ℕ) → TakesFrom old new name age
+    → IsPast (queue_of old name) → IsPast (queue_of new name)
+past_still old new name age t past m listed from =
+    past m (ap (λ ps. lists m ps) (sym (t.lowers.numbers name)) ∙ listed) (omega (arith, t.ready name, from))
 
 -- the next place isn't before where the walk is
 pub next_from : (from : ℕ) (places : List Place) (p : Place) → Some p ≡ find (is_from from) places → from ≤ p.number
@@ -96,11 +114,11 @@ seeks_no_ready kept last name queues none = record {
   from = tt;
 }
 
-pub seeks_ready : (kept : List Kept) (last number : ℕ) (name : List ℕ) (old new : List ℕ → Option Queue) (q : Queue)
-    (found : Option Place) → old name ≡ Some q → number ≡ number_or found last
+pub seeks_ready : (kept : List Kept) (last above number : ℕ) (name : List ℕ) (old new : List ℕ → Option Queue)
+    (q : Queue) (found : Option Place) → old name ≡ Some q → number ≡ number_or found above
     → Sets old new name (option_map (ready_from number) (old name))
     → FirstOf (opens kept name) q.numbers q.ready_from last found → SeeksReady kept last name old new found
-seeks_ready kept last number name old new q found there is sets first = record {
+seeks_ready kept last above number name old new q found there is sets first = record {
   numbers =
       sets_map (λ d q r. r.numbers ≡ q.numbers) (ready_from number) old new name (λ d q. refl) (λ q is. refl) sets;
   subscribers = sets_map (λ d q r. r.subscribers ≡ q.subscribers) (ready_from number) old new name (λ d q. refl)
@@ -116,7 +134,7 @@ seeks_ready kept last number name old new q found there is sets first = record {
     now : (queue_of new name).ready_from ≡ number
     now = ap (λ q. q.ready_from) (at_name (ready_from number) old new name q there sets)
 
-    by_found : (o : Option Place) → number ≡ number_or o last
+    by_found : (o : Option Place) → number ≡ number_or o above
         → IfSome o (λ p. (queue_of new name).ready_from ≤ p.number)
     by_found None e = tt
     by_found (Some p) e = omega (arith, now, e)

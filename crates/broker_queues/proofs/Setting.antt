@@ -85,6 +85,7 @@ pub takes_from : (old new : List ℕ → Option Queue) (name : List ℕ) (age : 
 takes_from old new name age later sets = record {
   lowers = lowered (taken_from age) old new name (λ q. refl) (λ q. refl) (λ q is. omega arith) (λ q is. low q is) sets;
   counts = sets_map (λ d q r. r.count ≡ q.count) (taken_from age) old new name (λ d q. refl) (λ q is. refl) sets;
+  ready = sets_map (λ d q r. r.ready_from ≡ q.ready_from) (taken_from age) old new name (λ d q. refl) (λ q is. refl) sets;
   from = by_queue (old name) refl;
 }
   where
@@ -99,7 +100,12 @@ takes_from old new name age later sets = record {
 
 pub takes_already : (queues : List ℕ → Option Queue) (name : List ℕ) (age : ℕ) → (queue_of queues name).taker_from ≤ age
     → TakesFrom queues queues name age
-takes_already queues name age earlier = record { lowers = Lowers-same queues; counts = λ d. refl; from = earlier }
+takes_already queues name age earlier = record {
+  lowers = Lowers-same queues;
+  counts = λ d. refl;
+  from = earlier;
+  ready = λ d. refl;
+}
 
 -- a queue that counts one fewer counts so many
 fewer_as : (old : List ℕ → Option Queue) (name : List ℕ) (o : Option Queue) → old name ≡ o

@@ -19,7 +19,7 @@ ghost use Rattle.broker_queues.specs.Parts.Whole.{IsSound};
 ghost use Rattle.std.specs.Prelude.{◌&&◌, ◌==◌, ◌≡◌, ◌≤◌, find, length};
 ghost use Rattle.std.specs.Str.{bytes_eq};
 
-use crate::destinations::{free, mark};
+use crate::destinations::{credit, mark};
 use crate::parts::Parts;
 use broker_book::{Mode, QueueFault, Subscription};
 use broker_index::{Entry, Holder, Place, Standing, StoredSubscriber};
@@ -107,7 +107,7 @@ impl Parts {
         let Some(subscriber) = self.subscribers.get(age, age_key) else {
             return;
         };
-        free(
+        credit(
             &mut self.destinations,
             &mut self.active,
             subscriber.subscription().destination.get(),

@@ -6,14 +6,15 @@
 //! would pass over a message or a subscriber.
 
 ghost use Rattle.broker_book.specs.Books.{is_ready_fate};
-ghost use Rattle.broker_index.specs.Index.{queue_at, with_subscriber};
+ghost use Rattle.broker_index.specs.Index.{Sets, opened, queue_at, with_subscriber};
 ghost use Rattle.broker_index.specs.Standing.{fate_of};
 ghost use Rattle.broker_queues.specs.Parts.Dealings.{FirstOf, SeeksReady, SeeksTaker, number_or, opens, takes_more};
 ghost use Rattle.broker_queues.specs.Parts.Facts.{may_have, queue_of};
 ghost use Rattle.broker_queues.specs.Parts.Fates.{passes};
-ghost use Rattle.broker_queues.specs.Parts.Queues.{CountsFewer, Frees, LooksFrom, Marks, TakesFrom, awake_in};
+ghost use Rattle.broker_queues.specs.Parts.Queues.{CountsFewer, Credits, Frees, LooksFrom, Marks, TakesFrom, awake_in};
+ghost use Rattle.broker_queues.specs.Parts.Queues.{HasTold, next_of, told_count, told_from};
 ghost use Rattle.broker_queues.specs.Parts.Storing.{Becomes, Closes, adding};
-ghost use Rattle.std.specs.Prelude.{◌-◌, ◌<◌, ◌^◌, ◌≡◌, All, OnErr, OnOk};
+ghost use Rattle.std.specs.Prelude.{◌-◌, ◌<◌, ◌^◌, ◌≡◌, ◌≤◌, All, OnErr, OnOk, Some, is_some, true};
 
 use crate::active::Active;
 use base::limits::MAX_UNANSWERED;
@@ -43,6 +44,36 @@ fn taker_from(destinations: &Destinations, name: &Text) -> u64
     }
 }
 
+/// How many living messages a destination has by what its queue told; none where there is no queue.
+pub fn told_count(told: Option<(usize, u64)>) -> usize
+    ensures { result ≡ told_count told }
+{
+    match told {
+        Some((count, _)) => count,
+        None => 0,
+    }
+}
+
+/// Whether a destination looks for ready messages from this number on, or from an earlier one, by what its queue told.
+fn told_from(told: Option<(usize, u64)>, number: u64) -> bool
+    ensures { result ≡ told_from told number }
+{
+    match told {
+        Some((_, from)) => from <= number,
+        None => true,
+    }
+}
+
+/// Whether a destination lists a message from where it looks for a ready one.
+fn lists_more(destinations: &Destinations, name: &Text) -> bool
+    ensures { result ≡ is_some (next_of (queue_of (queue_at destinations.now) name.now)) }
+{
+    match destinations.get(name) {
+        Some(queue) => queue.first_number_from(queue.ready_from()).is_some(),
+        None => false,
+    }
+}
+
 /// How many living messages a destination has.
 pub fn count(destinations: &Destinations, name: &Text) -> usize
     ensures { result ≡ (queue_of (queue_at destinations.now) name.now).count }
@@ -60,6 +91,22 @@ pub fn look_from(destinations: &mut Destinations, name: &Text, number: u64)
     if number < ready_from(destinations, name) {
         destinations.set_ready_from(name, number);
     }
+}
+
+/// The same where the queue told before whether it does.
+pub fn look_from_told(
+    destinations: &mut Destinations,
+    name: &Text,
+    number: u64,
+    told: Option<(usize, u64)>,
+)
+    requires { told_from told number ≡ true → (queue_of (queue_at destinations.old) name.now).ready_from ≤ number }
+    ensures { LooksFrom (queue_at destinations.old) (queue_at destinations.new) name.now number }
+{
+    if told_from(told, number) {
+        return;
+    }
+    look_from(destinations, name, number);
 }
 
 /// Sees to it that a destination's queue looks for takers from this age on, or from a lower one.
@@ -106,6 +153,40 @@ pub fn free(destinations: &mut Destinations, active: &mut Active, name: &Text, a
     active.wake(name);
 }
 
+/// Tells a subscriber's destination that the subscriber has credit. It wakes only where it lists a message from where it
+/// looks for one, since nothing else can be ready.
+pub fn credit(destinations: &mut Destinations, active: &mut Active, name: &Text, age: u64)
+    ensures { Credits name.now age (queue_at destinations.old) (queue_at destinations.new)
+        (awake_in active.old.all active.old.names.items) (awake_in active.new.all active.new.names.items) }
+{
+    // Before the change, which leaves what it tells: so the two look the name up once.
+    let is_awake = lists_more(destinations, name);
+    take_from(destinations, name, age);
+    if is_awake {
+        active.wake(name);
+    }
+}
+
+/// Sees to it that a destination has a queue, where it isn't told that it has.
+///
+/// # Errors
+/// Where memory is refused; then nothing has changed.
+fn open_told(
+    destinations: &mut Destinations,
+    name: &Text,
+    told: Option<(usize, u64)>,
+) -> Result<(), AllocError>
+    requires { HasTold (queue_at destinations.old) name.now told }
+    ensures ok { OnOk result (Sets (queue_at destinations.old) (queue_at destinations.new) name.now
+        (Some (opened (queue_at destinations.old name.now)))) }
+    ensures err { OnErr result (destinations.new ≡ destinations.old) }
+{
+    if told.is_some() {
+        return Ok(());
+    }
+    destinations.open(name)
+}
+
 /// Adds a living message to a destination, behind all others; where there was no queue, it has one then.
 ///
 /// # Errors
@@ -114,13 +195,15 @@ pub fn add_number(
     destinations: &mut Destinations,
     name: &Text,
     place: Place,
+    told: Option<(usize, u64)>,
 ) -> Result<(), AllocError>
     requires above { All (λ p. p.number < place.number) (queue_of (queue_at destinations.old) name.now).numbers }
     requires room { (queue_of (queue_at destinations.old) name.now).count < 2 ^ 64 - 1 }
+    requires told { HasTold (queue_at destinations.old) name.now told }
     ensures ok { OnOk result (Becomes (adding place) (queue_at destinations.old) (queue_at destinations.new) name.now) }
     ensures err { OnErr result (Closes (queue_at destinations.old) (queue_at destinations.new)) }
 {
-    destinations.open(name)?;
+    open_told(destinations, name, told)?;
     // A queue that was opened in vain is closed again, or names that nothing goes to would pile up.
     match destinations.push_counted(name, place) {
         Ok(()) => Ok(()),
@@ -264,8 +347,9 @@ pub fn seek_ready(
         return None;
     };
     let found = first_ready(messages, queue, last, name);
-    // At what was found and not behind it: another destination's deal may be made first.
-    let from = number_or(found, last);
+    // At what was found and not behind it: another destination's deal may be made first. Behind all that came, where
+    // nothing was found: what the queue lists is passed at once then.
+    let from = number_or(found, last.saturating_add(1));
     if queue.ready_from() == from {
         return found;
     }

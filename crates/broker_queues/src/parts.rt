@@ -14,12 +14,13 @@ ghost use Rattle.broker_index.specs.Index.{queue_at};
 ghost use Rattle.broker_index.specs.Standing.{fate_of};
 ghost use Rattle.broker_queues.specs.Parts.Facts.{queue_of};
 ghost use Rattle.broker_queues.specs.Parts.Held.{holding_of};
+ghost use Rattle.broker_queues.specs.Parts.Queues.{HasTold};
 ghost use Rattle.broker_queues.specs.Parts.Storing.{Forgets, PutsIn, Stores, Sweeps, TakesOut, is_gone};
 ghost use Rattle.broker_queues.specs.Parts.Whole.{IsSound};
 ghost use Rattle.std.specs.Prelude.{◌-◌, ◌<◌, ◌^◌, ◌≡◌};
 
 use crate::active::Active;
-use crate::destinations::{add_number, count, look_from};
+use crate::destinations::{add_number, look_from_told, told_count};
 use broker_book::{QueueFault, Sent, Shared};
 use broker_index::{Destinations, Messages, Place, Sessions, Standing, Subscribers};
 use std::alloc::AllocError;
@@ -52,19 +53,24 @@ impl Parts {
     ///
     /// # Errors
     /// Where memory is refused; then an idle queue goes at most.
-    fn store(&mut self, sent: &Shared<Sent>) -> Result<usize, AllocError>
+    fn store(
+        &mut self,
+        sent: &Shared<Sent>,
+        told: Option<(usize, u64)>,
+    ) -> Result<usize, AllocError>
         requires sound { IsSound (holding_of self.old) }
         requires number { self.old.last < 2 ^ 64 - 1 }
         requires count { (queue_of (queue_at self.old.destinations) sent.now.destination).count < 2 ^ 64 - 1 }
+        requires told { HasTold (queue_at self.old.destinations) sent.now.destination told }
         ensures { Stores (holding_of self.old) sent.now (holding_of self.new) result }
     {
         let number = self.last + 1;
         let name = &sent.get().destination;
         let key = self.messages.push(number, sent)?;
-        match add_number(&mut self.destinations, name, Place { number, key }) {
+        match add_number(&mut self.destinations, name, Place { number, key }, told) {
             Ok(()) => {
                 // Nothing can fail from here on: a name that can't be noted wakes all.
-                look_from(&mut self.destinations, name, number);
+                look_from_told(&mut self.destinations, name, number, told);
                 self.active.wake(name);
                 self.last = number;
                 Ok(key)
@@ -85,15 +91,16 @@ impl Parts {
         requires { IsSound (holding_of self.old) }
         ensures { PutsIn full (holding_of self.old) sent.now (holding_of self.new) result }
     {
-        // Looked up once: the calls behind find the same name by the hint that this leaves.
-        self.destinations.seek(&sent.get().destination);
-        if count(&self.destinations, &sent.get().destination) >= full {
+        // Looked up once: what its queue tells spares the calls behind a look, and they find the name by the hint that
+        // this leaves.
+        let told = self.destinations.seek(&sent.get().destination);
+        if told_count(told) >= full {
             return Err(QueueFault::QueueFull);
         }
         if self.last == u64::MAX {
             return Err(QueueFault::TooMany);
         }
-        let key = self.store(sent)?;
+        let key = self.store(sent, told)?;
         Ok(key)
     }
 

@@ -62,6 +62,10 @@ notes number entries = list_any (λ e. e.number == number) entries
 abbrev pub queue_of : (List ℕ → Option Queue) → List ℕ → Queue
 queue_of queues name = opened (queues name)
 
+-- a queue lists no message from where it looks for a ready one
+abbrev pub IsPast : Queue → Type 0
+IsPast q = (m : ℕ) → lists m q.numbers ≡ true → q.ready_from ≤ m → ⊥
+
 -- whether a subscriber may take one message more
 abbrev pub may_have : ℕ → Subscriber → Bool
 may_have given s = is_auto s.subscription.mode || (nat_lt s.count MAX_UNANSWERED && nat_lt given (2 ^ 64 - 1))

@@ -8,7 +8,7 @@ use Rattle.broker_book.specs.declared.parts.Accepted.{Accepted}
 use Rattle.broker_book.specs.Books.{Book, Fate, Ready, Out, is_for, is_named, out_to}
 use Rattle.broker_index.specs.Index.{Kept, Subscriber, Queue, with_fate}
 use Rattle.broker_index.specs.declared.places.Place.{Place}
-use Rattle.broker_queues.specs.Parts.Facts.{ArePlaced, AreCounted, AreNoted, AreCredited}
+use Rattle.broker_queues.specs.Parts.Facts.{ArePlaced, AreCounted, AreNoted, AreCredited, IsPast}
 use Rattle.broker_queues.specs.Parts.Facts.{AreListening, AreOwned, AreAhead, AreTakers, AreAwake, AreDistinct}
 use Rattle.broker_queues.specs.Parts.Facts.{rise, kept_at, subscriber_at, session_at, destination_at, lists}
 use Rattle.broker_queues.specs.Parts.Facts.{queue_of, message_of, holds_number, living_of, subscriptions_of, may_have}
@@ -88,7 +88,7 @@ pub record Changes (old : Holding) (n : ℕ) (k : Kept) (fate : Option Fate) (ne
       → (queue_of new.queues s.subscription.destination).taker_from ≤ a
   pub free_awake : (a : ℕ) (s : Subscriber) → subscriber_at a old.subscribers ≡ Some s
       → passes (out_to s.subscription.session s.subscription.id) k.fate ≡ true
-      → new.awake s.subscription.destination ≡ true
+      → (new.awake s.subscription.destination ≡ true) ⊎ IsPast (queue_of new.queues s.subscription.destination)
   pub noted : (x : ℕ) (i : List ℕ) (a : ℕ) → fate ≡ Some (Out x i a)
       → list_any (holds_number x i n) old.subscribers ≡ true
   pub distinct : AreDistinct new.given new.kept

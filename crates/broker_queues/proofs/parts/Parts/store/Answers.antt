@@ -8,7 +8,7 @@ use Rattle.broker_queues.specs.Parts.Storing.{Becomes, adding}
 use Rattle.broker_queues.specs.Parts.Queues.{awake_in}
 use Rattle.broker_queues.specs.Parts.Whole.{Holding}
 use Rattle.broker_queues.proofs.Accepting.{all_earlier, taken_out}
-use Rattle.broker_queues.proofs.Adding.{lists_only, shut, stored}
+use Rattle.broker_queues.proofs.Adding.{lists_only, shut, stored, told_low}
 use Rattle.broker_queues.proofs.Listing.{all_below}
 use Rattle.broker_queues.proofs.parts.Parts.store.Goals as goal
 
@@ -21,6 +21,15 @@ add_number-requires-clause-above c =
     c.get.result.now.destination).numbers
     (λ m listed. omega (arith, c.requires.sound.listed_last c.get.result.now.destination m listed))
 
+pub add_number-requires-clause-told : goal.add_number-requires-clause-told
+add_number-requires-clause-told c = rw c.get.ensures c.requires.told
+
+pub look_from_told-requires : goal.look_from_told-requires
+look_from_told-requires c low =
+    told_low (queue_at c.args.self.now.destinations) (queue_at c.add_number.new.destinations) c.get.result.now.destination
+    (record { number = c.args.self.now.last + 1; key = c.in_ok-key.key }) (c.args.self.now.last + 1) c.args.told
+    (rw c.get.ensures c.requires.told) c.in-Ok.ensures.ok low
+
 pub returns-in-Ok : goal.returns-in-Ok
 returns-in-Ok c =
     let h = holding_of c.args.self.now in
@@ -28,12 +37,12 @@ returns-in-Ok c =
     let q = queue_at c.add_number.new.destinations in
     let i : Holding = record h {
       kept = c.push.new.self;
-      queues = queue_at c.look_from.new.destinations;
+      queues = queue_at c.look_from_told.new.destinations;
       awake = awake_in c.wake.new.self.all c.wake.new.self.names.items;
       last = c.args.self.now.last + 1;
     } in
     let b : Becomes (adding place) h.queues q c.args.sent.now.destination = rw c.get.ensures at c.in-Ok.ensures.ok in
-    let l = rw c.get.ensures at c.look_from.ensures in
+    let l = rw c.get.ensures at c.look_from_told.ensures in
     let awake = rw c.get.ensures at c.wake.ensures.awake in (
       stored h c.requires.sound c.args.sent.now place q i refl b l c.in_ok-key.ensures.ok refl refl refl refl
           c.wake.ensures.wakes awake,

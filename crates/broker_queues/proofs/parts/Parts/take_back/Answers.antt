@@ -18,6 +18,6 @@ returns-clause-change c k s is found sits on =
     taken_back_in (holding_of c.args.self.now) _ c.args.number c.args.age c.saturating_sub-count.result c.args.again
     (fate_of c.standing_back.result) k s c.get-2.result.now.destination c.get-4.result.now
     (queue_at c.mark.new.destinations) (awake_in c.mark.new.active.all c.mark.new.active.names.items)
-    is found sits on name there count c.standing_back.ensures c.mark.ensures c.free.ensures c.set.ensures
+    is found sits on name there count c.standing_back.ensures c.mark.ensures c.credit.ensures c.set.ensures
     c.set_count.ensures
     refl refl refl
