@@ -15,7 +15,7 @@ use Rattle.std.proofs.lemmas.Slice.Eq.{bytes_eq-Decides}
 use Rattle.std.specs.Option.{option_map, option_and_then}
 use Rattle.slab.specs.Slab.{Slab, Updates, entries_from, get, with_value}
 use Rattle.slab.proofs.SlabLemmas.{Updates-with_value}
-use Rattle.broker_index.specs.Index.{Sets, Queue, is_idle, queue_at, unless_idle, opened}
+use Rattle.broker_index.specs.Index.{Sets, Queue, is_idle, queue_at, taken_number, unless_idle, opened, without_number}
 use Rattle.broker_index.specs.Named.{AreFound, AreLed, IsIndexed, queues_in}
 use Rattle.broker_index.specs.declared.destinations.Destination.{Destination}
 
@@ -26,6 +26,20 @@ Sets-same values k x same = record { at = same; others = λ other differs. refl 
 -- the value may be said otherwise
 pub Sets-like : {K X : Type 0} (old new : K → X) (k : K) (x y : X) → Sets old new k x → x ≡ y → Sets old new k y
 Sets-like old new k x y sets same = record { at = sets.at ∙ same; others = sets.others }
+
+-- a message is taken from a queue, and the queue out if it is idle then
+pub Sets-taken : {K : Type 0} (a b c : K → Option Queue) (k : K) (number : ℕ)
+    → Sets a b k (option_map (without_number number) (a k))
+    → Sets b c k (option_and_then unless_idle (b k)) → Sets a c k (option_and_then (taken_number number) (a k))
+Sets-taken a b c k number p q = record {
+  at = q.at ∙ ap (λ o. option_and_then unless_idle o) p.at ∙ by_queue (a k);
+  others = λ other differs. q.others other differs ∙ p.others other differs;
+}
+  where
+    by_queue : (o : Option Queue)
+        → option_and_then unless_idle (option_map (without_number number) o) ≡ option_and_then (taken_number number) o
+    by_queue None = refl
+    by_queue (Some x) = refl
 
 -- ---- a name among slots
 
@@ -204,6 +218,11 @@ module _ {Y : Type 0} (slab : Slab Destination) (keys : BTreeMap (String Y) ℕ)
   pub still_indexed : AreLed slab.slots keys → IsIndexed (set slab.slots key (Some (record d { queue = w }))) keys
   still_indexed led = record { found = still_found; led = still_led led }
 
+  -- the slot still has the name
+  pub still_there : (name : List ℕ) → d.name ≡ name
+      → (e : Destination) × (get changed key ≡ Some e) × (e.name ≡ name)
+  still_there name same = (record d { queue = w }, updated.changed, same)
+
   -- the queue of this name is another
   pub Sets-changed : (name : List ℕ) (f : Queue → Queue) → d.name ≡ name → w ≡ f d.queue
       → Sets (queue_at (queues_in slab.slots)) (queue_at (queues_in (set slab.slots key
@@ -235,6 +254,16 @@ Sets-absent slab name f none =
     let is : queue_at (queues_in slab.slots) name ≡ None = none_in name slab.slots none in
     Sets-same (queue_at (queues_in slab.slots)) name (option_map f (queue_at (queues_in slab.slots) name))
     (is ∙ sym (ap (λ o. option_map f o) is))
+
+-- nor is a message taken
+pub Sets-none_taken : (slab : Slab Destination) (name : List ℕ) (number : ℕ) → HasNone name slab.slots
+    → Sets (queue_at (queues_in slab.slots)) (queue_at (queues_in slab.slots)) name
+    (option_and_then (taken_number number) (queue_at (queues_in slab.slots) name))
+Sets-none_taken slab name number none =
+    let is : queue_at (queues_in slab.slots) name ≡ None = none_in name slab.slots none in
+    Sets-same (queue_at (queues_in slab.slots)) name (option_and_then (taken_number number)
+    (queue_at (queues_in slab.slots) name))
+    (is ∙ sym (ap (λ o. option_and_then (taken_number number) o) is))
 
 -- ---- a queue comes or goes
 

@@ -135,6 +135,10 @@ is_idle q = (length q.numbers == 0) && (length q.subscribers == 0)
 abbrev pub unless_idle : Queue → Option Queue
 unless_idle q = if is_idle q then None else Some q
 
+-- the queue without a message, unless it is idle then
+abbrev pub taken_number : ℕ → Queue → Option Queue
+taken_number number q = unless_idle (without_number number q)
+
 -- ---- values by key
 
 -- at one key the new value is this, and at each other one it is as it was

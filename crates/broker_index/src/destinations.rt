@@ -4,9 +4,9 @@ ghost use Rattle.std.specs.Prelude.{◌≡◌, ◌≢◌, ◌<◌, ◌^◌, ◌-
 ghost use Rattle.std.specs.Prelude.{OnErr};
 ghost use Rattle.std.specs.Option.{option_copied, option_map, option_and_then, ForSome};
 ghost use Rattle.slab.specs.Slab.{get};
-ghost use Rattle.broker_index.specs.Index.{Sets, is_idle, opened, queue_at, unless_idle, with_number, without_number};
+ghost use Rattle.broker_index.specs.Index.{Sets, is_idle, opened, queue_at, unless_idle, with_number};
 ghost use Rattle.broker_index.specs.Index.{counting, counting_fewer, ready_from, with_counted};
-ghost use Rattle.broker_index.specs.Index.{with_subscriber, without_subscriber, taken_from};
+ghost use Rattle.broker_index.specs.Index.{with_subscriber, without_subscriber, taken_from, taken_number};
 ghost use Rattle.broker_index.specs.Named.{IsIndexed, queues_in};
 ghost use Rattle.broker_index.specs.declared.destinations.Destination.{Destination};
 
@@ -92,6 +92,25 @@ fn find_queue(
         return Some(hint);
     }
     search_queue(slab, keys, name)
+}
+
+/// Takes the queue of this name out, which is at this key, if it is idle.
+fn close_at(
+    slab: &mut Slab<Destination>,
+    keys: &mut BTreeMap<String, usize>,
+    key: usize,
+    name: &Text,
+)
+    requires indexed { IsIndexed slab.old.slots keys.old }
+    requires there { (d : Destination) × (get slab.old key ≡ Some d) × (d.name ≡ name.now) }
+    ensures indexed { IsIndexed slab.new.slots keys.new }
+    ensures closed { Sets (queue_at (queues_in slab.old.slots)) (queue_at (queues_in slab.new.slots)) name.now
+        (option_and_then unless_idle (queue_at (queues_in slab.old.slots) name.now)) }
+{
+    if slab[key].queue.is_idle() {
+        drop(slab.try_remove(key));
+        drop(keys.remove(name.as_str()));
+    }
 }
 
 /// The names of all queues, in memory of their own.
@@ -207,20 +226,6 @@ impl Destinations {
                 self.slab[key].queue.push_number(place)
             }
             None => Ok(()),
-        }
-    }
-
-    /// Takes a message from the queue of this name, if there is one. It takes no memory.
-    pub fn remove_number(&mut self, name: &Text, number: u64)
-        ensures { Sets (queue_at self.old) (queue_at self.new) name.now (option_map (without_number number)
-            (queue_at self.old name.now)) }
-    {
-        match find_queue(&self.slab, &self.keys, self.last, name) {
-            Some(key) => {
-                self.last = key;
-                self.slab[key].queue.remove_number(number);
-            }
-            None => {}
         }
     }
 
@@ -341,11 +346,22 @@ impl Destinations {
             (queue_at self.old name.now)) }
     {
         match find_queue(&self.slab, &self.keys, self.last, name) {
+            Some(key) => close_at(&mut self.slab, &mut self.keys, key, name),
+            None => {}
+        }
+    }
+
+    /// Takes a message from the queue of this name, if there is one, and then the queue out if it is idle. It takes no
+    /// memory.
+    pub fn take_number(&mut self, name: &Text, number: u64)
+        ensures { Sets (queue_at self.old) (queue_at self.new) name.now
+            (option_and_then (taken_number number) (queue_at self.old name.now)) }
+    {
+        match find_queue(&self.slab, &self.keys, self.last, name) {
             Some(key) => {
-                if self.slab[key].queue.is_idle() {
-                    drop(self.slab.try_remove(key));
-                    drop(self.keys.remove(name.as_str()));
-                }
+                self.last = key;
+                self.slab[key].queue.remove_number(number);
+                close_at(&mut self.slab, &mut self.keys, key, name);
             }
             None => {}
         }

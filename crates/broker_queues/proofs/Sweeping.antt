@@ -3,11 +3,14 @@ use Rattle.std.proofs.Common.{◌≡◌, ◌≤◌, ℕ, Bool, true, false, not,
 use Rattle.std.proofs.Common.{◌∙◌, arith, inl, inr}
 use Rattle.std.specs.Prelude.{◌==◌, filter, find}
 use Rattle.std.specs.Option.{option_map, option_and_then}
-use Rattle.std.proofs.lemmas.Bool.{cases_Bool, cases_eq, and_from, and_parts, eq-eqb, ne_eqb}
+use Rattle.std.specs.Prelude.{if◌then◌else◌}
+use Rattle.std.specs.Str.{bytes_eq}
+use Rattle.std.proofs.lemmas.Bool.{cases_Bool, cases_eq, and_from, and_parts, eq-eqb, false_from_ne_true, ne_eqb}
+use Rattle.std.proofs.lemmas.Slice.Eq.{bytes_eq-Decides}
 use Rattle.broker_book.specs.declared.parts.Accepted.{Accepted}
 use Rattle.broker_book.specs.Books.{Fate, Out, out_to, is_named}
 use Rattle.broker_index.specs.Index.{Kept, Subscriber, Queue, Sets, entries_without, opened, unless_idle}
-use Rattle.broker_index.specs.Index.{without_entries, without_number}
+use Rattle.broker_index.specs.Index.{taken_number, without_entries, without_number}
 use Rattle.broker_index.specs.declared.places.Entry.{Entry}
 use Rattle.broker_index.specs.declared.places.Place.{Place}
 use Rattle.broker_queues.specs.Parts.Fates.{passes, fate_of_kept, is_held_at}
@@ -24,7 +27,33 @@ use Rattle.broker_queues.proofs.Putting.{purge_keeps}
 use Rattle.broker_queues.proofs.Responding.{responded}
 use Rattle.broker_queues.proofs.Rising.{at_filter, at_filter_other}
 use Rattle.broker_queues.proofs.Setting.{sets_map}
-use Rattle.broker_queues.proofs.Subscribing.{name_parts, out_passes}
+use Rattle.broker_queues.proofs.Subscribing.{itself, name_parts, out_passes}
+
+-- ---- a message is taken from a queue, and then the queue out if it is idle
+
+-- what is between the two
+abbrev pub between : (List ℕ → Option Queue) → List ℕ → ℕ → List ℕ → Option Queue
+between queues name n d = if bytes_eq name d then option_map (without_number n) (queues d) else queues d
+
+isnt : (name d : List ℕ) → (d ≡ name → ⊥) → bytes_eq name d ≡ false
+isnt name d differs = false_from_ne_true (bytes_eq name d) (λ on. differs (sym ((bytes_eq-Decides name d).0 on)))
+
+pub taken_first : (queues : List ℕ → Option Queue) (name : List ℕ) (n : ℕ)
+    → Sets queues (between queues name n) name (option_map (without_number n) (queues name))
+taken_first queues name n = record { at = rw (itself name) refl; others = λ d differs. rw (isnt name d differs) refl }
+
+pub taken_then : (queues now : List ℕ → Option Queue) (name : List ℕ) (n : ℕ)
+    → Sets queues now name (option_and_then (taken_number n) (queues name))
+    → Sets (between queues name n) now name (option_and_then unless_idle (between queues name n name))
+taken_then queues now name n sets = record {
+  at = rw (itself name) (sets.at ∙ by_queue (queues name));
+  others = λ d differs. rw (isnt name d differs) (sets.others d differs);
+}
+  where
+    by_queue : (o : Option Queue)
+        → option_and_then (taken_number n) o ≡ option_and_then unless_idle (option_map (without_number n) o)
+    by_queue None = refl
+    by_queue (Some x) = refl
 
 -- ---- nothing, one thing after another, places alone
 

@@ -120,8 +120,7 @@ impl Parts {
         }
         let name = &stored.sent().get().destination;
         // The queue first: the name that it is found by is the message's own.
-        self.destinations.remove_number(name, number);
-        self.destinations.close(name);
+        self.destinations.take_number(name, number);
         self.messages.remove(number, key);
     }
 }
