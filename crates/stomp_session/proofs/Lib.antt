@@ -1,4 +1,5 @@
 pub mod Accepting
+pub mod AsTheyAre
 pub mod Framing
 pub mod Measuring
 pub mod Owning

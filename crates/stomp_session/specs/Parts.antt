@@ -1,3 +1,4 @@
 -- What only private functions speak of.
 pub mod OutgoingView
+pub mod Plain
 pub mod Taking

@@ -45,6 +45,7 @@ mod fault;
 mod laws;
 mod outgoing;
 mod parts;
+mod plain;
 mod reading;
 mod refusing;
 mod replies;

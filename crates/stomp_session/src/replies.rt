@@ -7,6 +7,7 @@ ghost use Rattle.stomp_session.specs.Replies.{Writes, ack_headers, connected_fra
 ghost use Rattle.stomp_session.specs.Replies.{message_frame, receipt_frame, receipt_told};
 
 use crate::SessionFault;
+use crate::plain::{is_plain_message, write_plain};
 use crate::refusing::opens;
 use base::limits::{MAX_BODY, MAX_ECHOED};
 use itoa::Buffer;
@@ -175,6 +176,10 @@ fn write_numbered<'a>(
 pub fn write_message(delivery: &Delivery, out: &mut Vec<u8>) -> Result<(), SessionFault>
     ensures { Writes (message_frame delivery.now) out.old.items out.new.items result }
 {
+    if is_plain_message(delivery) {
+        write_plain(delivery, out)?;
+        return Ok(());
+    }
     let mut number = Buffer::new();
     let mut ack = Buffer::new();
     write_numbered(
