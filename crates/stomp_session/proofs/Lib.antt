@@ -5,4 +5,5 @@ pub mod Measuring
 pub mod Owning
 pub mod ReplyExamples
 pub mod RequestExamples
+pub mod SoleAck
 pub mod Taking

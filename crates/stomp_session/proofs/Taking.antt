@@ -8,8 +8,11 @@ use Rattle.std.specs.Str.{bytes_eq}
 use Rattle.std.proofs.lemmas.Bool.{ltb-false}
 use Rattle.std.proofs.lemmas.Slice.Eq.{bytes_eq-Decides}
 use Rattle.std.proofs.lemmas.List.Quantifiers.{position-Some}
-use Rattle.stomp_frame.specs.Frames.{Header, header, value_of}
+use Rattle.stomp_frame.specs.declared.command.Command.{Command}
+use Rattle.stomp_frame.specs.declared.command.Command.TheVariants.{Send}
+use Rattle.stomp_frame.specs.Frames.{Header, frame, header, value_of}
 use Rattle.stomp_session.specs.Headers.{is_own}
+use Rattle.stomp_session.specs.Requests.{asked, is_send}
 use Rattle.stomp_session.specs.Parts.Taking.{is_named, without_first}
 
 -- two texts that compare as equal are one
@@ -143,3 +146,11 @@ pub second_is_there : (a b : Option (List ℕ)) → (is_none a || (is_none b || 
 second_is_there (Some a) (Some b) none = refl
 second_is_there (Some a) None none = absurd (let k : true ≡ false = none in cc)
 second_is_there None b none = absurd (let k : true ≡ false = none in cc)
+
+-- ---- a body
+
+-- what another frame than a SEND asks isn't told by its body
+pub asked_alike : (c : Command) (hs : List Header) (body other : List ℕ) → is_send c ≡ false
+    → asked (frame c hs body) ≡ asked (frame c hs other)
+asked_alike Send hs body other e = absurd cc
+asked_alike _ hs body other e = refl

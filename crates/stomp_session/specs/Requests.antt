@@ -1,5 +1,6 @@
 -- What a client frame asks of a server, and why one is refused before anything is done.
-use Rattle.std.specs.Prelude.{◌≡◌, ℕ, Bool, true, false, not, ◌&&◌, ◌||◌, if◌then◌else◌, nat_lt, List, length, codes}
+use Rattle.std.specs.Prelude.{◌≡◌, ℕ, Bool, true, false, not, ◌&&◌, ◌||◌, if◌then◌else◌, nat_lt, List, [], ◌∷◌, length}
+use Rattle.std.specs.Prelude.{codes}
 use Rattle.std.specs.Prelude.{Option, Some, None}
 use Rattle.std.specs.Prelude.{Result, Ok, Err, unwrap_or}
 use Rattle.std.specs.List.{list_any}
@@ -9,7 +10,8 @@ use Rattle.stomp_frame.specs.declared.command.Command.TheVariants.{Connect, Stom
 use Rattle.stomp_frame.specs.declared.command.Command.TheVariants.{Nack, Begin, Commit}
 use Rattle.stomp_frame.specs.declared.command.Command.TheVariants.{Abort, Disconnect, Connected, Message, Receipt}
 use Rattle.stomp_frame.specs.declared.command.Command.TheVariants.{Error}
-use Rattle.stomp_frame.specs.Frames.{Content, value_of}
+use Rattle.std.specs.Str.{bytes_eq}
+use Rattle.stomp_frame.specs.Frames.{Header, Content, value_of}
 use Rattle.stomp_session.specs.declared.fault.SessionFault.{SessionFault}
 use Rattle.stomp_session.specs.declared.fault.SessionFault.TheVariants.{NotConnected, AlreadyConnected, Version}
 use Rattle.stomp_session.specs.declared.fault.SessionFault.TheVariants.{MissingHeader}
@@ -25,7 +27,7 @@ use Rattle.stomp_session.specs.declared.request.Request.TheVariants.{Disconnect 
 use Rattle.stomp_session.specs.declared.request.Acknowledge.{Acknowledge}
 use Rattle.stomp_session.specs.declared.request.Demarcate.{Demarcate}
 use Rattle.stomp_session.specs.declared.session.Refused.{Refused}
-use Rattle.stomp_session.specs.Headers.{required, echoed, has_none, has_long, text_of, own_headers, offers_version}
+use Rattle.stomp_session.specs.Headers.{required, echoed, has_none, has_long, is_long, text_of, own_headers, offers_version}
 
 -- ---- refusals
 
@@ -148,3 +150,24 @@ receipt_of (Beginning d) = d.receipt
 receipt_of (Committing d) = d.receipt
 receipt_of (Aborting d) = d.receipt
 receipt_of (Disconnecting d) = d.receipt
+
+-- ---- an ACK of which nothing but its id is asked
+
+-- whether a command is an ACK
+abbrev pub is_ack : Command → Bool
+is_ack Ack = true
+is_ack _ = false
+
+-- the value of the only header, where it is an `id` that may be echoed
+abbrev pub sole_id : List Header → Option (List ℕ)
+sole_id [] = None
+sole_id (h ∷ []) = if bytes_eq h.name (codes "id") && not (is_long (Some h.value)) then Some h.value else None
+sole_id (h ∷ i ∷ hs) = None
+
+-- the id of an ACK that a connected session takes, which has no other header
+abbrev pub sole_ack : Bool → Content → Option (List ℕ)
+sole_ack connected f = if connected && is_ack f.command then sole_id f.headers else None
+
+-- what such an ACK asks
+abbrev pub acking : List ℕ → Request
+acking id = Acking (record { id = id; transaction = None; receipt = None })

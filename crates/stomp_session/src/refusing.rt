@@ -3,7 +3,8 @@
 ghost use Rattle.std.specs.Prelude.{◌≡◌, filter, length, nat_lt};
 ghost use Rattle.std.specs.List.{list_any};
 ghost use Rattle.stomp_session.specs.Headers.{has_none, has_long, is_own, offers_version};
-ghost use Rattle.stomp_session.specs.Requests.{opens, is_server, lacks, is_large, refusal_of};
+ghost use Rattle.stomp_session.specs.Requests.{opens, is_ack, is_server, lacks, is_large, refusal_of, sole_id};
+ghost use Rattle.std.specs.Option.{option_copied};
 
 use crate::SessionFault;
 use base::limits::{MAX_BODY, MAX_ECHOED, MAX_OWN_HEADERS};
@@ -36,6 +37,28 @@ pub fn opens(command: Command) -> bool
     ensures { result ≡ opens command }
 {
     matches!(command, Command::Connect | Command::Stomp)
+}
+
+/// Whether a command is an ACK.
+pub fn is_ack(command: Command) -> bool
+    ensures { result ≡ is_ack command }
+{
+    matches!(command, Command::Ack)
+}
+
+/// The value of the only header, where it is an `id` that may be echoed.
+pub fn sole_id(headers: &[Header]) -> Option<&str>
+    ensures { option_copied result ≡ sole_id headers.now }
+{
+    if headers.len() != 1 {
+        return None;
+    }
+    let header = &headers[0];
+    if header.name() == "id" && header.value().len() <= MAX_ECHOED {
+        Some(header.value())
+    } else {
+        None
+    }
 }
 
 /// Whether a command is a server's.

@@ -1,10 +1,11 @@
 //! A session as its server knows it.
 
-ghost use Rattle.std.specs.Prelude.{◌≡◌, false, true};
-ghost use Rattle.stomp_session.specs.Requests.{Accepts};
+ghost use Rattle.std.specs.Prelude.{◌≡◌, false, true, Ok, IfSome};
+ghost use Rattle.std.specs.Option.{option_copied};
+ghost use Rattle.stomp_session.specs.Requests.{Accepts, acking, request_of, sole_ack};
 
 use crate::reading::read_request;
-use crate::refusing::refusal;
+use crate::refusing::{is_ack, refusal, sole_id};
 use crate::{Request, SessionFault};
 use base::limits::MAX_BODY;
 use std::marker::Model;
@@ -55,6 +56,21 @@ impl ServerSession {
         ensures { result ≡ self.now }
     {
         self.connected
+    }
+
+    /// The id of an ACK that would be accepted, where it is the frame's only header: the request then is this id's,
+    /// outside of a transaction and with no receipt. A server of many ACKs makes no request of them.
+    #[tactic(auto, using(crate::proofs::SoleAck::sole_asks))]
+    pub fn sole_ack<'a>(&self, frame: &'a Frame<MAX_BODY>) -> Option<&'a str>
+        ensures value { option_copied result ≡ sole_ack self.now frame.now }
+        ensures asks { IfSome result (λ id. request_of self.now frame.now ≡ Ok (acking id.now)) }
+        ensures connected { IfSome result (λ id. self.now ≡ true) }
+    {
+        if self.connected && is_ack(frame.command()) {
+            sole_id(frame.headers())
+        } else {
+            None
+        }
     }
 
     /// What a client frame asks. After CONNECT or STOMP the session is connected.
