@@ -1,3 +1,4 @@
+pub mod Acking
 pub mod Committing
 pub mod Feedings
 pub mod Left

@@ -1,6 +1,6 @@
 //! What a session was fed.
 
-ghost use Rattle.std.specs.Prelude.{◌≡◌, ◌<◌, None};
+ghost use Rattle.std.specs.Prelude.{◌≡◌, ◌<◌, Bool, None};
 ghost use Rattle.broker_core.specs.Feeding.{answer_of};
 ghost use Rattle.broker_core.specs.Parts.Taking.{NextAnswer, PieceAnswer, is_memory, left_of};
 ghost use Rattle.broker_core.specs.Serving.{nothing_incoming};
@@ -18,10 +18,11 @@ pub struct Incoming {
     pub waiting: Option<Result<Asked, Refused>>,
 }
 
-/// The next frame, as it is decided, or none, or a fault of the octets.
+/// The next frame as it came, or what waited, as it was decided; or none, or a fault of the octets.
 #[derive(Debug, Drop)]
 pub enum Next {
-    Frame(Result<Asked, Refused>),
+    Frame(Frame<MAX_BODY>),
+    Waited(Result<Asked, Refused>),
     Nothing,
     Fault(FrameFault),
 }
@@ -54,26 +55,26 @@ impl Incoming {
     }
 
     /// Takes the next frame out: what waits, or else the frame that begins the octets.
-    pub fn next(&mut self, server: ServerSession) -> Result<Next, AllocError>
-        ensures { NextAnswer server self.old self.new result }
+    pub fn next(&mut self) -> Result<Next, AllocError>
+        ensures { (connected : Bool) → NextAnswer connected self.old self.new result }
     {
         // Looked at before it is taken: mostly nothing waits, and what might is large to move.
         if self.waiting.is_none() {
-            return self.decode(server);
+            return self.decode();
         }
         match self.waiting.take() {
-            Some(decided) => Ok(Next::Frame(decided)),
+            Some(decided) => Ok(Next::Waited(decided)),
             None => unreachable!(),
         }
     }
 
     /// Takes the frame that begins the octets out, where nothing waits.
-    fn decode(&mut self, server: ServerSession) -> Result<Next, AllocError>
+    fn decode(&mut self) -> Result<Next, AllocError>
         requires { self.old.waiting ≡ None }
-        ensures { NextAnswer server self.old self.new result }
+        ensures { (connected : Bool) → NextAnswer connected self.old self.new result }
     {
         match self.decoder.next() {
-            Ok(Some(frame)) => Ok(Next::Frame(decide(server, frame))),
+            Ok(Some(frame)) => Ok(Next::Frame(frame)),
             Ok(None) => Ok(Next::Nothing),
             Err(fault) => {
                 if is_memory(fault) {
@@ -99,7 +100,7 @@ impl Incoming {
 }
 
 /// What a frame is decided to be: its parts are moved.
-fn decide(server: ServerSession, frame: Frame<MAX_BODY>) -> Result<Asked, Refused>
+pub fn decide(server: ServerSession, frame: Frame<MAX_BODY>) -> Result<Asked, Refused>
     ensures { result ≡ answer_of server frame }
 {
     let mut server = server;

@@ -1,23 +1,26 @@
 //! A session of a broker.
 
-ghost use Rattle.std.specs.Prelude.{◌≡◌, ◌<◌, true, IfOk, IfErr, OnOk, OnErr};
+ghost use Rattle.std.specs.Prelude.{◌≡◌, ◌<◌, true, false, IfOk, IfErr, OnOk, OnErr};
 ghost use Rattle.std.specs.Option.{option_copied};
 ghost use Rattle.stomp_session.specs.Replies.{Delivered, message_frame};
 ghost use Rattle.broker_core.specs.Calls.{named, new_session};
 ghost use Rattle.broker_core.specs.Parts.Asked.{is_ready, request_in};
-ghost use Rattle.broker_core.specs.Parts.Taking.{PartTurn, SessionPieceAnswer, left_of};
+ghost use Rattle.broker_core.specs.Feeding.{answer_of};
+ghost use Rattle.broker_core.specs.Parts.Taking.{PartTurn, SessionPieceAnswer, keeping, left_of};
 ghost use Rattle.broker_core.specs.Serving.{Part, part, served, refused, closing, closing_if, closed_of, writing};
 
 use crate::asked::{Asked, Form};
 use crate::detail::{Detail, detail_of};
 use crate::fault::HandlerFault;
-use crate::incoming::{Incoming, Next};
+use crate::incoming::{Incoming, Next, decide};
 use crate::perform::perform;
 use crate::written::Written;
 use crate::{FrameRefusal, SessionId};
+use base::limits::MAX_BODY;
 use broker_queues::Queues;
 use broker_tx::Transactions;
 use std::alloc::{AllocError, Global};
+use stomp_frame::Frame;
 use stomp_session::{Delivery, Refused, ServerSession, receipt_told};
 
 /// A session: `out` are the octets not yet taken, and `fresh` tells whether some were written since the session was
@@ -75,20 +78,19 @@ impl Session {
         if self.closed {
             return Ok(false);
         }
-        match self.incoming.next(self.server)? {
+        match self.incoming.next()? {
             Next::Nothing => Ok(false),
             Next::Fault(fault) => {
                 self.refuse(alloc, queues, FrameRefusal::BadFrame, None)?;
                 *detail = Some(Detail::Octets(fault));
                 Ok(false)
             }
-            Next::Frame(decided) => {
-                let more = detail_of(&decided);
-                if let Err(decided) = self.serve(alloc, queues, decided) {
-                    self.incoming.waiting = Some(decided);
-                    return Err(AllocError);
-                }
-                *detail = more;
+            Next::Frame(frame) => {
+                self.handle(alloc, queues, frame, detail)?;
+                Ok(true)
+            }
+            Next::Waited(decided) => {
+                self.handle_decided(alloc, queues, decided, detail)?;
                 Ok(true)
             }
         }
@@ -155,6 +157,63 @@ impl Session {
         queues.end(self.number);
         self.close(alloc);
         Ok(())
+    }
+
+    /// Does what a frame is decided to be; where memory is refused that waits.
+    fn handle<const FULL: usize>(
+        &mut self,
+        alloc: Global,
+        queues: &mut Queues<FULL>,
+        frame: Frame<MAX_BODY>,
+        detail: &mut Option<Detail>,
+    ) -> Result<(), AllocError>
+        ensures ok { OnOk result (part queues.new self.new ≡ served FULL (answer_of self.old.server frame)
+            (part queues.old self.old)) }
+        ensures err { OnErr result ((queues.new ≡ queues.old)
+            × (self.new ≡ keeping (answer_of self.old.server frame) self.old)) }
+    {
+        // Every second frame of most clients is an ACK: nothing is made of it that would have to be moved.
+        if self.acks(queues, &frame) {
+            return Ok(());
+        }
+        let decided = decide(self.server, frame);
+        self.handle_decided(alloc, queues, decided, detail)
+    }
+
+    /// Does what was decided; where memory is refused it waits.
+    fn handle_decided<const FULL: usize>(
+        &mut self,
+        alloc: Global,
+        queues: &mut Queues<FULL>,
+        decided: Result<Asked, Refused>,
+        detail: &mut Option<Detail>,
+    ) -> Result<(), AllocError>
+        ensures ok { OnOk result (part queues.new self.new ≡ served FULL decided (part queues.old self.old)) }
+        ensures err { OnErr result ((queues.new ≡ queues.old) × (self.new ≡ keeping decided self.old)) }
+    {
+        let more = detail_of(&decided);
+        if let Err(decided) = self.serve(alloc, queues, decided) {
+            self.incoming.waiting = Some(decided);
+            return Err(AllocError);
+        }
+        *detail = more;
+        Ok(())
+    }
+
+    /// Does an ACK of which nothing is asked but its id, unless it is refused. Else nothing has changed.
+    #[tactic(auto, using(crate::proofs::Acking::acked))]
+    fn acks<const FULL: usize>(&self, queues: &mut Queues<FULL>, frame: &Frame<MAX_BODY>) -> bool
+        ensures done { result ≡ true → part queues.new self.now
+            ≡ served FULL (answer_of self.now.server frame.now) (part queues.old self.now) }
+        ensures other { result ≡ false → queues.new ≡ queues.old }
+    {
+        let Some(id) = self.server.sole_ack(frame) else {
+            return false;
+        };
+        match text::read_number(id) {
+            Some(number) => queues.ack(self.number, number).is_ok(),
+            None => false,
+        }
     }
 
     /// Does what was decided, or gives it back where memory is refused, and then nothing has changed.

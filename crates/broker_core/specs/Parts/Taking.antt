@@ -6,7 +6,7 @@ use Rattle.stomp_frame.specs.declared.fault.FrameFault.TheVariants.{Memory}
 use Rattle.broker_tx.specs.First.{IsFirstAt, PassesNone}
 use Rattle.broker_core.specs.Feeding.{DecidesNext, Ends, FeedsNone, Handles, HandlesAll, HasNone, MeetsFault}
 use Rattle.broker_core.specs.Feeding.{DealsAll, Stops}
-use Rattle.broker_core.specs.Feeding.{TakesDecided, fed, taking, with_incoming, with_waiting}
+use Rattle.broker_core.specs.Feeding.{TakesDecided, answer_of, fed, taking, with_incoming, with_waiting}
 use Rattle.broker_core.specs.Performing.{Reach, queue_refusal, transaction_refusal}
 use Rattle.broker_core.specs.Serving.{Decided, Part, Server, changing, is_session, part, refused, served, session_of}
 use Rattle.broker_core.specs.Serving.{step}
@@ -16,7 +16,7 @@ use Rattle.broker_core.specs.declared.fault.FrameRefusal.{FrameRefusal}
 use Rattle.broker_core.specs.declared.fault.FrameRefusal.TheVariants.{BadFrame}
 use Rattle.broker_core.specs.declared.incoming.Incoming.{Incoming}
 use Rattle.broker_core.specs.declared.incoming.Next.{Next}
-use Rattle.broker_core.specs.declared.incoming.Next.TheVariants.{Frame, Nothing, Fault}
+use Rattle.broker_core.specs.declared.incoming.Next.TheVariants.{Frame, Waited, Nothing, Fault}
 use Rattle.broker_core.specs.declared.session.Session.{Session}
 use Rattle.broker_book.specs.declared.fault.QueueFault.{QueueFault}
 use Rattle.broker_book.specs.declared.fault.QueueFault.TheVariants.{Memory as NoRoom}
@@ -56,9 +56,10 @@ SessionPieceAnswer piece old new (Ok _) = new ≡ taking piece old
 SessionPieceAnswer piece old new (Err _) =
     (old.closed ≡ false) × (old.incoming.decoder.failed ≡ false) × (piece ≢ []) × (new ≡ old)
 
--- the next frame was taken and decided, or there is none, or a fault; where memory was refused nothing has changed
+-- The next frame was taken, or what waited; or there is none, or a fault. Where memory was refused nothing has changed.
 abbrev pub NextAnswer : {E : Type 0} → Bool → Incoming → Incoming → Result Next E → Type 0
-NextAnswer connected old new (Ok (Frame decided)) = DecidesNext connected old decided new
+NextAnswer connected old new (Ok (Frame f)) = DecidesNext connected old (answer_of connected f) new
+NextAnswer connected old new (Ok (Waited decided)) = DecidesNext connected old decided new
 NextAnswer connected old new (Ok Nothing) = HasNone old new
 NextAnswer connected old new (Ok (Fault _)) = MeetsFault old new
 NextAnswer connected old new (Err _) = new ≡ old
@@ -90,6 +91,10 @@ left_at (Some i) = left_of i
 -- how much is left to a session
 abbrev pub left_in : Option Session → ℕ
 left_in s = left_at (incoming_in s)
+
+-- a session for which something waits, as it was decided
+abbrev pub keeping : Decided → Session → Session
+keeping decided s = with_incoming (with_waiting decided s.incoming) s
 
 -- ---- one turn of a session
 
