@@ -121,6 +121,23 @@ fn push_head(out: &mut Vec<u8>, delivery: &Delivery) -> Result<(), AllocError>
     Ok(())
 }
 
+/// The octets of a MESSAGE that aren't of its destination, its subscription, its body or what is taken over: names,
+/// numbers of 20 digits at most, and ends of lines.
+const FRAME: usize = 192;
+
+/// How long a MESSAGE is at most where nothing is escaped.
+fn room_of(delivery: &Delivery) -> usize {
+    let mut room = delivery.body.len().saturating_add(FRAME);
+    room = room.saturating_add(delivery.destination.len());
+    room = room.saturating_add(delivery.subscription.len());
+    for header in delivery.headers {
+        room = room.saturating_add(header.name().len());
+        room = room.saturating_add(header.value().len());
+        room = room.saturating_add(2);
+    }
+    room
+}
+
 /// Appends a MESSAGE of which nothing is escaped.
 #[tactic(auto, using(stomp_frame::proofs::Extending::extends_more))]
 fn push_message(out: &mut Vec<u8>, delivery: &Delivery) -> Result<(), AllocError>
@@ -128,8 +145,8 @@ fn push_message(out: &mut Vec<u8>, delivery: &Delivery) -> Result<(), AllocError
     ensures ok { OnOk result (out.new.items ≡ out.old.items ++ canonical (message_frame delivery.now)) }
     ensures err { OnErr result (Extends out.old.items out.new.items) }
 {
-    // one growth in most cases: the head besides its texts has some 100 octets
-    out.reserve(delivery.body.len().saturating_add(256))?;
+    // One growth: a long body isn't moved again, and takes no more memory than it has.
+    out.reserve(room_of(delivery))?;
     push_head(out, delivery)?;
     push_lines(out, delivery.headers)?;
     out.push(b'\n')?;
