@@ -126,12 +126,16 @@ impl Room {
     }
 
     /// Whether memory is refused to what is kept for deals and answers, so that who sends leaves what there is to them.
-    pub(crate) fn is_short(&self) -> bool {
+    pub(crate) fn is_short(&self) -> bool
+        ensures { result ≡ self.now.is_short }
+    {
         self.is_short
     }
 
     /// Whether all is there that is kept for deals and answers.
-    pub(crate) fn note_reserve(&mut self, is_whole: bool) {
+    pub(crate) fn note_reserve(&mut self, is_whole: bool)
+        ensures { self.new.is_short ≡ not is_whole }
+    {
         self.is_short = !is_whole;
     }
 
