@@ -9,7 +9,7 @@ use Rattle.std.proofs.lemmas.Slice.Eq.{bytes_eq-Decides}
 use Rattle.broker_book.specs.Books.{Fate, Ready, Out, is_ready_fate}
 use Rattle.broker_index.specs.Index.{Kept, Subscriber, Queue}
 use Rattle.broker_index.specs.declared.places.Place.{Place}
-use Rattle.broker_queues.specs.Parts.Choosing.{Rests, Looked}
+use Rattle.broker_queues.specs.Parts.Choosing.{Rests, Looked, pick_of}
 use Rattle.broker_queues.specs.Parts.Dealings.{SeeksReady, SeeksTaker, FirstOf, is_open, is_free, opens, takes_more}
 use Rattle.broker_queues.specs.Parts.Fates.{passes}
 use Rattle.broker_queues.specs.Parts.Facts.{kept_at, subscriber_at, lists, may_have, queue_of, AreAhead, AreTakers}
@@ -227,7 +227,7 @@ module _ (h : Holding) (is : IsSound h) (name : List ℕ) (q : List ℕ → Opti
 
   module _ (m : Place) (one : SeeksReady h.kept h.last name h.queues q (Some m)) (r : List ℕ → Option Queue) where
     -- one is, and none takes it
-    pub looked_untaken : SeeksTaker h.subscribers h.given name q r None → Looked h name (record h { queues = r }) None
+    looked_untaken : SeeksTaker h.subscribers h.given name q r None → Looked h name (record h { queues = r }) None
     looked_untaken two =
         let mid : IsSound (record h { queues = q }) = sought_ready h is name q (Some m) one in
         record {
@@ -240,7 +240,7 @@ module _ (h : Holding) (is : IsSound h) (name : List ℕ) (q : List ℕ → Opti
         }
 
     -- one is, and one takes it
-    pub looked_some : (a : Place) → SeeksTaker h.subscribers h.given name q r (Some a)
+    looked_some : (a : Place) → SeeksTaker h.subscribers h.given name q r (Some a)
         → Looked h name (record h { queues = r }) (Some (record { message = m; taker = a }))
     looked_some a two =
         let mid : IsSound (record h { queues = q }) = sought_ready h is name q (Some m) one in
@@ -263,3 +263,9 @@ module _ (h : Holding) (is : IsSound h) (name : List ℕ) (q : List ℕ → Opti
           covers = λ n due. le-leb m.number n (ready_later h is name q (Some m) one n due.message due.there due.ready
               due.for_it);
         }
+
+    -- one or the other
+    pub looked_with : (o : Option Place) → SeeksTaker h.subscribers h.given name q r o
+        → Looked h name (record h { queues = r }) (pick_of m o)
+    looked_with None two = looked_untaken two
+    looked_with (Some a) two = looked_some a two

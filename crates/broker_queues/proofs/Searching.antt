@@ -13,7 +13,7 @@ use Rattle.broker_queues.specs.Parts.Dealings.{FirstOf, SeeksReady, SeeksTaker, 
 use Rattle.broker_queues.specs.Parts.Facts.{IsPast, lists, queue_of}
 use Rattle.broker_queues.specs.Parts.Queues.{TakesFrom, next_of}
 use Rattle.broker_queues.proofs.Finding.{find_none, find_passes}
-use Rattle.broker_queues.proofs.Setting.{sets_map, at_name}
+use Rattle.broker_queues.proofs.Setting.{sets_map}
 
 -- none of those that were passed by passes
 abbrev pub Walked : (ℕ → Bool) → List Place → ℕ → ℕ → Type 0
@@ -101,24 +101,21 @@ module _ (test : ℕ → Bool) (places : List Place) (start from : ℕ) (w : Wal
 
 -- ---- what a destination looks for, it looks for from there on
 
--- nothing is there
-pub seeks_no_ready : (kept : List Kept) (last : ℕ) (name : List ℕ) (queues : List ℕ → Option Queue) → queues name ≡ None
-    → SeeksReady kept last name queues queues None
-seeks_no_ready kept last name queues none = record {
-  numbers = λ d. refl;
-  subscribers = λ d. refl;
-  count = λ d. refl;
-  takers = λ d. refl;
-  others = λ d other. refl;
-  first = rw none (λ m listed later within. let never : false ≡ true = listed in cc);
-  from = tt;
-}
+-- a queue looks no later than from the number that it was told
+looks_no_later : (number : ℕ) (o : Option Queue) → (opened (option_map (ready_from number) o)).ready_from ≤ number
+looks_no_later number None = omega arith
+looks_no_later number (Some q) = omega arith
+
+takes_no_later : (age : ℕ) (o : Option Queue) → (opened (option_map (taken_from age) o)).taker_from ≤ age
+takes_no_later age None = omega arith
+takes_no_later age (Some q) = omega arith
 
 pub seeks_ready : (kept : List Kept) (last above number : ℕ) (name : List ℕ) (old new : List ℕ → Option Queue)
-    (q : Queue) (found : Option Place) → old name ≡ Some q → number ≡ number_or found above
+    (found : Option Place) → number ≡ number_or found above
     → Sets old new name (option_map (ready_from number) (old name))
-    → FirstOf (opens kept name) q.numbers q.ready_from last found → SeeksReady kept last name old new found
-seeks_ready kept last above number name old new q found there is sets first = record {
+    → FirstOf (opens kept name) (queue_of old name).numbers (queue_of old name).ready_from last found
+    → SeeksReady kept last name old new found
+seeks_ready kept last above number name old new found is sets first = record {
   numbers =
       sets_map (λ d q r. r.numbers ≡ q.numbers) (ready_from number) old new name (λ d q. refl) (λ q is. refl) sets;
   subscribers = sets_map (λ d q r. r.subscribers ≡ q.subscribers) (ready_from number) old new name (λ d q. refl)
@@ -127,12 +124,12 @@ seeks_ready kept last above number name old new q found there is sets first = re
   takers = sets_map (λ d q r. r.taker_from ≡ q.taker_from) (ready_from number) old new name (λ d q. refl) (λ q is. refl)
       sets;
   others = λ d other. ap (λ q. q.ready_from) (ap opened (sets.others d other));
-  first = rw there first;
+  first = first;
   from = by_found found is;
 }
   where
-    now : (queue_of new name).ready_from ≡ number
-    now = ap (λ q. q.ready_from) (at_name (ready_from number) old new name q there sets)
+    now : (queue_of new name).ready_from ≤ number
+    now = rw (sets.at) (looks_no_later number (old name))
 
     by_found : (o : Option Place) → number ≡ number_or o above
         → IfSome o (λ p. (queue_of new name).ready_from ≤ p.number)
@@ -140,56 +137,51 @@ seeks_ready kept last above number name old new q found there is sets first = re
     by_found (Some p) e = omega (arith, now, e)
 
 -- it does so already
-pub looks_there : (name : List ℕ) (queues : List ℕ → Option Queue) (q : Queue) (number : ℕ) → queues name ≡ Some q
-    → q.ready_from ≡ number
+pub looks_there : (name : List ℕ) (queues : List ℕ → Option Queue) (number : ℕ)
+    → (queue_of queues name).ready_from ≡ number
     → Sets queues queues name (option_map (ready_from number) (queues name))
-looks_there name queues q number there is = record { at = rw (there, ← is) refl; others = λ d other. refl }
+looks_there name queues number is = record { at = by_queue (queues name) is; others = λ d other. refl }
+  where
+    by_queue : (o : Option Queue) → (opened o).ready_from ≡ number → o ≡ option_map (ready_from number) o
+    by_queue None is = refl
+    by_queue (Some q) is = rw (← is) refl
 
--- nothing is there
-pub seeks_no_taker : (subscribers : List Subscriber) (given last : ℕ) (name : List ℕ) (queues : List ℕ → Option Queue)
-    → All (λ s. s.age < last) subscribers → queues name ≡ None
-    → SeeksTaker subscribers given name queues queues None
-seeks_no_taker subscribers given last name queues young none = record {
+-- the taker was looked for before the queue looked elsewhere for ready messages
+pub seeks_taker : (subscribers : List Subscriber) (given last age : ℕ) (name : List ℕ)
+    (old between new : List ℕ → Option Queue)
+    (found : Option Place) → All (λ s. s.age < last) subscribers → age ≡ number_or found last
+    → (queue_of between name).subscribers ≡ (queue_of old name).subscribers
+    → (queue_of between name).taker_from ≡ (queue_of old name).taker_from
+    → Sets between new name (option_map (taken_from age) (between name))
+    → FirstOf (takes_more subscribers given name) (queue_of old name).subscribers (queue_of old name).taker_from last found
+    → SeeksTaker subscribers given name between new found
+seeks_taker subscribers given last age name old between new found young is listeners takers sets first = record {
   last = last;
   young = young;
-  numbers = λ d. refl;
-  listeners = λ d. refl;
-  count = λ d. refl;
-  ready = λ d. refl;
-  others = λ d other. refl;
-  first = rw none (λ m listed later within. let never : false ≡ true = listed in cc);
-  from = tt;
-}
-
-pub seeks_taker : (subscribers : List Subscriber) (given last age : ℕ) (name : List ℕ) (old new : List ℕ → Option Queue)
-    (q : Queue)
-    (found : Option Place) → All (λ s. s.age < last) subscribers → old name ≡ Some q → age ≡ number_or found last
-    → Sets old new name (option_map (taken_from age) (old name))
-    → FirstOf (takes_more subscribers given name) q.subscribers q.taker_from last found
-    → SeeksTaker subscribers given name old new found
-seeks_taker subscribers given last age name old new q found young there is sets first = record {
-  last = last;
-  young = young;
-  numbers = sets_map (λ d q r. r.numbers ≡ q.numbers) (taken_from age) old new name (λ d q. refl) (λ q is. refl) sets;
-  listeners =
-      sets_map (λ d q r. r.subscribers ≡ q.subscribers) (taken_from age) old new name (λ d q. refl) (λ q is. refl) sets;
-  count = sets_map (λ d q r. r.count ≡ q.count) (taken_from age) old new name (λ d q. refl) (λ q is. refl) sets;
-  ready = sets_map (λ d q r. r.ready_from ≡ q.ready_from) (taken_from age) old new name (λ d q. refl) (λ q is. refl)
+  numbers = sets_map (λ d q r. r.numbers ≡ q.numbers) (taken_from age) between new name (λ d q. refl) (λ q is. refl)
+      sets;
+  listeners = sets_map (λ d q r. r.subscribers ≡ q.subscribers) (taken_from age) between new name (λ d q. refl)
+      (λ q is. refl) sets;
+  count = sets_map (λ d q r. r.count ≡ q.count) (taken_from age) between new name (λ d q. refl) (λ q is. refl) sets;
+  ready = sets_map (λ d q r. r.ready_from ≡ q.ready_from) (taken_from age) between new name (λ d q. refl) (λ q is. refl)
       sets;
   others = λ d other. ap (λ q. q.taker_from) (ap opened (sets.others d other));
-  first = rw there first;
+  first = rw (listeners, takers) first;
   from = by_found found is;
 }
   where
-    now : (queue_of new name).taker_from ≡ age
-    now = ap (λ q. q.taker_from) (at_name (taken_from age) old new name q there sets)
+    now : (queue_of new name).taker_from ≤ age
+    now = rw (sets.at) (takes_no_later age (between name))
 
     by_found : (o : Option Place) → age ≡ number_or o last → IfSome o (λ p. (queue_of new name).taker_from ≤ p.number)
     by_found None e = tt
     by_found (Some p) e = omega (arith, now, e)
 
 -- it does so already
-pub takes_there : (name : List ℕ) (queues : List ℕ → Option Queue) (q : Queue) (age : ℕ) → queues name ≡ Some q
-    → q.taker_from ≡ age
+pub takes_there : (name : List ℕ) (queues : List ℕ → Option Queue) (age : ℕ) → (queue_of queues name).taker_from ≡ age
     → Sets queues queues name (option_map (taken_from age) (queues name))
-takes_there name queues q age there is = record { at = rw (there, ← is) refl; others = λ d other. refl }
+takes_there name queues age is = record { at = by_queue (queues name) is; others = λ d other. refl }
+  where
+    by_queue : (o : Option Queue) → (opened o).taker_from ≡ age → o ≡ option_map (taken_from age) o
+    by_queue None is = refl
+    by_queue (Some q) is = rw (← is) refl

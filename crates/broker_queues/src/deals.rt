@@ -5,14 +5,14 @@
 
 ghost use Rattle.broker_index.specs.Index.{queue_at};
 ghost use Rattle.broker_queues.specs.Parts.Choosing.{Chooses, Hands, Looks, NextDeal, Rests, earlier};
-ghost use Rattle.broker_queues.specs.Parts.Choosing.{is_at_most, is_auto_of};
+ghost use Rattle.broker_queues.specs.Parts.Choosing.{is_at_most, is_auto_of, pick_of};
 ghost use Rattle.broker_queues.specs.Parts.Dealings.{HandsOut, HandsWhole};
 ghost use Rattle.broker_queues.specs.Parts.Facts.{queue_of, subscriber_at};
 ghost use Rattle.broker_queues.specs.Parts.Held.{holding_of};
 ghost use Rattle.broker_queues.specs.Parts.Whole.{IsSound};
 ghost use Rattle.std.specs.Prelude.{[], ◌<◌, ◌≡◌, OnOk, false, length, slice_index_or, true};
 
-use crate::destinations::{count_fewer, ready_from, seek_ready, seek_taker};
+use crate::destinations::{count_fewer, look_on, next_ready, next_taker, number_or, ready_from};
 use crate::parts::Parts;
 use crate::sink::Sink;
 use broker_index::{Entry, Holder, Place, Standing};
@@ -41,6 +41,16 @@ fn earlier(best: Option<Pick>, pick: Pick) -> Pick
     }
 }
 
+/// The pick of a message and the taker that was found for it, if one was.
+fn pick_of(message: Place, taker: Option<Place>) -> Option<Pick>
+    ensures { result ≡ pick_of message taker }
+{
+    match taker {
+        Some(taker) => Some(Pick { message, taker }),
+        None => None,
+    }
+}
+
 impl Parts {
     /// Whether the destination at a place among those that are awake can have no message before a pick's.
     fn is_behind(&self, index: usize, best: Option<Pick>) -> bool
@@ -65,15 +75,28 @@ impl Parts {
         ensures active { self.new.active ≡ self.old.active }
     {
         let name = &self.active.names[index];
-        let Some(message) = seek_ready(&self.messages, &mut self.destinations, self.last, name)
-        else {
+        let Some(message) = next_ready(&self.messages, &self.destinations, self.last, name) else {
+            // Behind all that came: what the queue lists is passed at once then.
+            self.destinations
+                .set_ready_from(name, self.last.saturating_add(1));
             return None;
         };
-        let Some(taker) = seek_taker(&self.subscribers, &mut self.destinations, self.given, name)
-        else {
-            return None;
-        };
-        Some(Pick { message, taker })
+        let last = self.subscribers.next_age();
+        let taken = next_taker(
+            &self.subscribers,
+            &self.destinations,
+            self.given,
+            last,
+            name,
+        );
+        // At what was found and not behind it: another destination's deal may be made first.
+        look_on(
+            &mut self.destinations,
+            name,
+            message.number,
+            number_or(taken, last),
+        );
+        pick_of(message, taken)
     }
 
     /// The next deal, where the destinations that are awake are all named. Those that are looked at in vain sleep then.

@@ -8,13 +8,13 @@
 ghost use Rattle.broker_book.specs.Books.{is_ready_fate};
 ghost use Rattle.broker_index.specs.Index.{Sets, opened, queue_at, with_subscriber};
 ghost use Rattle.broker_index.specs.Standing.{fate_of};
-ghost use Rattle.broker_queues.specs.Parts.Dealings.{FirstOf, SeeksReady, SeeksTaker, number_or, opens, takes_more};
+ghost use Rattle.broker_queues.specs.Parts.Dealings.{FirstOf, LooksOn, number_or, opens, takes_more};
 ghost use Rattle.broker_queues.specs.Parts.Facts.{may_have, queue_of};
 ghost use Rattle.broker_queues.specs.Parts.Fates.{passes};
 ghost use Rattle.broker_queues.specs.Parts.Queues.{CountsFewer, Credits, Frees, LooksFrom, Marks, TakesFrom, awake_in};
 ghost use Rattle.broker_queues.specs.Parts.Queues.{HasTold, next_of, told_count, told_from};
 ghost use Rattle.broker_queues.specs.Parts.Storing.{Becomes, Closes, adding};
-ghost use Rattle.std.specs.Prelude.{◌-◌, ◌<◌, ◌^◌, ◌≡◌, ◌≤◌, All, OnErr, OnOk, Some, is_some, true};
+ghost use Rattle.std.specs.Prelude.{◌&&◌, ◌-◌, ◌<◌, ◌==◌, ◌^◌, ◌≡◌, ◌≤◌, All, OnErr, OnOk, Some, is_some, true};
 
 use crate::active::Active;
 use base::limits::MAX_UNANSWERED;
@@ -249,7 +249,7 @@ fn is_ready(standing: &Standing) -> bool
 }
 
 /// The number of a place, or this one where there is none.
-fn number_or(place: Option<Place>, number: u64) -> u64
+pub fn number_or(place: Option<Place>, number: u64) -> u64
     ensures { result ≡ number_or place number }
 {
     match place {
@@ -333,48 +333,56 @@ fn first_taker(
     None
 }
 
-/// The first ready message of a destination among those up to the last number. Its queue looks for one from there on
-/// later.
-pub fn seek_ready(
+/// The first ready message of a destination among those up to the last number, from where its queue looks for one.
+pub fn next_ready(
     messages: &Messages,
-    destinations: &mut Destinations,
+    destinations: &Destinations,
     last: u64,
     name: &Text,
 ) -> Option<Place>
-    ensures { SeeksReady messages.now last name.now (queue_at destinations.old) (queue_at destinations.new) result }
+    ensures { FirstOf (opens messages.now name.now) (queue_of (queue_at destinations.now) name.now).numbers
+        (queue_of (queue_at destinations.now) name.now).ready_from last result }
 {
-    let Some(queue) = destinations.get(name) else {
-        return None;
-    };
-    let found = first_ready(messages, queue, last, name);
-    // At what was found and not behind it: another destination's deal may be made first. Behind all that came, where
-    // nothing was found: what the queue lists is passed at once then.
-    let from = number_or(found, last.saturating_add(1));
-    if queue.ready_from() == from {
-        return found;
+    match destinations.get(name) {
+        Some(queue) => first_ready(messages, queue, last, name),
+        None => None,
     }
-    destinations.set_ready_from(name, from);
-    found
 }
 
-/// The oldest subscriber of a destination that may take one message more. Its queue looks for one from there on later.
-pub fn seek_taker(
+/// The oldest subscriber of a destination that may take one message more, up to the last age, from where its queue
+/// looks for one.
+pub fn next_taker(
     subscribers: &Subscribers,
-    destinations: &mut Destinations,
+    destinations: &Destinations,
     given: u64,
+    last: u64,
     name: &Text,
 ) -> Option<Place>
-    ensures { SeeksTaker subscribers.now given name.now (queue_at destinations.old) (queue_at destinations.new) result }
+    ensures { FirstOf (takes_more subscribers.now given name.now) (queue_of (queue_at destinations.now) name.now).subscribers
+        (queue_of (queue_at destinations.now) name.now).taker_from last result }
 {
-    let last = subscribers.next_age();
-    let Some(queue) = destinations.get(name) else {
-        return None;
-    };
-    let found = first_taker(subscribers, queue, given, last, name);
-    let from = number_or(found, last);
-    if queue.taker_from() == from {
-        return found;
+    match destinations.get(name) {
+        Some(queue) => first_taker(subscribers, queue, given, last, name),
+        None => None,
     }
-    destinations.set_taker_from(name, from);
-    found
+}
+
+/// Whether a destination looks for ready messages from this number on, and for takers from this age on.
+fn looks_on(destinations: &Destinations, name: &Text, ready: u64, taker: u64) -> bool
+    ensures { result ≡ ((queue_of (queue_at destinations.now) name.now).ready_from == ready
+        && (queue_of (queue_at destinations.now) name.now).taker_from == taker) }
+{
+    ready_from(destinations, name) == ready && taker_from(destinations, name) == taker
+}
+
+/// A destination's queue looks for ready messages from this number on, and for takers from this age on.
+pub fn look_on(destinations: &mut Destinations, name: &Text, ready: u64, taker: u64)
+    ensures { LooksOn (queue_at destinations.old) (queue_at destinations.new) name.now ready taker }
+{
+    // Mostly it does so already: as nothing changes before, all that is asked of it takes one search for its name.
+    if looks_on(destinations, name, ready, taker) {
+        return;
+    }
+    destinations.set_ready_from(name, ready);
+    destinations.set_taker_from(name, taker);
 }

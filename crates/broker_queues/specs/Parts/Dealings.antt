@@ -5,7 +5,8 @@ use Rattle.broker_book.specs.declared.parts.Accepted.{Accepted}
 use Rattle.broker_book.specs.Books.{Book, is_auto, is_ready_fate}
 use Rattle.broker_book.specs.Steps.{Handed, Deal}
 use Rattle.std.specs.Prelude.{All, IfSome}
-use Rattle.broker_index.specs.Index.{Kept, Subscriber, Queue}
+use Rattle.std.specs.Option.{option_map}
+use Rattle.broker_index.specs.Index.{Kept, Subscriber, Queue, Sets, ready_from, taken_from}
 use Rattle.broker_index.specs.declared.places.Place.{Place}
 use Rattle.broker_queues.specs.Parts.Facts.{kept_at, subscriber_at, lists, may_have, queue_of}
 use Rattle.broker_queues.specs.Parts.Fates.{passes}
@@ -68,6 +69,12 @@ pub record SeeksTaker (subscribers : List Subscriber) (given : ℕ) (name : List
   pub first : FirstOf (takes_more subscribers given name) (queue_of old name).subscribers (queue_of old name).taker_from
       last found
   pub from : IfSome found (λ p. (queue_of new name).taker_from ≤ p.number)
+
+-- A destination looks for ready messages from a number on, and for takers from an age on.
+pub record LooksOn (old new : List ℕ → Option Queue) (name : List ℕ) (number age : ℕ) : Type 0 where
+  pub between : List ℕ → Option Queue
+  pub ready : Sets old between name (option_map (ready_from number) (old name))
+  pub takers : Sets between new name (option_map (taken_from age) (between name))
 
 -- One deal was made and taken; or memory was refused, and nothing has changed.
 abbrev pub DealsOne : {S E : Type 0} → (S → Handed → S → Type 0) → Book → S → Book → S → Result (Unit {0}) E → Type 0
