@@ -15,7 +15,7 @@ use Rattle.std.proofs.lemmas.Slice.Eq.{bytes_eq-Decides}
 use Rattle.std.specs.Option.{option_map, option_and_then}
 use Rattle.slab.specs.Slab.{Slab, Updates, entries_from, get, with_value}
 use Rattle.slab.proofs.SlabLemmas.{Updates-with_value}
-use Rattle.broker_index.specs.Index.{Sets, Queue, is_idle, queue_at, taken_number, unless_idle, opened, without_number}
+use Rattle.broker_index.specs.Index.{Sets, Queue, is_idle, queue_at, unless_idle, opened}
 use Rattle.broker_index.specs.Named.{AreFound, AreLed, IsIndexed, queues_in}
 use Rattle.broker_index.specs.declared.destinations.Destination.{Destination}
 
@@ -27,19 +27,18 @@ Sets-same values k x same = record { at = same; others = λ other differs. refl 
 pub Sets-like : {K X : Type 0} (old new : K → X) (k : K) (x y : X) → Sets old new k x → x ≡ y → Sets old new k y
 Sets-like old new k x y sets same = record { at = sets.at ∙ same; others = sets.others }
 
--- a message is taken from a queue, and the queue out if it is idle then
-pub Sets-taken : {K : Type 0} (a b c : K → Option Queue) (k : K) (number : ℕ)
-    → Sets a b k (option_map (without_number number) (a k))
-    → Sets b c k (option_and_then unless_idle (b k)) → Sets a c k (option_and_then (taken_number number) (a k))
-Sets-taken a b c k number p q = record {
+-- a queue changes, and goes if it is idle then
+pub Sets-taken : {K : Type 0} (a b c : K → Option Queue) (k : K) (f : Queue → Queue) (g : Queue → Option Queue)
+    → ((q : Queue) → unless_idle (f q) ≡ g q) → Sets a b k (option_map f (a k))
+    → Sets b c k (option_and_then unless_idle (b k)) → Sets a c k (option_and_then g (a k))
+Sets-taken a b c k f g same p q = record {
   at = q.at ∙ ap (λ o. option_and_then unless_idle o) p.at ∙ by_queue (a k);
   others = λ other differs. q.others other differs ∙ p.others other differs;
 }
   where
-    by_queue : (o : Option Queue)
-        → option_and_then unless_idle (option_map (without_number number) o) ≡ option_and_then (taken_number number) o
+    by_queue : (o : Option Queue) → option_and_then unless_idle (option_map f o) ≡ option_and_then g o
     by_queue None = refl
-    by_queue (Some x) = refl
+    by_queue (Some x) = same x
 
 -- ---- a name among slots
 
@@ -256,14 +255,13 @@ Sets-absent slab name f none =
     (is ∙ sym (ap (λ o. option_map f o) is))
 
 -- nor is a message taken
-pub Sets-none_taken : (slab : Slab Destination) (name : List ℕ) (number : ℕ) → HasNone name slab.slots
+pub Sets-none_taken : (slab : Slab Destination) (name : List ℕ) (g : Queue → Option Queue) → HasNone name slab.slots
     → Sets (queue_at (queues_in slab.slots)) (queue_at (queues_in slab.slots)) name
-    (option_and_then (taken_number number) (queue_at (queues_in slab.slots) name))
-Sets-none_taken slab name number none =
+    (option_and_then g (queue_at (queues_in slab.slots) name))
+Sets-none_taken slab name g none =
     let is : queue_at (queues_in slab.slots) name ≡ None = none_in name slab.slots none in
-    Sets-same (queue_at (queues_in slab.slots)) name (option_and_then (taken_number number)
-    (queue_at (queues_in slab.slots) name))
-    (is ∙ sym (ap (λ o. option_and_then (taken_number number) o) is))
+    Sets-same (queue_at (queues_in slab.slots)) name (option_and_then g (queue_at (queues_in slab.slots) name))
+    (is ∙ sym (ap (λ o. option_and_then g o) is))
 
 -- ---- a queue comes or goes
 

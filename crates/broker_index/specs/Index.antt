@@ -139,6 +139,14 @@ unless_idle q = if is_idle q then None else Some q
 abbrev pub taken_number : ℕ → Queue → Option Queue
 taken_number number q = unless_idle (without_number number q)
 
+-- a queue without a message, which it counts no more
+abbrev pub without_counted : ℕ → Queue → Queue
+without_counted number q = record q { numbers = without number q.numbers; count = q.count - 1 }
+
+-- the same, unless it is idle then
+abbrev pub taken_counted : ℕ → Queue → Option Queue
+taken_counted number q = unless_idle (without_counted number q)
+
 -- ---- values by key
 
 -- at one key the new value is this, and at each other one it is as it was

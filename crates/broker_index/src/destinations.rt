@@ -6,7 +6,8 @@ ghost use Rattle.std.specs.Option.{option_copied, option_map, option_and_then, F
 ghost use Rattle.slab.specs.Slab.{get};
 ghost use Rattle.broker_index.specs.Index.{Sets, is_idle, opened, queue_at, unless_idle, with_number};
 ghost use Rattle.broker_index.specs.Index.{counting, counting_fewer, ready_from, with_counted};
-ghost use Rattle.broker_index.specs.Index.{with_subscriber, without_subscriber, taken_from, taken_number};
+ghost use Rattle.broker_index.specs.Index.{with_subscriber, without_subscriber, taken_counted, taken_from};
+ghost use Rattle.broker_index.specs.Index.{taken_number};
 ghost use Rattle.broker_index.specs.Named.{IsIndexed, queues_in};
 ghost use Rattle.broker_index.specs.declared.destinations.Destination.{Destination};
 
@@ -361,6 +362,22 @@ impl Destinations {
             Some(key) => {
                 self.last = key;
                 self.slab[key].queue.remove_number(number);
+                close_at(&mut self.slab, &mut self.keys, key, name);
+            }
+            None => {}
+        }
+    }
+
+    /// Takes a message that is counted from the queue of this name, if there is one, and counts it no more; and then the
+    /// queue out if it is idle. It takes no memory.
+    pub fn take_counted(&mut self, name: &Text, number: u64)
+        ensures { Sets (queue_at self.old) (queue_at self.new) name.now
+            (option_and_then (taken_counted number) (queue_at self.old name.now)) }
+    {
+        match find_queue(&self.slab, &self.keys, self.last, name) {
+            Some(key) => {
+                self.last = key;
+                self.slab[key].queue.remove_counted(number);
                 close_at(&mut self.slab, &mut self.keys, key, name);
             }
             None => {}

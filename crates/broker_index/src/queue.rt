@@ -6,6 +6,7 @@
 ghost use Rattle.std.specs.Prelude.{◌≡◌, ◌<◌, ◌++◌, ◌∷◌, ◌^◌, ◌-◌, [], ◌≤◌, ◌⊎◌, All, IfSome, OnOk, OnErr};
 ghost use Rattle.std.specs.List.{find};
 ghost use Rattle.broker_index.specs.Index.{counting_fewer, empty_queue, is_from, is_idle, with_counted, without};
+ghost use Rattle.broker_index.specs.Index.{without_counted};
 
 use crate::Place;
 use crate::numbers::Places;
@@ -129,6 +130,13 @@ impl StoredQueue {
         ensures { self.new ≡ counting_fewer self.old }
     {
         self.count = self.count.saturating_sub(1);
+    }
+
+    pub(crate) fn remove_counted(&mut self, number: u64)
+        ensures { self.new ≡ without_counted number self.old }
+    {
+        self.remove_number(number);
+        self.lower_count();
     }
 
     pub(crate) fn set_ready_from(&mut self, number: u64)

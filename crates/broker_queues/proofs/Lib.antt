@@ -30,6 +30,7 @@ pub mod Rising
 pub mod Running
 pub mod Searching
 pub mod Setting
+pub mod Settling
 pub mod Subscribing
 pub mod Sweeping
 pub mod Swept

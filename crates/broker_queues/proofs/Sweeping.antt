@@ -35,7 +35,7 @@ use Rattle.broker_queues.proofs.Subscribing.{itself, name_parts, out_passes}
 abbrev pub between : (List ℕ → Option Queue) → List ℕ → ℕ → List ℕ → Option Queue
 between queues name n d = if bytes_eq name d then option_map (without_number n) (queues d) else queues d
 
-isnt : (name d : List ℕ) → (d ≡ name → ⊥) → bytes_eq name d ≡ false
+pub isnt : (name d : List ℕ) → (d ≡ name → ⊥) → bytes_eq name d ≡ false
 isnt name d differs = false_from_ne_true (bytes_eq name d) (λ on. differs (sym ((bytes_eq-Decides name d).0 on)))
 
 pub taken_first : (queues : List ℕ → Option Queue) (name : List ℕ) (n : ℕ)

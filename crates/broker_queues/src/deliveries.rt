@@ -16,7 +16,7 @@ ghost use Rattle.broker_queues.specs.Parts.Storing.{AnswersAlone, Clears, NoneGo
 ghost use Rattle.broker_queues.specs.Parts.Storing.{is_stale, notes_more};
 ghost use Rattle.broker_queues.specs.Parts.Undoing.{is_out_fate};
 ghost use Rattle.broker_queues.specs.Parts.Whole.{IsSound};
-ghost use Rattle.std.specs.Prelude.{◌&&◌, ◌==◌, ◌≡◌, ◌≤◌, find, length};
+ghost use Rattle.std.specs.Prelude.{◌&&◌, ◌==◌, ◌≡◌, ◌≤◌, false, find, length};
 ghost use Rattle.std.specs.Str.{bytes_eq};
 
 use crate::destinations::{credit, mark};
@@ -337,11 +337,44 @@ impl Parts {
         self.first_covered_in(subscriber.entries(), subscription, answered)
     }
 
-    /// Takes back one delivery to the subscriber at a place, forgets it, and takes its message out if that is gone
-    /// then. It takes no memory.
+    /// Acknowledges one delivery to the subscriber at a place: the delivery is forgotten, and its message taken out. It
+    /// takes no memory.
+    ///
+    /// The message isn't put down as gone before: so its queue counts and lists it no more by one look.
+    fn settle(&mut self, entry: &Entry, holder: &Place)
+        ensures { AnswersAlone (holding_of self.old) holder.now.number entry.now.number false (holding_of self.new) }
+    {
+        let Some(stored) = self.messages.get(entry.number, entry.key) else {
+            return;
+        };
+        let Some(subscriber) = self.subscribers.get(holder.number, holder.key) else {
+            return;
+        };
+        credit(
+            &mut self.destinations,
+            &mut self.active,
+            subscriber.subscription().destination.get(),
+            holder.number,
+        );
+        let count = subscriber.count().saturating_sub(1);
+        // The queue first: the name that it is found by is the message's own.
+        self.destinations
+            .take_counted(&stored.sent().get().destination, entry.number);
+        self.messages.remove(entry.number, entry.key);
+        self.subscribers.set_count(holder.number, holder.key, count);
+        self.subscribers
+            .forget(holder.number, holder.key, entry.number);
+    }
+
+    /// Takes back one delivery to the subscriber at a place, and forgets it: its message is ready again, or else taken
+    /// out. It takes no memory.
     fn answer_alone(&mut self, entry: &Entry, place: &Place, again: bool)
         ensures { AnswersAlone (holding_of self.old) place.now.number entry.now.number again (holding_of self.new) }
     {
+        if !again {
+            self.settle(entry, place);
+            return;
+        }
         self.take_back(entry.number, entry.key, place.number, place.key, again);
         self.subscribers
             .forget(place.number, place.key, entry.number);

@@ -1,5 +1,5 @@
-use Rattle.std.proofs.Common.{◌≡◌, ap, ◌∙◌}
-use Rattle.broker_index.specs.Index.{queue_at, without_number}
+use Rattle.std.proofs.Common.{◌≡◌, ap, refl, ◌∙◌}
+use Rattle.broker_index.specs.Index.{queue_at, taken_number, without_number}
 use Rattle.broker_index.specs.Named.{queues_in}
 use Rattle.broker_index.specs.declared.destinations.Destination.{Destination}
 use Rattle.broker_index.proofs.Named.{Sets-changed, Sets-none_taken, Sets-taken, still_indexed, still_there}
@@ -22,7 +22,8 @@ returns-in-Some c =
     let found = c.in-Some.ensures.found in
     let same : c.index_mut.result.now ≡ found.0 = cc (c.index_mut.ensures.value, found.1) in
     rw (← c.self.view_is)
-    (Sets-taken _ _ (queue_at (queues_in c.close_at.new.slab.slots)) c.args.name.now c.args.number
+    (Sets-taken _ _ (queue_at (queues_in c.close_at.new.slab.slots)) c.args.name.now
+    (without_number c.args.number) (taken_number c.args.number) (λ q. refl)
     (Sets-changed c.self.inside.slab c.self.inside.keys c.self.invariant.found c.in-Some.key c.index_mut.result.now
     c.index_mut.ensures.value
     c.remove_number.new.self c.args.name.now (without_number c.args.number)
@@ -32,4 +33,5 @@ returns-in-Some c =
 
 pub returns-in-None : goal.returns-in-None
 returns-in-None c =
-    rw (← c.self.view_is) (Sets-none_taken c.self.inside.slab c.args.name.now c.args.number c.in-None.ensures.absent)
+    rw (← c.self.view_is) (Sets-none_taken c.self.inside.slab c.args.name.now (taken_number c.args.number)
+    c.in-None.ensures.absent)
