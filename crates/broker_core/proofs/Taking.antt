@@ -1,13 +1,13 @@
 -- What the decoder answers, as what a session takes.
-use Rattle.std.proofs.Common.{◌≡◌, Bool, false, sym, ap, ◌∙◌}
-use Rattle.std.specs.Prelude.{Option, Some, None, Ok, Err}
+use Rattle.std.proofs.Common.{◌≡◌, Bool, true, false, refl, sym, ap, ◌∙◌}
+use Rattle.std.specs.Prelude.{Option, Some, None, Result, Ok, Err}
 use Rattle.base.specs.declared.limits.TheConstants.{MAX_BODY}
 use Rattle.stomp_frame.specs.Decoding.{Held, Nexts}
 use Rattle.stomp_frame.specs.Frames.{Content}
 use Rattle.stomp_frame.specs.declared.fault.FrameFault.{FrameFault}
 use Rattle.stomp_frame.specs.declared.fault.FrameFault.TheVariants.{Memory, Failed}
-use Rattle.broker_core.specs.Feeding.{DecidesNext, MeetsFault, answer_of, read, now, before}
-use Rattle.broker_core.specs.Parts.Taking.{is_memory}
+use Rattle.broker_core.specs.Feeding.{DecidesNext, HasNone, MeetsFault, answer_of, read, now, before}
+use Rattle.broker_core.specs.Parts.Taking.{NextAnswer, is_memory}
 use Rattle.broker_core.specs.Serving.{Decided}
 use Rattle.broker_core.specs.declared.incoming.Incoming.{Incoming}
 
@@ -29,3 +29,37 @@ pub meets : (old new : Incoming) (fault : FrameFault) → is_memory fault ≡ fa
 meets old new Memory e w v n = cc
 meets old new Failed e w v n = before w n.0 (same old new w v n.1)
 meets old new fault e w v n = now fault w n.0 n.2 v n.1
+
+finds_none : (old new : Incoming) → old.waiting ≡ None → new.waiting ≡ None
+    → Nexts MAX_BODY old.decoder new.decoder (Ok None) → HasNone old new
+finds_none old new w v n = record {
+  none_waits = w;
+  sound = n.0;
+  no_frame = n.2;
+  no_fault = n.3;
+  gap = n.5;
+  is_gap = n.6;
+  octets = n.7;
+  still_sound = n.1;
+  still_none = v;
+}
+
+pub decodes : (connected : Bool) (old new : Incoming) (r : Result (Option Content) FrameFault) → old.waiting ≡ None
+    → new.waiting ≡ None
+    → Nexts MAX_BODY old.decoder new.decoder r → NextAnswer connected old new r
+decodes connected old new (Ok (Some f)) w v n = reads connected old new f (answer_of connected f) w v n refl
+decodes connected old new (Ok None) w v n = finds_none old new w v n
+decodes connected old new (Err Memory) w v n = same old new w v n.1
+decodes connected old new (Err fault) w v n = meets old new fault refl w v n
+
+-- ---- what a fault that was answered says
+
+pub no_memory : (connected : Bool) (old new : Incoming) (fault : FrameFault) → is_memory fault ≡ true
+    → NextAnswer connected old new (Err fault) → new ≡ old
+no_memory connected old new Memory e n = n
+no_memory connected old new fault e n = cc
+
+pub met : (connected : Bool) (old new : Incoming) (fault : FrameFault) → is_memory fault ≡ false
+    → NextAnswer connected old new (Err fault) → MeetsFault old new
+met connected old new Memory e n = cc
+met connected old new fault e n = n

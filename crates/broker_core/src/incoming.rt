@@ -1,7 +1,7 @@
 //! What a session was fed.
 
-ghost use Rattle.std.specs.Prelude.{◌≡◌, ◌<◌, Bool, None};
-ghost use Rattle.broker_core.specs.Feeding.{answer_of};
+ghost use Rattle.std.specs.Prelude.{◌≡◌, ◌<◌, Bool, None, true, is_some};
+ghost use Rattle.broker_core.specs.Feeding.{DecidesNext, answer_of};
 ghost use Rattle.broker_core.specs.Parts.Taking.{NextAnswer, PieceAnswer, is_memory, left_of};
 ghost use Rattle.broker_core.specs.Serving.{nothing_incoming};
 
@@ -16,15 +16,6 @@ use stomp_session::{Refused, ServerSession};
 pub struct Incoming {
     pub decoder: Decoder<MAX_BODY>,
     pub waiting: Option<Result<Asked, Refused>>,
-}
-
-/// The next frame as it came, or what waited, as it was decided; or none, or a fault of the octets.
-#[derive(Debug, Drop)]
-pub enum Next {
-    Frame(Frame<MAX_BODY>),
-    Waited(Result<Asked, Refused>),
-    Nothing,
-    Fault(FrameFault),
 }
 
 impl Incoming {
@@ -54,36 +45,24 @@ impl Incoming {
         }
     }
 
-    /// Takes the next frame out: what waits, or else the frame that begins the octets.
-    pub fn next(&mut self) -> Result<Next, AllocError>
-        ensures { (connected : Bool) → NextAnswer connected self.old self.new result }
+    /// Takes what waits out.
+    pub fn take_waiting(&mut self) -> Result<Asked, Refused>
+        requires { is_some self.old.waiting ≡ true }
+        ensures { (connected : Bool) → DecidesNext connected self.old result self.new }
     {
-        // Looked at before it is taken: mostly nothing waits, and what might is large to move.
-        if self.waiting.is_none() {
-            return self.decode();
-        }
         match self.waiting.take() {
-            Some(decided) => Ok(Next::Waited(decided)),
+            Some(decided) => decided,
             None => unreachable!(),
         }
     }
 
     /// Takes the frame that begins the octets out, where nothing waits.
-    fn decode(&mut self) -> Result<Next, AllocError>
+    #[tactic(auto, using(crate::proofs::Taking::decodes))]
+    pub fn decode(&mut self) -> Result<Option<Frame<MAX_BODY>>, FrameFault>
         requires { self.old.waiting ≡ None }
         ensures { (connected : Bool) → NextAnswer connected self.old self.new result }
     {
-        match self.decoder.next() {
-            Ok(Some(frame)) => Ok(Next::Frame(frame)),
-            Ok(None) => Ok(Next::Nothing),
-            Err(fault) => {
-                if is_memory(fault) {
-                    Err(AllocError)
-                } else {
-                    Ok(Next::Fault(fault))
-                }
-            }
-        }
+        self.decoder.next()
     }
 
     /// More than what can still be taken.
@@ -110,7 +89,8 @@ pub fn decide(server: ServerSession, frame: Frame<MAX_BODY>) -> Result<Asked, Re
     }
 }
 
-fn is_memory(fault: FrameFault) -> bool
+/// Whether a fault is want of memory.
+pub fn is_memory(fault: FrameFault) -> bool
     ensures { result ≡ is_memory fault }
 {
     matches!(fault, FrameFault::Memory)

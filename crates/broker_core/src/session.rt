@@ -1,18 +1,19 @@
 //! A session of a broker.
 
-ghost use Rattle.std.specs.Prelude.{◌≡◌, ◌<◌, true, false, IfOk, IfErr, OnOk, OnErr};
+ghost use Rattle.std.specs.Prelude.{◌≡◌, ◌<◌, true, false, None, is_some, IfOk, IfErr, OnOk, OnErr};
 ghost use Rattle.std.specs.Option.{option_copied};
 ghost use Rattle.stomp_session.specs.Replies.{Delivered, message_frame};
 ghost use Rattle.broker_core.specs.Calls.{named, new_session};
 ghost use Rattle.broker_core.specs.Parts.Asked.{is_ready, request_in};
 ghost use Rattle.broker_core.specs.Feeding.{answer_of};
+ghost use Rattle.broker_core.specs.declared.fault.FrameRefusal.TheVariants.{BadFrame};
 ghost use Rattle.broker_core.specs.Parts.Taking.{PartTurn, SessionPieceAnswer, keeping, left_of};
 ghost use Rattle.broker_core.specs.Serving.{Part, part, served, refused, closing, closing_if, closed_of, writing};
 
 use crate::asked::{Asked, Form};
 use crate::detail::{Detail, detail_of};
 use crate::fault::HandlerFault;
-use crate::incoming::{Incoming, Next, decide};
+use crate::incoming::{Incoming, decide, is_memory};
 use crate::perform::perform;
 use crate::written::Written;
 use crate::{FrameRefusal, SessionId};
@@ -20,7 +21,7 @@ use base::limits::MAX_BODY;
 use broker_queues::Queues;
 use broker_tx::Transactions;
 use std::alloc::{AllocError, Global};
-use stomp_frame::Frame;
+use stomp_frame::{Frame, FrameFault};
 use stomp_session::{Delivery, Refused, ServerSession, receipt_told};
 
 /// A session: `out` are the octets not yet taken, and `fresh` tells whether some were written since the session was
@@ -78,22 +79,59 @@ impl Session {
         if self.closed {
             return Ok(false);
         }
-        match self.incoming.next()? {
-            Next::Nothing => Ok(false),
-            Next::Fault(fault) => {
-                self.refuse(alloc, queues, FrameRefusal::BadFrame, None)?;
-                *detail = Some(Detail::Octets(fault));
-                Ok(false)
-            }
-            Next::Frame(frame) => {
+        // Looked at before it is taken: mostly nothing waits, and what might is large to move.
+        if self.incoming.waiting.is_some() {
+            return self.resume(alloc, queues, detail);
+        }
+        match self.incoming.decode() {
+            Ok(Some(frame)) => {
                 self.handle(alloc, queues, frame, detail)?;
                 Ok(true)
             }
-            Next::Waited(decided) => {
-                self.handle_decided(alloc, queues, decided, detail)?;
-                Ok(true)
+            Ok(None) => Ok(false),
+            Err(fault) => {
+                if is_memory(fault) {
+                    return Err(AllocError);
+                }
+                self.tell(alloc, queues, fault, detail)?;
+                Ok(false)
             }
         }
+    }
+
+    /// Does what waited: in a function of its own, as what else is rare, so that a frame doesn't clear its room on the
+    /// stack.
+    #[inline(never)]
+    fn resume<const FULL: usize>(
+        &mut self,
+        alloc: Global,
+        queues: &mut Queues<FULL>,
+        detail: &mut Option<Detail>,
+    ) -> Result<bool, AllocError>
+        requires is_open { self.old.closed ≡ false }
+        requires waits { is_some self.old.incoming.waiting ≡ true }
+        ensures { PartTurn FULL (part queues.old self.old) (part queues.new self.new) result }
+    {
+        let decided = self.incoming.take_waiting();
+        self.handle_decided(alloc, queues, decided, detail)?;
+        Ok(true)
+    }
+
+    /// Ends the session for a fault of its octets, or changes nothing.
+    #[inline(never)]
+    fn tell<const FULL: usize>(
+        &mut self,
+        alloc: Global,
+        queues: &mut Queues<FULL>,
+        fault: FrameFault,
+        detail: &mut Option<Detail>,
+    ) -> Result<(), AllocError>
+        ensures ok { OnOk result (part queues.new self.new ≡ refused BadFrame None (part queues.old self.old)) }
+        ensures err { OnErr result ((queues.new ≡ queues.old) × (self.new ≡ self.old)) }
+    {
+        self.refuse(alloc, queues, FrameRefusal::BadFrame, None)?;
+        *detail = Some(Detail::Octets(fault));
+        Ok(())
     }
 
     /// Has it named: what was written is no longer fresh.
@@ -176,6 +214,23 @@ impl Session {
         if self.acks(queues, &frame) {
             return Ok(());
         }
+        self.handle_whole(alloc, queues, frame, detail)
+    }
+
+    /// The same of any frame.
+    #[inline(never)]
+    fn handle_whole<const FULL: usize>(
+        &mut self,
+        alloc: Global,
+        queues: &mut Queues<FULL>,
+        frame: Frame<MAX_BODY>,
+        detail: &mut Option<Detail>,
+    ) -> Result<(), AllocError>
+        ensures ok { OnOk result (part queues.new self.new ≡ served FULL (answer_of self.old.server frame)
+            (part queues.old self.old)) }
+        ensures err { OnErr result ((queues.new ≡ queues.old)
+            × (self.new ≡ keeping (answer_of self.old.server frame) self.old)) }
+    {
         let decided = decide(self.server, frame);
         self.handle_decided(alloc, queues, decided, detail)
     }

@@ -1,6 +1,7 @@
 -- What the parts of `feed` and of the other calls answer.
 use Rattle.std.specs.Prelude.{◌≡◌, ◌≢◌, ℕ, ◌+◌, ◌<◌, Bool, true, false, List, [], length, Option, Some, None, is_some}
 use Rattle.std.specs.Prelude.{Result, Ok, Err}
+use Rattle.stomp_frame.specs.Frames.{Content}
 use Rattle.stomp_frame.specs.declared.fault.FrameFault.{FrameFault}
 use Rattle.stomp_frame.specs.declared.fault.FrameFault.TheVariants.{Memory}
 use Rattle.broker_tx.specs.First.{IsFirstAt, PassesNone}
@@ -15,8 +16,6 @@ use Rattle.broker_core.specs.declared.fault.HandlerFault.TheVariants.{Refused as
 use Rattle.broker_core.specs.declared.fault.FrameRefusal.{FrameRefusal}
 use Rattle.broker_core.specs.declared.fault.FrameRefusal.TheVariants.{BadFrame}
 use Rattle.broker_core.specs.declared.incoming.Incoming.{Incoming}
-use Rattle.broker_core.specs.declared.incoming.Next.{Next}
-use Rattle.broker_core.specs.declared.incoming.Next.TheVariants.{Frame, Waited, Nothing, Fault}
 use Rattle.broker_core.specs.declared.session.Session.{Session}
 use Rattle.broker_book.specs.declared.fault.QueueFault.{QueueFault}
 use Rattle.broker_book.specs.declared.fault.QueueFault.TheVariants.{Memory as NoRoom}
@@ -56,13 +55,12 @@ SessionPieceAnswer piece old new (Ok _) = new ≡ taking piece old
 SessionPieceAnswer piece old new (Err _) =
     (old.closed ≡ false) × (old.incoming.decoder.failed ≡ false) × (piece ≢ []) × (new ≡ old)
 
--- The next frame was taken, or what waited; or there is none, or a fault. Where memory was refused nothing has changed.
-abbrev pub NextAnswer : {E : Type 0} → Bool → Incoming → Incoming → Result Next E → Type 0
-NextAnswer connected old new (Ok (Frame f)) = DecidesNext connected old (answer_of connected f) new
-NextAnswer connected old new (Ok (Waited decided)) = DecidesNext connected old decided new
-NextAnswer connected old new (Ok Nothing) = HasNone old new
-NextAnswer connected old new (Ok (Fault _)) = MeetsFault old new
-NextAnswer connected old new (Err _) = new ≡ old
+-- The next frame was taken; or there is none, or a fault. Where memory was refused nothing has changed.
+abbrev pub NextAnswer : Bool → Incoming → Incoming → Result (Option Content) FrameFault → Type 0
+NextAnswer connected old new (Ok (Some f)) = DecidesNext connected old (answer_of connected f) new
+NextAnswer connected old new (Ok None) = HasNone old new
+NextAnswer connected old new (Err Memory) = new ≡ old
+NextAnswer connected old new (Err fault) = MeetsFault old new
 
 -- whether a fault of the decoder is want of memory
 abbrev pub is_memory : FrameFault → Bool

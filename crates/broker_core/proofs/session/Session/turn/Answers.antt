@@ -1,66 +1,56 @@
-use Rattle.std.proofs.Common.{true, refl}
+use Rattle.std.proofs.Common.{true, refl, sym, ◌∙◌}
 use Rattle.std.proofs.lemmas.Result.{err_from_is_err_and}
 use Rattle.broker_core.specs.Feeding.{answer_of}
 use Rattle.broker_core.specs.Parts.Taking.{before_frame, has_none, met_fault, untold, waits}
+use Rattle.broker_core.proofs.Taking.{met, no_memory}
 use Rattle.broker_core.proofs.session.Session.turn.Goals as goal
 
-pub returns-in_err-next : goal.returns-in_err-next
-returns-in_err-next g c =
+pub returns-in_err-handle-in-Ok-Some : goal.returns-in_err-handle-in-Ok-Some
+returns-in_err-handle-in-Ok-Some g c =
     let p = err_from_is_err_and c.from_residual.result c.from_residual.ensures.1 in
-    rw (p.1, c.in_err-next.ensures true) (before_frame refl)
-
-pub returns-in_err-refuse-in-Fault : goal.returns-in_err-refuse-in-Fault
-returns-in_err-refuse-in-Fault g c =
-    let p = err_from_is_err_and c.from_residual-in_err-refuse-in-Fault.result
-    c.from_residual-in_err-refuse-in-Fault.ensures.1 in
-    let e = c.in_err-refuse-in-Fault.ensures.err in
-    rw (p.1, e.0, e.1)
-    (untold c.next.new.self c.if-self.false ((rw c.in-Fault.is at c.in_ok-next.ensures) c.args.self.now.server) refl)
-
-pub returns-in_err-handle-in-Frame : goal.returns-in_err-handle-in-Frame
-returns-in_err-handle-in-Frame g c =
-    let p = err_from_is_err_and c.from_residual-in_err-handle-in-Frame.result
-    c.from_residual-in_err-handle-in-Frame.ensures.1 in
-    let e = c.in_err-handle-in-Frame.ensures.err in
+    let e = c.in_err-handle-in-Ok-Some.ensures.err in
     let server = c.args.self.now.server in
     rw (p.1, e.0, e.1)
-    (waits (answer_of server c.in-Frame.frame) c.next.new.self c.if-self.false
-    ((rw c.in-Frame.is at c.in_ok-next.ensures) server) refl)
+    (waits (answer_of server c.in-Ok-Some.frame) c.decode.new.self c.if-self.false
+    ((rw c.in-Ok-Some.field-0-is at c.in-Ok-Some.ensures) server) refl)
 
-pub returns-in_err-handle_decided-in-Waited : goal.returns-in_err-handle_decided-in-Waited
-returns-in_err-handle_decided-in-Waited g c =
-    let p = err_from_is_err_and c.from_residual-in_err-handle_decided-in-Waited.result
-    c.from_residual-in_err-handle_decided-in-Waited.ensures.1 in
-    let e = c.in_err-handle_decided-in-Waited.ensures.err in
+pub returns-then-is_memory : goal.returns-then-is_memory
+returns-then-is_memory g c =
+    let server = c.args.self.now.server in
+    rw (no_memory server c.args.self.now.incoming c.decode.new.self c.in-Err.fault
+    (sym c.is_memory.ensures ∙ c.if-is_memory.true) (c.in-Err.ensures server))
+    (before_frame refl)
+
+pub returns-in_err-tell-in-Err : goal.returns-in_err-tell-in-Err
+returns-in_err-tell-in-Err g c =
+    let p = err_from_is_err_and c.from_residual-in_err-tell-in-Err.result
+    c.from_residual-in_err-tell-in-Err.ensures.1 in
+    let e = c.in_err-tell-in-Err.ensures.err in
+    let server = c.args.self.now.server in
     rw (p.1, e.0, e.1)
-    (waits c.in-Waited.decided c.next.new.self c.if-self.false
-    ((rw c.in-Waited.is at c.in_ok-next.ensures) c.args.self.now.server) refl)
+    (untold c.decode.new.self c.if-self.false
+    (met server c.args.self.now.incoming c.decode.new.self c.in-Err.fault
+    (sym c.is_memory.ensures ∙ c.if-is_memory.false) (c.in-Err.ensures server)) refl)
 
-pub returns-in-Nothing : goal.returns-in-Nothing
-returns-in-Nothing g c =
-    has_none c.next.new.self c.if-self.false ((rw c.in-Nothing.is at c.in_ok-next.ensures) c.args.self.now.server) refl
-
-pub returns-in_ok-refuse-in-Fault : goal.returns-in_ok-refuse-in-Fault
-returns-in_ok-refuse-in-Fault g c =
-    met_fault c.next.new.self c.if-self.false ((rw c.in-Fault.is at c.in_ok-next.ensures) c.args.self.now.server)
-    c.in_ok-refuse-in-Fault.ensures.ok
-
-pub returns-in_ok-handle-in-Frame : goal.returns-in_ok-handle-in-Frame
-returns-in_ok-handle-in-Frame g c =
+pub returns-in_ok-handle-in-Ok-Some : goal.returns-in_ok-handle-in-Ok-Some
+returns-in_ok-handle-in-Ok-Some g c =
     let server = c.args.self.now.server in
     record {
-      decided = answer_of server c.in-Frame.frame;
-      left = c.next.new.self;
+      decided = answer_of server c.in-Ok-Some.frame;
+      left = c.decode.new.self;
       is_open = c.if-self.false;
-      takes = (rw c.in-Frame.is at c.in_ok-next.ensures) server;
-      changed = c.in_ok-handle-in-Frame.ensures.ok;
+      takes = (rw c.in-Ok-Some.field-0-is at c.in-Ok-Some.ensures) server;
+      changed = c.in_ok-handle-in-Ok-Some.ensures.ok;
     }
 
-pub returns-in_ok-handle_decided-in-Waited : goal.returns-in_ok-handle_decided-in-Waited
-returns-in_ok-handle_decided-in-Waited g c = record {
-  decided = c.in-Waited.decided;
-  left = c.next.new.self;
-  is_open = c.if-self.false;
-  takes = (rw c.in-Waited.is at c.in_ok-next.ensures) c.args.self.now.server;
-  changed = c.in_ok-handle_decided-in-Waited.ensures.ok;
-}
+pub returns-in-Ok-None : goal.returns-in-Ok-None
+returns-in-Ok-None g c =
+    has_none c.decode.new.self c.if-self.false ((rw c.in-Ok-None.field-0-is at c.in-Ok-None.ensures) c.args.self.now.server) refl
+
+pub returns-in_ok-tell-in-Err : goal.returns-in_ok-tell-in-Err
+returns-in_ok-tell-in-Err g c =
+    let server = c.args.self.now.server in
+    met_fault c.decode.new.self c.if-self.false
+    (met server c.args.self.now.incoming c.decode.new.self c.in-Err.fault
+    (sym c.is_memory.ensures ∙ c.if-is_memory.false) (c.in-Err.ensures server))
+    c.in_ok-tell-in-Err.ensures.ok
