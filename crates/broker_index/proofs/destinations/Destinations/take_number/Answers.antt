@@ -14,8 +14,8 @@ pub close_at-requires-clause-there : goal.close_at-requires-clause-there
 close_at-requires-clause-there c =
     let found = c.in-Some.ensures.found in
     let same : c.index_mut.result.now ≡ found.0 = cc (c.index_mut.ensures.value, found.1) in
-    still_there c.self.inside.slab c.self.inside.keys c.self.invariant.found c.in-Some.key c.index_mut.result.now c.index_mut.ensures.value c.remove_number.new.self
-    c.args.name.now (ap (λ (d : Destination). d.name) same ∙ found.2)
+    still_there c.self.inside.slab c.self.inside.keys c.self.invariant.found c.in-Some.key c.index_mut.result.now
+    c.index_mut.ensures.value c.remove_number.new.self c.args.name.now (ap (λ (d : Destination). d.name) same ∙ found.2)
 
 pub returns-in-Some : goal.returns-in-Some
 returns-in-Some c =
