@@ -1,7 +1,8 @@
 -- An answer that counts for one delivery alone: it is taken back, and no other is looked at.
 use Rattle.std.proofs.Common.{◌≡◌, ℕ, Bool, true, false, List, [], ◌∷◌, map, Option, Some, None, Ok, refl, sym, ap, ◌∙◌}
 use Rattle.std.proofs.Common.{inl, inr}
-use Rattle.std.specs.Prelude.{◌==◌, ◌&&◌, find}
+use Rattle.std.specs.Prelude.{◌==◌, ◌&&◌, find, slice_get}
+use Rattle.std.specs.List.{list_any}
 use Rattle.std.specs.Option.{option_map}
 use Rattle.std.specs.Str.{bytes_eq}
 use Rattle.std.proofs.lemmas.Bool.{cases_Bool, cases_eq, and_parts, eq-eqb, eqb-true}
@@ -9,12 +10,13 @@ use Rattle.broker_book.specs.declared.parts.Accepted.{Accepted}
 use Rattle.broker_book.specs.declared.parts.Mode.{Mode}
 use Rattle.broker_book.specs.declared.parts.Mode.TheVariants.{Auto, Client, Individual}
 use Rattle.broker_book.specs.declared.parts.Subscription.{Subscription}
-use Rattle.broker_book.specs.Books.{Fate, Ready, Out, out_to, reaches}
+use Rattle.broker_book.specs.Books.{Fate, Ready, Out, out_as, out_to, reaches}
 use Rattle.broker_book.specs.Steps.{covered}
 use Rattle.broker_index.specs.Index.{Kept, Subscriber, has_age, without_entries}
 use Rattle.broker_index.specs.declared.places.Entry.{Entry}
 use Rattle.broker_index.specs.declared.places.Place.{Place}
-use Rattle.broker_queues.specs.Parts.Fates.{back, counts_alone, fate_of_kept, fated, is_covered, is_held_at, passes}
+use Rattle.broker_queues.specs.Parts.Fates.{back, counts_alone, fate_of_kept, fated, is_covered, is_held, is_held_at, passes}
+use Rattle.broker_queues.specs.Parts.Fates.{is_held_of}
 use Rattle.broker_queues.specs.Parts.Fates.{recounted, sole_covered, turn_among}
 use Rattle.broker_queues.specs.Parts.Held.{Turns, step_of}
 use Rattle.broker_queues.specs.Parts.Facts.{kept_at, notes, subscriber_at}
@@ -22,7 +24,7 @@ use Rattle.broker_queues.specs.Parts.Storing.{AnsweredAlone, AnswersAlone, Forge
 use Rattle.broker_queues.specs.Parts.Whole.{Changes, Holding, IsSound, book_of}
 use Rattle.broker_queues.proofs.Answering.{covered_out, noted_by}
 use Rattle.broker_queues.proofs.Changing.{changed}
-use Rattle.broker_queues.proofs.Finding.{find_map, find_passes}
+use Rattle.broker_queues.proofs.Finding.{any_implies, find_map, find_passes, none_found}
 use Rattle.broker_queues.proofs.Rising.{at_edit, at_edit_other, map_same}
 use Rattle.broker_queues.proofs.Sweeping.{answered, forgot, tidies}
 use Rattle.broker_queues.proofs.Turning.{turned_one, turns_none, uncovered}
@@ -101,6 +103,55 @@ out_under s answered (Some (Out x i n)) alone on =
       id = i;
       out = ap (λ m. Some (Out x i m)) (reached s.mode answered n alone parts.1);
     }
+
+-- so it is out to the subscription as that delivery
+covered_as : (s : Subscription) (answered : ℕ) (f : Option Fate) → counts_alone s.mode ≡ true
+    → passes (covered s answered) f ≡ true → passes (out_as s.session s.id answered) f ≡ true
+covered_as s answered None alone on = let never : false ≡ true = on in cc
+covered_as s answered (Some Ready) alone on = let never : false ≡ true = on in cc
+covered_as s answered (Some (Out x i n)) alone on =
+    let parts = and_parts (x == s.session && bytes_eq i s.id) (reaches s.mode answered n) on in
+    let name = and_parts (x == s.session) (bytes_eq i s.id) parts.0 in
+    let number : (n == answered) ≡ true = eq-eqb n answered (reached s.mode answered n alone parts.1) in
+    rw (name.0, name.1, number) refl
+
+-- what an answer counts for alone is held
+pub sole_is_held : (kept : List Kept) (subscribers : List Subscriber) (answered : ℕ) (p : Place) (e : Entry)
+    → sole_covered kept answered (subscriber_at p.number subscribers) ≡ Some e
+    → is_held_at kept subscribers answered p ≡ true
+sole_is_held kept subscribers answered p e is = by_subscriber (subscriber_at p.number subscribers) is
+  where
+    among : (s : Subscriber) → counts_alone s.subscription.mode ≡ true
+        → find (is_covered kept s.subscription answered) s.entries ≡ Some e → is_held kept answered s ≡ true
+    among s alone first = elim (cases_Bool (list_any (is_covered kept s.subscription answered) s.entries)) [
+      | inl on ↦ any_implies (is_covered kept s.subscription answered)
+          (λ x. passes (out_as s.subscription.session s.subscription.id answered)
+          (fate_of_kept (kept_at x.number kept)))
+          (λ x covers. covered_as s.subscription answered (fate_of_kept (kept_at x.number kept)) alone covers) s.entries
+          on
+      | inr off ↦
+          let never : None ≡ Some e = sym (none_found (is_covered kept s.subscription answered) s.entries off) ∙ first in
+          cc
+    ]
+
+    by_subscriber : (o : Option Subscriber) → sole_covered kept answered o ≡ Some e
+        → is_held_of kept answered o ≡ true
+    by_subscriber None is2 = let never : None ≡ Some e = is2 in cc
+    by_subscriber (Some s) is2 = elim (cases_Bool (counts_alone s.subscription.mode)) [
+      | inl alone ↦ among s alone (rw alone at is2)
+      | inr more ↦ let never : None ≡ Some e = rw more at is2 in cc
+    ]
+
+-- the first of places is the one that holds it, where it does
+pub first_holds : (kept : List Kept) (subscribers : List Subscriber) (answered : ℕ) (ps : List Place) (p : Place)
+    → slice_get ps 0 ≡ Some p → is_held_at kept subscribers answered p ≡ true
+    → find (is_held_at kept subscribers answered) ps ≡ Some p
+first_holds kept subscribers answered [] p first on = let never : None ≡ Some p = first in cc
+first_holds kept subscribers answered (q ∷ ps) p first on =
+    let both : Some q ≡ Some p = first in
+    let same : q ≡ p = cc in
+    let held : is_held_at kept subscribers answered q ≡ true = rw same on in
+    rw held (ap (λ x. Some x) same)
 
 -- The delivery that was found, and its message.
 record IsSole (h : Holding) (age answered n : ℕ) : Type 0 where

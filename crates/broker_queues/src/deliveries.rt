@@ -16,7 +16,7 @@ ghost use Rattle.broker_queues.specs.Parts.Storing.{AnswersAlone, Clears, NoneGo
 ghost use Rattle.broker_queues.specs.Parts.Storing.{is_stale, notes_more};
 ghost use Rattle.broker_queues.specs.Parts.Undoing.{is_out_fate};
 ghost use Rattle.broker_queues.specs.Parts.Whole.{IsSound};
-ghost use Rattle.std.specs.Prelude.{◌&&◌, ◌==◌, ◌≡◌, ◌≤◌, false, find, length};
+ghost use Rattle.std.specs.Prelude.{◌&&◌, ◌==◌, ◌≡◌, ◌≤◌, IfSome, Some, false, find, length, slice_get};
 ghost use Rattle.std.specs.Str.{bytes_eq};
 
 use crate::destinations::{credit, mark};
@@ -85,6 +85,20 @@ pub fn is_out(standing: &Standing) -> bool
     match standing {
         Standing::Out(_) => true,
         Standing::Ready | Standing::Gone => false,
+    }
+}
+
+/// The only one of these places; none, where there are more.
+fn sole_of(places: &[Place]) -> Option<Place>
+    ensures { IfSome result (λ p. slice_get places.now 0 ≡ Some p) }
+{
+    // Of more than one it isn't said which it is: to ask the first in vain would cost more than that spares.
+    if places.len() > 1 {
+        return None;
+    }
+    match places.first() {
+        Some(place) => Some(*place),
+        None => None,
     }
 }
 
@@ -402,12 +416,24 @@ impl Parts {
         }
     }
 
-    /// An ACK of a session, or a NACK where the messages are to be ready again; what is gone then is taken out. It does
-    /// the same where memory is refused.
-    ///
-    /// # Errors
-    /// Where no delivery of this number is out to the session; then nothing has changed.
-    pub fn answer_whole(&mut self, session: u64, ack: u64, again: bool) -> Result<(), QueueFault>
+    /// The delivery of this number to the only subscription of a session, and where its subscriber is, if an answer to it
+    /// counts for it alone.
+    fn sole_held(&self, session: u64, ack: u64) -> Option<(Place, Entry)>
+        ensures { IfSome result (λ r. (find (is_held_at self.now.messages self.now.subscribers ack)
+            (places_at self.now.sessions session) ≡ Some r.0)
+            × (sole_covered self.now.messages ack (subscriber_at r.0.number self.now.subscribers) ≡ Some r.1)) }
+    {
+        let Some(place) = sole_of(self.sessions.get(session)) else {
+            return None;
+        };
+        let Some(entry) = self.sole_covered(&place, ack) else {
+            return None;
+        };
+        Some((place, entry))
+    }
+
+    /// An answer of a session, whichever of its subscriptions holds the delivery.
+    fn answer_any(&mut self, session: u64, ack: u64, again: bool) -> Result<(), QueueFault>
         ensures step { Responds (holding_of self.old) session ack again (holding_of self.new) result }
         ensures taken { IsSound (holding_of self.old) → NoneGone self.old.messages → NoneGone self.new.messages }
     {
@@ -423,5 +449,23 @@ impl Parts {
         self.answer(place.number, place.key, Some(ack), again);
         self.sweep(place.number, place.key);
         Ok(())
+    }
+
+    /// An ACK of a session, or a NACK where the messages are to be ready again; what is gone then is taken out. It does
+    /// the same where memory is refused.
+    ///
+    /// # Errors
+    /// Where no delivery of this number is out to the session; then nothing has changed.
+    pub fn answer_whole(&mut self, session: u64, ack: u64, again: bool) -> Result<(), QueueFault>
+        ensures step { Responds (holding_of self.old) session ack again (holding_of self.new) result }
+        ensures taken { IsSound (holding_of self.old) → NoneGone self.old.messages → NoneGone self.new.messages }
+    {
+        // A session has mostly one subscription: then none is searched for that holds the delivery.
+        if let Some(held) = self.sole_held(session, ack) {
+            self.answer_alone(&held.1, &held.0, again);
+            self.sweep_rest(held.0.number, held.0.key);
+            return Ok(());
+        }
+        self.answer_any(session, ack, again)
     }
 }
