@@ -1,5 +1,5 @@
 -- An ACK of which nothing but its id is asked has the step of its request.
-use Rattle.std.proofs.Common.{◌≡◌, ℕ, Bool, true, false, ◌||◌, List, ◌++◌, refl, sym, ap, ◌∙◌}
+use Rattle.std.proofs.Common.{◌≡◌, ℕ, Bool, true, false, ◌||◌, List, refl, sym, ap, ◌∙◌}
 use Rattle.std.specs.Prelude.{Option, Some, Result, Ok}
 use Rattle.std.proofs.lemmas.List.{append-nil}
 use Rattle.stomp_frame.specs.Frames.{Content}
@@ -12,7 +12,7 @@ use Rattle.broker_book.specs.Steps.{ack_of}
 use Rattle.broker_book.specs.declared.fault.QueueFault.{QueueFault}
 use Rattle.broker_core.specs.Feeding.{answer_by, answer_of}
 use Rattle.broker_core.specs.Performing.{answer_now, in_book}
-use Rattle.broker_core.specs.Serving.{Part, finished, part, reached, served}
+use Rattle.broker_core.specs.Serving.{finished, part, reached, served}
 use Rattle.broker_core.specs.declared.session.Session.{Session}
 
 no_more : (b : Bool) → (b || false) ≡ b

@@ -5,11 +5,11 @@ ghost use Rattle.broker_core.specs.Feeding.{DecidesNext, answer_of};
 ghost use Rattle.broker_core.specs.Parts.Taking.{NextAnswer, PieceAnswer, is_memory, left_of};
 ghost use Rattle.broker_core.specs.Serving.{nothing_incoming};
 
-use crate::asked::{Asked, Form};
+use crate::asked::Asked;
 use base::limits::MAX_BODY;
 use std::alloc::{AllocError, Global};
 use stomp_frame::{Decoder, Frame, FrameFault};
-use stomp_session::{Refused, ServerSession};
+use stomp_session::{Refused, Request, ServerSession};
 
 /// What waits since memory was refused to it, as it was decided, and the octets behind it.
 #[derive(Debug, Drop)]
@@ -79,12 +79,12 @@ impl Incoming {
 }
 
 /// What a frame is decided to be: its parts are moved.
-pub fn decide(server: ServerSession, frame: Frame<MAX_BODY>) -> Result<Asked, Refused>
+pub fn decide(server: ServerSession, frame: Frame<MAX_BODY>) -> Result<Request, Refused>
     ensures { result ≡ answer_of server frame }
 {
     let mut server = server;
     match server.accept(frame) {
-        Ok(request) => Ok(Asked::new(Form::Whole(request))),
+        Ok(request) => Ok(request),
         Err(refused) => Err(refused),
     }
 }

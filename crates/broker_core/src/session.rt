@@ -10,7 +10,7 @@ ghost use Rattle.broker_core.specs.declared.fault.FrameRefusal.TheVariants.{BadF
 ghost use Rattle.broker_core.specs.Parts.Taking.{PartTurn, SessionPieceAnswer, keeping, left_of};
 ghost use Rattle.broker_core.specs.Serving.{Part, part, served, refused, closing, closing_if, closed_of, writing};
 
-use crate::asked::{Asked, Form};
+use crate::asked::{Asked, Form, SharedSend};
 use crate::detail::{Detail, detail_of};
 use crate::fault::HandlerFault;
 use crate::incoming::{Incoming, decide, is_memory};
@@ -22,7 +22,7 @@ use broker_queues::Queues;
 use broker_tx::Transactions;
 use std::alloc::{AllocError, Global};
 use stomp_frame::{Frame, FrameFault};
-use stomp_session::{Delivery, Refused, ServerSession, receipt_told};
+use stomp_session::{Delivery, Refused, Request, Send, ServerSession, receipt_told};
 
 /// A session: `out` are the octets not yet taken, and `fresh` tells whether some were written since the session was
 /// last named.
@@ -218,7 +218,6 @@ impl Session {
     }
 
     /// The same of any frame.
-    #[inline(never)]
     fn handle_whole<const FULL: usize>(
         &mut self,
         alloc: Global,
@@ -231,8 +230,49 @@ impl Session {
         ensures err { OnErr result ((queues.new ≡ queues.old)
             × (self.new ≡ keeping (answer_of self.old.server frame) self.old)) }
     {
-        let decided = decide(self.server, frame);
-        self.handle_decided(alloc, queues, decided, detail)
+        match decide(self.server, frame) {
+            Ok(Request::Send(send)) => self.handle_send(alloc, queues, send, detail),
+            Ok(request) => {
+                let asked = Asked::new(Form::Whole(request));
+                self.handle_decided(alloc, queues, Ok(asked), detail)
+            }
+            Err(refused) => self.handle_decided(alloc, queues, Err(refused), detail),
+        }
+    }
+
+    /// Does a SEND, which is shared at once; where memory is refused it waits.
+    fn handle_send<const FULL: usize>(
+        &mut self,
+        alloc: Global,
+        queues: &mut Queues<FULL>,
+        send: Send,
+        detail: &mut Option<Detail>,
+    ) -> Result<(), AllocError>
+        ensures ok { OnOk result (part queues.new self.new ≡ served FULL (Ok (Request.Send send))
+            (part queues.old self.old)) }
+        ensures err { OnErr result ((queues.new ≡ queues.old)
+            × (self.new ≡ keeping (Ok (Request.Send send)) self.old)) }
+    {
+        match SharedSend::new(alloc, send) {
+            Ok(send) => {
+                let form = Form::Shared(send);
+                match self.carry_out(alloc, queues, &form) {
+                    Ok(()) => {
+                        *detail = None;
+                        Ok(())
+                    }
+                    Err(_) => {
+                        self.incoming.waiting = Some(Ok(Asked::new(form)));
+                        Err(AllocError)
+                    }
+                }
+            }
+            Err(send) => {
+                let form = Form::Whole(Request::Send(send));
+                self.incoming.waiting = Some(Ok(Asked::new(form)));
+                Err(AllocError)
+            }
+        }
     }
 
     /// Does what was decided; where memory is refused it waits.

@@ -1,4 +1,4 @@
-use Rattle.std.proofs.Common.{true, refl, sym, ◌∙◌}
+use Rattle.std.proofs.Common.{refl, sym, ◌∙◌}
 use Rattle.std.proofs.lemmas.Result.{err_from_is_err_and}
 use Rattle.broker_core.specs.Feeding.{answer_of}
 use Rattle.broker_core.specs.Parts.Taking.{before_frame, has_none, met_fault, untold, waits}
