@@ -1,21 +1,20 @@
 -- What is known of each entity after the entries changed at one.
-use Rattle.std.proofs.Common.{◌≡◌, ℕ, Bool, true, false, cond, List, ◌∷◌, length, ◌<◌, Option, Some, None, refl, sym}
-use Rattle.std.proofs.Common.{ap, ◌∙◌, subst, ◌⊎◌, inl, inr, take, ◌-◌, Result, Ok, Err, OnOk, OnErr, String, Global}
-use Rattle.std.proofs.lemmas.Bool.{true≢false, false≢true, false_from_ne_true}
+use Rattle.std.proofs.Common.{◌≡◌, ℕ, Bool, true, false, cond, List, length, ◌<◌, Option, Some, None, refl, sym}
+use Rattle.std.proofs.Common.{◌∙◌, subst, ◌⊎◌, inl, inr, Result, Ok, Err, OnOk, OnErr, String, Global}
+use Rattle.std.proofs.lemmas.Bool.{true≢false, false_from_ne_true}
 use Rattle.std.proofs.lemmas.Slice.Eq.{bytes_eq-Decides}
 use Rattle.std.specs.Cmp.Lexicographic.{nat_list_eq_equiv}
-use Rattle.std.specs.Option.{IsSome, option_map, option_map_or}
-use Rattle.std.specs.List.{slice_get}
+use Rattle.std.specs.Option.{IsSome}
 use Rattle.std.specs.String.{string_bytes, string_eq, string_eq_equiv}
 use Rattle.std.specs.List.{IsDistinct}
-use Rattle.std.specs.Map.{keys_of, lookup, lookup_entry, remove_entry, set_value, AreApart}
+use Rattle.std.specs.Map.{keys_of, lookup, remove_entry, set_value, AreApart}
 use Rattle.lru.specs.LruCache.{LruCache, lru_cache, promoted, put_entries}
 use Rattle.lru.proofs.CallerLemmas.{lookup-put_entries}
 use Rattle.base.specs.Entity.{Entity, text_of}
 use Rattle.base.specs.Order.{same_entity}
 use Rattle.base.proofs.Entities.{same_entity-Decides, text_of-injective}
 use Rattle.std.proofs.lemmas.Map.Text.{is_text}
-use Rattle.last_states.proofs.Lookups.{found, not_found, lookup-promoted-same, lookup-promoted-apart}
+use Rattle.last_states.proofs.Lookups.{lookup-promoted-same, lookup-promoted-apart}
 use Rattle.last_states.proofs.Lookups.{lookup-set_value-same, lookup-set_value-apart, lookup-remove_entry-same}
 use Rattle.last_states.proofs.Lookups.{lookup-remove_entry-apart, lookup-put_entries-apart, lookup-put_entries-room}
 
@@ -36,10 +35,6 @@ cases P a b f g = (elim (same_entity a b) as (λ y. same_entity a b ≡ y → P 
 module _ {S : Type 0} where
   abbrev at : Entity → List (String Global × S) → Option S
   at e entries = lookup (is_text (text_of e)) entries
-
-  -- the text of the first key
-  abbrev first_key : List (String Global × S) → Option (List ℕ)
-  first_key entries = option_map (λ entry. string_bytes entry.0) (slice_get entries 0)
 
 module _ {S : Type 0} (es : List (String Global × S)) (entity : Entity) where
   abbrev test : String Global → Bool
@@ -96,29 +91,6 @@ module _ {S : Type 0} (es : List (String Global × S)) (entity : Entity) where
       (λ same. let it : None ≡ Some s = sym none ∙ (subst (λ x. at x es ≡ Some s) (sym same) is) in absurd cc)
       (λ other. inr (refl, is))
 
-  first_text : (o : Option (String Global × S)) → lookup_entry test es ≡ o → IsSome (at entity es)
-      → first_key (option_map_or (λ f. f ∷ remove_entry test es) o es)
-      ≡ Some (text_of entity)
-  first_text None h some = absurd (false≢true (subst IsSome (not_found test es h) some))
-  first_text (Some f) h some =
-      ap Some (sym ((bytes_eq-Decides (text_of entity) (string_bytes f.0)).0 (found test es f h).0))
-
-  -- the text of a known entity is first
-  pub first-promoted : IsSome (at entity es)
-      → first_key (promoted test es) ≡ Some (text_of entity)
-  first-promoted = first_text (lookup_entry test es) refl
-
-  first_replaced : (w : S) (o : Option (String Global × S)) → lookup_entry test es ≡ o → IsSome (at entity es)
-      → first_key (set_value test (option_map_or (λ f. f ∷ remove_entry test es) o es) w) ≡ Some (text_of entity)
-  first_replaced w None h some = absurd (false≢true (subst IsSome (not_found test es h) some))
-  first_replaced w (Some f) h some = let is = (found test es f h).0 in
-      rw is (ap Some (sym ((bytes_eq-Decides (text_of entity) (string_bytes f.0)).0 is)))
-
-  -- the same where its state is replaced
-  pub first-replaced : (w : S) → IsSome (at entity es)
-      → first_key (set_value test (promoted test es) w) ≡ Some (text_of entity)
-  first-replaced w = first_replaced w (lookup_entry test es) refl
-
 -- a pair is put whose key is the entity's text
 module _ {S : Type 0} (old : LruCache (String Global) S) (entity : Entity) (key : String Global)
     (is_key : string_bytes key ≡ text_of entity) (w : S) where
@@ -146,24 +118,11 @@ module _ {S : Type 0} (old : LruCache (String Global) S) (entity : Entity) (key 
       (λ same. let it : Some w ≡ Some s = sym (subst (λ x. at x put ≡ Some w) same put_same) ∙ is in inl (refl, cc))
       (λ other. inr (refl, put_apart e other s is))
 
-  put_first : (o : Option (String Global × S)) → lookup_entry (string_eq key) old.entries ≡ o
-      → first_key (option_map_or (λ f. (f.0, w) ∷ remove_entry (string_eq key) old.entries) o
-      ((key, w) ∷ take (old.cap - 1) old.entries)) ≡ Some (text_of entity)
-  put_first None h = ap Some is_key
-  put_first (Some f) h = let same = (found (string_eq key) old.entries f h).0 in
-      ap Some (sym ((bytes_eq-Decides (string_bytes key) (string_bytes f.0)).0 same) ∙ is_key)
-
   module _ {R E : Type 0} (new : LruCache (String Global) S) (none : at entity old.entries ≡ None) where
     pub remembered-put : (r : Result R E) → OnOk r (new ≡ lru_cache put old.cap) → OnErr r (new ≡ old) → (e : Entity)
         (s : S) → IsRemembered old.entries entity w new.entries e s
     remembered-put (Ok x) ok err e s = rw ok (remembered_put e s)
     remembered-put (Err x) ok err e s = rw err (remembered-not old.entries entity w none e s)
-
-    pub first-put : (r : Result R E) → OnOk r (new ≡ lru_cache put old.cap) → OnErr r (new ≡ old)
-        → IsSome (at entity new.entries) → first_key new.entries ≡ Some (text_of entity)
-    first-put (Ok x) ok err some = rw ok (put_first (lookup_entry (string_eq key) old.entries) refl)
-    first-put (Err x) ok err some =
-        absurd (false≢true (subst IsSome (ap (λ (c : LruCache (String Global) S). at entity c.entries) err ∙ none) some))
 
     pub room-put : (r : Result R E) → OnOk r (new ≡ lru_cache put old.cap) → OnErr r (new ≡ old)
         → length old.entries < old.cap → (e : Entity) → same_entity entity e ≡ false

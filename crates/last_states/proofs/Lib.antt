@@ -1,3 +1,4 @@
 pub mod Lookups
 pub mod Knowing
 pub mod Rows
+pub mod Orders

@@ -1,5 +1,5 @@
 -- What is known of entities.
-use Rattle.std.specs.Prelude.{◌≡◌, ℕ, true, false, ◌⊎◌, List, length, Option, Some, option_map, slice_get}
+use Rattle.std.specs.Prelude.{◌≡◌, ℕ, true, false, if◌then◌else◌, ◌⊎◌, List, [], ◌∷◌, map, length, Option, Some}
 use Rattle.std.specs.Coded.{Coded, coded_option}
 use Rattle.std.specs.Map.{lookup}
 use Rattle.std.specs.Str.{bytes_eq}
@@ -10,6 +10,11 @@ use Rattle.base.specs.Entity.{Entity, text_of}
 use Rattle.base.specs.Order.{same_entity}
 use Rattle.last_states.specs.declared.states.LastStates.{LastStates}
 
+-- these texts without this one
+abbrev pub without : List ℕ → List (List ℕ) → List (List ℕ)
+without text [] = []
+without text (other ∷ others) = if bytes_eq text other then others else other ∷ without text others
+
 module _ {S : Type 0} where
   -- what is known of an entity
   abbrev pub known_of : LastStates S → Entity → Option S
@@ -19,9 +24,9 @@ module _ {S : Type 0} where
   abbrev pub count_of : LastStates S → ℕ
   count_of states = length states.states.entries
 
-  -- the text of the entity that goes last
-  abbrev pub latest_of : LastStates S → Option (List ℕ)
-  latest_of states = option_map (λ entry. string_bytes entry.0) (slice_get states.states.entries 0)
+  -- the texts of the entities, the last to go first
+  abbrev pub order_of : LastStates S → List (List ℕ)
+  order_of states = map (λ entry. string_bytes entry.0) states.states.entries
 
   -- of an entity this state is known or none, and of each other one what was known of it or nothing
   abbrev pub Remembers : Entity → S → (old new : Entity → Option S) → Type 0

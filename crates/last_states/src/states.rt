@@ -1,7 +1,7 @@
 //! Last states by entity.
 
-ghost use Rattle.std.specs.Prelude.{◌≡◌, ◌≤◌, ◌<◌, false, if◌then◌else◌, Some, None, is_some, IfOk, IsSome};
-ghost use Rattle.std.specs.Prelude.{option_copied};
+ghost use Rattle.std.specs.Prelude.{◌≡◌, ◌⊎◌, ◌≤◌, ◌<◌, ◌-◌, false, if◌then◌else◌, ◌∷◌, take, Some, None, is_some};
+ghost use Rattle.std.specs.Prelude.{option_copied, IfOk, IsSome};
 ghost use Rattle.last_states.specs.declared.states.TheConstants.{MOST_STATES};
 ghost use Rattle.base.specs.Entity.{Entity, text_of};
 ghost use Rattle.base.specs.Order.{same_entity};
@@ -22,7 +22,7 @@ pub struct LastStates<S: Drop> {
 }
 
 impl<S: Drop> LastStates<S> {
-    ghost use Rattle.last_states.specs.Known.{known_of, count_of, latest_of, Remembers};
+    ghost use Rattle.last_states.specs.Known.{known_of, count_of, order_of, without, Remembers};
 
     /// Nothing is known.
     ///
@@ -53,7 +53,8 @@ impl<S: Drop> LastStates<S> {
     /// Makes an entity the last to go. It takes no memory.
     pub fn touch(&mut self, entity: &Entity)
         ensures same { (e : Entity) → known_of self.new e ≡ known_of self.old e }
-        ensures latest { IsSome (known_of self.old entity.now) → latest_of self.new ≡ Some (text_of entity.now) }
+        ensures order { order_of self.new ≡ (if is_some (known_of self.old entity.now)
+            then text_of entity.now ∷ without (text_of entity.now) (order_of self.old) else order_of self.old) }
     {
         self.states.promote(entity.text());
     }
@@ -63,6 +64,7 @@ impl<S: Drop> LastStates<S> {
         ensures was_known { result ≡ is_some (known_of self.old entity.now) }
         ensures forgotten { (e : Entity) → known_of self.new e
             ≡ (if same_entity entity.now e then None else known_of self.old e) }
+        ensures order { order_of self.new ≡ without (text_of entity.now) (order_of self.old) }
     {
         // Its contract tells that no two keys are alike.
         let _ = self.states.len();
@@ -72,9 +74,12 @@ impl<S: Drop> LastStates<S> {
     /// Remembers the state of an entity, and makes it the last to go; where memory is refused nothing new is known.
     pub fn remember(&mut self, alloc: Global, entity: &Entity, state: S)
         ensures known { Remembers entity.now state (known_of self.old) (known_of self.new) }
-        ensures latest { IsSome (known_of self.new entity.now) → latest_of self.new ≡ Some (text_of entity.now) }
         ensures replaced { IsSome (known_of self.old entity.now) → (e : Entity) → known_of self.new e
             ≡ (if same_entity entity.now e then Some state else known_of self.old e) }
+        ensures latest { IsSome (known_of self.old entity.now)
+            → order_of self.new ≡ text_of entity.now ∷ without (text_of entity.now) (order_of self.old) }
+        ensures first_goes { known_of self.old entity.now ≡ None → (order_of self.new ≡ order_of self.old)
+            ⊎ (order_of self.new ≡ text_of entity.now ∷ take (MOST_STATES - 1) (order_of self.old)) }
         ensures others { count_of self.old < MOST_STATES → (e : Entity) → same_entity entity.now e ≡ false
             → known_of self.new e ≡ known_of self.old e }
     {
