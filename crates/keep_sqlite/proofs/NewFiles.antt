@@ -1,13 +1,13 @@
 -- A file that was just made.
 use Rattle.std.proofs.Common.{◌≡◌, pos, List, [], ◌∷◌, ◌++◌, map, length, false, Result, Ok, Err, OnOk}
-use Rattle.std.proofs.Common.{refl, sym, ap, subst, ◌∙◌}
+use Rattle.std.proofs.Common.{refl, sym, ap, subst, ◌∙◌, arith, ◌⊎◌, inl, inr, true}
 use Rattle.std.specs.List.{AllByRecursion}
 use Rattle.sqlite.specs.declared.types.Value.TheVariants.{Null, Int, Text}
 use Rattle.sqlite_value.specs.Order.{Row}
 use Rattle.sqlite_trees.specs.Tree.{Trees}
 use Rattle.sqlite_schema.specs.declared.schema.Table.{Table}
 use Rattle.sqlite.specs.Effect.{Database}
-use Rattle.sqlite.specs.State.{State, Shows}
+use Rattle.sqlite.specs.State.{State, HasCleanDisk, Shows, Survives}
 use Rattle.keep.specs.Tables.{empty}
 use Rattle.sql_rows.specs.declared.service.Service.{Service}
 use Rattle.sql_rows.specs.declared.service.Service.TheVariants.{Purchasing, Warehouse, Billing}
@@ -106,3 +106,21 @@ module _ {S C X E : Type 0} (f : Filing S C) (service : Service) (is : service
 pub shown_of : {X E : Type 0} (A B D F : Type 0) (r : Result X E) → OnOk r (A × B × D × F) → OnOk r B
 shown_of A B D F (Ok x) h = h.1
 shown_of A B D F (Err e) h = tt
+
+module _ {S C : Type 0} (f : Filing S C) (service : Service) (is : service ≡ f.is_service.service)
+    (begun staged new : State) where
+  -- what a stop leaves behind the commit was there before, or is the new tables
+  pub founded_may : (old : State) → begun ≡ record old { in_transaction = true }
+      → (HasCleanDisk staged → Founds service begun staged) → Survives begun staged (λ _. ⊥)
+      → Survives staged new (λ db. db ≡ staged.now.trees) → (db : Trees) → HasCleanDisk new → new.may_leave db
+      → old.may_leave db ⊎ (tables_of f db ≡ empty)
+  founded_may old begins founds first second db clean may =
+      let sent : HasCleanDisk staged = let e = second.clean in omega (arith, e, clean) in
+      elim (second.crash clean db may) [
+        | inl kept ↦ elim (first.crash sent db kept) [
+          | inl was ↦ inl (subst (λ (s : State). s.may_leave db) begins was)
+          | inr none ↦ absurd none
+        ]
+        | inr same ↦ inr (ap (tables_of f) same
+            ∙ new_tables f staged.now (subst (λ s. IsNew s staged.now) is (founds sent).is_new))
+      ]

@@ -1,6 +1,7 @@
 //! How a service's tables are made.
 
-ghost use Rattle.std.specs.Prelude.{◌≡◌, ◌≤◌, ◌⊎◌, false, OnOk, IfOk};
+ghost use Rattle.std.specs.Prelude.{◌≡◌, ◌≤◌, ◌⊎◌, false, OnOk, OnErr, IfOk, IsTrue};
+ghost use Rattle.sqlite_trees.specs.Tree.{Trees};
 ghost use Rattle.sqlite_trees.specs.View.{doubt};
 ghost use Rattle.sqlite.specs.Held.{state};
 ghost use Rattle.sqlite.specs.State.{HasCleanDisk};
@@ -21,6 +22,10 @@ pub fn found<H: Filed, S: Alter>(conn: &mut Connection<S>) -> Result<(), Error>
     ensures ready { HasCleanDisk (state S.Store conn.new)
         → OnOk result (IsReady H.filing.schema 0 (state S.Store conn.new)
         × (tables_of H.filing (state S.Store conn.new).now.trees ≡ empty)) }
+    ensures err { HasCleanDisk (state S.Store conn.new) → IsTrue (state S.Store conn.new).is_open
+        → OnErr result ((state S.Store conn.new).committed ≡ (state S.Store conn.old).committed) }
+    ensures crash { (db : Trees) → HasCleanDisk (state S.Store conn.new) → (state S.Store conn.new).may_leave db
+        → (state S.Store conn.old).may_leave db ⊎ (tables_of H.filing db ≡ empty) }
     ensures clean { doubt (state S.Store conn.old).is_clean ≤ doubt (state S.Store conn.new).is_clean }
 {
     let mut tx = conn.transaction();
