@@ -123,6 +123,10 @@ pub record IsFirstFile (service : Service) (s : State) : Type 0 where
 abbrev pub IsVersions : Migrated → Type 0
 IsVersions m = ((m.from ≡ 1) ⊎ (m.from ≡ 2)) × (m.to ≡ 2)
 
+-- from version 2 to 2
+abbrev pub as_it_is : Migrated
+as_it_is = record { from = 2; to = 2 }
+
 -- a database of version 2 of this service, or one without tables
 abbrev pub IsOfToday : {S C : Type 0} → Filing S C → Database → Type 0
 IsOfToday filing db = ((db.schema ≡ filing.schema) × TellsOfService filing db.trees) ⊎ (db.schema ≡ no_tables)
@@ -134,7 +138,7 @@ IsMigrated first filing m old new =
     ((m ≡ record { from = 1; to = 2 })
     × TellsOfFirst filing.is_service.service (old.committed.trees (first_about_tree filing.is_service.service))
     × AreRenewed first filing old.committed.trees new.committed.trees)
-    ⊎ ((m ≡ record { from = 2; to = 2 }) × (new.committed ≡ old.committed) × IsOfToday filing new.committed)
+    ⊎ ((m ≡ as_it_is) × (new.committed ≡ old.committed) × IsOfToday filing new.committed)
 
 -- where nothing was taken over, what was committed stays
 abbrev pub IsRefused : Result (Option Migrated) Error → State → State → Type 0

@@ -1,13 +1,14 @@
 //! Files of version 1, taken over.
 
-ghost use Rattle.std.specs.Prelude.{◌≡◌, ◌≤◌, ◌⊎◌, false, IfOk, IfSome, OnErr, OnOk, IsTrue};
+ghost use Rattle.std.specs.Prelude.{◌≡◌, ◌≤◌, ◌⊎◌, false, Ok, Some, IfOk, IfSome, OnErr, OnOk, IsTrue};
 ghost use Rattle.std.specs.List.{AllByRecursion};
 ghost use Rattle.sqlite.specs.Held.{state};
 ghost use Rattle.sqlite.specs.State.{HasCleanDisk};
 ghost use Rattle.sqlite_trees.specs.Tree.{Trees};
 ghost use Rattle.sqlite_trees.specs.View.{doubt};
+ghost use Rattle.sql_rows.specs.Schema.{no_tables};
 ghost use Rattle.sql_rows.specs.Tables.{IsRising, Stays};
-ghost use Rattle.keep_sqlite.specs.Migration.{AreRenewed, IsFirstFile, IsMigrated, IsRefused, IsVersions};
+ghost use Rattle.keep_sqlite.specs.Migration.{as_it_is, AreRenewed, IsFirstFile, IsMigrated, IsRefused, IsVersions};
 
 use crate::filed::Filed;
 use crate::kept::SqliteKeep;
@@ -107,6 +108,7 @@ fn migrate_tables<H: Filed, S: Alter, P: Progress>(
     ensures migrated { HasCleanDisk (state S.Store conn.new) → IfOk result (λ found. IfSome found (λ m.
         IsMigrated H.first H.filing m (state S.Store conn.old) (state S.Store conn.new))) }
     ensures versions { IfOk result (λ found. IfSome found (λ m. IsVersions m)) }
+    ensures empty { (state S.Store conn.old).now.schema ≡ no_tables → result ≡ Ok (Some as_it_is) }
     ensures refused { HasCleanDisk (state S.Store conn.new) → IsTrue (state S.Store conn.new).is_open
         → IsRefused result (state S.Store conn.old) (state S.Store conn.new) }
     ensures crash { (db : Trees) → HasCleanDisk (state S.Store conn.new) → (state S.Store conn.new).may_leave db
@@ -152,6 +154,7 @@ impl<H: Filed, S: Alter> SqliteKeep<H, S> {
         ensures migrated { HasCleanDisk (state S.Store conn.new) → IfOk result (λ m.
             IsMigrated H.first H.filing m (state S.Store conn.old) (state S.Store conn.new)) }
         ensures versions { IfOk result (λ m. IsVersions m) }
+        ensures empty { (state S.Store conn.old).now.schema ≡ no_tables → result ≡ Ok as_it_is }
         ensures refused { HasCleanDisk (state S.Store conn.new) → IsTrue (state S.Store conn.new).is_open
             → OnErr result ((state S.Store conn.new).committed ≡ (state S.Store conn.old).committed) }
         ensures crash { (db : Trees) → HasCleanDisk (state S.Store conn.new) → (state S.Store conn.new).may_leave db
