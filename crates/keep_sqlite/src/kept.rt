@@ -26,6 +26,7 @@ use crate::journal::find_rows;
 use crate::listing::{find_drainable, find_letters};
 use crate::opening::{examine, opening_fault};
 use crate::reads::{find_handled, find_held, find_sent, find_settled, look};
+use crate::states::remember_row;
 use crate::writes::write_all;
 use activities::JournalRow;
 use base::{Entity, Number, Pair};
@@ -141,11 +142,7 @@ impl<H: Filed, S: Alter> SqliteKeep<H, S> {
         ensures same { (self.new.conn ≡ self.old.conn) × (self.new.is_usable ≡ self.old.is_usable)
             × (self.new.failures ≡ self.old.failures) }
     {
-        if let Some(state) = row {
-            if let Ok(state) = H::copy_state(alloc, state) {
-                self.states.remember(alloc, entity, state);
-            }
-        }
+        remember_row::<H>(alloc, &mut self.states, entity, row);
     }
 
     /// Makes these changes in one transaction; steps may be written in parts.

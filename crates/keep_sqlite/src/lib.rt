@@ -36,6 +36,7 @@ mod order_writes;
 mod orders;
 mod progress;
 mod reads;
+mod states;
 mod stocks;
 mod writes;
 

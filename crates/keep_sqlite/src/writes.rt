@@ -23,6 +23,7 @@ ghost use Rattle.keep_sqlite.specs.Ready.{IsFiled, IsReady, Makes, IsFirstCell};
 ghost use Rattle.keep_sqlite.specs.Stepping.{IsStepBy, sender_behind, step_at};
 
 use crate::filed::Filed;
+use crate::states::remember_row;
 use activities::{Input, JournalRow};
 use base::{Entity, Number, Pair};
 use envelope::{Letter, Message};
@@ -480,10 +481,8 @@ fn note<H: Filed>(
     ensures { (t : Tables H.State H.Command) → Knows (known_of states.old) (changed_by change.now t).entity
         → Knows (known_of states.new) (changed_by change.now t).entity }
 {
-    if let Change::State(entity, Some(state)) = change {
-        if let Ok(state) = H::copy_state(alloc, state) {
-            states.remember(alloc, entity, state);
-        }
+    if let Change::State(entity, row) = change {
+        remember_row::<H>(alloc, states, entity, row);
     }
 }
 
