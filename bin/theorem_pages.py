@@ -4,9 +4,9 @@
 
 # which clause carries each word of the promise that README has in one sentence
 PROMISE = [
-    ("no schedule", "`World::run` asks nothing of `events`: each list of them is one. `Event` says what they are, and `did` what each"
-     " does, by its outcome."),
-    ("cut connections", "`Event::Cut`, at each octet, since `Carry` says how many go over. What was on its way is lost, and no more"
+    ("no schedule", "`World::run` asks nothing of `events`: each list of them is a schedule. `Event` says what they are, and `did` what"
+     " each does, by its outcome."),
+    ("cut connections", "`Event::Cut`, at any octet, since `Carry` says how many go over. What was on its way is lost, and no more"
      " (`WorldStep`)."),
     ("lost, reordered", "What is on its way is lost where the connection is cut, and all that a broker has where it stops (`StopBroker`)."
      " What one connection has stays in its order, and so letters come out of theirs where an earlier one was lost, comes again, or waits"
@@ -31,7 +31,7 @@ PREMISES = (
     " `clean` asks for nothing, `did` only inside itself, event by event (`Passed`); `matching`, `goes` and `told` ask for the first two"
     " premises below, `good` and `agree` for the first three. The rest is asked of the types of the stores, and of the tools. Of README's"
     " four premises *Honest files* is the first here, and *A good start* the next two. *An honest wire* and *Only our parties* are in no"
-    " clause, since no event of a world breaks them: they say what has to be so of a network and a broker for a world to be like them.",
+    " clause, since no event of a world breaks them: they say when a real network and a real broker are like those of a world.",
     [
         ("Files keep their word: of no store did a file that it rests on give back anything but what was written to it, up to the end of"
          " the run. That is asked at the end alone, since doubt never falls (`clean`). A store in memory has no file, and no doubt.",
@@ -42,7 +42,7 @@ PREMISES = (
          " left (`good`).", [(*WORLD_GOOD, "IsGoodWorld"), ("schedule_runner", "world", "World::open")]),
         ("Each of the three stores keeps the laws of a store: a transaction is taken in whole or not at all, a read tells what the tables"
          " have, and while no file is in doubt there is a content that a stop may leave (`IsSound`), so that what is said of each isn't"
-         " said of none.",
+         " said of nothing.",
          [("keep", "store", "Keep")]),
         ("The prover, the compiler and the processor do what is said of them.", []),
     ])
@@ -51,7 +51,7 @@ READING = [
     "Written by `bin/theorem`, and compared by the gate: don't edit it. Each contract and each definition stands as in the source, with"
     " its own comment, behind the file that it is in, below `crates/`. Left out are the words `abbrev`, `unfoldable` and `pub` of"
     " definitions, which change no meaning, imports, attributes, and invariants of types, which hold of every value. Code, lemmas and"
-    " proofs aren't here: the gate checks that the code meets its contracts, and a reader checks that the contracts say what he wants.",
+    " proofs aren't here: the gate checks that the code meets its contracts, and a reader checks that the contracts say what is wanted.",
 ]
 
 # what is said where a page has examples
@@ -66,7 +66,7 @@ WITH_EXAMPLES = [
 SIGNS = [
     ("--", r"", "What follows on the line is a comment; in contracts of Rust `//` and `///` are."),
     ("x : T", r" : ", "`x` is of the type `T`; said of a proposition `T`, `x` is a proof of it."),
-    ("f a b", r"", "The function `f` at `a` and `b`; `f (g a)` has brackets, `f a b` has none. So do variants of an `enum` stand with"
+    ("f a b", r"", "The function `f` at `a` and `b`; `f (g a)` has brackets, `f a b` has none. Variants of an `enum` stand so too, with"
      " their fields, named or not, in the order in which these are declared."),
     ("Type 0", r"Type 0", "The type of types and of propositions: what ends in `→ Type 0` says something that holds or doesn't."),
     ("Type 1", r"Type 1", "The type of what has such types in it."),
@@ -77,7 +77,7 @@ SIGNS = [
     ("(x : A) × ..", r"\) ×", "There is such an `x`, and of it the rest holds."),
     ("⊎", r"⊎", "One of both holds, or both do."),
     ("A → B", r"→", "Where `A` holds, `B` does; between types, the functions from `A` to `B`."),
-    ("(x : A) → ..", r"\) →", "For each `x` of `A` the rest holds; `(x y : A) (z : B) → ..` is of each three."),
+    ("(x : A) → ..", r"\) →", "For each `x` of `A` the rest holds; `(x y : A) (z : B) → ..` is for each three such."),
     ("{x : A} → ..", r"\{[^}]* : [^}]*\}",
      "For each `x` of `A`; which one is meant follows from the rest, so that it needn't be"
      " written."),
@@ -85,7 +85,7 @@ SIGNS = [
     ("⊥", r"⊥", "Never holds; `A → ⊥` says that `A` doesn't hold."),
     ("⊤", r"⊤", "Always holds."),
     ("¬", r"¬", "It doesn't hold."),
-    ("∥ A ∥₁", r"∥", "`A` holds; which one was found isn't told."),
+    ("∥ A ∥₁", r"∥", "`A` holds; by which value isn't told."),
     ("ℕ", r"ℕ", "The numbers 0, 1, 2, .. without an end."),
     ("ℤ", r"ℤ", "The whole numbers: `pos n` is `n`, and `negsuc n` is -1 - `n`."),
     ("≤", r"≤", "Is at most."),
@@ -114,8 +114,8 @@ SIGNS = [
      " their own; they don't name them where they use each other."),
     ("if b then x else y", r"\bif ", "`x` where `b` is `true`, else `y`."),
     ("let x = .. in", r"\blet ", "`x` stands for that in what follows."),
-    ("do", r"= do\b", "The lines below it one after another; `x ← ..` goes on with what is there as `x`, and where nothing is, all of it"
-     " is nothing."),
+    ("do", r"= do\b", "The lines below it, one after another: `x ← ..` goes on with what is there, as `x`; where nothing is there, the"
+     " whole is nothing."),
     ("x ← ..", r"←", "See `do`."),
     ("a ◌+◌ b", r"◌", "Where an operator is defined, each of these stands for one of its arguments."),
     ("requires", r"\brequires\b", "A clause of a contract: what a caller has to make true first."),
@@ -125,7 +125,7 @@ SIGNS = [
     ("result", r"\bresult\b", "In contracts: what the call answered."),
     ("impl Model for T", r"impl Model", "Contracts see a `T` as its `Value`, which `view` makes of it. Of a type without that they see"
      " the fields or the variants, each part as contracts see it, and an unsigned number as one of `ℕ`."),
-    ("Inside", r"\bInside\b", "What the type whose view it is has as its own fields."),
+    ("Inside", r"\bInside\b", "The own fields of the type, of which `view` makes what contracts see."),
     ("x.items", r"\.items\b", "The list of what the `Vec` `x` has."),
     ("Unit", r"\bUnit\b", "The type of `()`."),
     ("ghost", r"\bghost\b", "Is seen by contracts and proofs alone, and not there when the program runs."),
@@ -239,25 +239,26 @@ CORE = {
     "file": "docs/THEOREM.md",
     "title": "The theorem",
     "said": [
-        "What services that send each other letters promise, as far as it is proved today: what holds after every schedule, what a"
-        " schedule may do, and what is asked. Three services, purchasing, warehouse and billing, take in commands of seats and letters of"
-        " each other. Each writes what it takes in as a row of its journal, in one transaction with what follows of it: the state of the"
-        " entity, and the letters that this sends, which stand in an outbox until their receiver is known to have handled them. What holds"
-        " is therefore said of the three journals.",
-        "Of the words:",
-        "- an entity is an order, of purchasing, a stock, of warehouse, or an account, of billing; a seat is one of sixteen places from"
-        " which commands come;",
+        "What three services promise that send each other letters: what holds after every schedule, what a schedule may do, and what is"
+        " asked. Purchasing, the warehouse and billing take in commands of seats and letters of each other. Each service writes what it"
+        " takes in as a row of its journal, in one transaction with what follows from it: the state of the entity, and the letters that"
+        " this sends, which stand in an outbox until their receiver is known to have handled them. So what holds is said of the three"
+        " journals.",
+        "What the words mean:",
+        "- an entity is an order (of purchasing), a stock (of the warehouse) or an account (of billing); a seat is one of sixteen places"
+        " from which commands come;",
         "- a pair is a sender and a receiver, both entities; a letter is a message with its pair, and with its number among the letters of"
         " that pair;",
         "- a letter is sent as soon as it stands in the outbox, whether or not any connection has carried it; it's settled once its sender"
-        " knows that it was handled; a settle is what the receiver tells the sender for that; an envelope is a letter or a settle;",
+        " knows that it was handled; a settle tells the sender so, from the receiver; an envelope is a letter or a settle;",
         "- a mark of a pair is a number up to which its letters are settled, which the sender keeps, or handled, which the receiver"
         " keeps; a letter that comes too early is held until those before it were handled;",
-        "- the partners of an order are the one to eight stocks and the one account that it asks; its line at one of them is what that has"
-        " of it;",
+        "- the partners of an order are the one to eight stocks and the one account that it asks; its line at a partner is what that"
+        " partner"
+        " has of it;",
         "- a row, where nothing else is said, is one of a journal; the row of an entity is its state in the tables, and a row of the"
         " outbox a letter that stands there;",
-        "- a store and a keep are one thing; a content is what a store's tables are, or may be found to be after a stop; a file is in"
+        "- *store* and *keep* mean the same; a content is what a store's tables are, or may be found to be after a stop; a file is in"
         " doubt once it gave back what wasn't written to it;",
         "- a world is one program: the three services, two connections of each with the broker, whose octets wait in memory until they are"
         " moved, and the mail, which is the broker and all that it ever accepted; no socket, no thread and no clock is in it, and nothing"
@@ -277,25 +278,26 @@ CORE = {
     "cut": OF_EVENTS + OF_MAIL + OF_STORE + OF_SERVICE,
     "sections": [
         ("What holds after every schedule",
-         ["The one call that runs a schedule is `World::run`, and its contract is the theorem. Under the premises that stand below,"
-          " whatever the events, and also where memory was refused between them, when it has ended:",
+         ["The one call that runs a schedule is `World::run`, and its contract is the theorem. When it has ended, whatever the events"
+          " were,"
+          " and also where memory was refused between them, this holds under the premises that stand below:",
           "- `matching`, which is `StaysMatching`: the tables of each service match its journal, so that what they hold of states, of"
           " letters sent and of letters handled follows from it (`TablesMatchJournal`);",
           "- `told`, `Told`: each journal begins with what it was, and the commands behind that are, in order, those that were answered"
-          " committed, each at its row; of those that were answered 63, that the store failed, each stands there once at most"
-          " (`RecordsTold`; [FORMATS.md](FORMATS.md) has the numbers of faults);",
+          " committed, each at the row that was told, and perhaps some of those that were answered 63 (the store failed), each once at"
+          " most (`RecordsTold`; [FORMATS.md](FORMATS.md) has the numbers of faults);",
           "- `good`, `StaysGood`: the journals are legal (`IsLegal`), and what each receiver handled is a beginning of what was sent to it"
           " (`HandlesPrefixes`); what is marked as settled was handled (`SettledAreHandled`); each letter that is held or on its way is"
           " what its sender's journal sends, and no settle is ahead of the handling (`IsGenuine`);",
           "- `agree`, `Agrees`: so the partners of each order agree (`PartnersAgree`), and of each stock and each account's limit nothing"
           " is lost or used twice (`AreSound`);",
-          "- `did`, `Passed` for each event: each outcome did what it says, and nothing else, to the world (`WorldStep`); and behind each"
-          " event, those of a pump among them, and not only behind the last, `clean`, `matching`, `good` and `agree` hold again; `goes`,"
-          " `Goes`: the same of the tables (`Step`);",
+          "- `did`, `Passed` for each event: it did to the world what its outcome says, and nothing else (`WorldStep`); and `clean`,"
+          " `matching`, `good` and `agree` hold behind each event, also within a pump, and not only behind the last;",
+          "- `goes`, `Goes`: what each event did to the tables (`Step`);",
           "- `clean`, `StaysClean`: where no file is in doubt afterwards, none was before.",
-          "All but `clean` and `did` are so in each combination of what failed stores may leave. `Ran`, around `did`, `goes` and `told`,"
-          " says of which events they speak: of those that were made, each of which has appended one outcome, and where the answer is"
-          " `Ok` these are all. Each name is defined below, or on the page that the end of this one names."],
+          "All but `clean` and `did` hold in each combination of what failed stores may leave. `Ran`, around `did`, `goes` and `told`,"
+          " says of which events they speak: those that were made. Each of these has appended one outcome, and where the answer is `Ok`"
+          " they are all. Each name is defined below, or on the page that the end of this one names."],
          [("schedule_runner", "world", "World::run")], True),
         "promise",
         "premises",
@@ -319,13 +321,12 @@ CORE = {
           "- cuts connections at any octet (`Event::Cut`), behind which what was on its way is lost, and opens them anew (`Open`);",
           "- lets what is sent be sent again: by a service (`Resend`), or by the broker, of all that it ever accepted (`Repeat`);",
           "- lets chosen reads fail, and chosen transactions fail and leave the old tables or the new ones (`Fail`);",
-          "- stops services and the broker between any two events (`Event::Stop`, `StopBroker`), behind which a service has its store"
-          " alone and a"
-          " broker nothing, and opens stores anew (`Reopen`). What a stop amid an event would leave of its transaction, the old tables or"
-          " the new ones, is what `Fail` leaves.",
+          "- stops services and the broker between any two events (`Event::Stop`, `StopBroker`), behind which a service has only its store"
+          " and a broker nothing, and opens stores anew (`Reopen`). What a stop amid an event would leave of its transaction, the old"
+          " tables or the new ones, is what `Fail` leaves.",
           "That memory is refused is no event: it may be at any growth, and no clause asks that it isn't.",
-          "It has no event that puts octets of its own on a wire, changes one of those that are there, or their order, or changes the"
-          " tables of a store behind its back. The events that are left only run many of these at once (`Pump`) or look (`Show` and those"
+          "No event puts octets of the adversary's own on a wire, changes octets that are there or their order, or changes the tables of"
+          " a store behind its back. The events that are left only run many of these at once (`Pump`) or look (`Show` and those"
           " behind it). How a line is spelled is on [THEOREM-PROGRAM.md](THEOREM-PROGRAM.md)."],
          [("schedule_text", "event", "Event")], True),
         ("What events speak of", ["The seats, services, connections and commands that stand in an event."],
@@ -337,7 +338,8 @@ CORE = {
                                " service's journal is a list of rows, to which only the end is added."],
          [("activities", "input", "JournalRow")]),
         ("What a journal means",
-         ["The state of an entity, what it has sent and what it has handled follow of the rows alone: each row is reacted to in its turn,"
+         ["The state of an entity, what it has sent and what it has handled follow from the rows alone: each row is reacted to in its"
+          " turn,"
           " and a reaction gives the next state and the letters that are sent. Which reactions an order, a stock and an account have"
           " stands further below."],
          [("activities", "specs/Journal", it) for it in ("state_of", "sent_of", "handled_of", "IsLegal")]),
@@ -357,32 +359,34 @@ CORE = {
          [("laws_journals", "specs/Agreement", it) for it in ("states_in", "PartnersAgree", "AreSound")]),
         ("Tables, and when they match a journal",
          ["A service's store keeps the journal, and beside it what the service reads instead of going over the journal anew. All of that"
-          " follows of the journal, but the settled marks and the letters that came too early."],
+          " follows from the journal, but for the settled marks and the letters that came too early."],
          [("keep", "specs/Tables", "Tables"), ("keep", "specs/Tables", "empty"), ("endpoint", "specs/Matches", "TablesMatchJournal"),
           ("endpoint", "specs/Matches", "AllMatch")]),
         ("What may be found after a stop",
          ["A store that failed may leave its tables as they were or as they were to be. What is promised is said of each content that a"
-          " stop may leave, and of each combination of such contents of the three. While no file is in doubt there is one at least, and of"
-          " a store that may be used that is what its tables are now (`IsSound`, a law of each store): so what is said of each content is"
+          " stop may leave, and of each combination of such contents of the three. While no file is in doubt there is one at least, and"
+          " the"
+          " only one of a store that may be used is its tables now (`IsSound`, a law of each store): so what is said of each content is"
           " said of the tables too."],
          [("keep", "specs/Seen", "Seen"), *[(*SIGHT, it) for it in ("Sight", "all_empty", "AreClean", "AreMatching", "MayLeave")]]),
-        ("Services that are good", ["What it is for the three to be good, whatever a stop leaves: in a good world they are, and it stays"
-                                      " one."],
+        ("Services that are good", ["What it is for the three to be good, whatever a stop leaves. In a good world they are good, and it"
+                                      " stays a good one."],
          [(*GOOD, it) for it in ("IsGenuine", "IsGood", "AllAgree")]),
         ("A world that is good", ["The same of a world, with what is on its way and with what its relays know; and four of the clauses of"
                                   " `World::run`: `StaysClean`, `StaysMatching`, `StaysGood` and `Agrees`."],
          [("schedule_runner", "specs/Sight", it) for it in ("sight", "StaysClean", "StaysMatching")]
          + [(*WORLD_GOOD, it) for it in ("IsGoodWorld", "StaysGood", "Agrees")]),
         ("Commands that were told",
-         ["What a seat was answered, and what the journals have. It is told of each content that a stop may leave behind the run: there is"
-          " one that a stop might have left before it, with which it fits (`GoesBy`). What it is to fit `LedBy` takes as an argument: here"
-          " it is that the commands behind the old journals are those that were answered (`AllTold`), and in `Goes`, further below, that"
-          " the events lead from the one to the other."],
+         ["What seats were answered, and what the journals have. It's said of each content that a stop may leave behind the run: it fits"
+          " one"
+          " that a stop might have left before the run (`GoesBy`). What it is to fit is an argument of `LedBy`: here, that the commands"
+          " behind the old journals are those that were answered (`AllTold`); in `Goes`, further below, that the events lead from the one"
+          " to the other."],
          [("schedule_runner", "specs/Told", it) for it in ("TellsCommand", "AreTold", "RecordsTold", "AllTold", "Told")]),
         ("A run, event by event",
-         ["One event after another, each with its outcome; what an event does is on [THEOREM-EVENTS.md](THEOREM-EVENTS.md). `IsPath`"
-          " takes what one step is as an argument: `did` gives it `Passed`, from a world to the next, and `goes` the `Step` of that page,"
-          " from a world with tables to the next."],
+         ["One event after another, each with its outcome; what an event does is on [THEOREM-EVENTS.md](THEOREM-EVENTS.md). What one step"
+          " is, is an argument of `IsPath`: `did` gives it `Passed`, from a world to the next, and `goes` the `Step` of that page, from a"
+          " world with tables to the next."],
          [("schedule_runner", "specs/Paths", "IsPath"), ("schedule_runner", "specs/Paths", "Makes"), ("schedule_runner", "specs/Runs",
           "Ran"),
           ("schedule_runner", "specs/Deeds", "Goes"), ("schedule_runner", "specs/Passing", "Passed")]),
@@ -411,10 +415,10 @@ SERVICE = {
         ("A letter is handled once and in its turn", ["The same service where a letter of another one comes, early, late or again, and"
                                                       " where a settle tells what the receiver has handled."],
          [("endpoint", "endpoint", f"WindowedEndpoint::{it}") for it in ("ingest", "drain_held", "settle")]),
-        ("What was written before the limit was raised stays good", ["Of how far ahead letters are held: a number that `W` stands for,"
-                                                                     " and that the product has in one place."],
+        ("What was written before the limit was raised stays good", ["The limit is how far ahead letters are held: a number for which"
+                                                                     " `W` stands, and that the product has in one place."],
          [("endpoint", "laws", it) for it in ("empty_tables_match", "empty_tables_match_within", "a_wider_window_keeps_tables")]),
-        ("A store that fails on purpose", ["What a schedule's `Fail` arms: a store, with the read or the transaction that is to fail."],
+        ("A store that fails on purpose", ["What a schedule's `Fail` arms: a store that is told which read or transaction is to fail."],
          OF_SERVICE[1:]),
     ],
 }
@@ -429,16 +433,17 @@ EVENTS = {
     "cut": OF_SHOWS,
     "sections": [
         ("One event alone", ["The same promises of one event."], [("schedule_runner", "world", "World::step")], True),
-        ("What a world is made of", ["Of each service its endpoint and two channels, and the mail, which is the broker with what it ever"
-                                     " accepted."],
+        ("What a world is made of", ["Of each service its endpoint and two channels, and the mail, which is the broker with all that it"
+                                     " ever accepted."],
          [("schedule_service", "site", "Site"), ("schedule_mail", "mail", "Mail"), ("schedule_mail", "specs/Mails", "new_mail")]),
-        ("What each event does to the world", ["By an event and its outcome, of two worlds, before it and after it."],
+        ("What each event does to the world", ["Said of an event and its outcome, and of the worlds before and after it."],
          [("schedule_runner", "specs/Steps", "WorldStep")]),
         ("What each event does to the tables", ["The same, with tables of each service that a stop may leave."],
          [("schedule_runner", "specs/Deeds", "Step")]),
         ("What relays know of an outbox",
-         ["A relay has a cursor, so that it needn't go over the outbox from the first row each time: up to there all was sent. It is right"
-          " of each content that a stop may leave, and stays so, whichever event comes."],
+         ["A relay has a cursor, up to which all was sent, so that it needn't go over the outbox from the first row each time. The cursor"
+          " is"
+          " right of each content that a stop may leave, and stays so, whichever event comes."],
          [("schedule_service", "specs/Cursors", "AreRight"), ("schedule_service", "laws", "cursors_stay_right")]),
     ],
 }
@@ -461,8 +466,9 @@ MAIL = {
 JOURNALS = {
     "file": "docs/THEOREM-JOURNALS.md",
     "title": "Three journals agree",
-    "said": ["The theorem over the reactions alone, with no code of a service, a store or a broker: whatever is lost, repeated or"
-             " reordered. It stands behind [THEOREM.md](THEOREM.md), which has what a journal means and when three of them fit each other:"
+    "said": ["The theorem over the reactions alone, with no code of a service, a store or a broker. It holds whatever is lost, repeated or"
+             " reordered. The page stands behind [THEOREM.md](THEOREM.md), which has what a journal means and when three of them fit each"
+             " other:"
              " what is defined there isn't printed again."],
     "behind": ["docs/THEOREM.md", "docs/THEOREM-STORE.md", "docs/THEOREM-SERVICE.md", "docs/THEOREM-EVENTS.md"],
     "sections": [
@@ -489,23 +495,24 @@ ANY_BROKER = {
           " is marked as settled was handled (`handled_is_a_beginning`);",
           "- the partners of each order agree, and nothing of a stock or of an account's limit is lost or used twice"
           " (`any_broker_keeps_the_laws`);",
-          "- where each letter of a pair that isn't marked as settled was taken, in whatever order, and the next one isn't held, all that"
-          " was sent on the pair was handled (`nothing_waits_all_was_handled`).",
-          "The premises stand in `IsRun`: steps of one service after another lead there; at first the services were good, as new ones are"
-          " (`new_services_are_good`), and their tables matched their journals; and at the end no file is in doubt. That an envelope comes"
-          " is no premise, and isn't promised."],
+          "- where each letter of a pair that isn't marked as settled was taken, in whatever order, and the pair's next one isn't held,"
+          " all that was sent on the pair was handled (`nothing_waits_all_was_handled`).",
+          "The premises stand in `IsRun`: steps, each of one of the services, lead from the first moment to the last; at the first the"
+          " services are good, as new ones are (`new_services_are_good`), and their tables match their journals; and at the last no file"
+          " is in doubt. That an envelope comes is no premise, and isn't promised."],
          [("laws_services", "laws", it) for it in ("any_broker_keeps_the_laws", "handled_is_a_beginning", "nothing_waits_all_was_handled",
                                                    "new_services_are_good")]),
         ("A frame that is taken is such a step",
          ["So a service's own calls are all that has to be looked at, and each of them is a step by its contract: the premises of these"
           " laws are clauses of `reception::take_frame` and `reception::drain`, but for one, that what the frame carries was written"
-          " (`CarriesWritten`). What they ensure of `MayWrite` is what the frames that are written for it carry."],
+          " (`CarriesWritten`). They also ensure that the settle which goes out in answer may be written (`MayWrite`)."],
          [("laws_services", "frames", it) for it in ("frames_are_steps", "held_letters_are_steps")]),
         ("And so is each call of an endpoint",
-         ["By the clauses of `Endpoint`'s calls, of `group_commit::take_group`, and of the `turn` of a `Shared`'s, which many threads use"
-          " ([THEOREM-THREADS.md](THEOREM-THREADS.md)): a command, a letter, a held letter, a settle, several letters and settles by one"
-          " transaction, a reopening, a read. What a listing of the outbox gives may be written, and so may a settle up to what was"
-          " handled."],
+         ["By the clauses of `Endpoint`'s calls, by those of `group_commit::take_group`, and by the clause `turn` of the calls of a"
+          " `Shared`,"
+          " which many threads use ([THEOREM-THREADS.md](THEOREM-THREADS.md)): a command, a letter, a held letter, a settle, several"
+          " letters and settles by one transaction, a reopening, a read. What a listing of the outbox gives may be written, and so may a"
+          " settle up to what was handled."],
          [("laws_services", "calls", it) for it in ("commits_are_steps", "ingests_are_steps", "drains_are_steps", "settles_are_steps",
                                                     "groups_are_steps", "reopenings_are_steps")]
          + [("laws_services", "reads", it) for it in ("reads_are_steps", "listings_are_steps", "counts_are_steps")]),
@@ -520,11 +527,12 @@ PROGRAM = {
     "behind": ["docs/THEOREM.md", "docs/THEOREM-STORE.md", "docs/THEOREM-SERVICE.md", "docs/THEOREM-EVENTS.md", "docs/THEOREM-MAIL.md"],
     "sections": [
         ("A schedule is run as its text says",
-         ["What the words of the command line come to, the run over the stores that they ask for, and the run of a text: what is printed"
-          " are the lines of the outcomes of its events (`IsRunOf`). They were made one after another, and each did what its outcome says"
-          " (`HasRun`). Where the run had a good start and in the end no file is in doubt, it has a good end: the tables match the journals,"
-          " the partners of each order agree,"
-          " and the commands that stand in the journals are those that were told (`IsGoodEnd`). Over tables in memory nothing is asked:"
+         ["Here are what the words of the command line come to, the run over the stores that they ask for, and the run of a text. What is"
+          " printed are the lines of the outcomes of its events (`IsRunOf`); these were made one after another, and each did what its"
+          " outcome says (`HasRun`). Where the run had a good start and in the end no file is in doubt, it has a good end: the tables"
+          " match the journals,"
+          " the partners of each order agree, and the commands that stand in the journals are those that were told (`IsGoodEnd`). Over"
+          " tables in memory nothing is asked:"
           " the end is always good (`a_run_in_memory_ends_well`). Over stores that are found to have good tables, as those in files that an"
           " earlier run left, the end is good too, and what it leaves another run may begin with (`a_run_goes_on`);"
           " [THEOREM-FILES.md](THEOREM-FILES.md) has it over files."],
@@ -542,10 +550,11 @@ PROGRAM = {
                                                     " outcomes and faults, and what the words of the command line come to."],
          [("programs", "words", "ask"), ("schedule_text", "specs/Events", "events_of"),
           ("schedule_text", "specs/Outcomes", "outcome_lines")]),
-        ("What shows print", ["The lines that tell what the store of a service holds, between two worlds, before and after."],
+        ("What shows print", ["The lines that tell what the store of a service holds, with the worlds before and after."],
          OF_SHOWS[:-1]),
         ("Whether all partners agree",
-         ["Asked of the three stores, which stay: what is answered is what their tables say, and in a good world that they agree."],
+         ["The question is put to the three stores, which stay. The answer is what their tables say, and in a good world it's that all"
+          " agree."],
          [("schedule_runner", "shows", "World::agreement"), ("schedule_runner", "specs/Agreeing", "TellsAgreement")]),
     ],
 }
@@ -553,7 +562,8 @@ PROGRAM = {
 FILES = {
     "file": "docs/THEOREM-FILES.md",
     "title": "A run over files goes on",
-    "said": ["What a service's three files are found to hold, and that a run over them goes on where an earlier one ended. It stands behind"
+    "said": ["What the three services' files are found to hold, and that a run over them goes on where an earlier one ended. It stands"
+             " behind"
              " [THEOREM-PROGRAM.md](THEOREM-PROGRAM.md): what is defined there isn't printed again. What files are, as `sqlite` reads them,"
              " is said in that crate's own words (`HoldsDatabase`, `AreFoundIn`): a log and a database of the same octets as SQLite's."],
     "behind": ["docs/THEOREM.md", "docs/THEOREM-STORE.md", "docs/THEOREM-SERVICE.md", "docs/THEOREM-EVENTS.md", "docs/THEOREM-MAIL.md",
@@ -569,8 +579,9 @@ FILES = {
           ("schedule_stores", "laws", "a_run_in_sql_ends_well")], True),
         ("Files of version 1",
          ["In version 1 an order had one stock. `migrate_connection` makes version 2 of such a file, in one transaction: today's"
-          " tables, read from its new rows, are those that its old rows told (`AreRenewed`, `first_tables_of`), a stop leaves the old"
-          " rows or such new ones, and an error what was committed. So a run over three files that were taken over goes on as over any"
+          " tables, read from its new rows, are those that its old rows told (`AreRenewed`, `first_tables_of`); a stop leaves the old"
+          " rows or such new ones; and behind an error what was committed stays. So a run over three files that were taken over goes on"
+          " as over any"
           " that hold good tables."],
          [("schedule_stores", "laws", "files_taken_over_go_on"), ("keep_sqlite", "migration", "SqliteKeep::migrate_connection"),
           ("schedule_stores", "migration", "migrate_files")], True),
@@ -593,9 +604,9 @@ THREADS = {
     "sections": [
         ("Each answer is one thread's",
          ["A seat gives commands, the Hand takes letters and settles in, the Scout reads what is to be sent. These are tokens, each of which"
-          " one thread has at a time. What a token has *seen* is the service as it gave it back last behind an answer that tells of the"
-          " journal; its *list* are the journal's rows that it made. `IsOneThreads` says of"
-          " a call: there is a legal journal that begins with the one that the token has seen and has exactly its list (`Continues`),"
+          " one thread has at a time. What a token has *seen* is the service as the token last gave it back behind an answer that tells of"
+          " the journal; its *list* is the rows of the journal that it made. `IsOneThreads` says of a call: there is a legal journal that"
+          " begins with the one that the token has seen and has exactly its list (`Continues`),"
           " and the answer is what one thread gets there. It asks that the token is good, as new ones of good tables are"
           " (`tokens_stay_good`), and that no file is in doubt."],
          [("shared_endpoint", "laws", it) for it in ("commits_are_one_threads", "views_are_one_threads", "lengths_are_one_threads",
@@ -603,16 +614,19 @@ THREADS = {
                                                      "groups_are_one_threads", "handled_is_the_lists", "unsettled_are_above_marks",
                                                      "journals_are_one_threads", "tokens_stay_good")], True),
         ("Failures are counted, and for good",
-         ["That the store failed, or had failed before, is told only where a failure was counted; and behind it the token gets nothing"
+         ["That the store failed, or had failed before, is told only where a failure was counted; and from then on the token is told"
+          " nothing"
           " else."],
          [("shared_endpoint", "laws", it) for it in ("failures_are_counted", "failures_are_for_good")], True),
         ("In the end it is one history",
          ["Once all tokens are back, `close` gives the service: its journal begins with each that a token has seen, and consists of the"
           " tokens' lists and of no other rows."],
          [("shared_endpoint", "laws", "closes_to_one_history"), ("shared_endpoint", "shared", "Shared::close")], True),
-        ("The calls", ["What each call does, in one word of what its token knows before and after it (`Turns`): at some service, later than"
-                       " all that the token knew, it did what the call of [THEOREM-SERVICE.md](THEOREM-SERVICE.md) does. And what"
-                       " the token raised the mark of the journal's length to (`raised_after`), which the Scout reads by `mark`."],
+        ("The calls", ["What each call does, in one word of what its token knows before and after it (`Turns`): to some service, later"
+                       " than"
+                       " all that the token knew, it did what the call of [THEOREM-SERVICE.md](THEOREM-SERVICE.md) does. It also"
+                       " tells to which length of the journal the token raised the mark (`raised_after`), which the Scout reads by"
+                       " `mark`."],
          [("shared_endpoint", "shared", "Shared::open")]
          + [("shared_endpoint", "calls", f"Shared::{it}") for it in ("commit", "view", "length", "ingest", "drain_held", "settle",
                                                                      "take_group", "handled", "unsettled", "journal")]
@@ -644,8 +658,9 @@ BROKER = {
     "signs": True,
     "sections": [
         ("A broker loses nothing and lets nothing overtake",
-         ["Over any calls of a broker, by any sessions, also where memory was refused. `Lives` says which: `calls.rt` of `laws_broker` has"
-          " each call with the contract that it is one of these."],
+         ["Over any calls of a broker, by any sessions, also where memory was refused. `Lives` says which calls; `calls.rt` of"
+          " `laws_broker`"
+          " has each, with the contract that it's one of them."],
          [("laws_broker", "laws", it) for it in ("no_message_is_lost", "messages_were_sent", "accepted_sends_are_told_once",
                                                  "no_message_overtakes", "frames_are_handled_in_order_all_life")]),
         ("What a client reads was sent", ["The broker between its clients, over wires that cut what is written in any pieces."],
