@@ -1,2 +1,3 @@
 mod Further
 mod Batching
+mod Sending

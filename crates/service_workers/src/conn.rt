@@ -1,10 +1,12 @@
 //! A connection of a service with a broker.
 
-ghost use Rattle.std.specs.Prelude.{◌≡◌, ◌||◌, ◌↔◌, true, false, nat_lt, None, Some, Ok, IsSome, IfOk, IfErr};
+ghost use Rattle.std.specs.Prelude.{◌≡◌, ◌≤◌, ◌-◌, ◌+◌, ◌^◌, ◌<◌, ◌||◌, ◌↔◌, true, false, nat_lt, None, Some, Ok, IsSome, IfOk, IfErr};
+ghost use Rattle.std.specs.Prelude.{length, filter};
 ghost use Rattle.stomp_client.specs.declared.session.Stage.TheVariants.{Connected};
 ghost use Rattle.stomp_frame.specs.declared.command.Command.TheVariants.{Connect};
 ghost use Rattle.stomp_client.specs.Calls.{DisconnectsWithReceipt};
-ghost use Rattle.service_workers.specs.Conns.{IsNewConn, IsNewConnBy, client_of, link_of, came};
+ghost use Rattle.service_workers.specs.Conns.{IsNewConn, IsNewConnBy, Sends, SendsSo, client_of, is_sent_on, link_of, came};
+ghost use Rattle.service_workers.specs.declared.conn.TheConstants.{WINDOW};
 
 use crate::Cut;
 use crate::turns::{ReadFault, read_in, write_out};
@@ -306,42 +308,58 @@ impl<L: Link + Drop> Conn<L> {
         }
     }
 
+    /// Sends of these letters those that weren't sent on this connection, so many at most, and tells how many.
+    fn fill(&mut self, letters: &[Letter], limit: usize) -> Result<usize, RelayFault>
+        requires { self.old.on_way + limit < 2 ^ 64 }
+        ensures sends { (client_of self.old).stage ≡ Connected → SendsSo limit letters.now self.old self.new result }
+        ensures within { self.new.on_way ≤ self.old.on_way + limit }
+    {
+        let sent = self
+            .relay
+            .fill_rows(&mut self.channel.client, letters, limit)?;
+        self.on_way = self.on_way.saturating_add(sent);
+        Ok(sent)
+    }
+
     /// Sends of these letters those that weren't sent on this connection, as far as its window goes, and answers how
     /// many of all were sent on it, now or before.
-    pub(crate) fn send(&mut self, letters: &[Letter]) -> Result<usize, Cut> {
+    pub(crate) fn send(&mut self, letters: &[Letter]) -> Result<usize, Cut>
+        ensures sends { (client_of self.old).stage ≡ Connected
+            → Sends (WINDOW - self.old.on_way) letters.now self.old self.new }
+        ensures window { self.old.on_way ≤ WINDOW → self.new.on_way ≤ WINDOW }
+        ensures told { IfOk result (λ count. count ≡ length (filter (is_sent_on self.new) letters.now)) }
+    {
         let limit = WINDOW.saturating_sub(self.on_way);
-        match self
-            .relay
-            .fill_rows(&mut self.channel.client, letters, limit)
-        {
-            Ok(sent) => {
-                self.on_way = self.on_way.saturating_add(sent);
-                // It stopped at no limit: none of them is left.
-                if sent < limit && self.is_connected() {
-                    return Ok(letters.len());
-                }
-            }
-            // Some were sent, and it isn't told how many: they are counted where the walk ends.
-            Err(RelayFault::Client(ClientFault::Memory)) => (),
-            Err(RelayFault::Envelope(EnvelopeFault::Memory)) => (),
-            Err(fault) => return Err(Cut::Relay(fault)),
+        match self.fill(letters, limit) {
+            Ok(_) => Ok(self.count_sent(letters)),
+            // Some were sent, and it isn't told how many: they are on the way once the walk has ended.
+            Err(RelayFault::Client(ClientFault::Memory)) => Ok(self.count_sent(letters)),
+            Err(RelayFault::Envelope(EnvelopeFault::Memory)) => Ok(self.count_sent(letters)),
+            Err(fault) => Err(Cut::Relay(fault)),
         }
-        Ok(self.count_sent(letters))
+    }
+
+    /// Whether a letter was sent on this connection.
+    fn has_sent(&self, letter: &Letter) -> bool
+        ensures { result ≡ is_sent_on self.now letter.now }
+    {
+        letter.number.get() <= self.relay.sent(&letter.pair)
     }
 
     /// How many of these letters were sent on this connection.
-    fn count_sent(&self, letters: &[Letter]) -> usize {
-        let mut count = 0usize;
-        for letter in letters {
-            if self.relay.sent(&letter.pair) >= letter.number.get() {
-                count = count.saturating_add(1);
-            }
-        }
-        count
+    fn count_sent(&self, letters: &[Letter]) -> usize
+        ensures { result ≡ length (filter (is_sent_on self.now) letters.now) }
+    {
+        letters
+            .iter()
+            .filter(|letter| self.has_sent(letter))
+            .count()
     }
 
     /// So many of the letters that were sent aren't settled, and no more.
-    pub(crate) fn counted(&mut self, on_way: usize) {
+    pub(crate) fn counted(&mut self, on_way: usize)
+        ensures { self.new ≡ record self.old { on_way = on_way } }
+    {
         self.on_way = on_way;
     }
 }
