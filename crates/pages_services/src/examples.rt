@@ -38,6 +38,7 @@ use laws_journals::stays_authentic;
 use laws_network::{Delivery, Event, Network, Outcome, exchange};
 use laws_services::frames_are_steps;
 use laws_stores::a_deed_keeps_the_laws;
+use library::{TitleCommand, Titles};
 use marks::Marks;
 use outbox::settle;
 use purchasing::Orders;
@@ -268,6 +269,20 @@ pub fn a_free_room_is_promised(alloc: Global, order: Entity) -> Result<bool, Han
     let request = Input::FromEntity(order, Number::FIRST, Message::Request(Number::FIRST));
     Rooms::apply(alloc, &mut room, &request, &mut outs)?;
     Ok(matches!(room, Room::Promised(_)))
+}
+
+pub fn one_copy_is_set_aside(
+    alloc: Global,
+    copies: Number,
+    reader: Entity,
+) -> Result<u64, HandlerFault> {
+    let mut title = Titles::opening(alloc)?;
+    let mut outs = Outs::new(alloc);
+    let add = Input::FromSeat(0, TitleCommand::Add(copies));
+    Titles::apply(alloc, &mut title, &add, &mut outs)?;
+    let request = Input::FromEntity(reader, Number::FIRST, Message::Request(Number::FIRST));
+    Titles::apply(alloc, &mut title, &request, &mut outs)?;
+    Ok(title.on_shelf())
 }
 
 pub fn no_mark_is_taken_back()

@@ -6,7 +6,7 @@ mod examples;
 mod hotel_day;
 
 use activities::{Handler, Outs};
-use anyhow::Result;
+use anyhow::{Context, Result};
 use base::{Entity, Key, Number, Pair};
 use billing::Accounts;
 use endpoint::Endpoint;
@@ -21,11 +21,11 @@ use examples::{
     an_entity_is_named_again, an_idle_destination_is_closed, an_order_is_refused,
     answers_reach_back_in_mode_client, first_state_of, lawful_journals_stay_lawful,
     no_mark_is_taken_back, nothing_goes_out_before_the_broker_answers, nothing_is_held_at_first,
-    order_of_one, printed_octets_are_read, services_without_orders_agree, so_much_is_on_hand,
-    so_much_is_the_limit, tables_hold_nothing_at_first, three_parts_are_one_text,
-    what_a_broker_brought_is_a_step, what_a_client_reads_was_sent, what_comes_early_waits,
-    what_wants_an_ack_stays_until_it_comes, what_was_put_is_taken, what_was_remembered_is_known,
-    words_that_are_no_text_are_told,
+    one_copy_is_set_aside, order_of_one, printed_octets_are_read, services_without_orders_agree,
+    so_much_is_on_hand, so_much_is_the_limit, tables_hold_nothing_at_first,
+    three_parts_are_one_text, what_a_broker_brought_is_a_step, what_a_client_reads_was_sent,
+    what_comes_early_waits, what_wants_an_ack_stays_until_it_comes, what_was_put_is_taken,
+    what_was_remembered_is_known, words_that_are_no_text_are_told,
 };
 use hotel::{RoomCommand, Rooms};
 use hotel_day::a_day_at_the_hotel;
@@ -110,6 +110,12 @@ fn print_client(rt: &impl Print, alloc: Global) -> Result<()> {
     tell(rt, "marks", a_mark_is_the_greatest_number_raised(alloc))
 }
 
+/// How many of three copies are left on the shelf.
+fn left_of_three(alloc: Global) -> Result<u64> {
+    let three = Number::new(3).context("no number")?;
+    Ok(one_copy_is_set_aside(alloc, three, pair(alloc)?.from)?)
+}
+
 /// What services tell each other, what they do with it, and what holds of all of them.
 fn print_reactions(rt: &impl Print, alloc: Global) -> Result<()> {
     tell(rt, "envelope", a_settle_is_sent(alloc, pair(alloc)?))?;
@@ -123,7 +129,8 @@ fn print_reactions(rt: &impl Print, alloc: Global) -> Result<()> {
         rt,
         "hotel",
         a_free_room_is_promised(alloc, pair(alloc)?.from),
-    )
+    )?;
+    show(rt, "library", &left_of_three(alloc)?)
 }
 
 /// A mark of empty tables.
