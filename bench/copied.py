@@ -2,7 +2,7 @@
 """Programs that only measure. They are no crates of the repository, so that the gate needn't prove them: bench/programs.txt has them, and
 what they stand on. Each is proved and built in a copy of the crates that it stands on, by `rt ci`, which takes what the gate has proved on
 this machine where the kit keeps that (CONTRIBUTING.md). Of bench_NAME the folder bench/NAME_program becomes its crate there: *.rt.txt
-without their .txt are its src/, the rest is what `rt ci` runs it on and compares.
+without their .txt are its src/, *.antt.txt without it are its proofs, the rest is what `rt ci` runs it on and compares.
 usage, from anywhere: bench/copied.py NAME..                  prints where each lies; it's built where it or what it stands on has changed
                       bench/copied.py --copy FOLDER NAME..    makes the folder such a copy, to build it there in another way
 The scripts that measure with one find it by bench/program.
@@ -43,6 +43,8 @@ def copy(folder, *names):
         for text in list(crate.glob("*.rt.txt")):
             (crate / "src").mkdir(exist_ok=True)
             text.rename(crate / "src" / text.name.removesuffix(".txt"))
+        for text in list(crate.rglob("*.antt.txt")):
+            text.rename(text.with_suffix(""))
     shutil.copy(TOP / "HANDLES", folder)
     (folder / "crates.txt").write_text("".join(f"{lines[name]}\n" for name in found), encoding="utf-8")
 
