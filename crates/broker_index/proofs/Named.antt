@@ -27,6 +27,13 @@ Sets-same values k x same = record { at = same; others = λ other differs. refl 
 pub Sets-like : {K X : Type 0} (old new : K → X) (k : K) (x y : X) → Sets old new k x → x ≡ y → Sets old new k y
 Sets-like old new k x y sets same = record { at = sets.at ∙ same; others = sets.others }
 
+-- of two changes at one key the later one counts
+pub Sets-again : {K X : Type 0} (a b c : K → X) (k : K) (x y : X) → Sets a b k x → Sets b c k y → Sets a c k y
+Sets-again a b c k x y first later = record {
+  at = later.at;
+  others = λ other differs. later.others other differs ∙ first.others other differs;
+}
+
 -- a queue changes, and goes if it is idle then
 pub Sets-taken : {K : Type 0} (a b c : K → Option Queue) (k : K) (f : Queue → Queue) (g : Queue → Option Queue)
     → ((q : Queue) → unless_idle (f q) ≡ g q) → Sets a b k (option_map f (a k))

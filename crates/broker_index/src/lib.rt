@@ -5,8 +5,8 @@
 //!   key that each was given makes that one look. A key is only a hint: with any other key the answer is the same,
 //!   after a search through all.
 //! - [`Destinations`] lie in a slab too. An ordered map tells the key of a name, and a name that comes again and again
-//!   is looked up once: the key of the last call is a hint, at which is looked first. [`Sessions`] are an ordered map: a
-//!   look-up takes time that grows with the logarithm of their number.
+//!   is looked up once: the key of the last call is a hint, at which is looked first. [`Sessions`] are an ordered map of
+//!   those that have subscribers: a look-up takes time that grows with the logarithm of their number.
 //! - The numbers of a queue's messages and the ages of its subscribers stand in double-ended queues: what is looked for
 //!   there is mostly near the front, and is found in the same time however many are behind.
 //!

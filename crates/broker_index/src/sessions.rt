@@ -9,7 +9,7 @@ use std::alloc::{AllocError, Global};
 use std::collections::BTreeMap;
 use std::marker::Model;
 
-/// Where the subscribers of each session are, the oldest first.
+/// Where the subscribers of each session are, the oldest first. A session without any takes no memory.
 #[derive(Drop)]
 pub struct Sessions {
     alloc: Global,
@@ -23,6 +23,10 @@ impl Model for Sessions {
     ghost Value = { List (ℕ × List Place) };
 
     ghost view = { λ s. map (λ e. (e.0, e.1.items)) s.places.entries };
+
+    ghost use Rattle.broker_index.specs.Listed.{NoneIsEmpty};
+
+    ghost invariant = { λ s. NoneIsEmpty s.places };
 }
 
 impl Sessions {
@@ -91,20 +95,17 @@ impl Sessions {
         }
     }
 
-    /// Takes a subscriber from a session. It takes no memory.
+    /// Takes a subscriber from a session, and the session with its last one. It takes no memory.
     pub fn remove_place(&mut self, session: u64, age: u64)
         ensures { Sets (places_at self.old) (places_at self.new) session (without age (places_at self.old session)) }
     {
-        match self.places.get_mut(&session) {
-            Some(places) => places.retain(|place| !(place.number == age)),
-            None => {}
+        let Some(places) = self.places.get_mut(&session) else {
+            return;
+        };
+        places.retain(|place| !(place.number == age));
+        // The number of a session never comes again: an empty list would stay for good.
+        if places.is_empty() {
+            drop(self.places.remove(&session));
         }
-    }
-
-    /// Takes a session out with all its subscribers. It takes no memory.
-    pub fn remove(&mut self, session: u64)
-        ensures { Sets (places_at self.old) (places_at self.new) session [] }
-    {
-        let _ = self.places.remove(&session);
     }
 }
