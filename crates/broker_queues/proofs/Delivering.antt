@@ -14,9 +14,10 @@ use Rattle.broker_book.specs.declared.parts.Sent.{Sent}
 use Rattle.broker_book.specs.declared.parts.Subscription.{Subscription}
 use Rattle.broker_book.specs.Books.{Book, QueuedMessage, Fate, Ready, Out, out_to, is_auto, is_for, is_named}
 use Rattle.broker_book.specs.Steps.{Deal, last_given, next_ack}
-use Rattle.broker_index.specs.Index.{Kept, Subscriber, has_age, with_fate, with_count, with_entry}
+use Rattle.broker_index.specs.Index.{Kept, Subscriber, entries_without, has_age, with_fate, with_count, with_entry}
+use Rattle.broker_index.specs.Index.{without_entries}
 use Rattle.broker_index.specs.declared.places.Entry.{Entry}
-use Rattle.broker_queues.specs.Parts.Fates.{passes, counts_for, dealt_fate, recounted, weight}
+use Rattle.broker_queues.specs.Parts.Fates.{passes, counts_for, dealt_fate, fate_of_kept, recounted, weight}
 use Rattle.broker_queues.specs.Parts.Queues.{CountsFewer}
 use Rattle.broker_queues.specs.Parts.Facts.{kept_at, subscriber_at, living_of, subscriptions_of, message_of}
 use Rattle.broker_queues.specs.Parts.Facts.{holds_number, notes}
@@ -32,6 +33,7 @@ use Rattle.broker_queues.proofs.Returning.{only_one}
 use Rattle.broker_queues.proofs.Rising.{at_number, map_same, any_from_at}
 use Rattle.broker_queues.proofs.Setting.{Lowers-same}
 use Rattle.broker_queues.proofs.Subscribing.{named_from, out_passes}
+use Rattle.broker_queues.proofs.Sweeping.{forgot, tidy_book}
 
 -- a map that changes nothing
 map_stays : {X : Type 0} (g : X → X) → ((x : X) → g x ≡ x) → (xs : List X) → map g xs ≡ xs
@@ -325,3 +327,49 @@ noted_only h is a e accepted l same = rw same (
       (subscriptions_of (map (with_entry a e) h.subscribers)) (subscriptions_of h.subscribers) accepted refl refl refl
       (noted_subscriptions h is a e),
 )
+
+-- ---- the note is taken back
+
+module _ (n a : ℕ) (e : Entry) (number : e.number ≡ n) where
+  goes_again : (es : List Entry) → entries_without n (es ++ e ∷ []) ≡ entries_without n es
+  goes_again [] = let on : (e.number == n) ≡ true = eq-eqb e.number n number in rw on refl
+  goes_again (x ∷ es) = elim (cases_Bool (x.number == n)) [
+    | inl on ↦ rw on (goes_again es)
+    | inr off ↦ rw off (ap (λ l. x ∷ l) (goes_again es))
+  ]
+
+  forgets_one : (s : Subscriber) → without_entries a n (with_entry a e s) ≡ without_entries a n s
+  forgets_one s = elim (cases_Bool (s.age == a)) [
+    | inl on ↦
+        let noted : with_entry a e s ≡ noting e s = rw on refl in
+        let forgets : without_entries a n (noting e s) ≡ record s { entries = entries_without n (s.entries ++ e ∷ []) } =
+        rw on refl in
+        let plain : without_entries a n s ≡ record s { entries = entries_without n s.entries } = rw on refl in
+        ap (without_entries a n) noted ∙ forgets ∙ ap (λ es. record s { entries = es }) (goes_again s.entries)
+        ∙ sym plain
+    | inr off ↦ let same : with_entry a e s ≡ s = rw off refl in ap (without_entries a n) same
+  ]
+
+  -- it is as if nothing had been noted
+  pub forgets_note : (ss : List Subscriber)
+      → map (without_entries a n) (map (with_entry a e) ss) ≡ map (without_entries a n) ss
+  forgets_note [] = refl
+  forgets_note (s ∷ ss) = rw (forgets_one s, forgets_note ss) refl
+
+  -- memory was refused behind the note, which was forgotten
+  pub noted_back : (h : Holding) → IsSound h → (k : Kept) (s : Subscriber) (accepted : List Accepted)
+      (l m : List Subscriber) → kept_at n h.kept ≡ Some k → k.fate ≡ Some Ready
+      → subscriber_at a h.subscribers ≡ Some s → l ≡ map (with_entry a e) h.subscribers
+      → m ≡ map (without_entries a n) l
+      → IsSound (record h { subscribers = m })
+      × (book_of (record h { subscribers = m }) accepted ≡ book_of h accepted)
+  noted_back h is k s accepted l m there ready sits noted forgotten =
+      let i : Holding = record h { subscribers = l } in
+      let one = noted_only h is a e accepted l noted in
+      let still : subscriber_at a l ≡ Some (noting e s) =
+      ap (λ x. subscriber_at a x) noted ∙ sits_still h is n a k s e 0 there ready sits number in
+      let off : passes (out_to s.subscription.session s.subscription.id) (fate_of_kept (kept_at n h.kept)) ≡ false =
+      ap (λ o. passes (out_to s.subscription.session s.subscription.id) (fate_of_kept o)) there
+      ∙ ap (λ f. passes (out_to s.subscription.session s.subscription.id) f) ready in
+      let t : Tidies i (record i { subscribers = m }) = forgot i one.0 a n (noting e s) still off m forgotten in
+      (t.sound, tidy_book i (record i { subscribers = m }) t accepted ∙ one.1)

@@ -6,15 +6,16 @@
 ghost use Rattle.broker_index.specs.Index.{queue_at};
 ghost use Rattle.broker_queues.specs.Parts.Choosing.{Chooses, Hands, Looks, NextDeal, Rests, earlier};
 ghost use Rattle.broker_queues.specs.Parts.Choosing.{is_at_most, is_auto_of, pick_of};
-ghost use Rattle.broker_queues.specs.Parts.Dealings.{HandsOut, HandsWhole};
+ghost use Rattle.broker_queues.specs.Parts.Dealings.{HandsOut, HandsWhole, NotesNoMore};
 ghost use Rattle.broker_queues.specs.Parts.Facts.{queue_of, subscriber_at};
 ghost use Rattle.broker_queues.specs.Parts.Held.{holding_of};
 ghost use Rattle.broker_queues.specs.Parts.Whole.{IsSound};
-ghost use Rattle.std.specs.Prelude.{[], ◌<◌, ◌≡◌, OnOk, false, length, slice_index_or, true};
+ghost use Rattle.std.specs.Prelude.{[], ◌<◌, ◌≡◌, IfOk, OnErr, OnOk, Some, false, length, slice_index_or, true};
 
 use crate::destinations::{count_fewer, look_on, next_ready, next_taker, number_or, ready_from};
 use crate::parts::Parts;
 use crate::sink::Sink;
+use broker_book::{Sent, Subscription};
 use broker_index::{Entry, Holder, Place, Standing};
 use std::alloc::AllocError;
 
@@ -49,6 +50,32 @@ fn pick_of(message: Place, taker: Option<Place>) -> Option<Pick>
         Some(taker) => Some(Pick { message, taker }),
         None => None,
     }
+}
+
+/// Gives a message to a sink, as the delivery `ack` to a subscription, and tells to whom it is out then.
+///
+/// # Errors
+/// Where memory is refused; then the sink has taken nothing.
+fn deliver_as<S: Sink>(
+    number: u64,
+    sent: &Sent,
+    to: &Subscription,
+    ack: u64,
+    sink: &mut S,
+) -> Result<Holder, AllocError>
+    ensures holder { IfOk result (λ h. h ≡ record { session = to.now.session; id = to.now.id; ack = ack }) }
+    ensures ok { OnOk result (S.takes sink.old
+        (record { number = number; sent = sent.now; to = to.now; ack = Some ack }) sink.new) }
+    ensures err { OnErr result (sink.new ≡ sink.old) }
+{
+    let holder = Holder {
+        session: to.session,
+        id: to.id.share()?,
+        ack,
+    };
+    // The last that can fail.
+    sink.deliver(number, sent, to, Some(ack))?;
+    Ok(holder)
 }
 
 impl Parts {
@@ -183,8 +210,8 @@ impl Parts {
     /// Hands a message out to a subscriber that is to answer, as the next delivery; the subscriber notes it.
     ///
     /// # Errors
-    /// Where memory is refused; then nothing has changed, but that the subscriber may have noted a delivery that wasn't
-    /// made.
+    /// Where memory is refused; then nothing has changed, but that what the subscriber noted of the message before, which
+    /// is stale, may be forgotten.
     fn hand_out<S: Sink>(
         &mut self,
         message: Place,
@@ -194,6 +221,7 @@ impl Parts {
         ensures hands { HandsOut S.takes false message.number to.number (holding_of self.old) sink.old
             (holding_of self.new) sink.new result }
         ensures whole { HandsWhole (holding_of self.old) message.number to.number (holding_of self.new) }
+        ensures notes { NotesNoMore self.old.subscribers message.number to.number self.new.subscribers result }
     {
         let ack = self.given.saturating_add(1);
         let entry = Entry {
@@ -201,7 +229,7 @@ impl Parts {
             number: message.number,
             key: message.key,
         };
-        // Noted before it is made: a note too many is only stale, and a delivery without one could not be answered.
+        // Noted before it is made: a delivery without a note could not be answered.
         self.subscribers.note(to.number, to.key, entry)?;
         let Some(stored) = self.messages.get(message.number, message.key) else {
             return Ok(());
@@ -209,20 +237,24 @@ impl Parts {
         let Some(subscriber) = self.subscribers.get(to.number, to.key) else {
             return Ok(());
         };
+        let sent = stored.sent().get();
         let subscription = subscriber.subscription();
-        let holder = Holder {
-            session: subscription.session,
-            id: subscription.id.share()?,
-            ack,
-        };
         let count = subscriber.count().saturating_add(1);
-        // The last that can fail: what follows takes no memory, so a message that the sink has is out.
-        sink.deliver(message.number, stored.sent().get(), subscription, Some(ack))?;
-        self.subscribers.set_count(to.number, to.key, count);
-        self.messages
-            .set(message.number, message.key, Standing::Out(holder));
-        self.given = ack;
-        Ok(())
+        match deliver_as(message.number, sent, subscription, ack, sink) {
+            Ok(holder) => {
+                // What follows takes no memory, so a message that the sink has is out.
+                self.subscribers.set_count(to.number, to.key, count);
+                self.messages
+                    .set(message.number, message.key, Standing::Out(holder));
+                self.given = ack;
+                Ok(())
+            }
+            Err(error) => {
+                // It is tried again, and would be noted once more each time.
+                self.subscribers.forget(to.number, to.key, message.number);
+                Err(error)
+            }
+        }
     }
 
     /// Whether the subscriber at a place wants to give no answers.

@@ -1,12 +1,13 @@
 -- What the parts say of the next message that can go out, and of one that does.
-use Rattle.std.specs.Prelude.{◌≡◌, ◌≤◌, ◌<◌, ℕ, Bool, true, false, ◌&&◌, List, Option, Some, None, Result, Ok, Err}
+use Rattle.std.specs.Prelude.{◌≡◌, ◌≤◌, ◌<◌, ◌⊎◌, ℕ, Bool, true, false, ◌&&◌, List, map, Option, Some, None}
+use Rattle.std.specs.Prelude.{Result, Ok, Err}
 use Rattle.std.specs.Str.{bytes_eq}
 use Rattle.broker_book.specs.declared.parts.Accepted.{Accepted}
 use Rattle.broker_book.specs.Books.{Book, is_auto, is_ready_fate}
 use Rattle.broker_book.specs.Steps.{Handed, Deal}
 use Rattle.std.specs.Prelude.{All, IfSome}
 use Rattle.std.specs.Option.{option_map}
-use Rattle.broker_index.specs.Index.{Kept, Subscriber, Queue, Sets, ready_from, taken_from}
+use Rattle.broker_index.specs.Index.{Kept, Subscriber, Queue, Sets, ready_from, taken_from, without_entries}
 use Rattle.broker_index.specs.declared.places.Place.{Place}
 use Rattle.broker_queues.specs.Parts.Facts.{kept_at, subscriber_at, lists, may_have, queue_of}
 use Rattle.broker_queues.specs.Parts.Fates.{passes}
@@ -93,3 +94,8 @@ HandsOut takes auto n a old from new to result =
 abbrev pub HandsWhole : Holding → ℕ → ℕ → Holding → Type 0
 HandsWhole old n a new =
     (k : Kept) (s : Subscriber) → IsSound old → Picks old n k a s → NoneGone old.kept → NoneGone new.kept
+
+-- where memory was refused the subscriber notes no delivery that it hadn't noted: those of the message are gone at most
+abbrev pub NotesNoMore : {E : Type 0} → List Subscriber → ℕ → ℕ → List Subscriber → Result (Unit {0}) E → Type 0
+NotesNoMore old n a new (Ok _) = Unit {0}
+NotesNoMore old n a new (Err _) = (new ≡ old) ⊎ (new ≡ map (without_entries a n) old)
