@@ -89,7 +89,7 @@ pub(crate) struct Connection {
     share: usize,
     /// When something came last.
     heard: Instant,
-    /// It has sent a message, where there is a limit of what is held.
+    /// It has sent a message, or an answer that its transaction keeps.
     sends: bool,
     /// It isn't read since that limit was met, though something may have come.
     is_held_back: bool,
@@ -137,7 +137,8 @@ impl Connection {
         self.place.number == place.number
     }
 
-    /// Reads where there is something to read and nothing waits, and writes where the socket takes more again.
+    /// Reads where there is something to read and nothing waits, and writes where the socket takes more again. Where
+    /// something waits it only looks whether the socket has failed.
     pub(crate) fn handle<const FULL: usize>(
         &mut self,
         alloc: Global,
@@ -152,7 +153,8 @@ impl Connection {
         }
         let has_more = event.is_readable() || event.is_read_closed() || event.is_error();
         let step = match self.stage {
-            _ if !has_more || self.is_waiting() => Step::Stays,
+            _ if !has_more => Step::Stays,
+            _ if self.is_waiting() => self.end_if_failed(broker, event, work),
             Stage::Serving => self.read_if_room(alloc, registry, broker, event, work),
             Stage::Leaving(_) | Stage::Draining => self.throw_away(registry, work),
         };
@@ -166,7 +168,23 @@ impl Connection {
         step
     }
 
-    /// Reads for its session, unless it is held back, and notes whether it sends.
+    /// Ends it, though something waits, where its socket has failed: what it has sent would get no answer.
+    fn end_if_failed<const FULL: usize>(
+        &mut self,
+        broker: &mut Broker<FULL>,
+        event: &Event,
+        work: &mut Work,
+    ) -> Step {
+        if !event.is_error() {
+            return Step::Stays;
+        }
+        give_back(replace(&mut self.due, Due::Nothing), &mut work.buffers);
+        self.end(broker, Ending::Stream)
+    }
+
+    /// Reads for its session, unless it is held back, and notes whether it sends. Who has shut its side isn't held back
+    /// by the limit: only a read finds its end, and no more comes than its socket holds. Where memory is refused it waits
+    /// as if some had been refused to it.
     fn read_if_room<const FULL: usize>(
         &mut self,
         alloc: Global,
@@ -175,14 +193,18 @@ impl Connection {
         event: &Event,
         work: &mut Work,
     ) -> Step {
-        self.is_held_back = self.is_to_wait(broker, work);
+        let is_to_wait = self.is_to_wait(broker, work);
+        // What it has sent behind a failure would get no answer.
+        if is_to_wait && event.is_error() {
+            return self.end(broker, Ending::Stream);
+        }
+        self.is_held_back = is_to_wait && !event.is_read_closed();
         if self.is_held_back {
             work.room.holds_back = true;
-            // What it has sent behind a failure would get no answer.
-            if event.is_error() {
-                return self.end(broker, Ending::Stream);
-            }
             return Step::Stays;
+        }
+        if is_to_wait && self.is_short(broker, work) {
+            return self.wait(alloc, registry, broker, work, Due::Frames);
         }
         if self.sends {
             return self.read(alloc, registry, broker, event, work);
@@ -190,14 +212,29 @@ impl Connection {
         take_accepted(broker, work);
         let kept = broker.kept(self.session);
         let step = self.read(alloc, registry, broker, event, work);
-        self.sends = take_accepted(broker, work) || broker.kept(self.session) > kept;
+        self.note_sends(broker, work, kept);
         step
+    }
+
+    /// Notes that it sends where something was accepted just now, or its transactions keep more than they did.
+    fn note_sends<const FULL: usize>(
+        &mut self,
+        broker: &mut Broker<FULL>,
+        work: &mut Work,
+        kept: u64,
+    ) {
+        let has_sent = take_accepted(broker, work) || broker.kept(self.session) > kept;
+        self.sends = self.sends || has_sent;
+    }
+
+    /// Whether memory is refused, and what its open transactions keep gives none back.
+    fn is_short<const FULL: usize>(&self, broker: &Broker<FULL>, work: &Work) -> bool {
+        work.room.is_short() && !self.keeps(broker)
     }
 
     /// Whether it isn't to be read now, since so much is held, or memory is refused and what it sends gives none back.
     fn is_to_wait<const FULL: usize>(&self, broker: &Broker<FULL>, work: &Work) -> bool {
-        let is_full = work.room.is_full_for(self.place.number)
-            || (work.room.is_short() && !self.keeps(broker));
+        let is_full = work.room.is_full_for(self.place.number) || self.is_short(broker, work);
         let has_unanswered = is_full && broker.has_unanswered(self.session);
         is_held_back(is_full, self.sends, has_unanswered)
     }
@@ -267,6 +304,8 @@ impl Connection {
             return self.leave_closed(alloc, registry, broker, work);
         }
         match read_in(&mut self.stream, broker, self.session, &mut buffer[..room]) {
+            // Nothing would tell again that the socket has failed.
+            Err(_) if event.is_error() => self.end(broker, Ending::Stream),
             Err(fault) => self.keep_unread(alloc, registry, broker, work, fault),
             Ok((Turn::Ended, _)) => {
                 self.has_ended = true;
@@ -354,8 +393,8 @@ impl Connection {
         Step::Waits
     }
 
-    /// Goes on with what waits. Where nothing does any more it is read again: the socket doesn't tell twice of what
-    /// came meanwhile.
+    /// Goes on with what waits, and notes whether it sends. Where nothing waits any more it is read again: the socket
+    /// doesn't tell twice of what came meanwhile.
     pub(crate) fn go_on<const FULL: usize>(
         &mut self,
         alloc: Global,
@@ -367,11 +406,15 @@ impl Connection {
             return Step::Stays;
         }
         let due = replace(&mut self.due, Due::Nothing);
+        take_accepted(broker, work);
+        let kept = broker.kept(self.session);
         if broker.is_closed(self.session) {
             give_back(due, &mut work.buffers);
             return self.leave_closed(alloc, registry, broker, work);
         }
-        match feed_due(broker, self.session, &due) {
+        let fed = feed_due(broker, self.session, &due);
+        self.note_sends(broker, work, kept);
+        match fed {
             Err(ReadFault::Stream) | Err(ReadFault::Untaken(_)) => {
                 return self.wait(alloc, registry, broker, work, due);
             }
@@ -385,6 +428,17 @@ impl Connection {
                 work.figures.note_frames(frames);
             }
         }
+        self.read_on(alloc, registry, broker, work)
+    }
+
+    /// Has it be read again, unless its session is over.
+    fn read_on<const FULL: usize>(
+        &mut self,
+        alloc: Global,
+        registry: &Registry,
+        broker: &mut Broker<FULL>,
+        work: &mut Work,
+    ) -> Step {
         if broker.is_closed(self.session) {
             return self.leave_closed(alloc, registry, broker, work);
         }

@@ -34,22 +34,25 @@
 //! - After an ERROR or a DISCONNECT (STOMP 1.2, sections "ERROR", "DISCONNECT"), or where the client has shut its side,
 //!   what is left is written and this side is shut; what the client still sends is read and thrown away, up to
 //!   67,108,864 octets and 5 seconds. So no reset of the connection takes an ERROR away before it is read.
-//! - Where the system has no descriptor left, connections wait until one is free.
+//! - Where the system gives no new connection, mostly since no descriptor is left, connections wait until it does.
 //! - With a limit of memory ([`ServeOptions`]) it is counted what messages in queues, open transactions and what is left
-//!   to be written hold together. From the limit on, until less than seven eighths of it are held, a connection that has
-//!   sent a message isn't read, so that its socket's buffers hold its client back, unless it has deliveries to answer.
-//!   Who has sent nothing is read, so that clients can connect and subscribe, and who has deliveries is, since answers
-//!   give memory back. A connection that is held back isn't silent, and is read again once there is room or a delivery
-//!   is out to it. Where open transactions alone keep seven eighths, one connection of theirs at a time is read too, as
-//!   only it can end them.
+//!   to be written hold together. From the limit on, until less than seven eighths of it are held, a connection that
+//!   sends isn't read, so that its socket's buffers hold its client back, unless it has deliveries to answer: it sends
+//!   once it has sent a message, or an answer that a transaction keeps. Who has sent nothing is read, so that clients can
+//!   connect and subscribe, and who has deliveries is, since answers give memory back. A connection that is held back
+//!   isn't silent, and is read again once there is room or a delivery is out to it, or its client shuts its side: its end
+//!   is found by reading alone. Where open transactions alone keep seven eighths, one connection of theirs at a time is
+//!   read too, as only it can end them.
 //! - So the limit is passed by the read that meets it, and by one read of each connection that sends its first message
 //!   then: 65,536 octets, or the frame that they complete. On top come what a client sends that leaves deliveries
-//!   unanswered meanwhile, and the transactions of that one connection. Frames of which not all is there yet, one a
-//!   connection at most, aren't counted, nor is what memory is lost between blocks.
+//!   unanswered meanwhile, the transactions of that one connection, and what stands in the socket of one whose client
+//!   has shut its side. Frames of which not all is there yet, one a connection at most, aren't counted, nor is what
+//!   memory is lost between blocks.
 //! - Where memory is refused to a frame, or to a deal behind it, its connection stays. It isn't read from until its
 //!   frames have gone on, and they are tried at each turn, behind the writing of what was dealt, which gives memory
-//!   back. Octets for which there is no memory are kept in one of 8 buffers that were taken at the start; a connection
-//!   for which none is free is dropped.
+//!   back. Meanwhile it's found that its socket has failed, but not that its client has shut its side. Octets for which
+//!   there is no memory are kept in one of 8 buffers that were taken at the start; a connection for which none is free is
+//!   dropped.
 //! - Where memory is refused to a deal, 196,608 octets are let go that were taken at the start, and are taken again
 //!   once octets were written.
 //! - Where memory is refused to a new connection it is closed, and so is one whose session is over, and whose client

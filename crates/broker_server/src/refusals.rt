@@ -4,7 +4,13 @@
 const LONGEST: usize = 1_024;
 
 /// How an ERROR begins.
-const HEAD: &[u8] = b"ERROR\ncontent-length:0\nmessage:";
+const HEAD: &[u8] = b"ERROR\ncontent-length:0\n";
+
+/// What stands before its message where a version was refused.
+const VERSION: &[u8] = b"version:1.2\n";
+
+/// How its message begins.
+const MESSAGE: &[u8] = b"message:";
 
 /// The numbers and names of all refusals.
 const REFUSALS: [&str; 17] = [
@@ -46,7 +52,9 @@ fn last_frame(octets: &[u8]) -> &[u8] {
 pub(crate) fn refusal_in(octets: &[u8]) -> Option<&'static str> {
     let frame = last_frame(octets);
     let frame = frame.strip_prefix(b"\0".as_slice()).unwrap_or(frame);
-    let told = frame.strip_prefix(HEAD)?;
+    let headers = frame.strip_prefix(HEAD)?;
+    let headers = headers.strip_prefix(VERSION).unwrap_or(headers);
+    let told = headers.strip_prefix(MESSAGE)?;
     REFUSALS
         .iter()
         .find(|text| told.starts_with(text.as_bytes()))

@@ -43,9 +43,10 @@ and how many out and unanswered.
 
 With --memory it is counted what messages in queues, open transactions and what is left to be
 written hold together. From so many octets on, until an eighth of them is free, a client that has
-sent a message isn't read: its sends wait until there is room, and none is refused or lost. Clients
-with unanswered deliveries are read on, since answers make room, and so are those that only take.
-What one read of each client brings may come on top. --log warn tells when that begins and ends.
+sent a message, or whose transaction has kept an answer, isn't read: its sends wait until there is
+room, and none is refused or lost. Clients with unanswered deliveries are read on, since answers
+make room, and so are those that only take. What one read of each client brings may come on top, and
+what one that leaves had sent before. --log warn tells when that begins and ends.
 
 What it offers of STOMP 1.2:
   CONNECT and STOMP    version 1.2 must be accepted; no login is asked for, no heart-beats are offered
@@ -65,8 +66,8 @@ Limits:
   a connection  25,740,400 octets that its client doesn't read; then it is dropped
 
 Exit status:
-  1  `fault 2 Device`: the port can't be had, or the system refuses to wait for sockets or to tell
-     the time; `fault 34 Memory`: out of memory at the start
+  1  `fault 2 Device`: the port can't be had or told, and why, or the system refuses to wait for
+     sockets or to tell the time; `fault 34 Memory`: out of memory at the start
   2  the words of the command line are at fault";
 
 /// What the words ask for.
