@@ -35,8 +35,8 @@ pub struct ServeOptions {
     /// After how long figures are told, again and again. Else never.
     pub figures: Option<Duration>,
     /// So many octets may be held by messages in queues, by what open transactions keep and by what is left to be
-    /// written, together: from then on connections that send aren't read, until less is held. Else as many as there is
-    /// memory for.
+    /// written, together: from then on connections that send aren't read, unless their clients have shut their side, until
+    /// less is held. Else as many as there is memory for.
     pub memory: Option<u64>,
 }
 
@@ -264,7 +264,7 @@ impl Server {
                         self.may_accept = false;
                         self.was_refused = kind != ErrorKind::WouldBlock;
                         if self.was_refused && !was_refused {
-                            watch.tell(News::NoDescriptor);
+                            watch.tell(News::Unaccepted { error });
                         }
                         return;
                     }
@@ -290,7 +290,7 @@ impl Server {
                 self.work.figures.note_opened();
                 watch.tell(News::Opened { number, peer });
             }
-            Err(_) => watch.tell(News::Unopened { peer }),
+            Err(error) => watch.tell(News::Unopened { peer, error }),
         }
     }
 

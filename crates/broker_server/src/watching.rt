@@ -1,6 +1,7 @@
 //! What a loop tells of what happens.
 
 use broker_core::{Broker, Detail};
+use std::io;
 use std::net::SocketAddr;
 use thiserror::Error;
 
@@ -114,10 +115,10 @@ impl Figures {
 pub enum News {
     /// A connection was taken in.
     Opened { number: u64, peer: SocketAddr },
-    /// There is no memory for a new connection, or the system refuses it: it is closed.
-    Unopened { peer: SocketAddr },
-    /// The system has no descriptor left: connections wait until one is free.
-    NoDescriptor,
+    /// There is no memory for a new connection, or the system refuses it, and why: it is closed.
+    Unopened { peer: SocketAddr, error: io::Error },
+    /// The system gives no new connection, mostly since no descriptor is left: they wait until it does.
+    Unaccepted { error: io::Error },
     /// Memory was refused to something of a connection, which waits for some.
     Waits { number: u64 },
     /// A connection ended: its session was taken away.

@@ -1,6 +1,5 @@
 -- What is done, by the settings.
-use Rattle.std.specs.Prelude.{◌≡◌, ◌⊎◌, ℕ, ◌*◌, if◌then◌else◌, List, codes, Option, Some, None, option_map, Result, Ok, Err}
-use Rattle.std.specs.Borrow.{Bor}
+use Rattle.std.specs.Prelude.{◌≡◌, ℕ, ◌*◌, if◌then◌else◌, List, codes, Option, Some, None, option_map, Result, Ok, Err}
 use Rattle.std.specs.Duration.{as_nanos}
 use Rattle.std.specs.Net.Grammar.{IsIpText}
 use Rattle.std.specs.Net.ToAddrs.{IsHostAndPort}
@@ -9,6 +8,8 @@ use Rattle.std.specs.declared.net.ip_addr.IpAddr.{IpAddr}
 use Rattle.log.specs.declared.level.LevelFilter.{LevelFilter}
 use Rattle.log.specs.declared.level.LevelFilter.TheVariants as level
 use Rattle.outbox_broker.specs.declared.plan.Plan.{Plan}
+use Rattle.outbox_broker.specs.declared.plan.PlanFault.{PlanFault}
+use Rattle.outbox_broker.specs.declared.plan.PlanFault.TheVariants.{Address, Level}
 use Rattle.outbox_broker.specs.declared.words.Settings.{Settings}
 
 -- the level of a word
@@ -34,9 +35,8 @@ pub record IsPlanOf (s : Settings) (p : Plan) : Type 0 where
   pub memory : p.options.memory ≡ s.memory
   pub until_input_ends : p.until_input_ends ≡ s.until_input_ends
 
--- What the settings come to: a plan, or what is told of an address that is none, or of a level that is none.
-abbrev pub PlanAnswer : Settings → List ℕ → List ℕ → Result Plan (Bor (List ℕ)) → Type 0
-PlanAnswer s no_address no_level (Ok p) = IsPlanOf s p
-PlanAnswer s no_address no_level (Err told) =
-    ((told.now ≡ no_address) × ((ip : IpAddr) → ¬ (IsIpText s.address.now ip)))
-    ⊎ ((told.now ≡ no_level) × (level_of s.log.now ≡ None))
+-- What the settings come to: a plan, or the text of an address that is none, or that of a level that is none.
+abbrev pub PlanAnswer : Settings → Result Plan PlanFault → Type 0
+PlanAnswer s (Ok p) = IsPlanOf s p
+PlanAnswer s (Err (Address text)) = (text.now ≡ s.address.now) × ((ip : IpAddr) → ¬ (IsIpText s.address.now ip))
+PlanAnswer s (Err (Level text)) = (text.now ≡ s.log.now) × (level_of s.log.now ≡ None)

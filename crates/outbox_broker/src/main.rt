@@ -34,14 +34,38 @@ fn tell_fault(rt: &impl Eprint, fault: ServeFault) -> io::Result<u8> {
     Ok(1)
 }
 
-/// Listens on a port and tells which: where 0 was asked for, it is one that the system picked.
-fn listen<R: Net + Print>(rt: &R, address: SocketAddr) -> io::Result<TcpListener> {
+/// Listens on an address: where port 0 was asked for, on one that the system picks, which is told beside.
+fn listen_on<R: Net>(rt: &R, address: SocketAddr) -> io::Result<(TcpListener, u16)> {
     let listener = TcpListener::bind(rt, address)?;
-    let bound = listener.local_addr()?.port();
+    let port = listener.local_addr()?.port();
+    Ok((listener, port))
+}
+
+/// Tells the port.
+fn tell_port<R: Print>(rt: &R, port: u16) -> io::Result<()> {
     let mut out = io::writer(rt);
-    writeln!(out, "listening {bound}")?;
-    out.flush()?;
-    Ok(listener)
+    writeln!(out, "listening {port}")?;
+    out.flush()
+}
+
+/// Listens on an address and tells the port; or the status, where either is refused, which is told then.
+fn listen<R: Net + Print + Eprint>(
+    rt: &R,
+    address: SocketAddr,
+) -> io::Result<Result<TcpListener, u8>> {
+    let fault = ServeFault::Device;
+    let (listener, port) = match listen_on(rt, address) {
+        Ok(bound) => bound,
+        Err(error) => {
+            eprintln!(rt; "{fault}: {address} can't be had: {error}")?;
+            return Ok(Err(1));
+        }
+    };
+    if let Err(error) = tell_port(rt, port) {
+        eprintln!(rt; "{fault}: standard output can't be written: {error}")?;
+        return Ok(Err(1));
+    }
+    Ok(Ok(listener))
 }
 
 /// Serves a listener until it's asked to stop, and tells what happens. The answer is the status.
@@ -92,12 +116,12 @@ fn begin(rt: &HostRuntime) -> io::Result<Result<(TcpListener, Plan), u8>> {
 /// Opens what these settings ask for.
 fn open(rt: &HostRuntime, settings: Settings<'_>) -> io::Result<Result<(TcpListener, Plan), u8>> {
     match plan_of(settings) {
-        Ok(plan) => match listen(rt, plan.address) {
+        Ok(plan) => match listen(rt, plan.address)? {
             Ok(listener) => Ok(Ok((listener, plan))),
-            Err(_) => Ok(Err(tell_fault(rt, ServeFault::Device)?)),
+            Err(status) => Ok(Err(status)),
         },
-        Err(text) => {
-            eprintln!(rt; "{text}")?;
+        Err(fault) => {
+            eprintln!(rt; "{fault}")?;
             Ok(Err(2))
         }
     }

@@ -12,12 +12,18 @@ use log::LevelFilter;
 use std::net::{IpAddr, SocketAddr};
 use std::str::FromStr;
 use std::time::Duration;
+use thiserror::Error;
 
-/// What is told of a text that is no address.
-const BAD_ADDRESS: &str = "error: --listen takes an address of IPv4 or IPv6, as 0.0.0.0 or ::1";
-
-/// What is told of a text that is no level.
-const BAD_LEVEL: &str = "error: --log takes off, error, warn, info or debug";
+/// Which word means nothing.
+#[derive(Clone, Copy, Debug, Error)]
+pub enum PlanFault<'a> {
+    /// This text behind `--listen` is no address.
+    #[error("error: --listen takes an address of IPv4 or IPv6, as 0.0.0.0 or ::1, not '{0}'")]
+    Address(&'a str),
+    /// This word behind `--log` is no level.
+    #[error("error: --log takes off, error, warn, info or debug, not '{0}'")]
+    Level(&'a str),
+}
 
 /// What is to be done.
 #[derive(Clone, Copy, Debug)]
@@ -69,15 +75,15 @@ fn duration_of(seconds: Option<u64>) -> Option<Duration>
 /// What the words ask for.
 ///
 /// # Errors
-/// What is told of a word that means nothing.
-pub fn plan_of(settings: Settings<'_>) -> Result<Plan, &'static str>
-    ensures { PlanAnswer settings.entry BAD_ADDRESS.now BAD_LEVEL.now result }
+/// The first word that means nothing.
+pub fn plan_of<'a>(settings: Settings<'a>) -> Result<Plan, PlanFault<'a>>
+    ensures { PlanAnswer settings.entry result }
 {
     let Some(address) = address_of(settings.address, settings.port) else {
-        return Err(BAD_ADDRESS);
+        return Err(PlanFault::Address(settings.address));
     };
     let Some(level) = level_of(settings.log) else {
-        return Err(BAD_LEVEL);
+        return Err(PlanFault::Level(settings.log));
     };
     Ok(Plan {
         address,

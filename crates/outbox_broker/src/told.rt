@@ -2,9 +2,17 @@
 
 use broker_server::{Ending, Figures, News, Watch};
 use log::{Log, debug, error, info, warn};
+use std::io;
+use std::io::ErrorKind;
+use std::net::SocketAddr;
 
 /// Of what the lines tell.
 pub const TARGET: &str = "outbox-broker";
+
+/// What the system answers where all processes together have no descriptor left, and where this one hasn't.
+const NONE_FOR_ALL: i32 = 23;
+
+const NONE_FOR_THIS: i32 = 24;
 
 /// Tells what happens by lines of a log, and the figures whatever its level is.
 #[derive(Drop)]
@@ -33,6 +41,32 @@ fn tell_end<R: Log>(rt: &R, number: u64, why: Ending) {
     }
 }
 
+/// Tells that a new connection was closed, and why.
+fn tell_unopened<R: Log>(rt: &R, peer: SocketAddr, error: io::Error) {
+    if error.kind() == ErrorKind::OutOfMemory {
+        error!(rt; target: TARGET, "no memory for a connection: {peer} is sent away");
+    } else {
+        error!(rt; target: TARGET, "{peer} can't be served, and is sent away: {error}");
+    }
+}
+
+/// Whether the system refuses a descriptor.
+fn is_of_descriptors(error: io::Error) -> bool {
+    match error.raw_os_error() {
+        Some(number) => number == NONE_FOR_ALL || number == NONE_FOR_THIS,
+        None => false,
+    }
+}
+
+/// Tells why connections wait to be taken in.
+fn tell_unaccepted<R: Log>(rt: &R, error: io::Error) {
+    if is_of_descriptors(error) {
+        error!(rt; target: TARGET, "no descriptor is left: connections wait for one: {error}");
+    } else {
+        error!(rt; target: TARGET, "no connection can be taken in: they wait: {error}");
+    }
+}
+
 /// Tells the figures. Where standard error takes no more nobody would read them.
 fn tell_figures<R: Eprint>(rt: &R, of: Figures) {
     let _ = eprintln!(rt;
@@ -57,12 +91,8 @@ impl<R: Log + Eprint> Watch for Told<'_, R> {
             News::Opened { number, peer } => {
                 info!(rt; target: TARGET, "connection {number} opened by {peer}");
             }
-            News::Unopened { peer } => {
-                error!(rt; target: TARGET, "no memory for a connection: {peer} is sent away");
-            }
-            News::NoDescriptor => {
-                error!(rt; target: TARGET, "no descriptor is left: connections wait for one");
-            }
+            News::Unopened { peer, error } => tell_unopened(rt, peer, error),
+            News::Unaccepted { error } => tell_unaccepted(rt, error),
             News::Waits { number } => {
                 debug!(rt; target: TARGET, "connection {number} waits for memory");
             }
