@@ -31,9 +31,7 @@ const PATIENCE: u64 = 500;
 
 /// Tells why a line wasn't done.
 fn refuse<W: Write>(out: &mut W, board: &Board, fault: EndFault) -> io::Result<()> {
-    if matches!(fault, EndFault::StoreFailed | EndFault::Unusable) {
-        board.fail();
-    }
+    board.heed(fault);
     match fault {
         EndFault::Business(refusal) => writeln!(out, "refused 61 {}", refusal.number()),
         _ => writeln!(out, "refused {}", fault.number()),

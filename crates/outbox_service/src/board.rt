@@ -1,6 +1,7 @@
 //! What the threads of the program tell each other.
 
 use crate::rest::Rest;
+use endpoint::EndFault;
 use service_workers::Resting;
 use std::alloc::Global;
 use std::io;
@@ -232,10 +233,12 @@ impl Board {
         self.has_ended.load(Ordering::SeqCst)
     }
 
-    /// The store has failed: all ends.
-    pub fn fail(&self) {
-        self.is_broken.store(true, Ordering::SeqCst);
-        self.end();
+    /// The endpoint refused something: where the store has failed all ends.
+    pub fn heed(&self, fault: EndFault) {
+        if matches!(fault, EndFault::StoreFailed | EndFault::Unusable) {
+            self.is_broken.store(true, Ordering::SeqCst);
+            self.end();
+        }
     }
 
     /// Whether the store has failed.

@@ -2,6 +2,7 @@
 
 use crate::board::Board;
 use endpoint::EndFault;
+use envelope::Envelope;
 use log::{Log, warn};
 use reception::ReceptionFault;
 use service_workers::{Cut, Gate, Resting, Stop};
@@ -35,14 +36,6 @@ impl<'a> Turn<'a> {
     }
 }
 
-/// Whether a connection was cut since the store has failed.
-fn is_of_store(cut: &Cut) -> bool {
-    matches!(
-        cut,
-        Cut::Reception(ReceptionFault::End(EndFault::StoreFailed | EndFault::Unusable))
-    )
-}
-
 /// Tells why a connection ended.
 fn tell_cut<R: Log>(rt: &R, number: u8, cut: &Cut) {
     match cut {
@@ -51,6 +44,32 @@ fn tell_cut<R: Log>(rt: &R, number: u8, cut: &Cut) {
         Cut::Reception(fault) => warn!(rt; "connection {number} is cut: {fault}"),
         Cut::Relay(fault) => warn!(rt; "connection {number} is cut: {fault}"),
         Cut::Error(text) => warn!(rt; "connection {number}: ERROR of the broker: {text}"),
+    }
+}
+
+/// Whether what wasn't taken is no loss: its sender sends it again, and it's taken once it's its turn and there is memory.
+fn comes_again(fault: ReceptionFault) -> bool {
+    matches!(
+        fault,
+        ReceptionFault::End(EndFault::TooEarly | EndFault::Memory)
+    )
+}
+
+/// Tells what was thrown away, and why.
+fn tell_not_taken<R: Log>(rt: &R, number: u8, fault: ReceptionFault, envelope: Option<&Envelope>) {
+    match envelope {
+        Some(Envelope::Letter(letter)) => {
+            let from = letter.pair.from.text();
+            let to = letter.pair.to.text();
+            let count = letter.number.get();
+            warn!(rt; "connection {number}: letter {count} from {from} to {to} isn't taken: {fault}")
+        }
+        Some(Envelope::Settle(pair, count)) => {
+            let from = pair.from.text();
+            let to = pair.to.text();
+            warn!(rt; "connection {number}: that {to} has handled {count} letters of {from} isn't taken: {fault}")
+        }
+        None => warn!(rt; "connection {number}: a message isn't taken: {fault}"),
     }
 }
 
@@ -64,6 +83,16 @@ impl<R: Wait + Clock + Log> Gate<R> for Turn<'_> {
 
     fn after_settle(&self, _rt: &R) {
         self.board.note_settle();
+    }
+
+    fn not_taken(&self, rt: &R, number: u8, fault: ReceptionFault, envelope: Option<&Envelope>) {
+        if !comes_again(fault) {
+            tell_not_taken(rt, number, fault, envelope);
+        }
+    }
+
+    fn refused(&self, _rt: &R, fault: EndFault) {
+        self.board.heed(fault);
     }
 
     fn rest(&self, rt: &R, who: Resting) {
@@ -80,8 +109,8 @@ impl<R: Wait + Clock + Log> Gate<R> for Turn<'_> {
 
     fn cut(&self, rt: &R, number: u8, cut: Cut) {
         tell_cut(rt, number, &cut);
-        if is_of_store(&cut) {
-            self.board.fail();
+        if let Cut::Reception(ReceptionFault::End(fault)) = cut {
+            self.board.heed(fault);
         }
         self.board.lose(rt);
         self.board.wake_all();

@@ -18,9 +18,10 @@ const FIRST: u64 = 30_000;
 const LONGEST: u64 = 3_600_000;
 
 /// The first letter that wasn't settled when it was looked last, how many settles were taken until then, and when it is
-/// looked again.
+/// looked again; and whether any wasn't settled just now.
 #[derive(Drop)]
 pub struct Overdue {
+    has_unsettled: bool,
     first: Option<Place>,
     settles: u64,
     next: u64,
@@ -31,6 +32,7 @@ impl Overdue {
     /// Nobody has looked.
     pub fn new() -> Overdue {
         Overdue {
+            has_unsettled: false,
             first: None,
             settles: 0,
             next: 0,
@@ -41,6 +43,11 @@ impl Overdue {
     /// When it is looked again, in milliseconds since the beginning.
     pub fn next(&self) -> u64 {
         self.next
+    }
+
+    /// Whether there are letters that aren't settled: a new connection would send them again.
+    pub fn has_unsettled(&self) -> bool {
+        self.has_unsettled
     }
 
     /// The first letter that isn't settled is at this place, and so many settles were taken: whether letters are overdue.
@@ -58,7 +65,7 @@ impl Overdue {
         is_overdue
     }
 
-    /// Where it's time, looks whether the first letter that isn't settled is that of the last look, and none was settled
+    /// Looks whether there are letters that aren't settled. Where it's time, looks whether the first letter that isn't settled is that of the last look, and none was settled
     /// since: so a settle may be lost, and it has to be sent again.
     pub fn look<H, K, R: Wait + Clock>(
         &mut self,
@@ -75,13 +82,19 @@ impl Overdue {
         ensures scout { IsScoutOf shared.now scout.new }
     {
         let now = board.now(rt);
-        if now < self.next {
+        let is_time = now >= self.next;
+        let first = match shared.unsettled(rt, alloc, scout, &None, 1) {
+            Ok(letters) => first_place(letters),
+            Err(fault) => {
+                board.heed(fault);
+                None
+            }
+        };
+        self.has_unsettled = first.is_some();
+        if !is_time {
             return false;
         }
-        let is_overdue = match shared.unsettled(rt, alloc, scout, &None, 1) {
-            Ok(letters) => self.found(first_place(letters), board.settles()),
-            Err(_) => false,
-        };
+        let is_overdue = self.found(first, board.settles());
         self.next = now.saturating_add(self.pause);
         is_overdue
     }

@@ -48,13 +48,13 @@ enum Left {
 }
 
 impl Looked {
-    /// Nobody has looked.
+    /// Nobody has looked: it's to be done now, since there were never so many changes.
     fn never() -> Looked {
         Looked {
             rows: 0,
-            changes: 0,
+            changes: u64::MAX,
             settles: 0,
-            left: Left::More,
+            left: Left::Nothing,
             whole: None,
             vain: None,
         }
@@ -135,7 +135,10 @@ where
 {
     let letters = match unsettled(rt, alloc, shared, scout, &walk.after, PAGE) {
         Ok(letters) => letters,
-        Err(_) => return Step::Refused,
+        Err(fault) => {
+            gate.refused(rt, fault);
+            return Step::Refused;
+        }
     };
     if letters.is_empty() {
         return Step::Ends;
@@ -158,6 +161,11 @@ impl Walk {
         self.sent = self.sent.saturating_add(sent);
         self.is_all = self.is_all && sent == count;
         if count < PAGE {
+            return Step::Ends;
+        }
+        // Where the window is full nothing more is sent, however many letters there are.
+        if self.sent >= WINDOW {
+            self.is_all = false;
             return Step::Ends;
         }
         self.after = behind(letters);
@@ -269,6 +277,7 @@ impl Looked {
         ensures scout { IsScoutOf shared.now scout.new }
         ensures goes_on { GoesOn K.seen H.service (told_scout scout.old) (told_scout scout.new) }
     {
+        let before = self.left;
         self.whole = None;
         self.vain = None;
         let Some(left) = send_all(rt, alloc, shared, scout, lines, gate, number) else {
@@ -280,8 +289,10 @@ impl Looked {
             self.whole = Some(number);
         }
         lines.set_full(left == Left::Full);
-        // Who makes rows wakes the relay: it rests, and looks once for all of them.
-        self.is_due(self.rows, lines)
+        // Who makes rows wakes the relay: it rests, and looks once for all of them. It rests too where two walks leave more,
+        // as where memory is refused to what is sent.
+        let is_stuck = before == Left::More && left == Left::More;
+        !is_stuck && self.is_due(self.rows, lines)
     }
 
     /// Looks at the outbox of a journal of so many rows, and answers whether the relay may go on at once.
@@ -307,8 +318,9 @@ impl Looked {
         self.rows = rows;
         self.changes = lines.changes();
         self.settles = lines.settles();
-        let Some(number) = lines.connected(rt) else {
+        let Some(number) = lines.connected(rt, before.whole) else {
             self.left = Left::Nothing;
+            self.vain = None;
             return true;
         };
         let changes = self.changes;

@@ -36,12 +36,38 @@ enum Answer {
     Unasked,
 }
 
-/// Handles the letters of a pair that are held and are the next, and tells the last one's number.
-fn drain<H, K, R: Wait>(
+/// Handles the next letter of a pair, where it's held, and tells its number.
+fn handle_held<H, K, G: Gate<R>, R: Wait>(
     rt: &R,
     alloc: Global,
     shared: &Shared<H, K>,
     hand: &mut Hand<H, K>,
+    gate: &G,
+    pair: &Pair,
+) -> Option<u64>
+where
+    H: Handler,
+    K: Keep<State = H::State, Command = H::Command> + Drop,
+    requires hand { IsHandOf shared.now hand.old }
+    ensures hand { IsHandOf shared.now hand.new }
+    ensures goes_on { GoesOn K.seen H.service (told_hand hand.old) (told_hand hand.new) }
+{
+    match drain_held(rt, alloc, shared, hand, pair) {
+        Ok(handled) => handled,
+        Err(fault) => {
+            gate.refused(rt, fault);
+            None
+        }
+    }
+}
+
+/// Handles the letters of a pair that are held and are the next, and tells the last one's number.
+fn drain<H, K, G: Gate<R>, R: Wait>(
+    rt: &R,
+    alloc: Global,
+    shared: &Shared<H, K>,
+    hand: &mut Hand<H, K>,
+    gate: &G,
     pair: &Pair,
 ) -> Option<u64>
 where
@@ -53,21 +79,28 @@ where
 {
     let mut last = None;
     for _ in 0..HELD_WINDOW {
-        match drain_held(rt, alloc, shared, hand, pair) {
-            Ok(Some(number)) => last = Some(number),
-            Ok(None) | Err(_) => break,
+        match handle_held(rt, alloc, shared, hand, gate, pair) {
+            Some(number) => last = Some(number),
+            None => break,
         }
     }
     last
 }
 
-/// Takes a letter in. Where it was the next of its pair, those behind it that are held are handled too, and
-/// the answer is as if it had come again: how far its pair is handled.
-fn take_in<H, K, R: Wait>(
+/// Whether a letter is handled, now or before: those behind it may be held.
+fn is_handled(answer: &Result<Ingested, EndFault>) -> bool {
+    matches!(answer, Ok(Ingested::Handled(_) | Ingested::Repeated(_)))
+}
+
+/// Takes a letter in. Where it's handled then, those behind it that are held are handled too, and the answer is as if it
+/// had come again: how far its pair is handled. They are behind one that comes again where the service was stopped before
+/// it handled them.
+fn take_in<H, K, G: Gate<R>, R: Wait>(
     rt: &R,
     alloc: Global,
     shared: &Shared<H, K>,
     hand: &mut Hand<H, K>,
+    gate: &G,
     letter: &Letter,
 ) -> Result<Ingested, EndFault>
 where
@@ -78,8 +111,8 @@ where
     ensures goes_on { GoesOn K.seen H.service (told_hand hand.old) (told_hand hand.new) }
 {
     let answer = ingest(rt, alloc, shared, hand, letter);
-    if let Ok(Ingested::Handled(_)) = &answer {
-        if let Some(last) = drain(rt, alloc, shared, hand, &letter.pair) {
+    if is_handled(&answer) {
+        if let Some(last) = drain(rt, alloc, shared, hand, gate, &letter.pair) {
             return Ok(Ingested::Repeated(last));
         }
     }
@@ -104,7 +137,7 @@ where
 {
     match envelope {
         Envelope::Letter(letter) => {
-            let answer = take_in(rt, alloc, shared, hand, letter);
+            let answer = take_in(rt, alloc, shared, hand, gate, letter);
             gate.after_ingest(rt);
             Answer::Letter(answer)
         }
@@ -188,7 +221,7 @@ where
 {
     match (envelope, grouped) {
         (Envelope::Letter(letter), Grouped::Handled(position)) => {
-            let ingested = match drain(rt, alloc, shared, hand, &letter.pair) {
+            let ingested = match drain(rt, alloc, shared, hand, gate, &letter.pair) {
                 Some(last) => Ingested::Repeated(last),
                 None => Ingested::Handled(position),
             };
@@ -296,7 +329,8 @@ fn goes_on(fault: ReceptionFault) -> bool {
     }
 }
 
-/// Writes what is answered to a MESSAGE, where its connection is still there.
+/// Writes what is answered to a MESSAGE, where its connection is still there, and tells why it wasn't taken, where it's
+/// answered so.
 fn reply<L: Link + Drop, R: Wait>(
     rt: &R,
     alloc: Global,
@@ -304,14 +338,20 @@ fn reply<L: Link + Drop, R: Wait>(
     lines: &Lines<L>,
     arrival: Arrival,
     answer: Answer,
-) -> Result<(), Cut> {
+) -> Result<Option<ReceptionFault>, Cut> {
     let Arrival { conn, message } = arrival;
     match &mut *lines.slot(conn).lock(rt) {
-        Some(conn) => match finish(alloc, conn, kind, message, answer) {
-            Err(fault) if !goes_on(fault) => Err(Cut::Reception(fault)),
-            _ => conn.write_much(),
-        },
-        None => Ok(()),
+        Some(conn) => {
+            let fault = finish(alloc, conn, kind, message, answer).err();
+            match fault {
+                Some(fault) if !goes_on(fault) => Err(Cut::Reception(fault)),
+                _ => match conn.write_much() {
+                    Ok(()) => Ok(fault),
+                    Err(cut) => Err(cut),
+                },
+            }
+        }
+        None => Ok(None),
     }
 }
 
@@ -348,13 +388,16 @@ fn finish_taking<L: Link + Drop, G: Gate<R>, R: Wait>(
     lines: &Lines<L>,
     gate: &G,
     arrival: Arrival,
+    envelope: Option<&Envelope>,
     answer: Answer,
     count: u32,
 ) -> u32 {
     let number = arrival.conn;
     let may_send = may_send(lines, &answer);
-    if let Err(cut) = reply(rt, alloc, kind, lines, arrival, answer) {
-        lines.cut(rt, gate, number, cut);
+    match reply(rt, alloc, kind, lines, arrival, answer) {
+        Ok(None) => (),
+        Ok(Some(fault)) => gate.not_taken(rt, number, fault, envelope),
+        Err(cut) => lines.cut(rt, gate, number, cut),
     }
     if may_send {
         wake_behind(rt, gate, SOME, count.saturating_add(1))
@@ -399,14 +442,35 @@ where
             rest,
             &arrival.message,
         );
+        let envelope = rest.first();
+        count = finish_taking(
+            rt,
+            alloc,
+            H::kind(),
+            lines,
+            gate,
+            arrival,
+            envelope,
+            answer,
+            count,
+        );
         rest = rest.get(1..).unwrap_or(&[]);
-        count = finish_taking(rt, alloc, H::kind(), lines, gate, arrival, answer, count);
     }
     let Some(arrival) = last else {
         return count;
     };
     let answer = ask_unread(rt, alloc, shared, hand, gate, &arrival.message);
-    finish_taking(rt, alloc, H::kind(), lines, gate, arrival, answer, count)
+    finish_taking(
+        rt,
+        alloc,
+        H::kind(),
+        lines,
+        gate,
+        arrival,
+        None,
+        answer,
+        count,
+    )
 }
 
 /// Writes all that waits, on both connections.

@@ -1,6 +1,9 @@
 //! What the threads of a service are told, and what they wait for.
 
 use crate::wire::{Wire, rises};
+use endpoint::EndFault;
+use envelope::Envelope;
+use reception::ReceptionFault;
 use service_workers::{Cut, Gate, Resting};
 use std::sync::Wait;
 use std::sync::atomic::{AtomicU64, Ordering};
@@ -140,6 +143,16 @@ impl<'a, R: Wait> Gate<R> for Watch<'a> {
     }
 
     fn after_settle(&self, _rt: &R) {}
+
+    fn not_taken(
+        &self,
+        _rt: &R,
+        _number: u8,
+        _fault: ReceptionFault,
+        _envelope: Option<&Envelope>,
+    ) {}
+
+    fn refused(&self, _rt: &R, _fault: EndFault) {}
 
     fn rest(&self, _rt: &R, _who: Resting) {
         thread::yield_now();

@@ -3,14 +3,10 @@ use Rattle.service_workers.proofs.worker.drain.Goals as goal
 
 pub loop-preserved : goal.loop-preserved
 loop-preserved g c = (
-  c.drain_held.ensures.hand,
-  on_join g.K.Keep.seen g.H.Handler.service _ _ _ c.loop.invariant.1 c.drain_held.ensures.goes_on,
+  c.handle_held.ensures.hand,
+  on_join g.K.Keep.seen g.H.Handler.service _ _ _ c.loop.invariant.1 c.handle_held.ensures.goes_on,
 )
 
-pub returns-in-Ok-None-clause-goes_on : goal.returns-in-Ok-None-clause-goes_on
-returns-in-Ok-None-clause-goes_on g c =
-    on_join g.K.Keep.seen g.H.Handler.service _ _ _ c.loop.invariant.1 c.drain_held.ensures.goes_on
-
-pub returns-in-Ok-None-2-clause-goes_on : goal.returns-in-Ok-None-2-clause-goes_on
-returns-in-Ok-None-2-clause-goes_on g c =
-    on_join g.K.Keep.seen g.H.Handler.service _ _ _ c.loop.invariant.1 c.drain_held.ensures.goes_on
+pub returns-in-None-clause-goes_on : goal.returns-in-None-clause-goes_on
+returns-in-None-clause-goes_on g c =
+    on_join g.K.Keep.seen g.H.Handler.service _ _ _ c.loop.invariant.1 c.handle_held.ensures.goes_on

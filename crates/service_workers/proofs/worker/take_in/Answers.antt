@@ -5,6 +5,6 @@ pub returns-in-Some-clause-goes_on : goal.returns-in-Some-clause-goes_on
 returns-in-Some-clause-goes_on g c = on_join g.K.Keep.seen g.H.Handler.service _ _ _
     c.ingest-answer.ensures.goes_on c.drain.ensures.goes_on
 
-pub returns-in_default-drain-clause-goes_on : goal.returns-in_default-drain-clause-goes_on
-returns-in_default-drain-clause-goes_on g c = on_join g.K.Keep.seen g.H.Handler.service _ _ _
+pub returns-in_default-clause-goes_on : goal.returns-in_default-clause-goes_on
+returns-in_default-clause-goes_on g c = on_join g.K.Keep.seen g.H.Handler.service _ _ _
     c.ingest-answer.ensures.goes_on c.drain.ensures.goes_on
