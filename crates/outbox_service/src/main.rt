@@ -16,7 +16,8 @@
 //! - Letters are sent until their receivers have settled them, and each is handled once, in order of its pair. Four threads
 //!   do that (`service_workers`); this program adds its sockets, its lines and its patience.
 //! - A connection that ends is opened again by itself, at intervals that double from 100 milliseconds to 5 seconds. It's
-//!   opened anew where CONNECT isn't answered for 10 seconds, where nothing came for one to two minutes, and once an hour.
+//!   opened anew where CONNECT isn't answered for 10 seconds, where nothing came for one to two minutes and all letters are
+//!   settled, and once an hour.
 //! - Where the first letter that isn't settled is the same for half a minute, and no other was settled, both connections are
 //!   opened anew and so all letters are sent again; that half minute doubles, up to an hour, as long as this letter stays.
 //! - What happens to connections is told on standard error, as lines with a level.

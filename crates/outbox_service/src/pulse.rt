@@ -6,8 +6,8 @@ ghost use Rattle.outbox_service.specs.Silences.{given_up_from, reason};
 /// How long the broker may take to answer CONNECT, in milliseconds.
 const GREETING: u64 = 10_000;
 
-/// How long nothing has to have come on a connection until it's opened anew, in milliseconds. There are no heart-beats:
-/// so a connection that a firewall forgot is found.
+/// How long nothing has to have come on a connection until it's opened anew where all letters are settled, in milliseconds.
+/// There are no heart-beats: so a connection that a firewall forgot is found.
 const QUIET: u64 = 60_000;
 
 /// How old a connection gets at most, in milliseconds. A new one sends again whatever isn't settled: so a letter whose

@@ -93,8 +93,15 @@ impl Slot {
         }
     }
 
-    /// Takes leave of a connection on which nothing comes.
-    fn look<R: Wait + Clock + Log>(&mut self, rt: &R, alloc: Global, board: &Board) {
+    /// Takes leave of a connection on which nothing comes; but not while letters aren't settled, which would be sent again
+    /// each time: `Overdue` says when they are.
+    fn look<R: Wait + Clock + Log>(
+        &mut self,
+        rt: &R,
+        alloc: Global,
+        board: &Board,
+        has_unsettled: bool,
+    ) {
         let now = board.now(rt);
         let Some(conn) = &mut self.conn else {
             return;
@@ -102,9 +109,13 @@ impl Slot {
         if conn.has_come() {
             self.pulse.hear(now);
         }
-        if let Some(silence) = self.pulse.silence(conn.is_connected(), now) {
-            tell_silence(rt, self.number, silence);
-            self.leave(rt, alloc, board);
+        match self.pulse.silence(conn.is_connected(), now) {
+            None => (),
+            Some(Silence::Quiet) if has_unsettled => self.pulse.hear(now),
+            Some(silence) => {
+                tell_silence(rt, self.number, silence);
+                self.leave(rt, alloc, board);
+            }
         }
     }
 
@@ -203,9 +214,15 @@ impl Conns {
     }
 
     /// Takes leave of those on which nothing comes.
-    fn look<R: Wait + Clock + Log>(&mut self, rt: &R, alloc: Global, board: &Board) {
-        self.zero.look(rt, alloc, board);
-        self.one.look(rt, alloc, board);
+    fn look<R: Wait + Clock + Log>(
+        &mut self,
+        rt: &R,
+        alloc: Global,
+        board: &Board,
+        has_unsettled: bool,
+    ) {
+        self.zero.look(rt, alloc, board, has_unsettled);
+        self.one.look(rt, alloc, board, has_unsettled);
     }
 
     /// Takes leave of all.
@@ -283,7 +300,7 @@ where
             info!(rt; "letters aren't settled for long: they are sent again, on new connections");
             conns = Conns::none();
         }
-        conns.look(rt, alloc, board);
+        conns.look(rt, alloc, board, overdue.has_unsettled());
         conns.open(rt, host, alloc, broker, board, overdue.next());
         tokens = run_turn(rt, alloc, shared, hand, scout, &mut conns, board);
     }
