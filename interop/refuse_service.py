@@ -170,7 +170,7 @@ def judge(services, name):
     cuts = log.count("is open") - 2
     if one.refused:
         return "refused 64"
-    return "a connection was opened again" if cuts or "WARN" in log else "as ever"
+    return "a connection was opened again" if cuts or re.search("WARN .*connection", log) else "as ever"
 
 
 def tried(number, name, keep, library):

@@ -8,19 +8,19 @@ use thiserror::Error;
 #[derive(Clone, Copy, Debug, PartialEq, Eq, Error)]
 pub enum RunFault {
     /// The file of the tables can't be opened.
-    #[error("fault 1 Failed: the file can't be opened, or another program has it")]
+    #[error("fault 1 Failed: the file can't be opened, is damaged, or another program has it")]
     Unopened,
     /// Memory was refused at its opening.
     #[error("fault 2 Memory: out of memory at the opening of the file")]
     FileMemory,
     /// It's no file of this service.
-    #[error("fault 3 WrongFile: the file is of another service or version")]
+    #[error("fault 3 WrongFile: the file is of another service or version, or no database")]
     WrongFile,
     /// A stream failed, or the system refused what threads wait with.
     #[error("fault 2 Device: a stream or the system failed")]
     Device,
     /// The store has failed.
-    #[error("fault 63 StoreFailed: the store failed")]
+    #[error("fault 63 StoreFailed: the file can't be read or written, or a row of it is damaged")]
     Store,
     /// Memory was refused at the start, or to what its lines are read with.
     #[error("fault 81 Memory: out of memory")]

@@ -18,7 +18,7 @@ use keep::Keep;
 use keep_files::{FileKeep, Reopenable};
 use keep_plain::PlainKeep;
 use keep_sqlite::Filed;
-use log::Log;
+use log::{Log, warn};
 use purchasing::Orders;
 use schedule_text::ServiceName;
 use shared_endpoint::{Hand, Scout, Seat, Shared};
@@ -188,6 +188,13 @@ fn open_file<H: Filed, D: Start>(
     }
 }
 
+/// Tells where a file has no rows: its letters are numbered from 1 on, which partners that know others take for repeats.
+fn tell_new<K: Keep, R: Log>(rt: &R, path: &str, keep: &K) {
+    if keep.usable() && keep.length() == 0 {
+        warn!(rt; "{path} has no rows: if this isn't a new service, it's the wrong file");
+    }
+}
+
 /// Runs a service over the tables of a file. What it holds when it's opened nobody can know; `start` stands for it.
 fn run_filed<H, D, R>(
     rt: &R,
@@ -204,6 +211,7 @@ where
     R: Threads + Wait + Clock + Log + Sync,
 {
     let keep = open_file::<H, D>(host, path, start)?;
+    tell_new(rt, path, &keep);
     run_from::<H, D, R>(rt, host, keep, broker)
 }
 
