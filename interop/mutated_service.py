@@ -302,6 +302,8 @@ class ServiceRun:
         return number
 
     def check_end(self):
+        if self.steady.is_alive() or not self.steady.count:
+            raise Wrong(f"the connection whose letters aren't changed stands still behind {self.steady.count} orders")
         done, shown = self.steady.count, self.ask("show stock/steady")
         if self.steady.fault or shown != f"stock/steady on_hand {1_000_000 - done} held 0 shipped {done} received 1000000":
             raise Wrong(f"behind {done} orders: {shown}, {self.steady.fault!r}")
