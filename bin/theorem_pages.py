@@ -34,12 +34,13 @@ PREMISES = (
     " clause, since no event of a world breaks them: they say when a real network and a real broker are like those of a world.",
     [
         ("Files keep their word: of no store did a file that it rests on give back anything but what was written to it, up to the end of"
-         " the run. That is asked at the end alone, since doubt never falls (`clean`). A store in memory has no file, and no doubt.",
+         " the run, and each reopening of one succeeded, since of a file that isn't open nothing is known. That is asked at the end alone,"
+         " since doubt never falls (`clean`). A store in memory has no file, and no doubt.",
          [(*SIGHT, "AreClean"), ("keep", "specs/Seen", "Seen")]),
         ("Before the call the tables of each service matched its journal, also those that a stop might leave. Empty tables do, and so do"
-         " those that an earlier run left (`matching`).", [(*SIGHT, "AreMatching")]),
-        ("Before the call the world was good. So is one that is opened over empty tables (`unused`), or over those that an earlier run"
-         " left (`good`).", [(*WORLD_GOOD, "IsGoodWorld"), ("schedule_runner", "world", "World::open")]),
+         " those that an earlier run left, at whose end no file was in doubt (`matching`).", [(*SIGHT, "AreMatching")]),
+        ("Before the call the world was good. So is one that is opened over empty tables (`unused`), or over those of all three"
+         " together that such a run left (`good`).", [(*WORLD_GOOD, "IsGoodWorld"), ("schedule_runner", "world", "World::open")]),
         ("Each of the three stores keeps the laws of a store: a transaction is taken in whole or not at all, a read tells what the tables"
          " have, and while no file is in doubt there is a content that a stop may leave (`IsSound`), so that what is said of each isn't"
          " said of nothing.",
@@ -259,7 +260,7 @@ CORE = {
         "- a row, where nothing else is said, is one of a journal; the row of an entity is its state in the tables, and a row of the"
         " outbox a letter that stands there;",
         "- *store* and *keep* mean the same; a content is what a store's tables are, or may be found to be after a stop; a file is in"
-        " doubt once it gave back what wasn't written to it;",
+        " doubt once it gave back what wasn't written to it, or couldn't be opened again behind a failure or a stop;",
         "- a world is one program: the three services, two connections of each with the broker, whose octets wait in memory until they are"
         " moved, and the mail, which is the broker and all that it ever accepted; no socket, no thread and no clock is in it, and nothing"
         " moves but by an event;",
@@ -289,8 +290,8 @@ CORE = {
           "- `good`, `StaysGood`: the journals are legal (`IsLegal`), and what each receiver handled is a beginning of what was sent to it"
           " (`HandlesPrefixes`); what is marked as settled was handled (`SettledAreHandled`); each letter that is held or on its way is"
           " what its sender's journal sends, and no settle is ahead of the handling (`IsGenuine`);",
-          "- `agree`, `Agrees`: so the partners of each order agree (`PartnersAgree`), and of each stock and each account's limit nothing"
-          " is lost or used twice (`AreSound`);",
+          "- `agree`, `Agrees`: so the partners of each order agree with each other (`PartnersAgree`), and of each stock and each account's"
+          " limit nothing is lost or used twice (`AreSound`);",
           "- `did`, `Passed` for each event: it did to the world what its outcome says, and nothing else (`WorldStep`); and `clean`,"
           " `matching`, `good` and `agree` hold behind each event, also within a pump, and not only behind the last;",
           "- `goes`, `Goes`: what each event did to the tables (`Step`);",
