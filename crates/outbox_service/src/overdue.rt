@@ -65,8 +65,8 @@ impl Overdue {
         is_overdue
     }
 
-    /// Looks whether there are letters that aren't settled. Where it's time, looks whether the first letter that isn't settled is that of the last look, and none was settled
-    /// since: so a settle may be lost, and it has to be sent again.
+    /// Looks whether there are letters that aren't settled; and where it's time, whether the first of them is that of the last
+    /// look, and none was settled since: so a settle may be lost, and it has to be sent again.
     pub fn look<H, K, R: Wait + Clock>(
         &mut self,
         rt: &R,

@@ -406,6 +406,38 @@ fn finish_taking<L: Link + Drop, G: Gate<R>, R: Wait>(
     }
 }
 
+/// Takes an arrival that was left over: its envelope wasn't read, for want of memory.
+fn take_last<H, K, L: Link + Drop, G: Gate<R>, R: Wait>(
+    rt: &R,
+    alloc: Global,
+    shared: &Shared<H, K>,
+    hand: &mut Hand<H, K>,
+    lines: &Lines<L>,
+    gate: &G,
+    arrival: Arrival,
+    count: u32,
+) -> u32
+where
+    H: Handler,
+    K: Keep<State = H::State, Command = H::Command> + Drop,
+    requires hand { IsHandOf shared.now hand.old }
+    ensures hand { IsHandOf shared.now hand.new }
+    ensures goes_on { GoesOn K.seen H.service (told_hand hand.old) (told_hand hand.new) }
+{
+    let answer = ask_unread(rt, alloc, shared, hand, gate, &arrival.message);
+    finish_taking(
+        rt,
+        alloc,
+        H::kind(),
+        lines,
+        gate,
+        arrival,
+        None,
+        answer,
+        count,
+    )
+}
+
 /// Takes what arrived: the endpoint is asked, and then its answers are written, in order.
 fn take<H, K, L: Link + Drop, G: Gate<R>, R: Wait>(
     rt: &R,
@@ -459,18 +491,7 @@ where
     let Some(arrival) = last else {
         return count;
     };
-    let answer = ask_unread(rt, alloc, shared, hand, gate, &arrival.message);
-    finish_taking(
-        rt,
-        alloc,
-        H::kind(),
-        lines,
-        gate,
-        arrival,
-        None,
-        answer,
-        count,
-    )
+    take_last(rt, alloc, shared, hand, lines, gate, arrival, count)
 }
 
 /// Writes all that waits, on both connections.
