@@ -22,7 +22,7 @@ PROMISE = [
      " its order, none left out (`HandlesPrefixes`, in `IsGood.lawful`, by `good`)."),
     ("a message", "Each letter that is held, on its way or kept by the broker is what its sender's journal sends under that number"
      " (`IsGenuine`, by `good`), so that none is made up."),
-    ("and so", "the partners of each order agree, and stock and credit are conserved (`AllAgree`, by `agree`)."),
+    ("and so", "each order and its partners agree, and stock and credit are conserved (`AllAgree`, by `agree`)."),
 ]
 
 SIGHT, GOOD, WORLD_GOOD = ("laws_stores", "specs/Sight"), ("laws_stores", "specs/Good"), ("schedule_runner", "specs/Good")
@@ -201,7 +201,7 @@ EXAMPLES = [
     ("laws_journals", "specs/Envelopes", "IsAuthentic", (*AGREEMENT, "a_request_is_authentic"), (*AGREEMENT, "others_are_not_authentic")),
     ("laws_journals", "specs/Envelopes", "SettledAreHandled", (*AGREEMENT, "marks_are_of_what_was_handled"),
      (*AGREEMENT, "a_mark_is_not_ahead")),
-    ("laws_journals", "specs/Agreement", "PartnersAgree", (*AGREEMENT, "shipped_and_held"), (*AGREEMENT, "shipped_and_released")),
+    ("laws_journals", "specs/Agreement", "PartnersAgree", (*AGREEMENT, "shipped_and_held"), (*AGREEMENT, "others_disagree")),
     ("endpoint", "specs/Matches", "TablesMatchJournal", (*ACCORD, "empty_matches"), (*ACCORD, "a_row_alone_does_not_match")),
     ("laws_stores", "specs/Sight", "AreMatching", (*ACCORD, "the_tables_match"), (*ACCORD, "the_tables_match")),
     ("laws_stores", "specs/Sight", "MayLeave", (*ACCORD, "each_leaves_its_own"), (*ACCORD, "each_leaves_its_own")),
@@ -290,8 +290,9 @@ CORE = {
           "- `good`, `StaysGood`: the journals are legal (`IsLegal`), and what each receiver handled is a beginning of what was sent to it"
           " (`HandlesPrefixes`); what is marked as settled was handled (`SettledAreHandled`); each letter that is held or on its way is"
           " what its sender's journal sends, and no settle is ahead of the handling (`IsGenuine`);",
-          "- `agree`, `Agrees`: so the partners of each order agree with each other (`PartnersAgree`), and of each stock and each account's"
-          " limit nothing is lost or used twice (`AreSound`);",
+          "- `agree`, `Agrees`: so each order and its partners agree (`PartnersAgree`): each partner of a confirmed order holds what it was"
+          " asked for, or has shipped or billed it, and for no other order is anything shipped or billed; and of each stock and each"
+          " account's limit nothing is lost or used twice (`AreSound`);",
           "- `did`, `Passed` for each event: it did to the world what its outcome says, and nothing else (`WorldStep`); and `clean`,"
           " `matching`, `good` and `agree` hold behind each event, also within a pump, and not only behind the last;",
           "- `goes`, `Goes`: what each event did to the tables (`Step`);",
@@ -354,9 +355,10 @@ CORE = {
          [("laws_journals", "specs/Journals", "HandlesPrefixes"), ("laws_journals", "specs/Journals", "AreLawful"),
           ("laws_journals", "specs/Envelopes", "IsAuthentic"), ("laws_journals", "specs/Envelopes", "SettledAreHandled")]),
         ("Partners that agree",
-         ["What follows for each order: it asks one to eight stocks and an account, its partners. None of them has shipped or billed while"
-          " another has released or refused. One may have done it while another still holds what it was asked for: it can't refuse any"
-          " more, but that it ever hears of it isn't promised."],
+         ["What follows for each order: it asks one to eight stocks and an account, its partners. Where it's confirmed, each of them holds"
+          " what it was asked for, or has shipped or billed it; where it isn't, none has shipped or billed. So none has while another has"
+          " released or refused. One that still holds for a confirmed order can't refuse or release any more, but that it ever hears of it"
+          " isn't promised."],
          [("laws_journals", "specs/Agreement", it) for it in ("states_in", "PartnersAgree", "AreSound")]),
         ("Tables, and when they match a journal",
          ["A service's store keeps the journal, and beside it what the service reads instead of going over the journal anew. All of that"

@@ -1,24 +1,30 @@
 -- Examples: rows that a service adds, what the laws deny, and steps.
-use Rattle.std.proofs.Common.{◌≡◌, ℕ, [], ◌∷◌, length, take, refl, ap, arith, inl, inr, Some}
-use Rattle.std.specs.Prelude.{codes, Contains, if◌then◌else◌}
+use Rattle.std.proofs.Common.{◌≡◌, ℕ, List, [], ◌∷◌, length, take, refl, ap, arith, inl, inr, Option, Some}
+use Rattle.std.specs.Prelude.{codes, Contains, map, if◌then◌else◌}
 use Rattle.base.specs.Entity.{Entity}
 use Rattle.base.specs.Order.{same_entity, same_pair}
 use Rattle.base.specs.declared.entity.Kind.TheVariants.{Stock, Account}
 use Rattle.envelope.specs.declared.message.Envelope.{Envelope}
 use Rattle.envelope.specs.declared.message.Envelope.TheVariants.{Letter, Settle}
 use Rattle.envelope.specs.declared.message.Message.{Message}
-use Rattle.envelope.specs.declared.message.Message.TheVariants.{Request, Confirm, Cancel}
+use Rattle.envelope.specs.declared.message.Message.TheVariants.{Request, Tentative, Confirm, Cancel}
+use Rattle.trade.specs.declared.commands.OrderCommand.{OrderCommand}
 use Rattle.trade.specs.declared.commands.OrderCommand.TheVariants.{Place}
+use Rattle.trade.specs.declared.commands.AccountCommand.{AccountCommand}
 use Rattle.trade.specs.declared.commands.StockCommand.{StockCommand}
 use Rattle.trade.specs.declared.commands.StockCommand.TheVariants.{Receive}
 use Rattle.trade.specs.declared.commands.AccountCommand.TheVariants.{SetLimit}
 use Rattle.activities.specs.declared.input.Input.{Input}
 use Rattle.activities.specs.declared.input.Input.TheVariants.{FromSeat, FromEntity}
+use Rattle.activities.specs.declared.input.JournalRow.{JournalRow}
 use Rattle.activities.specs.declared.phase.Phase.{Phase}
-use Rattle.trade.specs.declared.status.Status.TheVariants.{Cancelled}
+use Rattle.trade.specs.declared.status.Status.{Status}
+use Rattle.trade.specs.declared.status.Status.TheVariants.{Confirmed, Cancelled}
 use Rattle.trade.specs.Items.{item}
-use Rattle.trade.specs.Lines.{is_before}
-use Rattle.laws_journals.specs.Agreement.{states_in, line_at, HasRefused, PartnersAgree, RefusedAreLeftAlone}
+use Rattle.trade.specs.Lines.{Line, is_before}
+use Rattle.trade.specs.Orders.{OrderState}
+use Rattle.laws_journals.specs.Agreement.{states_in, line_at, IsAskedFor, HasRefused, PartnersAgree}
+use Rattle.laws_journals.specs.Agreement.{RefusedAreLeftAlone}
 use Rattle.laws_journals.specs.Envelopes.{IsAuthentic, SettledAreHandled, Raises}
 use Rattle.laws_journals.specs.Growth.{IsFrom, AddsRow, AddsOrder, AddsStock, AddsAccount}
 use Rattle.laws_journals.specs.Journals.{Journals, HandlesPrefixes, handled_in}
@@ -96,13 +102,15 @@ a_wrong_settle_marks_nothing = refl
 
 -- ---- journals that don't fit each other
 
+-- the rows of one entity
+abbrev rows_of : {C : Type 0} → Entity → List (Input C) → List (JournalRow C)
+rows_of e inputs = map (λ input. record { entity = e; input = input }) inputs
+
 -- the stock was asked by an order that nobody placed
 abbrev unasked : Journals
 unasked = record {
   orders = [];
-  stocks = record { entity = stock; input = FromSeat 0 (Receive 10) } ∷ record
-      { entity = stock; input = FromEntity order 1 (Request 3) }
-      ∷ [];
+  stocks = rows_of stock (FromSeat 0 (Receive 10) ∷ FromEntity order 1 (Request 3) ∷ []);
   accounts = [];
 }
 
@@ -110,29 +118,63 @@ nobody_asked : HandlesPrefixes unasked → ⊥
 unfolding same_entity
 nobody_asked h = let l = h (from_to order stock) in absurd (cc)
 
-a_line_of_no_partner : PartnersAgree ((states_in unasked).orders order) (line_at (states_in unasked) order) → ⊥
-unfolding same_entity
-a_line_of_no_partner h = let none = h.nowhere_else stock (λ no. no) in absurd (cc)
+-- an order of 3 bolts and 500 was placed, ten bolts came in and the limit is so much; and what else each has taken in
+abbrev with_inputs : List (Input OrderCommand) → List (Input StockCommand) → ℕ → List (Input AccountCommand) → Journals
+with_inputs of_order of_stock limit of_account = record {
+  orders = rows_of order (FromSeat 0 (Place (item (codes "bolts") 3 ∷ []) (codes "acme") 500) ∷ of_order);
+  stocks = rows_of stock (FromSeat 0 (Receive 10) ∷ of_stock);
+  accounts = rows_of account (FromSeat 0 (SetLimit limit) ∷ of_account);
+}
 
 -- the stock has shipped, and the account has refused or released
 abbrev apart : ℕ → Journals
-apart limit = record {
-  orders = record { entity = order; input = FromSeat 0 (Place (item (codes "bolts") 3 ∷ []) (codes "acme") 500) } ∷ [];
-  stocks = record { entity = stock; input = FromSeat 0 (Receive 10) } ∷ record
-      { entity = stock; input = FromEntity order 1 (Request 3) }
-      ∷ record { entity = stock; input = FromEntity order 2 Confirm } ∷ [];
-  accounts = record { entity = account; input = FromSeat 0 (SetLimit limit) }
-      ∷ record { entity = account; input = FromEntity order 1 (Request 500) }
-      ∷ record { entity = account; input = FromEntity order 2 Cancel } ∷ [];
-}
+apart limit = with_inputs [] (FromEntity order 1 (Request 3) ∷ FromEntity order 2 Confirm ∷ []) limit
+    (FromEntity order 1 (Request 500) ∷ FromEntity order 2 Cancel ∷ [])
 
-shipped_and_refused : PartnersAgree ((states_in (apart 499)).orders order) (line_at (states_in (apart 499)) order) → ⊥
-unfolding same_entity
-shipped_and_refused h = h.one_way stock account (inl refl) (inr (inl refl)) refl (inr refl)
+-- the stock has shipped, and the account hasn't been asked
+abbrev shipped_early : Journals
+shipped_early = with_inputs [] (FromEntity order 1 (Request 3) ∷ FromEntity order 2 Confirm ∷ []) 500 []
 
-shipped_and_released : PartnersAgree ((states_in (apart 500)).orders order) (line_at (states_in (apart 500)) order) → ⊥
+-- the order is confirmed by answers that the stock never gave
+abbrev unheld : Journals
+unheld = with_inputs (FromEntity stock 1 Tentative ∷ FromEntity account 1 Tentative ∷ []) [] 500
+    (FromEntity order 1 (Request 500) ∷ [])
+
+-- the stock holds 4 in place of 3
+abbrev too_many : Journals
+too_many = with_inputs [] (FromEntity order 1 (Request 4) ∷ []) 500 []
+
+-- the order o1 as purchasing has it, and its line at each entity
+abbrev seen : Journals → Option OrderState
+seen js = (states_in js).orders order
+
+abbrev lines : Journals → Entity → Option Line
+lines js = line_at (states_in js) order
+
+-- Its partners don't agree where the stock has a line though nobody placed it, has shipped and the account has refused
+-- or released, has shipped though it's open, has no line though it's confirmed, or holds another number.
+others_disagree : (PartnersAgree (seen unasked) (lines unasked) → ⊥)
+    × (PartnersAgree (seen (apart 499)) (lines (apart 499)) → ⊥)
+    × (PartnersAgree (seen (apart 500)) (lines (apart 500)) → ⊥)
+    × (PartnersAgree (seen shipped_early) (lines shipped_early) → ⊥)
+    × (PartnersAgree (seen unheld) (lines unheld) → ⊥)
+    × (PartnersAgree (seen too_many) (lines too_many) → ⊥)
 unfolding same_entity
-shipped_and_released h = h.one_way stock account (inl refl) (inr (inl refl)) refl (inl refl)
+others_disagree = (
+  λ h. let none = h.nowhere_else stock (λ no. no) in absurd (cc),
+  λ h. h.one_way stock account (inl refl) (inr (inl refl)) refl (inr refl),
+  λ h. h.one_way stock account (inl refl) (inr (inl refl)) refl (inl refl),
+  λ h. let early : Status.Open ≡ Confirmed = h.only_confirmed stock refl in absurd (cc),
+  λ h. h.confirmed refl stock (inl refl),
+  λ h. not_four (h.as_asked stock),
+)
+  where
+    not_four : IsAskedFor stock 4
+        (record { entity = stock; n = 3; phase = Phase.Requested } ∷ record
+        { entity = account; n = 500; phase = Phase.Requested } ∷ []) → ⊥
+    not_four (inl e) = let n = e.1 in omega arith
+    not_four (inr (inl e)) = let n = e.1 in omega arith
+    not_four (inr (inr e)) = e
 
 -- ---- journals that fit each other: those of the order that comes to be confirmed
 
@@ -152,8 +194,7 @@ unfolding same_entity same_pair is_before
 marks_are_of_what_was_handled = ((good_after 18).settled, refl, refl)
 
 -- the stock has shipped, and the account holds what it was asked for: it will bill, and can't release or refuse
-shipped_and_held : PartnersAgree ((states_in (after_first 14).journals).orders order)
-    (line_at (states_in (after_first 14).journals) order)
+shipped_and_held : PartnersAgree (seen (after_first 14).journals) (lines (after_first 14).journals)
 shipped_and_held = partners_agree (after_first 14).journals (good_after 14).lawful.prefixes order refl
 
 -- an order that knows that its account refused has told its stock to cancel; it may not have told the account too

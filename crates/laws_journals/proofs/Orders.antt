@@ -23,7 +23,9 @@ use Rattle.trade.specs.Orders.{Partner, OrderState, is_open, is_tentative, await
 use Rattle.trade.specs.Orders.{to_all}
 use Rattle.trade.specs.Orders.{to_others, requests, placed, partners_of, tentative_from, refused_by, on_order_message}
 use Rattle.trade.specs.Orders.{order_reactions}
-use Rattle.laws_journals.specs.Agreement.{IsAmong, IsPartner, IsRefusing, HasRefused}
+use Rattle.trade.specs.Lines.{Line}
+use Rattle.laws_journals.specs.Agreement.{IsAmong, IsPartner, IsConfirmed, IsAskedFor, IsAsAsked, IsRefusing}
+use Rattle.laws_journals.specs.Agreement.{HasRefused}
 use Rattle.activities.proofs.Sameness.{TellsSame, same_entity-tells, same_entity-same, either}
 use Rattle.activities.proofs.Reactions.{holds_along, messages_to-append, letters_from-append}
 use Rattle.laws_journals.proofs.Partners.{Heard, Told, heard-left, heard-right}
@@ -41,8 +43,23 @@ each-map : (P Q : Out → Type 0) → ((out : Out) → P out → Q out) → (xs 
 each-map P Q f [] h = tt
 each-map P Q f (x ∷ xs) h = (f x h.0, each-map P Q f xs h.1)
 
+-- it goes to this partner, and asks, where it asks, for what that is to give
+abbrev pub IsFor : Out → Partner → Type 0
+IsFor out p = (out.receiver ≡ p.entity) × ((n : ℕ) → out.message ≡ Request n → n ≡ p.n)
+
+-- it is for one of these
+abbrev pub IsForOne : Out → List Partner → Type 0
+IsForOne out [] = ⊥
+IsForOne out (p ∷ ps) = IsFor out p ⊎ IsForOne out ps
+
 abbrev pub ToPartners : List Partner → List Out → Type 0
-ToPartners ps outs = Each (λ out. IsAmong out.receiver ps) outs
+ToPartners ps outs = Each (λ out. IsForOne out ps) outs
+
+for-asked : (out : Out) (n : ℕ) → out.message ≡ Request n → (ps : List Partner) → IsForOne out ps
+    → IsAskedFor out.receiver n ps
+for-asked out n is [] h = h
+for-asked out n is (p ∷ ps) (inl h) = inl (h.0, h.1 n is)
+for-asked out n is (p ∷ ps) (inr h) = inr (for-asked out n is ps h)
 
 abbrev pub Never : Message → List Out → Type 0
 Never m outs = Each (λ out. out.message ≡ m → ⊥) outs
@@ -106,20 +123,21 @@ by_order-more (Some o) inputs more outs h = (h.0, by_status-more o.status o.part
 
 -- changes of phases
 
-among-with_phase : (e s : Entity) (phase : Phase) (ps : List Partner) → IsAmong e ps → IsAmong e (with_phase s phase ps)
-among-with_phase e s phase [] h = h
-among-with_phase e s phase (p ∷ ps) h = by_case (same_entity s p.entity) h (among-with_phase e s phase ps)
+for-with_phase : (s : Entity) (phase : Phase) (ps : List Partner) (out : Out) → IsForOne out ps
+    → IsForOne out (with_phase s phase ps)
+for-with_phase s phase [] out h = h
+for-with_phase s phase (p ∷ ps) out h = by_case (same_entity s p.entity) h (for-with_phase s phase ps out)
   where
-    by_case : (t : Bool) → (e ≡ p.entity) ⊎ IsAmong e ps → (IsAmong e ps → IsAmong e (with_phase s phase ps))
-        → IsAmong e (if t then record p { phase = phase } ∷ ps else p ∷ with_phase s phase ps)
+    by_case : (t : Bool) → IsForOne out (p ∷ ps) → (IsForOne out ps → IsForOne out (with_phase s phase ps))
+        → IsForOne out (if t then record p { phase = phase } ∷ ps else p ∷ with_phase s phase ps)
     by_case true h f = h
     by_case false (inl x) f = inl x
     by_case false (inr x) f = inr (f x)
 
-among-all_in : (e : Entity) (phase : Phase) (ps : List Partner) → IsAmong e ps → IsAmong e (all_in phase ps)
-among-all_in e phase [] h = h
-among-all_in e phase (p ∷ ps) (inl x) = inl x
-among-all_in e phase (p ∷ ps) (inr x) = inr (among-all_in e phase ps x)
+for-all_in : (phase : Phase) (ps : List Partner) (out : Out) → IsForOne out ps → IsForOne out (all_in phase ps)
+for-all_in phase [] out h = h
+for-all_in phase (p ∷ ps) out (inl x) = inl x
+for-all_in phase (p ∷ ps) out (inr x) = inr (for-all_in phase ps out x)
 
 tentative_marked : {C : Type 0} (inputs : List (Input C)) (s : Entity) (ps : List Partner)
     → Heard Tentative (letters_from s inputs)
@@ -158,26 +176,32 @@ all_heard-all_in inputs phase (p ∷ ps) h = (h.0, all_heard-all_in inputs phase
 
 -- what is sent
 
-among-tail : (p : Partner) (ps : List Partner) (outs : List Out) → ToPartners ps outs → ToPartners (p ∷ ps) outs
-among-tail p ps outs h = each-map _ _ (λ out x. inr x) outs h
+partners-more : (p : Partner) (ps : List Partner) (outs : List Out) → ToPartners ps outs → ToPartners (p ∷ ps) outs
+partners-more p ps outs h = each-map _ _ (λ out x. inr x) outs h
 
-to_all-partners : (m : Message) (ps : List Partner) → ToPartners ps (to_all m ps)
-to_all-partners m [] = tt
-to_all-partners m (p ∷ ps) = (inl refl, among-tail p ps (to_all m ps) (to_all-partners m ps))
+-- a message that asks for nothing
+abbrev AsksNothing : Message → Type 0
+AsksNothing m = (n : ℕ) → m ≡ Request n → ⊥
+
+to_all-partners : (m : Message) (ps : List Partner) → AsksNothing m → ToPartners ps (to_all m ps)
+to_all-partners m [] none = tt
+to_all-partners m (p ∷ ps) none =
+    (inl (refl, λ n e. absurd (none n e)), partners-more p ps (to_all m ps) (to_all-partners m ps none))
 
 -- the partners but one
 abbrev others : Entity → List Partner → List Partner
 others s ps = filter (λ (p : Partner). not (same_entity s p.entity)) ps
 
-to_others-partners : (s : Entity) (m : Message) (ps : List Partner) → ToPartners ps (to_others s m ps)
-to_others-partners s m [] = tt
-to_others-partners s m (p ∷ ps) =
-    by_case (same_entity s p.entity) (among-tail p ps (to_others s m ps) (to_others-partners s m ps))
+to_others-partners : (s : Entity) (m : Message) (ps : List Partner) → AsksNothing m
+    → ToPartners ps (to_others s m ps)
+to_others-partners s m [] none = tt
+to_others-partners s m (p ∷ ps) none =
+    by_case (same_entity s p.entity) (partners-more p ps (to_others s m ps) (to_others-partners s m ps none))
   where
     by_case : (t : Bool) → ToPartners (p ∷ ps) (to_others s m ps)
         → ToPartners (p ∷ ps) (to_all m (if not t then p ∷ others s ps else others s ps))
     by_case true h = h
-    by_case false h = (inl refl, h)
+    by_case false h = (inl (refl, λ n e. absurd (none n e)), h)
 
 to_all-never : (m k : Message) (ps : List Partner) → (m ≡ k → ⊥) → Never k (to_all m ps)
 to_all-never m k [] ne = tt
@@ -194,7 +218,7 @@ to_others-never s m k (p ∷ ps) ne = by_case (same_entity s p.entity) (to_other
 
 requests-partners : (ps : List Partner) → ToPartners ps (requests ps)
 requests-partners [] = tt
-requests-partners (p ∷ ps) = (inl refl, among-tail p ps (requests ps) (requests-partners ps))
+requests-partners (p ∷ ps) = (inl (refl, λ n e. cc), partners-more p ps (requests ps) (requests-partners ps))
 
 requests-never : (k : Message) (ps : List Partner) → ((n : ℕ) → Request n ≡ k → ⊥) → Never k (requests ps)
 requests-never k [] ne = tt
@@ -286,9 +310,9 @@ cancelled_keeps : (inputs : List (Input OrderCommand)) (outs : List Out) (o : Or
     )
 cancelled_keeps inputs outs o e h =
     let k = opened o inputs outs e h in (
-      each-append _ outs _ (each-map _ _ (λ out x. among-all_in out.receiver Phase.Cancelled o.partners x) outs k.0)
-          (each-map _ _ (λ out x. among-all_in out.receiver Phase.Cancelled o.partners x) (to_all Cancel o.partners)
-          (to_all-partners Cancel o.partners)),
+      each-append _ outs _ (each-map _ _ (for-all_in Phase.Cancelled o.partners) outs k.0)
+          (each-map _ _ (for-all_in Phase.Cancelled o.partners) (to_all Cancel o.partners)
+          (to_all-partners Cancel o.partners (λ n e. cc))),
       (
         each-append _ outs _ k.1.0 (to_all-never Cancel Confirm o.partners (λ x. cc)),
         refused-none o.partners (outs ++ to_all Cancel o.partners),
@@ -310,9 +334,9 @@ tentative_keeps inputs outs o s e here h = by_case (all_tentative (with_phase s 
     by_case : (t : Bool) → all_tentative (with_phase s Phase.Tentative o.partners) ≡ t
         → Keeps inputs outs (tentative_from o s)
     by_case true t = rw t (
-      each-append _ outs _ (each-map _ _ (λ out x. among-all_in out.receiver Phase.Confirmed o.partners x) outs k.0)
-          (each-map _ _ (λ out x. among-all_in out.receiver Phase.Confirmed o.partners x) (to_all Confirm o.partners)
-          (to_all-partners Confirm o.partners)),
+      each-append _ outs _ (each-map _ _ (for-all_in Phase.Confirmed o.partners) outs k.0)
+          (each-map _ _ (for-all_in Phase.Confirmed o.partners) (to_all Confirm o.partners)
+          (to_all-partners Confirm o.partners (λ n e. cc))),
       (
         each-append _ outs _ k.1.1 (to_all-never Confirm Cancel o.partners (λ x. cc)),
         all_heard-all_in inputs Phase.Confirmed o.partners
@@ -321,7 +345,7 @@ tentative_keeps inputs outs o s e here h = by_case (all_tentative (with_phase s 
       ),
     )
     by_case false t = rw (t, append-nil) (
-      each-map _ _ (λ out x. among-with_phase out.receiver s Phase.Tentative o.partners x) outs k.0,
+      each-map _ _ (for-with_phase s Phase.Tentative o.partners) outs k.0,
       subst (λ z. ByStatus z (with_phase s Phase.Tentative o.partners) inputs outs) (sym (is_open-is o.status e))
           (k.1.0, k.1.1, marked),
     )
@@ -331,10 +355,10 @@ refused_keeps : (inputs : List (Input OrderCommand)) (outs : List Out) (o : Orde
     → ByOrder (Some o) inputs outs → Keeps inputs outs (refused_by o s)
 refused_keeps inputs outs o s e h =
     let k = opened o inputs outs e h in
-    let f = λ (out : Out) (x : IsAmong out.receiver o.partners). among-with_phase out.receiver s Phase.Refused
-    (all_in Phase.Cancelled o.partners) (among-all_in out.receiver Phase.Cancelled o.partners x) in (
+    let f = λ (out : Out) (x : IsForOne out o.partners). for-with_phase s Phase.Refused
+    (all_in Phase.Cancelled o.partners) out (for-all_in Phase.Cancelled o.partners out x) in (
       each-append _ outs _ (each-map _ _ f outs k.0)
-          (each-map _ _ f (to_others s Cancel o.partners) (to_others-partners s Cancel o.partners)),
+          (each-map _ _ f (to_others s Cancel o.partners) (to_others-partners s Cancel o.partners (λ n e. cc))),
       (
         each-append _ outs _ k.1.0 (to_others-never s Cancel Confirm o.partners (λ x. cc)),
         refused-one s o.partners (outs ++ to_others s Cancel o.partners)
@@ -429,15 +453,16 @@ pub order_tells : (inputs : List (Input OrderCommand))
     → ByOrder (state order_reactions inputs) inputs (course order_reactions inputs).1
 order_tells inputs = holds_along order_reactions (λ xs at. ByOrder at.0 xs at.1) refl order_step inputs
 
--- who is told anything is a partner
-pub told-partner : {C : Type 0} (o : Option OrderState) (inputs : List (Input C)) (outs : List Out) (r : Entity)
-    (m : Message)
-    → ByOrder o inputs outs → Told m (messages_to r outs) → IsPartner o r
-told-partner None inputs outs r m h t = absurd (rw h at t)
-told-partner (Some o) inputs outs r m h t =
-    let w = told-each (λ out. IsAmong out.receiver o.partners) r m outs h.0 t in rw w.2 w.1
+-- who is told to give something is a partner that is asked for so much
+pub told-asked : {C : Type 0} (o : Option OrderState) (inputs : List (Input C)) (outs : List Out) (r : Entity)
+    (l : Line)
+    → ByOrder o inputs outs → Told (Request l.n) (messages_to r outs) → IsAsAsked o r (Some l)
+told-asked None inputs outs r l h t = absurd (rw h at t)
+told-asked (Some o) inputs outs r l h t =
+    let w = told-each (λ out. IsForOne out o.partners) r (Request l.n) outs h.0 t in
+    rw w.2 (for-asked w.0 l.n w.3 o.partners w.1)
 
--- where one partner is told to confirm, each was heard and none is told to cancel
+-- each partner of a confirmed order was heard, and none is told to cancel
 pub record Agreed {C : Type 0} (o : Option OrderState) (inputs : List (Input C)) (outs : List Out) : Type 0 where
   pub heard : (r : Entity) → IsPartner o r → Heard Tentative (letters_from r inputs)
   pub never : (r : Entity) → Told Cancel (messages_to r outs) → ⊥
@@ -449,21 +474,27 @@ all_heard-among inputs r [] h a = absurd a
 all_heard-among inputs r (p ∷ ps) h (inl e) = rw e h.0
 all_heard-among inputs r (p ∷ ps) h (inr a) = all_heard-among inputs r ps h.1 a
 
-agreed_by : {C : Type 0} (s : Status) (ps : List Partner) (inputs : List (Input C)) (outs : List Out) (r : Entity)
+-- a partner is told to confirm by a confirmed order alone
+confirmed_by : {C : Type 0} (s : Status) (ps : List Partner) (inputs : List (Input C)) (outs : List Out) (r : Entity)
     → ByStatus s ps inputs outs
-    → Told Confirm (messages_to r outs)
-    → AllHeard inputs ps × ((q : Entity) → Told Cancel (messages_to q outs) → ⊥)
-agreed_by Open ps inputs outs r h t = absurd (told-never r Confirm outs h.0 t)
-agreed_by Confirmed ps inputs outs r h t = (h.1, λ q. told-never q Cancel outs h.0)
-agreed_by Cancelled ps inputs outs r h t = absurd (told-never r Confirm outs h.0 t)
+    → Told Confirm (messages_to r outs) → s ≡ Confirmed
+confirmed_by Open ps inputs outs r h t = absurd (told-never r Confirm outs h.0 t)
+confirmed_by Confirmed ps inputs outs r h t = refl
+confirmed_by Cancelled ps inputs outs r h t = absurd (told-never r Confirm outs h.0 t)
 
-pub agreed : {C : Type 0} (o : Option OrderState) (inputs : List (Input C)) (outs : List Out) (r : Entity)
+pub confirming : {C : Type 0} (o : Option OrderState) (inputs : List (Input C)) (outs : List Out) (r : Entity)
     → ByOrder o inputs outs
-    → Told Confirm (messages_to r outs) → Agreed o inputs outs
-agreed None inputs outs r h t = absurd (rw h at t)
-agreed (Some o) inputs outs r h t =
-    let a = agreed_by o.status o.partners inputs outs r h.1 t in
-    record { heard = λ q p. all_heard-among inputs q o.partners a.0 p; never = a.1 }
+    → Told Confirm (messages_to r outs) → IsConfirmed o
+confirming None inputs outs r h t = absurd (rw h at t)
+confirming (Some o) inputs outs r h t = confirmed_by o.status o.partners inputs outs r h.1 t
+
+pub agreed : {C : Type 0} (o : Option OrderState) (inputs : List (Input C)) (outs : List Out) → ByOrder o inputs outs
+    → IsConfirmed o → Agreed o inputs outs
+agreed None inputs outs h is = absurd is
+agreed (Some o) inputs outs h is =
+    let a : ByStatus Confirmed o.partners inputs outs =
+    subst (λ s. ByStatus s o.partners inputs outs) is h.1 in
+    record { heard = λ q p. all_heard-among inputs q o.partners a.1 p; never = λ q t. told-never q Cancel outs a.0 t }
 
 -- a partner that refused is never told to cancel
 

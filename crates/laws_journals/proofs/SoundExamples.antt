@@ -1,5 +1,5 @@
 -- Examples: journals that grow, and others that lost something; journals that are sound, and others that aren't.
-use Rattle.std.proofs.Common.{[], ◌∷◌, refl, arith, inl, inr, Some}
+use Rattle.std.proofs.Common.{[], ◌∷◌, refl, arith, inl, inr, Some, None}
 use Rattle.std.specs.Prelude.{codes, IsNone}
 use Rattle.base.specs.Entity.{Entity}
 use Rattle.base.specs.Order.{same_entity, same_pair}
@@ -11,7 +11,7 @@ use Rattle.trade.specs.declared.commands.StockCommand.TheVariants.{Receive}
 use Rattle.trade.specs.declared.commands.AccountCommand.TheVariants.{SetLimit}
 use Rattle.activities.specs.declared.input.Input.TheVariants.{FromSeat, FromEntity}
 use Rattle.trade.specs.Items.{item}
-use Rattle.laws_journals.specs.Agreement.{states_in, AreSound, line_by}
+use Rattle.laws_journals.specs.Agreement.{states_in, AreSound, line_by, IsShippedOrBilled, IsAsAsked}
 use Rattle.laws_journals.specs.Growth.{Grows, AddsOrder, AddsStock}
 use Rattle.laws_journals.specs.Journals.{Journals}
 use Rattle.laws_journals.specs.Steps.{start}
@@ -43,8 +43,11 @@ lost_rows_are_no_growth = (
 nothing_is_sound : AreSound (states_in start.journals)
 nothing_is_sound = record {
   agree = λ order kind. record {
+    confirmed = λ is p partner. absurd is;
+    only_confirmed = λ at done. not_shipped order at.kind at done;
     one_way = λ p q partner other done undone. partner;
     nowhere_else = λ at none. no_line order at.kind at;
+    as_asked = λ at. not_asked order at.kind at;
   };
   orders = λ e. tt;
   stocks = λ e. record {
@@ -68,6 +71,18 @@ nothing_is_sound = record {
     no_line order Order at = refl
     no_line order Stock at = refl
     no_line order Account at = refl
+
+    not_shipped : (order : Entity) (kind : Kind) (at : Entity)
+        → IsShippedOrBilled (line_by (states_in start.journals) order kind at) → ⊥
+    not_shipped order Order at done = done
+    not_shipped order Stock at done = done
+    not_shipped order Account at done = done
+
+    not_asked : (order : Entity) (kind : Kind) (at : Entity)
+        → IsAsAsked None at (line_by (states_in start.journals) order kind at)
+    not_asked order Order at = tt
+    not_asked order Stock at = tt
+    not_asked order Account at = tt
 
 -- an order that asks nobody isn't sound
 asks_nobody : AreSound (record {

@@ -53,8 +53,9 @@ pub fn stays_authentic()
     ensures marks { (old new : Configuration) (pair : Pair) → Reaches old new → old.settled pair ≤ new.settled pair }
 {}
 
-/// Where each receiver handled a beginning of what was sent to it, the partners of each order agree; and nothing that
-/// came into a stock, and nothing of an account's limit, is ever lost or used twice.
+/// Where each receiver handled a beginning of what was sent to it, each order and its partners agree: those of a
+/// confirmed one hold what it asks for, or have shipped or billed it, and for no other is anything shipped or billed.
+/// And nothing that came into a stock, and nothing of an account's limit, is ever lost or used twice.
 pub fn agree()
     ensures partners { (js : Journals) → HandlesPrefixes js → (order : Entity) → order.kind ≡ Order →
         PartnersAgree ((states_in js).orders order) (line_at (states_in js) order) }
