@@ -12,10 +12,11 @@ replayed by the rules of docs/MODEL.md, written down here once more, and shares 
             would be refused somewhere between its neighbours; no other command stands
   letters   what an entity handled of another are the first of what that sent it, each once, in order, with its number and its text
   marks     what is settled is handled
-  partners  where one has shipped or billed for an order, none has refused or released; stock and credit are conserved
+  partners  of a confirmed order each holds what it was asked for, or has shipped or billed it; for no other order has one shipped or
+            billed; a line is for what was asked; stock and credit are conserved
 
 and with --at-rest also: all that was sent is handled and settled, outboxes are empty and nothing is held, no order is open, and of a
-confirmed order all partners shipped or billed what was asked, of a cancelled one none.
+confirmed order all partners shipped or billed, of a cancelled one all released or refused.
 """
 import collections
 import json
@@ -29,6 +30,9 @@ SERVICES = ("purchasing", "warehouse", "billing")
 KIND = {"purchasing": "order", "warehouse": "stock", "billing": "account"}
 MOST = 1 << 40
 EARLY = 256  # how far above the last that was handled a letter may be held
+# how far a partner may be with an order, by the order's status; None is without a line
+MAY_BE = {"open": {None, "held", "refused"}, "confirmed": {"held", "shipped", "billed"}, "cancelled": {None, "held", "refused", "released"}}
+MAY_BE_AT_REST = {"open": set(), "confirmed": {"shipped", "billed"}, "cancelled": {"refused", "released"}}
 ESCAPES = {"\\": "\\", "s": " ", "n": "\n", "r": "\r"}
 
 
@@ -414,20 +418,13 @@ def check_letters(tables, replays, at_rest):
 
 
 def check_partners(replays, at_rest):
-    """The partners of each order agree, and nothing is lost or used twice."""
+    """Each order and its partners agree, and nothing is lost or used twice."""
     partners = {**replays["warehouse"].states, **replays["billing"].states}
     for name, order in replays["purchasing"].states.items():
-        lines = {it: partners[it].lines.get(name) if it in partners else None for it in order.partners}
-        phases = [line[1] for line in lines.values() if line]
-        if set(phases) & {"shipped", "billed"} and set(phases) & {"refused", "released"}:
-            raise Wrong(f"the partners of {name} disagree: {lines}")
-        if not at_rest:
-            continue
-        for partner, (n, _) in order.partners.items():
-            done = partners[partner].DONE if partner in partners else None
-            may = {"confirmed": (done,), "cancelled": ("refused", "released")}.get(order.status, ())
-            if not lines[partner] or lines[partner][0] != n or lines[partner][1] not in may:
-                raise Wrong(f"{name} is {order.status}, and {partner}, asked for {n}, has {lines[partner]}")
+        for at, (n, _) in order.partners.items():
+            asked, phase = partners[at].lines.get(name, (n, None)) if at in partners else (n, None)
+            if asked != n or phase not in (MAY_BE_AT_REST if at_rest else MAY_BE)[order.status]:
+                raise Wrong(f"{name} is {order.status}, and {at}, asked for {n}, has {'no line' if phase is None else f'{asked} {phase}'}")
     for partner in partners.values():
         partner.conserved()
 
