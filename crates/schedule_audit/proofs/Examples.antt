@@ -1,4 +1,4 @@
--- Examples: lines that go one way and others, by the tables of three services, and what looking at them does.
+-- Examples: lines that fit their order and others, by the tables of three services, and what looking at them does.
 use Rattle.std.proofs.Common.{◌≡◌, ℕ, List, [], ◌∷◌, Bool, true, false, Option, Some, None, Ok, Err, refl, ap, arith}
 use Rattle.std.proofs.Common.{inl, inr}
 use Rattle.std.specs.Prelude.{codes}
@@ -7,14 +7,16 @@ use Rattle.base.specs.Order.{same_entity}
 use Rattle.base.specs.declared.entity.Kind.TheVariants.{Order, Stock, Account}
 use Rattle.trade.specs.declared.line_phase.LinePhase.{LinePhase}
 use Rattle.trade.specs.declared.line_phase.LinePhase.TheVariants.{Held, Refused, Done, Released}
+use Rattle.trade.specs.declared.status.Status.{Status}
+use Rattle.trade.specs.declared.status.Status.TheVariants.{Open, Confirmed, Cancelled}
 use Rattle.trade.specs.Lines.{Line}
+use Rattle.trade.specs.Orders.{OrderState}
 use Rattle.keep.specs.Seen.{Seen}
 use Rattle.keep.specs.Tables.{empty, set_entity}
 use Rattle.endpoint.specs.declared.fault.EndFault.TheVariants.{StoreFailed, Memory, Unusable}
 use Rattle.endpoint.proofs.Examples.{o1, bolts, acme}
 use Rattle.laws_stores.specs.Sight.{OrderTables, StockTables, AccountTables}
-use Rattle.schedule_audit.specs.Agree.{phase_in, stock_lines, account_lines, is_taken, is_given_back, go_one_way}
-use Rattle.schedule_audit.specs.Agree.{phase_by, phases_at}
+use Rattle.schedule_audit.specs.Agree.{phase_in, stock_lines, account_lines, fits, phase_by, phases_at}
 use Rattle.schedule_audit.specs.Agree.{order_agrees, row_agrees, rows_agree, partners_agree}
 use Rattle.schedule_audit.specs.Looks.{StandsFor, Rests, FailsToRead, LooksAtPartners, Looks}
 use Rattle.schedule_audit.specs.declared.fault.AuditFault.TheVariants.{Purchasing, Warehouse, Billing}
@@ -26,21 +28,18 @@ o2 = order_of (codes "o2")
 
 -- ---- phases
 
--- what is shipped or billed is done, what is given back is released or refused, and what is held is neither, nor is
--- what isn't there
-phases_are_told_apart : (is_taken (Some Done) ≡ true) × (is_given_back (Some Done) ≡ false)
-    × (is_taken (Some Released) ≡ false) × (is_given_back (Some Released) ≡ true)
-    × (is_taken (Some Refused) ≡ false) × (is_given_back (Some Refused) ≡ true)
-    × (is_taken (Some Held) ≡ false) × (is_given_back (Some Held) ≡ false) × (is_taken None ≡ false)
-    × (is_given_back None ≡ false)
-phases_are_told_apart = (refl, refl, refl, refl, refl, refl, refl, refl, refl, refl)
+-- a partner of a confirmed order holds, or has shipped or billed
+confirmed_lines_stand : (fits Confirmed (Some Held) ≡ true) × (fits Confirmed (Some Done) ≡ true)
+    × (fits Confirmed (Some Released) ≡ false) × (fits Confirmed (Some Refused) ≡ false)
+    × (fits Confirmed None ≡ false)
+confirmed_lines_stand = (refl, refl, refl, refl, refl)
 
--- all may be done, or all given back, with others still held; done and given back isn't one way, in either order
-some_ways_are_one : (go_one_way (Some Done ∷ Some Held ∷ None ∷ Some Done ∷ []) ≡ true)
-    × (go_one_way (Some Released ∷ Some Refused ∷ Some Held ∷ []) ≡ true) × (go_one_way [] ≡ true)
-    × (go_one_way (Some Done ∷ Some Refused ∷ []) ≡ false)
-    × (go_one_way (Some Released ∷ Some Held ∷ Some Done ∷ []) ≡ false)
-some_ways_are_one = (refl, refl, refl, refl, refl)
+-- one of an order that isn't confirmed may do anything but ship or bill
+others_are_not_done : (fits Open (Some Held) ≡ true) × (fits Open (Some Done) ≡ false)
+    × (fits Open (Some Refused) ≡ true) × (fits Open None ≡ true)
+    × (fits Cancelled (Some Held) ≡ true) × (fits Cancelled (Some Done) ≡ false)
+    × (fits Cancelled (Some Released) ≡ true) × (fits Cancelled (Some Refused) ≡ true) × (fits Cancelled None ≡ true)
+others_are_not_done = (refl, refl, refl, refl, refl, refl, refl, refl, refl)
 
 -- ---- lines
 
@@ -87,20 +86,27 @@ lines_stand_in_rows = (refl, refl, refl, refl, refl, refl, refl, refl)
 
 -- ---- orders
 
--- an order that shipped and wasn't billed yet agrees, one that shipped and released doesn't; nor does one that was
--- refused and billed
-orders_agree_or_not : (order_agrees (stocks_with Done) (accounts_with Held) o1 (Some (Some placed)) ≡ true)
-    × (order_agrees (stocks_with Done) empty o1 (Some (Some placed)) ≡ true)
-    × (order_agrees (stocks_with Done) (accounts_with Released) o1 (Some (Some placed)) ≡ false)
-    × (order_agrees (stocks_with Refused) (accounts_with Done) o1 (Some (Some placed)) ≡ false)
+-- this order once all have answered
+abbrev as_told : Status → OrderState
+as_told status = record placed { status = status }
+
+-- a confirmed order that shipped and wasn't billed yet agrees, and one that shipped and released, or has no line at its
+-- account, doesn't; an open one that one holds for agrees, and one that shipped doesn't, nor does a cancelled one
+orders_agree_or_not : (order_agrees (stocks_with Done) (accounts_with Held) o1 (Some (Some (as_told Confirmed))) ≡ true)
+    × (order_agrees (stocks_with Done) (accounts_with Released) o1 (Some (Some (as_told Confirmed))) ≡ false)
+    × (order_agrees (stocks_with Done) empty o1 (Some (Some (as_told Confirmed))) ≡ false)
+    × (order_agrees (stocks_with Held) empty o1 (Some (Some placed)) ≡ true)
+    × (order_agrees empty (accounts_with Done) o1 (Some (Some placed)) ≡ false)
+    × (order_agrees (stocks_with Refused) (accounts_with Released) o1 (Some (Some (as_told Cancelled))) ≡ true)
+    × (order_agrees (stocks_with Refused) (accounts_with Done) o1 (Some (Some (as_told Cancelled))) ≡ false)
     × (order_agrees (stocks_with Done) (accounts_with Released) o1 None ≡ true)
     × (order_agrees (stocks_with Done) (accounts_with Released) o1 (Some None) ≡ true)
 unfolding same_entity
-orders_agree_or_not = (refl, refl, refl, refl, refl, refl)
+orders_agree_or_not = (refl, refl, refl, refl, refl, refl, refl, refl, refl)
 
 -- a journal with no row agrees; one with the order's row does as the order does, also behind a row of a stock
 partners_agree_or_not : (partners_agree empty (stocks_with Done) (accounts_with Released) ≡ true)
-    × (partners_agree orders_placed (stocks_with Done) (accounts_with Done) ≡ true)
+    × (partners_agree orders_placed (stocks_with Held) (accounts_with Held) ≡ true)
     × (partners_agree orders_placed (stocks_with Done) (accounts_with Released) ≡ false)
     × (row_agrees orders_placed (stocks_with Done) (accounts_with Released) (record placing { entity = bolts }) ≡ true)
     × (rows_agree orders_placed (stocks_with Done) (accounts_with Released)
@@ -199,4 +205,4 @@ looks_are_told = (
     stands_told : (x : OrderTables) (y : StockTables) (z : AccountTables) → StandsFor seen orders x
         → StandsFor seen stocks y
         → StandsFor seen accounts z → false ≡ partners_agree x y z
-    stands_told x y z xo ys za = rw (xo refl, ys refl, za refl) refl
+    stands_told x y z xo ys za = rw (xo refl, ys refl) refl

@@ -2,7 +2,6 @@
 use Rattle.std.proofs.Common.{◌≡◌, ◌||◌, inr, Bool, Some, sym, ◌∙◌, ap}
 use Rattle.std.specs.Prelude.{Option, Result, Ok, Err, not}
 use Rattle.base.specs.Entity.{Entity}
-use Rattle.base.specs.declared.entity.Kind.{Kind}
 use Rattle.base.specs.declared.entity.Kind.TheVariants.{Order}
 use Rattle.activities.specs.declared.input.JournalRow.{JournalRow}
 use Rattle.trade.specs.declared.commands.OrderCommand.{OrderCommand}
@@ -12,7 +11,7 @@ use Rattle.keep.specs.Law.{Reads}
 use Rattle.keep.specs.Seen.{Seen}
 use Rattle.endpoint.specs.declared.fault.EndFault.{EndFault}
 use Rattle.laws_stores.specs.Sight.{OrderTables, StockTables, AccountTables}
-use Rattle.schedule_audit.specs.Agree.{phases_at, go_one_way, order_agrees, row_agrees}
+use Rattle.schedule_audit.specs.Agree.{all_fit, order_agrees, row_agrees}
 use Rattle.schedule_audit.specs.Looks.{LooksAtPartners, Looks}
 use Rattle.schedule_audit.specs.declared.fault.AuditFault.{AuditFault}
 use Rattle.schedule_audit.specs.declared.fault.AuditFault.TheVariants.{Purchasing, Warehouse, Billing}
@@ -24,8 +23,8 @@ module _ {KO KS KA : Type 0} (orders : KO → Seen OrderTables) (stocks : KS →
   pub order_looked : (order : Entity) (placed : OrderState) (result : Result Bool AuditFault)
       → Reads orders o p {R = Option (Option OrderState)} {F = EndFault} (λ x row. row ≡ x.entity order)
       (Ok (Some (Some placed)))
-      → LooksAtPartners stocks accounts (λ y z (agrees : Bool). agrees
-      ≡ go_one_way (phases_at y z order placed.partners)) result s t a b
+      → LooksAtPartners stocks accounts (λ y z (agree : Bool). agree
+      ≡ all_fit y z order placed.status placed.partners) result s t a b
       → Looks orders stocks accounts (λ x y z (agrees : Bool). agrees ≡ order_agrees y z order (x.entity order)) result
       o p s t a b
   order_looked order placed (Ok agrees) read look = (

@@ -1,8 +1,8 @@
 -- Where the journals are lawful the partners agree: from what is said of states to what is read of rows.
-use Rattle.std.proofs.Common.{◌≡◌, ◌⊎◌, inl, inr, List, [], ◌∷◌, Bool, true, false, ◌&&◌, ◌||◌, map, Some, None, refl}
-use Rattle.std.proofs.Common.{sym, ◌∙◌, ap}
+use Rattle.std.proofs.Common.{◌≡◌, inl, inr, List, [], ◌∷◌, Bool, true, ◌&&◌, ◌||◌, map, Some, None, refl}
+use Rattle.std.proofs.Common.{◌∙◌, ap}
 use Rattle.std.specs.Prelude.{Option, not, is_none}
-use Rattle.std.specs.List.{list_all, list_any}
+use Rattle.std.specs.List.{list_all}
 use Rattle.std.specs.Option.{option_map}
 use Rattle.base.specs.Entity.{Entity}
 use Rattle.base.specs.declared.entity.Kind.{Kind}
@@ -14,6 +14,8 @@ use Rattle.trade.specs.declared.commands.StockCommand.{StockCommand}
 use Rattle.trade.specs.declared.commands.AccountCommand.{AccountCommand}
 use Rattle.trade.specs.declared.line_phase.LinePhase.{LinePhase}
 use Rattle.trade.specs.declared.line_phase.LinePhase.TheVariants.{Held, Refused, Done, Released}
+use Rattle.trade.specs.declared.status.Status.{Status}
+use Rattle.trade.specs.declared.status.Status.TheVariants.{Open, Confirmed, Cancelled}
 use Rattle.activities.specs.Journal.{part}
 use Rattle.trade.specs.Lines.{Line, is_order}
 use Rattle.trade.specs.Orders.{OrderState, Partner, order_reactions}
@@ -21,13 +23,12 @@ use Rattle.trade.specs.Stocks.{stock_reactions}
 use Rattle.trade.specs.Accounts.{account_reactions}
 use Rattle.activities.specs.Reaction.{state}
 use Rattle.activities.specs.Rows.{row_after, row_for}
-use Rattle.laws_journals.specs.Agreement.{states_in, line_by, line_at, IsShippedOrBilled, IsReleasedOrRefused, IsAmong}
+use Rattle.laws_journals.specs.Agreement.{states_in, line_by, line_at, IsShippedOrBilled, IsHeldOrDone, IsAmong}
 use Rattle.laws_journals.specs.Agreement.{PartnersAgree, AreSound}
 use Rattle.laws_stores.specs.Good.{journals_of}
 use Rattle.laws_stores.specs.Sight.{AllTables, orders_service, stocks_service, accounts_service}
 use Rattle.endpoint.specs.Matches.{TablesMatchJournal}
-use Rattle.schedule_audit.specs.Agree.{phase_in, stock_lines, account_lines, is_taken, is_given_back, go_one_way}
-use Rattle.schedule_audit.specs.Agree.{phase_by, phases_at}
+use Rattle.schedule_audit.specs.Agree.{phase_in, stock_lines, account_lines, phase_by, fits, all_fit}
 use Rattle.schedule_audit.specs.Agree.{order_agrees, row_agrees, partners_agree}
 
 -- ---- rows and states
@@ -42,46 +43,38 @@ lines_of_account : (inputs : List (Input AccountCommand))
 lines_of_account [] = refl
 lines_of_account (input ∷ inputs) = refl
 
--- ---- lines that go one way
+-- ---- lines that fit
 
-is_done : (p : LinePhase) → is_taken (Some p) ≡ true → p ≡ Done
-is_done Held e = absurd cc
-is_done Refused e = absurd cc
-is_done Done e = refl
-is_done Released e = absurd cc
+held_fits : (l : Option Line) → IsHeldOrDone l → fits Confirmed (option_map (λ (k : Line). k.phase) l) ≡ true
+held_fits None h = absurd h
+held_fits (Some l) (inl e) = rw e refl
+held_fits (Some l) (inr e) = rw e refl
 
-is_back : (p : LinePhase) → is_given_back (Some p) ≡ true → (p ≡ Released) ⊎ (p ≡ Refused)
-is_back Held e = absurd cc
-is_back Refused e = inr refl
-is_back Done e = absurd cc
-is_back Released e = inl refl
+undone_fits : (s : Status) (p : LinePhase) → (s ≡ Confirmed → ⊥) → (p ≡ Done → ⊥) → fits s (Some p) ≡ true
+undone_fits Confirmed p other undone = absurd (other refl)
+undone_fits s Done other undone = absurd (undone refl)
+undone_fits Open Held other undone = refl
+undone_fits Open Refused other undone = refl
+undone_fits Open Released other undone = refl
+undone_fits Cancelled Held other undone = refl
+undone_fits Cancelled Refused other undone = refl
+undone_fits Cancelled Released other undone = refl
 
-shipped : (l : Option Line) → is_taken (option_map (λ (k : Line). k.phase) l) ≡ true → IsShippedOrBilled l
-shipped None e = absurd cc
-shipped (Some l) e = is_done l.phase e
+line_fits : (s : Status) (l : Option Line) → (s ≡ Confirmed → IsHeldOrDone l) → (IsShippedOrBilled l → s ≡ Confirmed)
+    → fits s (option_map (λ (k : Line). k.phase) l) ≡ true
+line_fits Confirmed l held only = held_fits l (held refl)
+line_fits Open None held only = refl
+line_fits Open (Some l) held only =
+    undone_fits Open l.phase (λ e. cc) (λ done. let e : Open ≡ Confirmed = only done in absurd (cc))
+line_fits Cancelled None held only = refl
+line_fits Cancelled (Some l) held only =
+    undone_fits Cancelled l.phase (λ e. cc) (λ done. let e : Cancelled ≡ Confirmed = only done in absurd (cc))
 
-released : (l : Option Line) → is_given_back (option_map (λ (k : Line). k.phase) l) ≡ true → IsReleasedOrRefused l
-released None e = absurd cc
-released (Some l) e = is_back l.phase e
-
-one_of_two : (test : Option LinePhase → Bool) (phase : Partner → Option LinePhase) (p : Partner) (ps : List Partner)
-    (b : Bool)
-    → test (phase p) ≡ b → (b || list_any test (map phase ps)) ≡ true
-    → (list_any test (map phase ps) ≡ true → (q : Partner) × IsAmong q.entity ps × (test (phase q) ≡ true))
-    → (q : Partner) × IsAmong q.entity (p ∷ ps) × (test (phase q) ≡ true)
-one_of_two test phase p ps true is e rest = (p, inl refl, is)
-one_of_two test phase p ps false is e rest = let found = rest e in (found.0, inr found.1, found.2)
-
-one_of : (test : Option LinePhase → Bool) (phase : Partner → Option LinePhase) (ps : List Partner)
-    → list_any test (map phase ps) ≡ true
-    → (p : Partner) × IsAmong p.entity ps × (test (phase p) ≡ true)
-one_of test phase [] e = absurd cc
-one_of test phase (p ∷ ps) e = one_of_two test phase p ps (test (phase p)) refl e (one_of test phase ps)
-
-never_both : (a b : Bool) → (a ≡ true → b ≡ true → ⊥) → not (a && b) ≡ true
-never_both true true none = absurd (none refl refl)
-never_both true false none = refl
-never_both false b none = refl
+each_partner : (test : Option LinePhase → Bool) (phase : Partner → Option LinePhase) (ps : List Partner)
+    → ((p : Partner) → IsAmong p.entity ps → test (phase p) ≡ true) → list_all test (map phase ps) ≡ true
+each_partner test phase [] each = refl
+each_partner test phase (p ∷ ps) each = ap (λ b. b && list_all test (map phase ps)) (each p (inl refl))
+    ∙ each_partner test phase ps (λ q among. each q (inr among))
 
 -- ---- all of them
 
@@ -102,21 +95,18 @@ module _ (t : AllTables) (orders : TablesMatchJournal orders_service t.purchasin
   phase_is order Account at = ap (λ row. phase_in order (account_lines row)) (accounts.entities at)
       ∙ ap (phase_in order) (lines_of_account (part at t.billing.journal))
 
-  one_way : (order : Entity) (o : OrderState) → PartnersAgree (Some o) (line_at (states_in (journals_of t)) order)
-      → go_one_way (phases_at t.warehouse t.billing order o.partners) ≡ true
-  one_way order o agree = never_both _ _ (λ taken given_back.
-      let p = one_of is_taken (λ (k : Partner). phase_by t.warehouse t.billing order k.entity.kind k.entity) o.partners
-      taken in
-      let q = one_of is_given_back (λ (k : Partner). phase_by t.warehouse t.billing order k.entity.kind k.entity)
-      o.partners given_back in
-      agree.one_way p.0.entity q.0.entity p.1 q.1
-      (shipped _ (ap is_taken (sym (phase_is order p.0.entity.kind p.0.entity)) ∙ p.2))
-      (released _ (ap is_given_back (sym (phase_is order q.0.entity.kind q.0.entity)) ∙ q.2)))
+  all_lines_fit : (order : Entity) (o : OrderState) → PartnersAgree (Some o) (line_at (states_in (journals_of t)) order)
+      → all_fit t.warehouse t.billing order o.status o.partners ≡ true
+  all_lines_fit order o agree = each_partner (fits o.status)
+      (λ (k : Partner). phase_by t.warehouse t.billing order k.entity.kind k.entity) o.partners
+      (λ p among. ap (fits o.status) (phase_is order p.entity.kind p.entity)
+      ∙ line_fits o.status (line_at (states_in (journals_of t)) order p.entity)
+      (λ is. agree.confirmed is p.entity among) (agree.only_confirmed p.entity))
 
   by_state : (order : Entity) (s : Option OrderState) → PartnersAgree s (line_at (states_in (journals_of t)) order)
       → order_agrees t.warehouse t.billing order (row_for is_none s) ≡ true
   by_state order None agree = refl
-  by_state order (Some o) agree = one_way order o agree
+  by_state order (Some o) agree = all_lines_fit order o agree
 
   -- by what an order took in
   by_inputs : (order : Entity) (inputs : List (Input OrderCommand))

@@ -1,6 +1,6 @@
 -- Whether the partners of orders agree, by the tables of three services.
-use Rattle.std.specs.Prelude.{Bool, true, false, ◌&&◌, ◌||◌, not, List, [], map, Option, Some, None}
-use Rattle.std.specs.List.{list_any, list_all}
+use Rattle.std.specs.Prelude.{Bool, true, false, ◌||◌, not, List, [], map, Option, Some, None}
+use Rattle.std.specs.List.{list_all}
 use Rattle.std.specs.Option.{option_map}
 use Rattle.base.specs.Entity.{Entity}
 use Rattle.base.specs.declared.entity.Kind.{Kind}
@@ -8,7 +8,9 @@ use Rattle.base.specs.declared.entity.Kind.TheVariants.{Order, Stock, Account}
 use Rattle.activities.specs.declared.input.JournalRow.{JournalRow}
 use Rattle.trade.specs.declared.commands.OrderCommand.{OrderCommand}
 use Rattle.trade.specs.declared.line_phase.LinePhase.{LinePhase}
-use Rattle.trade.specs.declared.line_phase.LinePhase.TheVariants.{Refused, Done, Released}
+use Rattle.trade.specs.declared.line_phase.LinePhase.TheVariants.{Held, Done}
+use Rattle.trade.specs.declared.status.Status.{Status}
+use Rattle.trade.specs.declared.status.Status.TheVariants.{Confirmed}
 use Rattle.trade.specs.Accounts.{AccountState}
 use Rattle.trade.specs.Lines.{Line, line_of, is_order}
 use Rattle.trade.specs.Orders.{OrderState, Partner}
@@ -28,20 +30,14 @@ abbrev pub account_lines : Option AccountState → List Line
 account_lines (Some a) = a.lines
 account_lines None = []
 
--- whether a line is shipped or billed
-abbrev pub is_taken : Option LinePhase → Bool
-is_taken (Some Done) = true
-is_taken _ = false
-
--- whether a line is released or refused
-abbrev pub is_given_back : Option LinePhase → Bool
-is_given_back (Some Released) = true
-is_given_back (Some Refused) = true
-is_given_back _ = false
-
--- whether lines go one way: none is shipped or billed while another is released or refused
-abbrev pub go_one_way : List (Option LinePhase) → Bool
-go_one_way phases = not (list_any is_taken phases && list_any is_given_back phases)
+-- whether a partner's line fits how far its order is: that of a confirmed one is held, or shipped or billed; that of
+-- another isn't shipped or billed
+abbrev pub fits : Status → Option LinePhase → Bool
+fits Confirmed (Some Held) = true
+fits Confirmed (Some Done) = true
+fits Confirmed _ = false
+fits _ (Some Done) = false
+fits _ _ = true
 
 -- an order's line at an entity of this kind
 abbrev pub phase_by : StockTables → AccountTables → Entity → Kind → Entity → Option LinePhase
@@ -54,9 +50,13 @@ abbrev pub phases_at : StockTables → AccountTables → Entity → List Partner
 phases_at warehouse billing order partners =
     map (λ (p : Partner). phase_by warehouse billing order p.entity.kind p.entity) partners
 
--- whether the lines of an order with this row go one way
+-- whether its line at each of them fits
+abbrev pub all_fit : StockTables → AccountTables → Entity → Status → List Partner → Bool
+all_fit warehouse billing order status partners = list_all (fits status) (phases_at warehouse billing order partners)
+
+-- whether the lines of an order with this row do
 abbrev pub order_agrees : StockTables → AccountTables → Entity → Option (Option OrderState) → Bool
-order_agrees warehouse billing order (Some (Some o)) = go_one_way (phases_at warehouse billing order o.partners)
+order_agrees warehouse billing order (Some (Some o)) = all_fit warehouse billing order o.status o.partners
 order_agrees warehouse billing order _ = true
 
 -- whether those of a row's entity do, which is an order

@@ -2,12 +2,11 @@
 
 ghost use Rattle.std.specs.Prelude.{◌≡◌};
 ghost use Rattle.base.specs.declared.entity.Kind.TheVariants.{Order as OrderKind};
-ghost use Rattle.schedule_audit.specs.Agree.{phase_by, go_one_way, phases_at, order_agrees, row_agrees, rows_agree};
-ghost use Rattle.schedule_audit.specs.Agree.{partners_agree};
+ghost use Rattle.schedule_audit.specs.Agree.{phase_by, all_fit, order_agrees, row_agrees, rows_agree, partners_agree};
 ghost use Rattle.schedule_audit.specs.Looks.{LooksAtPartners, Looks};
 
 use crate::AuditFault;
-use crate::looking::{is_given_back, is_taken, order_row, phase_at_account, phase_at_stock};
+use crate::looking::{fits, order_row, phase_at_account, phase_at_stock};
 use activities::JournalRow;
 use base::{Entity, Kind};
 use billing::{Account, Accounts};
@@ -46,7 +45,7 @@ where
     }
 }
 
-/// Whether the lines of an order go one way. One read for each partner.
+/// Whether the line of an order at each partner fits. One read for each partner.
 fn lines_agree<KS, KA>(
     alloc: Global,
     warehouse: &mut Endpoint<Stocks, KS>,
@@ -57,21 +56,19 @@ fn lines_agree<KS, KA>(
 where
     KS: Keep<State = Stock, Command = StockCommand> + Drop,
     KA: Keep<State = Account, Command = AccountCommand> + Drop,
-    ensures { LooksAtPartners KS.seen KA.seen (λ s a agrees. agrees
-        ≡ go_one_way (phases_at s a order.now placed.now.partners)) result
+    ensures { LooksAtPartners KS.seen KA.seen (λ s a agree. agree
+        ≡ all_fit s a order.now placed.now.status placed.now.partners) result
         warehouse.old warehouse.new billing.old billing.new }
 {
-    let mut taken = false;
-    let mut given_back = false;
+    let mut agree = true;
     for index in 0..placed.partner_count() {
         let Some(partner) = placed.partner(index) else {
             unreachable!()
         };
         let phase = phase_at(alloc, warehouse, billing, partner.entity(), order)?;
-        taken |= is_taken(phase);
-        given_back |= is_given_back(phase);
+        agree &= fits(placed.status(), phase);
     }
-    Ok(!(taken && given_back))
+    Ok(agree)
 }
 
 /// Whether the partners of an order agree. One read of purchasing's store, and one for each partner.
@@ -143,8 +140,8 @@ where
     Ok(true)
 }
 
-/// Whether the partners of each order agree: of no order that has a row in purchasing's journal is one partner's line
-/// shipped or billed while another's is released or refused. Nothing changes.
+/// Whether the partners of each order that has a row in purchasing's journal agree: of a confirmed one each has a line
+/// that is held, or shipped or billed; of another none has one that is shipped or billed. Nothing changes.
 ///
 /// It asks each store only reads: one of purchasing's journal, and for each of its rows one of the order and one at
 /// each partner.

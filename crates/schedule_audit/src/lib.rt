@@ -1,9 +1,9 @@
 //! Whether the partners of all orders agree, read off the stores of three services.
 //!
 //! It goes over purchasing's journal. Of each order that has a row there it reads the order, and then its line at each
-//! partner, at warehouse and billing: none may be shipped or billed while another is released or refused. The answer is
-//! exactly that of the tables that the three stores have; no table changes; and where a read isn't done it tells of
-//! which service, and why.
+//! partner, at warehouse and billing: of a confirmed order each is held, or shipped or billed, and of another none is
+//! shipped or billed. The answer is exactly that of the tables that the three stores have; no table changes; and where
+//! a read isn't done it tells of which service, and why.
 //!
 //! ```rust
 //! pub fn services_without_orders_agree(

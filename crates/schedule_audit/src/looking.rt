@@ -5,7 +5,7 @@ ghost use Rattle.base.specs.declared.entity.Kind.TheVariants.{Order as OrderKind
 ghost use Rattle.base.specs.declared.entity.Kind.TheVariants.{Account as AccountKind};
 ghost use Rattle.keep.specs.Law.{Reads};
 ghost use Rattle.endpoint.specs.Faults.{end_of};
-ghost use Rattle.schedule_audit.specs.Agree.{phase_in, stock_lines, account_lines, is_taken, is_given_back};
+ghost use Rattle.schedule_audit.specs.Agree.{phase_in, stock_lines, account_lines, fits};
 
 use activities::Handler;
 use base::Entity;
@@ -14,7 +14,7 @@ use endpoint::{EndFault, Endpoint};
 use keep::Keep;
 use purchasing::{Order, Orders};
 use std::alloc::Global;
-use trade::{AccountCommand, Holder, LinePhase, Lines, OrderCommand, StockCommand};
+use trade::{AccountCommand, Holder, LinePhase, Lines, OrderCommand, Status, StockCommand};
 use warehouse::{Stock, Stocks};
 
 /// The row of an entity of this service. One read of the store.
@@ -92,16 +92,13 @@ where
     row_at::<Orders, K>(alloc, purchasing, order)
 }
 
-/// Whether a line is shipped or billed.
-pub(crate) fn is_taken(phase: Option<LinePhase>) -> bool
-    ensures { result ≡ is_taken phase }
+/// Whether a partner's line fits how far its order is: that of a confirmed one is held, or shipped or billed; that of
+/// another isn't shipped or billed.
+pub(crate) fn fits(status: Status, phase: Option<LinePhase>) -> bool
+    ensures { result ≡ fits status phase }
 {
-    matches!(phase, Some(LinePhase::Done))
-}
-
-/// Whether a line is released or refused.
-pub(crate) fn is_given_back(phase: Option<LinePhase>) -> bool
-    ensures { result ≡ is_given_back phase }
-{
-    matches!(phase, Some(LinePhase::Released | LinePhase::Refused))
+    match status {
+        Status::Confirmed => matches!(phase, Some(LinePhase::Held | LinePhase::Done)),
+        Status::Open | Status::Cancelled => !matches!(phase, Some(LinePhase::Done)),
+    }
 }

@@ -203,9 +203,9 @@ where
         )
     }
 
-    /// Whether the partners of each order agree: of no order that has a row in purchasing's journal is one partner's
-    /// line shipped or billed while another's is released or refused. Nothing changes but what a read that fails
-    /// leaves. In a good world the answer is true.
+    /// Whether the partners of each order that has a row in purchasing's journal agree: of a confirmed one each has a
+    /// line that is held, or shipped or billed; of another none has one that is shipped or billed. Nothing changes but
+    /// what a read that fails leaves. In a good world the answer is true.
     ///
     /// # Errors
     /// Of the service whose read wasn't done: `StoreFailed`, whose connections are both cut then, `Memory` or

@@ -5,5 +5,5 @@ use Rattle.schedule_audit.proofs.auditing.lines_agree.Given as goal
 -- the partners before this one were looked at
 abbrev pub invariant-loop-index : goal.invariant-loop-index
 invariant-loop-index g l =
-    SoFar g.KS.Keep.seen g.KA.Keep.seen l.order (take l.index l.placed.partners) l.taken l.given_back l.fn.warehouse
+    SoFar g.KS.Keep.seen g.KA.Keep.seen l.order l.placed.status (take l.index l.placed.partners) l.agree l.fn.warehouse
     l.warehouse l.fn.billing l.billing
