@@ -294,7 +294,7 @@ CORE = {
           " asked for, or has shipped or billed it, and for no other order is anything shipped or billed; and of each stock and each"
           " account's limit nothing is lost or used twice (`AreSound`);",
           "- `did`, `Passed` for each event: it did to the world what its outcome says, and nothing else (`WorldStep`); and `clean`,"
-          " `matching`, `good` and `agree` hold behind each event, also within a pump, and not only behind the last;",
+          " `matching`, `good`, `agree` and `told` hold of each event, also within a pump, and not only of the whole run;",
           "- `goes`, `Goes`: what each event did to the tables (`Step`);",
           "- `clean`, `StaysClean`: where no file is in doubt afterwards, none was before.",
           "All but `clean` and `did` hold in each combination of what failed stores may leave. `Ran`, around `did`, `goes` and `told`,"

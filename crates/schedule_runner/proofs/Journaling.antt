@@ -26,7 +26,7 @@ use Rattle.schedule_runner.specs.declared.acting.ServiceEvent.{ServiceEvent}
 use Rattle.schedule_runner.specs.declared.acting.ServiceEvent.TheVariants.{Open, Cut, Fill, Resend, Carry, Take, Drain}
 use Rattle.schedule_runner.specs.declared.acting.ServiceEvent.TheVariants.{Fail, Reopen, Stop}
 use Rattle.schedule_runner.specs.Events.{asked_of}
-use Rattle.schedule_runner.specs.Deeds.{Moment, In, TablesStep, Step, Goes}
+use Rattle.schedule_runner.specs.Deeds.{Moment, In, TablesStep, Step, GoesBy, Goes}
 use Rattle.schedule_runner.specs.Paths.{IsPath, Leads, Makes}
 use Rattle.schedule_runner.specs.Rounds.{takes, connection_events, service_events, round_events, all_rounds, named}
 use Rattle.schedule_runner.specs.declared.world.World.{World}
@@ -308,6 +308,22 @@ module _ {KO KS KA : Type 0} (orders : KO → Seen OrderTables) (stocks : KS →
     billing = path_told (Makes S) asks_accounts (λ m. m.tables.billing.journal) (λ e o a b h. (makes_told e o a b h).2)
         es os a b path;
   }
+
+  -- and those of one event that is no pump
+  step_all_told : (e : Event) (o : Outcome) (a b : M) → S e o a b → AllTold (e ∷ []) (o ∷ []) a.tables b.tables
+  step_all_told e o a b step = record {
+    purchasing = path_told S asks_orders (λ m. m.tables.purchasing.journal) (λ e o a b h. (step_told e o a b h.1).0)
+        (e ∷ []) (o ∷ []) a b (b, step, refl);
+    warehouse = path_told S asks_stocks (λ m. m.tables.warehouse.journal) (λ e o a b h. (step_told e o a b h.1).1)
+        (e ∷ []) (o ∷ []) a b (b, step, refl);
+    billing = path_told S asks_accounts (λ m. m.tables.billing.journal) (λ e o a b h. (step_told e o a b h.1).2)
+        (e ∷ []) (o ∷ []) a b (b, step, refl);
+  }
+
+  pub event_told : (e : Event) (o : Outcome) (old new : World KO KS KA) → GoesBy orders stocks accounts (S e o) old new
+      → Told orders stocks accounts (e ∷ []) (o ∷ []) old new
+  event_told e o =
+      goes_map orders stocks accounts (S e o) (λ a b. AllTold (e ∷ []) (o ∷ []) a.tables b.tables) (step_all_told e o)
 
   pub goes_told : (es : List Event) (os : List Outcome) (old new : World KO KS KA)
       → Goes orders stocks accounts es os old new

@@ -7,6 +7,7 @@ pub mod Telling
 pub mod Resting
 pub mod Receiving
 pub mod Journaling
+pub mod Stepping
 pub mod Advancing
 mod Reading
 pub mod Asking

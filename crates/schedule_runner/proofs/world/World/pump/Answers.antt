@@ -1,7 +1,7 @@
 use Rattle.std.proofs.Common.{◌≡◌, ◌+◌, subst, arith}
 use Rattle.schedule_runner.specs.Passing.{PassesAll}
 use Rattle.schedule_runner.specs.Rounds.{all_rounds}
-use Rattle.schedule_runner.proofs.Composing.{passes_nothing, rounds_more}
+use Rattle.schedule_runner.proofs.Stepping.{passes_nothing, rounds_more}
 use Rattle.schedule_runner.proofs.world.World.pump.Goals as goal
 
 pub loop-done-init : goal.loop-done-init

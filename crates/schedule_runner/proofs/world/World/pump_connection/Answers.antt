@@ -3,7 +3,7 @@ use Rattle.stomp_wire.specs.declared.wire.Way.TheVariants.{Up, Down}
 use Rattle.schedule_text.specs.declared.event.Event.TheVariants.{Fill, Carry, Take}
 use Rattle.schedule_runner.specs.Passing.{PassesAll}
 use Rattle.schedule_runner.specs.Rounds.{takes}
-use Rattle.schedule_runner.proofs.Composing.{passes_all, passes_nothing, passes_one, takes_more}
+use Rattle.schedule_runner.proofs.Stepping.{passes_all, passes_nothing, passes_one, takes_more}
 use Rattle.schedule_runner.proofs.world.World.pump_connection.Goals as goal
 
 pub loop-taken-init : goal.loop-taken-init

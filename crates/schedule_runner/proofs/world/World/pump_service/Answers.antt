@@ -2,7 +2,7 @@ use Rattle.std.proofs.Common.{[], ◌∷◌, ◌++◌}
 use Rattle.schedule_text.specs.declared.event.ConnectionNumber.TheVariants.{Zero, One}
 use Rattle.schedule_text.specs.declared.event.Event.TheVariants.{Drain}
 use Rattle.schedule_runner.specs.Rounds.{connection_events, named}
-use Rattle.schedule_runner.proofs.Composing.{passes_all, passes_one}
+use Rattle.schedule_runner.proofs.Stepping.{passes_all, passes_one}
 use Rattle.schedule_runner.proofs.world.World.pump_service.Goals as goal
 
 pub returns : goal.returns

@@ -1,7 +1,7 @@
 use Rattle.std.proofs.Common.{◌++◌}
 use Rattle.schedule_text.specs.declared.event.ServiceName.TheVariants.{Purchasing, Warehouse, Billing}
 use Rattle.schedule_runner.specs.Rounds.{service_events}
-use Rattle.schedule_runner.proofs.Composing.{passes_all}
+use Rattle.schedule_runner.proofs.Stepping.{passes_all}
 use Rattle.schedule_runner.proofs.world.World.round.Goals as goal
 
 pub returns : goal.returns

@@ -1,6 +1,6 @@
 use Rattle.std.proofs.Common.{◌≡◌, ◌+◌, ◌++◌, ◌∷◌, [], take, length, arith, ap, sym, ◌∙◌, refl, subst}
 use Rattle.std.proofs.lemmas.List.{take_more, append-nil}
-use Rattle.schedule_runner.proofs.Composing.{passes_made}
+use Rattle.schedule_runner.proofs.Stepping.{passes_made}
 use Rattle.schedule_runner.proofs.Advancing.{SoFar, far_none, far_more, ran_did, ran_goes, ran_told}
 use Rattle.schedule_runner.proofs.world.World.run.Goals as goal
 

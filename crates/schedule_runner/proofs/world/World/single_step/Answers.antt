@@ -1,4 +1,4 @@
-use Rattle.schedule_runner.proofs.Composing.{passes_pump}
+use Rattle.schedule_runner.proofs.Stepping.{passes_pump}
 use Rattle.schedule_runner.proofs.world.World.single_step.Goals as goal
 
 pub returns-in-Order : goal.returns-in-Order

@@ -1,7 +1,8 @@
 use Rattle.std.proofs.Common.{[], ◌∷◌}
 use Rattle.schedule_runner.specs.Deeds.{Step}
 use Rattle.schedule_runner.specs.Paths.{IsPath, Makes}
-use Rattle.schedule_runner.proofs.Composing.{goes_map, makes_passed, passes_made}
+use Rattle.schedule_runner.proofs.Composing.{goes_map}
+use Rattle.schedule_runner.proofs.Stepping.{makes_passed, passes_made}
 use Rattle.schedule_runner.proofs.Following.{path_one}
 use Rattle.schedule_runner.proofs.world.World.step.Goals as goal
 
