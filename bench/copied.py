@@ -1,8 +1,9 @@
 #!/usr/bin/env python3
-"""Programs that only measure. They are no crates of the repository, so that the gate needn't prove them: bench/programs.txt has them, and
-what they stand on. Each is proved and built in a copy of the crates that it stands on, by `rt ci`, which takes what the gate has proved on
-this machine where the kit keeps that (CONTRIBUTING.md). Of bench_NAME the folder bench/NAME_program becomes its crate there: *.rt.txt
-without their .txt are its src/, *.antt.txt without it are its proofs, the rest is what `rt ci` runs it on and compares.
+"""Programs that are no crates of the repository, proved and built for measuring, so that the gate needn't prove them: bench/programs.txt has
+those that only measure, and what they stand on; tests/programs.txt those that test, some of which are measured too. Each is built in a copy of
+the crates that it stands on, by `rt ci`, which takes what the gate has proved on this machine where the kit keeps that (CONTRIBUTING.md). Of
+bench_NAME the folder bench/NAME_program becomes its crate there: *.rt.txt without their .txt are its src/, *.antt.txt without it are its
+proofs, the rest is what `rt ci` runs it on and compares.
 usage, from anywhere: bench/copied.py NAME..                  prints where each lies; it's built where it or what it stands on has changed
                       bench/copied.py --copy FOLDER NAME..    makes the folder such a copy, to build it there in another way
 The scripts that measure with one find it by bench/program.
@@ -17,36 +18,21 @@ import tempfile
 
 BENCH = pathlib.Path(__file__).resolve().parent
 TOP = BENCH.parent
+sys.dont_write_bytecode = True
+sys.path.insert(0, str(TOP / "bin"))
+import copies
 
 
-def lines_of(path):
-    """Each crate that a file such as crates.txt has, and its line."""
-    lines = [line.split("#")[0].strip() for line in path.read_text(encoding="utf-8").splitlines()]
-    return {line.split(":")[0].split()[0]: line for line in lines if line}
-
-
-def folder_of(name):
-    """Where the sources of a program that measures lie."""
-    return BENCH / f"{name.removeprefix('bench_')}_program"
+def programs():
+    """The folder and the line of each program that is no crate."""
+    lines = copies.lines_of(BENCH / "programs.txt")
+    own = {name: (BENCH / f"{name.removeprefix('bench_')}_program", line) for name, line in lines.items()}
+    return {**own, **copies.test_programs()[0]}
 
 
 def copy(folder, *names):
-    """Makes the folder a copy of these, programs that measure or crates, and of the crates that they stand on."""
-    folder, programs = pathlib.Path(folder), lines_of(BENCH / "programs.txt")
-    lines = {**lines_of(TOP / "crates.txt"), **programs}
-    found = list(names)
-    for name in found:  # which grows meanwhile
-        found += [other for other in lines[name].partition(":")[2].split() if other in lines and other not in found]
-    for name in found:
-        crate = folder / "crates" / name
-        shutil.copytree(folder_of(name) if name in programs else TOP / "crates" / name, crate, ignore=shutil.ignore_patterns("out"))
-        for text in list(crate.glob("*.rt.txt")):
-            (crate / "src").mkdir(exist_ok=True)
-            text.rename(crate / "src" / text.name.removesuffix(".txt"))
-        for text in list(crate.rglob("*.antt.txt")):
-            text.rename(text.with_suffix(""))
-    shutil.copy(TOP / "HANDLES", folder)
-    (folder / "crates.txt").write_text("".join(f"{lines[name]}\n" for name in found), encoding="utf-8")
+    """Makes the folder a copy of these, programs or crates, and of the crates that they stand on."""
+    copies.copy(folder, names, programs())
 
 
 def sum_of(folder):
@@ -76,8 +62,8 @@ def build(folder, *names):
 
 
 def program(name):
-    """Where a program that measures lies, once it's built of what stands there now."""
-    out = folder_of(name) / "out"
+    """Where a program lies, once it's built of the present sources."""
+    out = programs()[name][0] / "out"
     built_of = out / "built-of"
     with tempfile.TemporaryDirectory() as made:
         copy(made, name)
@@ -98,9 +84,9 @@ def main():
     names = words[2:] if to else words
     if not names or any(name.startswith("-") for name in names):
         sys.exit(__doc__)
-    unknown = [name for name in names if name not in lines_of(BENCH / "programs.txt")]
+    unknown = [name for name in names if name not in programs()]
     if unknown:
-        sys.exit(f"bench/copied.py: bench/programs.txt has no {unknown[0]}")
+        sys.exit(f"bench/copied.py: neither bench/programs.txt nor tests/programs.txt has {unknown[0]}")
     if to:
         return copy(to, *names)
     for name in names:

@@ -1,0 +1,118 @@
+"""Wrong bodies as they are written: edits of a crate's files, the bodies in an edit, and what they change."""
+import glob
+import os
+import pathlib
+import re
+import sys
+
+TOP = pathlib.Path(__file__).resolve().parent.parent.parent
+LIST = "bin/gate-edits"
+FUNCTION = re.compile(r"(?m)^( *)(?:pub(?:\([^)]*\))? )?(?:const )?(?:unsafe )?fn (\w+)")
+IMPL = re.compile(r"(?m)^(?:unsafe )?(?:impl|trait)\b(?:<(?:[^<>]|<[^<>]*>)*>)?((?:(?!\bwhere\b)[^{])*)")
+# The edits of many bodies, and how their bodies are named.
+MANY = {"00-many": "many", "more": "more"}
+
+
+def fail(why):
+    print(f"bin/wrong-bodies: {why}", file=sys.stderr)
+    sys.exit(2)
+
+
+class Body:
+    """A wrong body of an edit: its pairs of file, old and new text, the functions that they change, and how often it wasn't judged."""
+
+    def __init__(self, name, edit, is_alone):
+        self.name, self.edit, self.is_alone, self.pairs, self.functions, self.hidden = name, edit, is_alone, [], set(), 0
+
+
+def folder_of(crate):
+    return TOP / "crates" / crate
+
+
+def edits_of(crate):
+    return [it for part in ("must-fail", "tried") for it in sorted(glob.glob(f"{folder_of(crate)}/{part}/*.edit"))]
+
+
+def crates_with_edits():
+    """In the order of crates.txt, which is lowest first."""
+    names = [line.split(":")[0].split()[0] for line in (TOP / "crates.txt").read_text("utf-8").splitlines() if ":" in line and line[0] != "#"]
+    return [it for it in names if edits_of(it)]
+
+
+def bodies_of(edit, is_alone=False):
+    name, bodies, file, old = os.path.basename(edit)[: -len(".edit")], [], None, None
+    for line in pathlib.Path(edit).read_text("utf-8").split("\n"):
+        if line.startswith("file: "):
+            file = line[6:].strip()
+        elif line.startswith("old: "):
+            old = line[5:]
+        elif line.startswith("new:"):
+            if not bodies or name in MANY and not old.startswith("use "):
+                bodies.append(Body(f"{MANY[name]}-{len(bodies) + 1:02}" if name in MANY else name, name, is_alone))
+            bodies[-1].pairs.append((file, old, line[4:].removeprefix(" ")))
+    return bodies
+
+
+def function_at(file, text, at):
+    """The end of the path by which a check names the function at a place of a file: a method is named at the module of its type, which
+    need not be its impl's."""
+    found = [it for it in FUNCTION.finditer(text) if it.start() <= at]
+    if not found:
+        fail(f"{file}: an edit changes what is before its first function, so that no function can be judged")
+    owner, name, module = "", found[-1][2], re.sub(r"/mod$|^(lib|main)$", "", file[len("src/") : -len(".rt")]).replace("/", "::")
+    if found[-1][1]:
+        head = [it for it in IMPL.finditer(text) if it.start() < found[-1].start()][-1][1]
+        trait, _, kind = head.rpartition(" for ")
+        owner = re.search(r"\w+", kind)[0] + "".join(re.findall(r"\w+", re.sub(r"(<\w+)<.*", r"\1", trait)))
+        # An impl for one form of a type is told from others by a type among its arguments.
+        if re.search("<.*[a-z]", kind):
+            owner = "+".join(re.findall(r"\w+", kind))
+    path = "::".join(it for it in (module, owner, name) if it)
+    return re.sub(r".*::([A-Z][\w+]*::\w+)$", r"\1", path)
+
+
+def applied(body, folder, notes=False):
+    """The texts of the files that a body changes; None where an old text isn't there once. `notes`: it notes the functions of the body."""
+    texts = {}
+    for file, old, new in body.pairs:
+        texts.setdefault(file, pathlib.Path(folder, file).read_text("utf-8"))
+        if texts[file].count(old) != 1:
+            return None
+        if notes and not old.startswith("use ") and file.startswith("src/"):
+            body.functions.add(function_at(file, texts[file], texts[file].find(old) + len(old) - 1))
+        texts[file] = texts[file].replace(old, new)
+    return texts
+
+
+def named_bodies(wanted):
+    """The wrong bodies that bin/gate-edits lists, each with its crate and what it does wrong, in the order of the list."""
+    found = []
+    for line in (TOP / LIST).read_text("utf-8").splitlines():
+        named = re.fullmatch(r"(\w+) (\S+): (.+)", line)
+        if line and not named and not line.startswith("#"):
+            fail(f"{LIST}: no crate, edit and words: {line}")
+        if named and (not wanted or named[1] in wanted):
+            bodies = [body for edit in edits_of(named[1]) for body in bodies_of(edit) if body.name == named[2]]
+            if len(bodies) != 1:
+                fail(f"{LIST}: {named[1]} has {len(bodies)} edits {named[2]}, and not one")
+            found.append((named[1], bodies[0], named[3]))
+    return found
+
+
+def stale_texts(crate):
+    """What is wrong with the texts of a crate's edits, a line for each."""
+    folder, found, names = folder_of(crate), [], set()
+    for edit in edits_of(crate):
+        name, texts, bodies = os.path.basename(edit), {}, bodies_of(edit)
+        found += [f"{crate}/{name}: it has no pairs"] * (not bodies) + [f"{crate}/{name}: there are two of that name"] * (name in names)
+        names.add(name)
+        for body in bodies:
+            texts = {} if name == "more.edit" else texts
+            for file, old, new in body.pairs:
+                if file not in texts and (folder / file).is_file():
+                    texts[file] = (folder / file).read_text("utf-8")
+                count = texts.get(file, "").count(old)
+                if count != 1:
+                    found.append(f"{crate}/{name}: {file} has {count} times, and not once: {old.strip()[:100]}")
+                texts[file] = texts.get(file, "").replace(old, new)
+    return found
