@@ -1,10 +1,10 @@
 #!/usr/bin/env python3
-"""Programs that are no crates of the repository, proved and built for measuring, so that the gate needn't prove them: bench/programs.txt has
-those that only measure, and what they stand on; tests/programs.txt those that test, some of which are measured too. Each is built in a copy of
-the crates that it stands on, by `rt ci`, which takes what the gate has proved on this machine where the kit keeps that (CONTRIBUTING.md). Of
-bench_NAME the folder bench/NAME_program becomes its crate there: *.rt.txt without their .txt are its src/, *.antt.txt without it are its
-proofs, the rest is what `rt ci` runs it on and compares.
-usage, from anywhere: bench/copied.py NAME..                  prints where each lies; it's built where it or what it stands on has changed
+"""Programs that are no crates of the repository, proved and built for measuring, so that the gate needn't prove them: bench/programs.txt
+has those that only measure, and what they stand on; tests/programs.txt those that test, some of which are measured too. Each is built in
+a copy of the crates that it stands on, by `rt ci`, which takes what the gate has proved on this machine where the kit keeps that
+(CONTRIBUTING.md). Of bench_NAME the folder bench/NAME_program becomes its crate there: *.rt.txt without their .txt are its src/,
+*.antt.txt without it are its proofs, the rest is what `rt ci` runs it on and compares. usage, from anywhere: bench/copied.py NAME..
+prints where each lies; it's built where it or what it stands on has changed
                       bench/copied.py --copy FOLDER NAME..    makes the folder such a copy, to build it there in another way
 The scripts that measure with one find it by bench/program.
 """

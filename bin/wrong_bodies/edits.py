@@ -5,7 +5,8 @@ import pathlib
 import re
 import sys
 
-TOP = pathlib.Path(__file__).resolve().parent.parent.parent
+from copies import TOP, lines_of
+
 LIST = "bin/gate-edits"
 FUNCTION = re.compile(r"(?m)^( *)(?:pub(?:\([^)]*\))? )?(?:const )?(?:unsafe )?fn (\w+)")
 IMPL = re.compile(r"(?m)^(?:unsafe )?(?:impl|trait)\b(?:<(?:[^<>]|<[^<>]*>)*>)?((?:(?!\bwhere\b)[^{])*)")
@@ -35,8 +36,7 @@ def edits_of(crate):
 
 def crates_with_edits():
     """In the order of crates.txt, which is lowest first."""
-    names = [line.split(":")[0].split()[0] for line in (TOP / "crates.txt").read_text("utf-8").splitlines() if ":" in line and line[0] != "#"]
-    return [it for it in names if edits_of(it)]
+    return [it for it in lines_of(TOP / "crates.txt") if edits_of(it)]
 
 
 def bodies_of(edit, is_alone=False):

@@ -1,7 +1,7 @@
 """Wrong bodies that no contract refuses, since nothing promises that work gets done: a run of a program has to show each.
 
-A body is a file crates/CRATE/tried/by-run/*.edit, or tests/NAME/tried/by-run/*.edit. Like other edits it has lines `file: PATH`, of a file of
-its crate, and pairs of lines `old: TEXT` and `new: TEXT`. Besides it names
+A body is a file crates/CRATE/tried/by-run/*.edit, or tests/NAME/tried/by-run/*.edit. Like other edits it has lines `file: PATH`, of a file
+of its crate, and pairs of lines `old: TEXT` and `new: TEXT`. Besides it names
   program: NAME     the program of tests/ that is run
   shown: LINE       a line of the program's stdin whose answer has to be another by the wrong body: one or more
   same: LINE        a line whose answer stays the same: none or more
@@ -65,7 +65,8 @@ def stale_texts(wanted):
 def answer_of(program, line):
     """What a program answers to a line; how it ended where it didn't answer."""
     try:
-        ran = subprocess.run([program], input=f"{line}\n", capture_output=True, encoding="utf-8", errors="replace", timeout=SECONDS, check=False)
+        streams = {"input": f"{line}\n", "capture_output": True, "encoding": "utf-8", "errors": "replace"}
+        ran = subprocess.run([program], timeout=SECONDS, check=False, **streams)
     except subprocess.TimeoutExpired:
         return f"none in {SECONDS} s"
     return ran.stdout.strip("\n") if ran.returncode == 0 else f"status {ran.returncode}"
