@@ -94,7 +94,7 @@ def page_of(name):
     keys = dict(line.split(": ") for line in fences_in(blocks, "page"))
     if set(keys) - {"after", "leaves", "signs"}:
         fail(f"{FOLDER}/{name}.md: its fence of the page has a key that isn't known")
-    return {"file": file_of(name), "title": title, "said": text_in(blocks), "signs": keys.get("signs") == "all",
+    return {"name": name, "file": file_of(name), "title": title, "said": text_in(blocks), "signs": keys.get("signs") == "all",
             "behind": [file_of(it) for it in keys.get("after", "").split()],
             "cut": [it for other in keys.get("leaves", "").split() for it in left_to(other)],
             "sections": [section_of(*it) for it in sections]}
