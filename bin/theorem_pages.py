@@ -1,16 +1,19 @@
 """The words of bin/theorem: what the Markdown files of theorem_words/ say of its pages.
 
-NAME.md has one page: its title, what is said first, and its sections in their order. Two fences may stand before the sections. One is
-`page`: after which pages it stands (what these print it doesn't print again), to which pages it leaves definitions that it rests on, and
-whether its table has all signs. The other is `left to this page`: what others leave to it. A section has paragraphs, lists and tables, and
-fences `names`, whose lines name a crate, a file below src/ or, with specs/, of definitions, and what stands there: `*` for all functions.
-`names alone` shows these without what is new in them. {{CRATE FILE NAME}} in a section is replaced by the name and its file.
+NAME.md has one page: its title, its introduction, and its sections in their order. Two fences may precede the sections. The fence `page`
+says whether the page is committed, which pages it comes after (it doesn't repeat what they print), which pages it leaves definitions to,
+and whether its table has all signs. The fence `left to this page` names what others leave to it.
 
-common.md has what each page says, signs.md each sign with how it is found, examples.md which lemmas are examples of which definition.
+A section has paragraphs, lists, tables, and fences `names`. A line of such a fence names a crate, a file below src/ or, with specs/, of
+definitions, and what the section shows of it; `*` are all functions. `names alone` leaves out what is new below these names. Contracts of
+`names headline`, on a page that isn't committed, are on THEOREMS.md too. {{CRATE FILE NAME}} in a section becomes the name and its file.
+
+common.md has what each page says, theorems.md what THEOREMS.md says, signs.md each sign and how it is found, examples.md which lemmas are
+examples of which definition.
 """
 import re
 
-from theorem_sources import fail, read
+from theorem_sources import fail, plain, read
 
 FOLDER = "bin/theorem_words"
 # the pages, in the order in which they are read
@@ -54,8 +57,10 @@ def text_in(blocks):
     return [it for it in blocks if isinstance(it, str)]
 
 
-def fences_in(blocks, words):
-    return [line for it in blocks if not isinstance(it, str) and it[0].split()[:len(words.split())] == words.split() for line in it[1]]
+def fences_in(blocks, kind, mark=None):
+    """The lines of the fences of a kind, or of those that have a mark behind it."""
+    fences = [(it[0].split(), it[1]) for it in blocks if not isinstance(it, str)]
+    return [line for words, lines in fences if words[0] == kind and (mark is None or mark in words[1:]) for line in lines]
 
 
 def names_of(lines):
@@ -82,26 +87,28 @@ def file_of(name):
 
 def left_to(name):
     """What other pages leave to this one."""
-    return names_of(fences_in(parts_of(name)[1][0][1], "left to this page"))
+    return names_of(fences_in(parts_of(name)[1][0][1], "left"))
 
 
 def section_of(heading, blocks):
-    return heading, text_in(blocks), names_of(fences_in(blocks, "names")), bool(fences_in(blocks, "names alone"))
+    return (heading, text_in(blocks), names_of(fences_in(blocks, "names")), bool(fences_in(blocks, "names", "alone")),
+            names_of(fences_in(blocks, "names", "headline")))
 
 
 def page_of(name):
     title, ((_, blocks), *sections) = parts_of(name)
     keys = dict(line.split(": ") for line in fences_in(blocks, "page"))
-    if set(keys) - {"after", "leaves", "signs"}:
+    if set(keys) - {"committed", "after", "leaves", "signs"}:
         fail(f"{FOLDER}/{name}.md: its fence of the page has a key that isn't known")
-    return {"name": name, "file": file_of(name), "title": title, "said": text_in(blocks), "signs": keys.get("signs") == "all",
-            "behind": [file_of(it) for it in keys.get("after", "").split()],
+    return {"name": name, "file": None if keys.get("committed") == "no" else file_of(name), "title": title, "said": text_in(blocks),
+            "signs": keys.get("signs") == "all", "behind": keys.get("after", "").split(),
             "cut": [it for other in keys.get("leaves", "").split() for it in left_to(other)],
             "sections": [section_of(*it) for it in sections]}
 
 
 PAGES = [page_of(name) for name in NAMES]
 COMMON = {heading: text_in(blocks) for heading, blocks in parts_of("common")[1]}
+SHORT = {"title": parts_of("theorems")[0], **{heading: text_in(blocks) for heading, blocks in parts_of("theorems")[1]}}
 
 
 def common(heading, **words):
@@ -114,5 +121,18 @@ def common(heading, **words):
 # (sign, the expression by which it is found, what it says)
 SIGNS = [(sign.strip("`"), found[1:-1], said) for sign, found, said in rows_of("signs", 0)]
 WORDS = [(word.strip("`"), said) for word, said in rows_of("signs", 1)]
+
+
+def signs_in(code, words, where):
+    """The signs that code has and those of the libraries' words that it uses, each with its sentence."""
+    text = plain(code)
+    used = [(sign, said) for sign, found, said in SIGNS if re.search(found, text)]
+    known = "".join(sign for sign, _ in used)
+    missing = {it for it in text if ord(it) > 127 and it not in known}
+    if missing:
+        fail(f"{where} uses {' '.join(sorted(missing))}, of which {FOLDER}/signs.md has no sentence")
+    return used + [(name, said) for name, said in WORDS if name in words]
+
+
 # (crate, file, name, an example that holds, one that doesn't), each of these as (crate, file, lemma), or none
 EXAMPLES = [(*what.split(), tuple(holds.split()), tuple(fails.split())) for what, holds, fails in rows_of("examples", 0)]

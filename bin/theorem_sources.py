@@ -35,10 +35,11 @@ WORD = re.compile(r"[^\s(){}\[\];,.`\"]+")
 
 
 class Def:
-    """A definition of a .antt file: its text, the heads of the module blocks that it stands in, and the name that it has."""
+    """A definition of a .antt file: its text, the heads of the module blocks that it stands in, the name that it has, and the number of
+    the line that has it."""
 
-    def __init__(self, file, name, kind, lines, blocks):
-        self.file, self.name, self.kind, self.lines, self.blocks = file, name, kind, lines, blocks
+    def __init__(self, file, name, kind, lines, blocks, number):
+        self.file, self.name, self.kind, self.lines, self.blocks, self.number = file, name, kind, lines, blocks, number
 
     def block_of(self):
         return self.blocks
@@ -48,10 +49,11 @@ class Def:
 
 
 class Item:
-    """An item of a .rt file: a declaration or a contract, with the head of the impl block that it stands in."""
+    """An item of a .rt file: a declaration or a contract, with the head of the impl block that it stands in, and the number of its first
+    line."""
 
-    def __init__(self, file, name, kind, lines, block, uses):
-        self.file, self.name, self.kind, self.lines, self.block, self.uses = file, name, kind, lines, block, uses
+    def __init__(self, file, name, kind, lines, block, uses, number):
+        self.file, self.name, self.kind, self.lines, self.block, self.uses, self.number = file, name, kind, lines, block, uses, number
 
     def block_of(self):
         return self.block
@@ -142,8 +144,9 @@ class Spec:
         self.file, text = file, read(file)
         self.imports = imports_of(uses_in("\n".join(it for it in text.split("\n") if it.startswith("use "))), file)
         self.defs, self.owner = {}, {}
-        blocks = []
+        blocks, last = [], 0
         for para in re.split(r"\n[ ]*\n", text):
+            first, last = last, last + para.count("\n") + 2
             lines = [it for it in para.split("\n") if it.strip()]
             while lines and (lines[0].startswith("use ") or lines[0].startswith("pub mod ")):
                 lines.pop(0)
@@ -162,7 +165,7 @@ class Spec:
             kind, name = HEADS.match(head).groups()
             if len([it for it in code if STARTS.match(it) and indent_of(it) == indent_of(head)]) > 1:
                 fail(f"{file}: two definitions stand beside {name} without an empty line between them")
-            made = Def(file, name, kind or "word", lines, tuple(blocks))
+            made = Def(file, name, kind or "word", lines, tuple(blocks), text.split("\n").index(head, first) + 1)
             if name in self.defs:
                 fail(f"{file}: {name} is defined twice")
             self.defs[name] = made
@@ -260,7 +263,7 @@ class Source:
                     lines = self.docs_above(at) + self.without_attributes(self.lines[at:end + 1])
                 uses = imports_of(uses_in("\n".join(lines)), self.file)
                 lines = self.tidy([it for it in lines if not it.strip().startswith("ghost use ")])
-                self.items[name] = Item(self.file, name, kind, lines, (), uses)
+                self.items[name] = Item(self.file, name, kind, lines, (), uses, at + 1)
                 self.order.append((name, line.startswith("pub ")))
             at = end + 1
 
@@ -280,7 +283,7 @@ class Source:
         if model:
             said = [it for it in body if re.match(r"\s+ghost (Value|view) =", it)]
             name = model.group(1)
-            self.models[name] = Item(self.file, name, "model", [f"impl Model for {name} {{", *said, "}"], (), uses)
+            self.models[name] = Item(self.file, name, "model", [f"impl Model for {name} {{", *said, "}"], (), uses, at + 1)
             return
         if " for " in whole:
             return
@@ -288,7 +291,7 @@ class Source:
             it = re.match(r"    (?:pub(?:\([^)]*\))? )?fn (\w+)", self.lines[line])
             if it:
                 name = f"{of.group(1)}::{it.group(1)}"
-                self.items[name] = Item(self.file, name, "fn", self.docs_above(line) + self.contract(line), tuple(head), uses)
+                self.items[name] = Item(self.file, name, "fn", self.docs_above(line) + self.contract(line), tuple(head), uses, line + 1)
 
     def tidy(self, lines):
         """The lines without two empty ones in a row, and without one behind an opening brace."""
