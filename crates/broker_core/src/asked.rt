@@ -62,10 +62,20 @@ impl SharedSend {
 }
 
 /// A request as it came, or a shared SEND.
-#[derive(Debug, Drop)]
+#[derive(Debug)]
 pub enum Form {
     Whole(Request),
     Shared(SharedSend),
+}
+
+/// Written by hand: a derived one is written out, part by part of each request, wherever a form may be dropped.
+impl Drop for Form {
+    fn drop(self) {
+        match self {
+            Form::Whole(_request) => {}
+            Form::Shared(_send) => {}
+        }
+    }
 }
 
 impl Form {
