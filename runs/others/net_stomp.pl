@@ -1,5 +1,5 @@
-# Net::Stomp against a broker, step by step: each line tells a step and its outcome.
-# usage: runs/others/net_stomp.pl PORT     the status is 0 where each step was as it should be
+# Net::Stomp with a broker, step by step: each line names a step and its outcome.
+# usage: runs/others/net_stomp.pl PORT     the status is 0 if each step was as it should be
 use strict;
 use warnings;
 use Net::Stomp;
@@ -11,7 +11,7 @@ sub step { push @steps, [@_] }
 
 sub name_of { return "/queue/perl.$_[0].$$" }
 
-# It asks for no version where it isn't told to.
+# It asks for no version by itself.
 sub client {
     my $client = Net::Stomp->new({hostname => '127.0.0.1', port => $port, timeout => 10});
     my $came = $client->connect({'accept-version' => '1.2', host => 'h'});
@@ -65,11 +65,11 @@ sub answer {
 
 sub go_away { $_[0]->socket->close }
 
-# How a client is told of a refusal, and that the connection ends behind it.
-sub told {
+# The message of the ERROR that a client gets, after which the connection ends.
+sub refused {
     my $client = shift;
     my $message = take($client, 'ERROR')->headers->{message};
-    die "it goes on\n" if $client->socket->sysread(my $more, 1);
+    die "the connection stays open\n" if $client->socket->sysread(my $more, 1);
     return $message;
 }
 
@@ -91,7 +91,7 @@ step 'mode auto: messages come in order, and are gone' => sub {
 
 for my $case (['client', 'counts for all before it', 'm3 m4', 2], ['client-individual', 'counts for its message alone', 'm0 m1 m3 m4', 4]) {
     my ($mode, $counts, $left, $count) = @$case;
-    step "mode $mode: an ACK $counts, the others come again" => sub {
+    step "mode $mode: an ACK $counts, the others are redelivered" => sub {
         my $name = filled($mode, map { "m$_" } 0 .. 4);
         my $one = client();
         subscribe($one, $name, $mode);
@@ -176,35 +176,35 @@ step 'bodies of 1,048,576 octets come whole' => sub {
     return bodies_of($one, 10) eq join(' ', @bodies);
 };
 
-step 'a header with a colon, which it sends as it is, is told by ERROR 20' => sub {
+step 'a header with a colon, which it sends as it is, gets ERROR 20' => sub {
     my $one = client();
     $one->send({destination => name_of('colon'), body => 'x', odd => 'a:b'});
-    return told($one) eq '20 BadFrame';
+    return refused($one) eq '20 BadFrame';
 };
 
-step 'its ack without an id, as of 1.1, is told by ERROR 24' => sub {
+step 'its ack without an id, as of 1.1, gets ERROR 24' => sub {
     my $one = client();
     subscribe($one, filled('bare', 'x'), 'client');
     $one->ack({frame => take($one, 'MESSAGE')});
-    return told($one) eq '24 MissingHeader';
+    return refused($one) eq '24 MissingHeader';
 };
 
-step 'its subscribe without an id, as of 1.0, is told by ERROR 24' => sub {
+step 'its subscribe without an id, as of 1.0, gets ERROR 24' => sub {
     my $one = client();
     $one->subscribe({destination => name_of('bare')});
-    return told($one) eq '24 MissingHeader';
+    return refused($one) eq '24 MissingHeader';
 };
 
-step 'its connect without a version is told by ERROR 24' => sub {
+step 'its connect without a version gets ERROR 24' => sub {
     my $one = Net::Stomp->new({hostname => '127.0.0.1', port => $port, timeout => 10});
     my $came = $one->connect({login => 'u', passcode => 'p'});
     return $came->command eq 'ERROR' && $came->headers->{message} eq '24 MissingHeader';
 };
 
-step 'an ACK of what isn\'t out is told by ERROR 31' => sub {
+step 'an ACK of no unanswered message gets ERROR 31' => sub {
     my $one = client();
     ask($one, 'ACK', id => '1000000000');
-    return told($one) eq '31 NoSuchAck';
+    return refused($one) eq '31 NoSuchAck';
 };
 
 step 'disconnects with a receipt, by a frame: its disconnect asks for none' => sub {

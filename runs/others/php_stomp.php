@@ -1,6 +1,6 @@
 <?php
-// The extension stomp of PHP against a broker, step by step: each line tells a step and its outcome.
-// usage: runs/others/php_stomp.php PORT     the status is 0 where each step was as it should be
+// The extension stomp of PHP with a broker, step by step: each line names a step and its outcome.
+// usage: runs/others/php_stomp.php PORT     the status is 0 if each step was as it should be
 //
 // The extension takes two octets for the end of each frame, the NUL and a line end, which the standard leaves free and the broker doesn't
 // write. So frames that come together lose their beginnings there: the steps have one frame under way at a time, but for those that say so.
@@ -18,7 +18,7 @@ function name_of($what)
     return "/queue/php.$what." . getmypid();
 }
 
-// It names no version where it isn't told to.
+// It names no version by itself.
 function client()
 {
     global $argv;
@@ -75,8 +75,8 @@ function of($frame, $more = [])
     return ["id" => $frame->headers["ack"]] + $more;
 }
 
-// How a client is told of a refusal.
-function told($client)
+// The message of the ERROR that a client gets.
+function refused($client)
 {
     try {
         $client->readFrame();
@@ -99,7 +99,7 @@ step("mode auto: messages come in order, and are gone", function () {
     return $came === $bodies && is_quiet(subscribed($name, "auto"));
 });
 
-step("mode client: an ACK counts for all before it, another comes again", function () {
+step("mode client: an ACK counts for all before it, another is redelivered", function () {
     $name = name_of("client");
     $one = subscribed($name, "client");
     $frames = passed($name, $one, ["m0", "m1", "m2", "m3"]);
@@ -109,7 +109,7 @@ step("mode client: an ACK counts for all before it, another comes again", functi
     return take($other)->body === "m3" && is_quiet($other);
 });
 
-step("mode client-individual: an ACK counts for its message alone, another comes again", function () {
+step("mode client-individual: an ACK counts for its message alone, another is redelivered", function () {
     $name = name_of("individual");
     $one = subscribed($name, "client-individual");
     $frames = passed($name, $one, ["m0", "m1", "m2", "m3"]);
@@ -177,27 +177,27 @@ step("bodies of 1,048,576 octets come whole", function () {
     return bodies_of(passed($name, subscribed($name, "auto"), $bodies)) === $bodies;
 });
 
-step("a header with a colon, which it sends as it is, is told by ERROR 20", function () {
+step("a header with a colon, which it sends as it is, gets ERROR 20", function () {
     $one = client();
     $one->send(name_of("colon"), "x", ["odd" => "a:b"]);
-    return told($one) === "20 BadFrame";
+    return refused($one) === "20 BadFrame";
 });
 
-step("its ack without an id, as of 1.1, is told by ERROR 24", function () {
+step("its ack without an id, as of 1.1, gets ERROR 24", function () {
     $name = name_of("bare");
     $one = subscribed($name, "client");
     [$frame] = passed($name, $one, ["x"]);
     $one->ack($frame);
-    return told($one) === "24 MissingHeader";
+    return refused($one) === "24 MissingHeader";
 });
 
-step("its subscribe without an id, as of 1.0, is told by ERROR 24", function () {
+step("its subscribe without an id, as of 1.0, gets ERROR 24", function () {
     $one = client();
     $one->subscribe(name_of("bare"));
-    return told($one) === "24 MissingHeader";
+    return refused($one) === "24 MissingHeader";
 });
 
-step("its connect without a version is told by ERROR 24", function () {
+step("its connect without a version gets ERROR 24", function () {
     global $argv;
     try {
         new Stomp("tcp://127.0.0.1:" . $argv[1], "u", "p");
@@ -207,10 +207,10 @@ step("its connect without a version is told by ERROR 24", function () {
     return false;
 });
 
-step("an ACK of what isn't out is told by ERROR 31", function () {
+step("an ACK of no unanswered message gets ERROR 31", function () {
     $one = client();
     $one->ack("1000000000", ["id" => "1000000000"]);
-    return told($one) === "31 NoSuchAck";
+    return refused($one) === "31 NoSuchAck";
 });
 
 step("of frames that come together it loses some: of 5 messages it gives the last, as ESSAGE", function () {

@@ -1,5 +1,5 @@
-# The gem stomp against a broker, step by step: each line tells a step and its outcome.
-# usage: runs/others/ruby_stomp.rb PORT     the status is 0 where each step was as it should be
+# The gem stomp with a broker, step by step: each line names a step and its outcome.
+# usage: runs/others/ruby_stomp.rb PORT     the status is 0 if each step was as it should be
 require "stomp"
 require "timeout"
 
@@ -16,7 +16,7 @@ end
 
 VERSION_12 = {"accept-version" => "1.2", "host" => "h"}
 
-# It asks for no version where it isn't told to.
+# It asks for no version by itself.
 def client(headers = VERSION_12, **more)
   Stomp::Connection.new(hosts: [{host: "127.0.0.1", port: PORT}], connect_headers: headers, reliable: false, **more)
 end
@@ -63,10 +63,10 @@ def go_away(connection)
   connection.send(:close_socket)
 end
 
-# How a client is told of a refusal, and that the connection ends behind it.
-def told(connection)
+# The message of the ERROR that a client gets, after which the connection ends.
+def refused(connection)
   message = take(connection, "ERROR").headers["message"]
-  raise "it goes on" if Timeout.timeout(10) { connection.receive }
+  raise "the connection stays open" if Timeout.timeout(10) { connection.receive }
   message
 end
 
@@ -91,7 +91,7 @@ end
 MODES = [["client", "counts for all before it", %w[m3 m4]], ["client-individual", "counts for its message alone", %w[m0 m1 m3 m4]]]
 
 MODES.each do |mode, counts, left|
-  step("mode #{mode}: an ACK #{counts}, the others come again") do
+  step("mode #{mode}: an ACK #{counts}, the others are redelivered") do
     name, one, other = filled(mode, *%w[m0 m1 m2 m3 m4]), client, client
     subscribe(one, name, mode)
     frames = Array.new(5) { take(one, "MESSAGE") }
@@ -173,10 +173,10 @@ step("lines that end in CR LF are taken") do
   bodies_of(one, 1) == ["x"]
 end
 
-step("an ACK of what isn't out is told by ERROR 31") do
+step("an ACK of no unanswered message gets ERROR 31") do
   one = client
   one.ack("1000000000")
-  told(one) == "31 NoSuchAck"
+  refused(one) == "31 NoSuchAck"
 end
 
 # What a connection that isn't taken gives: its ERROR is its first frame.
@@ -184,11 +184,11 @@ def refusal(headers)
   client(headers).connection_frame.headers["message"]
 end
 
-step("its connect without a version is told by ERROR 24, one of 1.1 by ERROR 23") do
+step("its connect without a version gets ERROR 24, one of 1.1 ERROR 23") do
   [refusal({}), refusal({"accept-version" => "1.0,1.1", "host" => "h"})] == ["24 MissingHeader", "23 Version"]
 end
 
-step("its unreceive, which answers by message-id, is told by ERROR 31") do
+step("its unreceive, which answers by message-id, gets ERROR 31") do
   one = client
   subscribe(one, filled("unreceive", "x"), "client")
   frame = take(one, "MESSAGE")
@@ -197,10 +197,10 @@ step("its unreceive, which answers by message-id, is told by ERROR 31") do
     frame = take(one, "MESSAGE")
   end
   one.unreceive(frame, force_client_ack: true)
-  told(one) == "31 NoSuchAck"
+  refused(one) == "31 NoSuchAck"
 end
 
-step("heart-beats that it asks for are declined, and it goes on") do
+step("heart-beats that it asks for are declined, and the session goes on") do
   one = client(VERSION_12.merge("heart-beat" => "500,500"))
   sleep 2
   put(one, name_of("beats"), "x")

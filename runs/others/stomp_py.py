@@ -1,29 +1,25 @@
-"""stomp.py against a broker, step by step: each line tells a step and its outcome.
+"""stomp.py with a broker, step by step: each line names a step and its outcome.
 
-usage: runs/others/stomp_py.py PORT     the status is 0 where each step was as it should be
+usage: runs/others/stomp_py.py PORT     the status is 0 if each step was as it should be
 """
 import os
+import pathlib
 import queue
 import sys
 import time
 
 import stomp
 
+sys.path.insert(0, str(pathlib.Path(__file__).resolve().parent.parent))
+from parts.faults import Wrong  # noqa: E402
+from parts.steps import Steps  # noqa: E402
+
 if len(sys.argv) != 2 or not sys.argv[1].isdigit():
     sys.exit(__doc__)
 PORT = int(sys.argv[1])
-STEPS = []
-
-
-class Wrong(Exception):
-    """Something else came than was to come."""
-
-
-def step(what):
-    def add(function):
-        STEPS.append((what, function))
-        return function
-    return add
+STEPS = Steps()
+step = STEPS.step
+FAULTS = (Wrong, OSError, KeyError, queue.Empty, stomp.exception.StompException)
 
 
 def name_of(what):
@@ -31,7 +27,7 @@ def name_of(what):
 
 
 class Client(stomp.ConnectionListener):
-    """A connection and what came of it: a pair of a kind and a frame each."""
+    """A connection, and what came on it: a pair of a kind and a frame each."""
 
     def __init__(self, kind=stomp.Connection12, **how):
         self.came = queue.Queue()
@@ -57,7 +53,7 @@ class Client(stomp.ConnectionListener):
         except queue.Empty:
             raise Wrong(f"no {kind} came") from None
         if came != kind:
-            raise Wrong(f"{kind} was to come, and came {came}: {frame and frame.headers}")
+            raise Wrong(f"{came} came instead of {kind}: {frame and frame.headers}")
         return frame
 
     def quiet(self):
@@ -116,7 +112,7 @@ def auto():
     return came == bodies(20) and other.quiet()
 
 
-@step("mode client: an ACK counts for all before it, the others come again")
+@step("mode client: an ACK counts for all before it, the others are redelivered")
 def client_mode():
     name = filled("client", *bodies(5))
     one = Client()
@@ -129,7 +125,7 @@ def client_mode():
     return [frame.body for frame in other.messages(2)] == [b"m3", b"m4"] and other.quiet()
 
 
-@step("mode client-individual: an ACK counts for its message alone, the others come again")
+@step("mode client-individual: an ACK counts for its message alone, the others are redelivered")
 def individual():
     name = filled("individual", *bodies(5))
     one = Client()
@@ -142,7 +138,7 @@ def individual():
     return [frame.body for frame in other.messages(4)] == [b"m0", b"m1", b"m3", b"m4"] and other.quiet()
 
 
-@step("a NACK brings its message again")
+@step("a NACK redelivers its message")
 def nack():
     name = filled("nack", "m")
     one = Client()
@@ -214,59 +210,59 @@ def large():
     return [frame.body for frame in one.messages(10)] == contents
 
 
-def told(client):
-    """How a client is told of a refusal, and that the connection ends behind it."""
+def refused(client):
+    """The message of the ERROR that a client gets, after which the connection ends."""
     frame = client.wait("error")
     client.wait("end")
     return frame.headers["message"]
 
 
-@step("an ACK of what isn't out is told by ERROR 31")
+@step("an ACK of no unanswered message gets ERROR 31")
 def error():
     one = Client()
     one.connection.ack("1000000000")
-    return told(one) == "31 NoSuchAck"
+    return refused(one) == "31 NoSuchAck"
 
 
-@step("a body of 1,048,577 octets is told by ERROR 20, though it was sent whole")
+@step("a body of 1,048,577 octets gets ERROR 20, though it was sent whole")
 def too_large():
     one = Client()
     one.connection.send(name_of("too_large"), b"x" * 1_048_577)
-    return told(one) == "20 BadFrame"
+    return refused(one) == "20 BadFrame"
 
 
-@step("a topic is told by ERROR 25")
+@step("a topic gets ERROR 25")
 def topic():
     one = Client()
     one.connection.subscribe("/topic/news", id="0")
-    return told(one) == "25 BadDestination"
+    return refused(one) == "25 BadDestination"
 
 
 def refusal(connection):
-    """How a client is told that it may not connect."""
-    told = queue.Queue()
+    """The message of the ERROR that a client gets for its CONNECT."""
+    errors = queue.Queue()
     listener = stomp.ConnectionListener()
-    listener.on_error = told.put
+    listener.on_error = errors.put
     connection.set_listener("", listener)
     try:
         connection.connect(wait=True)
     except stomp.exception.ConnectFailedException:
-        return told.get(timeout=10).headers["message"]
+        return errors.get(timeout=10).headers["message"]
     return None
 
 
-@step("its client of 1.0, which names no version, is told by ERROR 24")
+@step("its client of 1.0, which names no version, gets ERROR 24")
 def version_10():
     return refusal(stomp.Connection10([("127.0.0.1", PORT)])) == "24 MissingHeader"
 
 
-@step("its client of 1.1 is told by ERROR 24 where it names no host, and else by ERROR 23")
+@step("its client of 1.1 gets ERROR 24 if it names no host, and else ERROR 23")
 def version_11():
     host = [("127.0.0.1", PORT)]
     return [refusal(stomp.Connection11(host)), refusal(stomp.Connection11(host, vhost="h"))] == ["24 MissingHeader", "23 Version"]
 
 
-@step("heart-beats that it asks for are declined, and it goes on")
+@step("heart-beats that it asks for are declined, and the session goes on")
 def heart_beats():
     one = Client(heartbeats=(500, 500))
     time.sleep(2)
@@ -278,20 +274,13 @@ def heart_beats():
 def disconnects():
     one = Client()
     one.connection.disconnect(receipt="last")
-    # it tells of the end first, which the receipt brings about
+    # (it reports the end first, which the receipt causes)
     return one.wait("end") is None and one.wait("receipt").headers["receipt-id"] == "last"
 
 
 def main():
-    failed = 0
-    for what, function in STEPS:
-        try:
-            is_right, why = function(), ""
-        except (Wrong, OSError, KeyError, queue.Empty, stomp.exception.StompException) as fault:
-            is_right, why = False, f": {fault!r}"
-        failed += not is_right
-        print(f"{'ok  ' if is_right else 'FAIL'} {what}{why}", flush=True)
-    print(f"{len(STEPS) - failed} of {len(STEPS)} steps, stomp.py {'.'.join(map(str, stomp.__version__))}", flush=True)
+    failed, count = STEPS.failed(FAULTS), len(STEPS.them)
+    print(f"{count - failed} of {count} steps, stomp.py {'.'.join(map(str, stomp.__version__))}", flush=True)
     os._exit(1 if failed else 0)
 
 

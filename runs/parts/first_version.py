@@ -1,7 +1,6 @@
-"""Files of version 1, which is before orders had several lines: by texts of their tables that stand here and share nothing with the sources
-of the programs.
+"""Files of version 1, in which an order had one line: made by texts of their tables that share nothing with the sources of the programs.
 
-The rows are those of files of today whose orders have one line each, written as version 1 wrote them; or of as many orders as one likes.
+The rows are those of files of today whose orders have one line each, written as version 1 wrote them, or of any number of orders.
 """
 import collections
 import contextlib
@@ -9,9 +8,10 @@ import json
 import sqlite3
 import subprocess
 
-from .file_runs import SERVICES, read
+from .files import read
+from .services import SERVICES
 
-# The order of the tables counts: a file is taken over only where each is the one that it was in version 1.
+# The order of the tables counts: a file is migrated only if each is the one that it was in version 1.
 COMMON = (
     "CREATE TABLE journal (pos INTEGER PRIMARY KEY, entity TEXT NOT NULL, seat INTEGER, sender TEXT, number INTEGER, body TEXT NOT NULL)"
     " STRICT",
@@ -57,7 +57,7 @@ def body(members):
 
 
 def first_body(text):
-    """The body of a command as version 1 had it: a placing told its one line beside the account."""
+    """The body of a command as version 1 had it: a placing had its one line beside the account."""
     members = json.loads(text)
     if members["op"] != "place":
         return text
@@ -111,7 +111,7 @@ def write(path, service, tables, by_command=False):
 
 
 def write_back(made, folder, by_command=False):
-    """Makes files of version 1 of those of today that lie in another folder. Their rows, of each service."""
+    """Makes files of version 1 from those of today in another folder: their rows, of each service."""
     folder.mkdir()
     found = {service: first_rows(made / f"{service}.db", service) for service in SERVICES}
     for service, tables in found.items():
@@ -120,7 +120,7 @@ def write_back(made, folder, by_command=False):
 
 
 def many_rows(count, accounts=100):
-    """The rows of each service behind so many orders of one stock, spread over accounts, all of them shipped and billed."""
+    """The rows of each service after so many orders of one stock, spread over accounts, all of them shipped and billed."""
     orders = [(f"o{number:07}", f"a{number % accounts:03}") for number in range(1, count + 1)]
     pairs = [(f"order/{key}", f"account/{account}") for key, account in orders]
     billed = collections.Counter(account for _, account in orders)
@@ -162,7 +162,7 @@ def many_rows(count, accounts=100):
 
 
 def write_many(folder, count):
-    """Makes files of version 1 with so many orders. Their rows, of each service."""
+    """Makes files of version 1 with so many orders: their rows, of each service."""
     folder.mkdir()
     found = many_rows(count)
     for service, tables in found.items():

@@ -1,16 +1,4 @@
-"""Octets of frames that are changed at random, and programs that get them: for `runs/mutated-frames`."""
-import functools
-import os
-import signal
-import subprocess
-import sys
-
-from .brokers import TOP
-from .stomp_model import Wrong
-
-# a script that is ended ends what it started
-signal.signal(signal.SIGTERM, signal.default_int_handler)
-
+"""Octets of frames that are changed at random."""
 WORDS = [b"\n", b"\r\n", b"\r", b"\0", b":", b"\\", b"\\c", b"\\n", b"\\t", b"\xff", b"\xc3\xbc", b"\xe2\x82", b"0", b"2", b"1.2", b"auto",
          b"client", b"18446744073709551616", b":x\n", b"x\n", b"id:0\n", b"ack:1\n", b"receipt:r\n", b"transaction:t\n",
          b"destination:/queue/a\n", b"destination:/topic/a\n", b"accept-version:1.1\n", b"content-length:0\n", b"content-length:3\n",
@@ -28,7 +16,7 @@ MORE_LINES = (b"\n", b":", b"\0", b"\\")
 
 
 def somewhere(dice, octets):
-    """A place, and a short way behind it."""
+    """A place, and one a short way after it."""
     at = dice.randrange(len(octets) + 1)
     return at, min(len(octets), at + int(dice.expovariate(0.15)))
 
@@ -65,7 +53,7 @@ def changed(dice, octets):
 
 
 def mutated(dice, frames, chance=0.5):
-    """The frames' octets: so likely changed, or with frames doubled, missing or in another order, and else as they are."""
+    """The frames' octets: so likely changed, or with frames doubled, missing or in another order, else as they are."""
     frames = list(frames)
     if dice.random() > chance:
         return b"".join(frames)
@@ -87,7 +75,7 @@ def mutated(dice, frames, chance=0.5):
 
 
 def in_pieces(dice, one, octets):
-    """Sends octets, now and then in pieces; the other side may have closed."""
+    """Sends octets, now and then in pieces. The other side may have closed."""
     try:
         while octets:
             size = len(octets) if dice.random() < 0.7 else dice.randrange(1, len(octets) + 1)
@@ -95,35 +83,3 @@ def in_pieces(dice, one, octets):
             octets = octets[size:]
     except (BrokenPipeError, ConnectionResetError):
         pass
-
-
-class Watched:
-    """A program that runs: its memory, and whether it's there."""
-
-    def __init__(self, words, **streams):
-        self.process = subprocess.Popen(words, stdout=subprocess.PIPE, text=True, **streams)
-        self.at_rest, self.most = 0, 0
-
-    def memory(self):
-        """What it holds, in MiB."""
-        if self.process.poll() is not None:
-            raise Wrong(f"the program ended with status {self.process.returncode}")
-        with open(f"/proc/{self.process.pid}/statm", encoding="ascii") as file:
-            now = int(file.read().split()[1]) * os.sysconf("SC_PAGE_SIZE") / (1 << 20)
-        self.most = max(self.most, now)
-        return now
-
-    def descriptors(self):
-        return len(os.listdir(f"/proc/{self.process.pid}/fd"))
-
-    def end(self):
-        self.process.kill()
-        self.process.communicate()
-
-
-@functools.cache
-def program(name):
-    told = subprocess.run([f"{TOP}/bench/program", name], stdout=subprocess.PIPE, text=True)
-    if told.returncode:
-        sys.exit(2)
-    return told.stdout.strip()

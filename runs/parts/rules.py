@@ -1,44 +1,20 @@
-"""Checks the promise over the files that three services left, by rules of its own.
-
-A folder has purchasing.db, warehouse.db and billing.db, which no program has open, and may have NAME.asked of each: a line for each command
-that a seat gave, a tab, and its answer, nothing where none came. The files are read by the system's SQLite in a copy. Each journal is
-replayed by the rules of docs/MODEL.md, written down here once more, and shares nothing with the services' code. What has to hold:
-
-  rows      positions are 1, 2, ..; each command would be taken in; tables, outbox and marks are those of the journal
-  asked     a line that was answered `committed POS` stands at POS; one that had no answer stands once or not at all; one that was refused
-            would be refused somewhere between its neighbours; no other command stands
-  letters   what an entity handled of another are the first of what that sent it, each once, in order, with its number and its text
-  marks     what is settled is handled
-  partners  of a confirmed order each holds what it was asked for, or has shipped or billed it; for no other order has one shipped or
-            billed; a line is for what was asked; stock and credit are conserved
-
-and at rest also: all that was sent is handled and settled, outboxes are empty and nothing is held, no order is open, and of a
-confirmed order all partners shipped or billed, of a cancelled one all released or refused.
-"""
+"""The rules of docs/MODEL.md, written down once more, by which the journals of three services are replayed. runs/audited-files says what
+has to hold. The rules share nothing with the services' code."""
 import collections
 import json
 import pathlib
-import shutil
 import sqlite3
-import tempfile
 
-SERVICES = ("purchasing", "warehouse", "billing")
-KIND = {"purchasing": "order", "warehouse": "stock", "billing": "account"}
+from .faults import Wrong, check
+from .files import opened
+from .services import KIND, SERVICES, service_of
+
 MOST = 1 << 40
 EARLY = 256  # how far above the last that was handled a letter may be held
 # how far a partner may be with an order, by the order's status; None is without a line
 MAY_BE = {"open": {None, "held", "refused"}, "confirmed": {"held", "shipped", "billed"}, "cancelled": {None, "held", "refused", "released"}}
 MAY_BE_AT_REST = {"open": set(), "confirmed": {"shipped", "billed"}, "cancelled": {"refused", "released"}}
 ESCAPES = {"\\": "\\", "s": " ", "n": "\n", "r": "\r"}
-
-
-class Wrong(Exception):
-    """Something else was found than should be."""
-
-
-def check(what, found, wanted):
-    if found != wanted:
-        raise Wrong(f"{what}: {found!r}, where {wanted!r} should be")
 
 
 # ---- the rules: what an entity's state becomes by an input, and what it sends
@@ -189,17 +165,7 @@ STATES = {"purchasing": Order, "warehouse": Stock, "billing": Account}
 OPS = {"purchasing": ("place", "cancel_order"), "warehouse": ("receive",), "billing": ("set_limit",)}
 
 
-# ---- what stands in the files, and what was asked
-
-def copied(folder, name, target):
-    """A connection to a copy of a file and its log, so that both stay as they are."""
-    for end in ("", "-wal"):
-        if (folder / f"{name}.db{end}").exists():
-            shutil.copy(folder / f"{name}.db{end}", target / f"{name}.db{end}")
-    if not (target / f"{name}.db").exists():
-        raise Wrong(f"{name}.db isn't there")
-    return sqlite3.connect(target / f"{name}.db")
-
+# ---- what the files have, and what was asked
 
 OWN = {
     "purchasing": ("SELECT key, account, amount, status, account_phase FROM order_heads",
@@ -263,14 +229,14 @@ class Asked:
     def __init__(self, name, pairs):
         self.name, self.next, self.lost, self.refused = name, 0, collections.deque(), collections.deque()
         self.lines = [line for line, _ in pairs]
-        self.told, last, open_refusals = {}, 0, []
+        self.answered, last, open_refusals = {}, 0, []
         for number, (line, answer) in enumerate(pairs):
             kind, *rest = answer.split() or [""]
             if kind == "committed":
                 at = int(rest[0])
                 if at <= last:
-                    raise Wrong(f"{name}: `{line}` was answered `{answer}` behind `committed {last}`")
-                self.told[at], last = number, at
+                    raise Wrong(f"{name}: `{line}` was answered `{answer}` after `committed {last}`")
+                self.answered[at], last = number, at
                 for refusal in open_refusals:
                     refusal[1] = at - 1
                 open_refusals = []
@@ -283,23 +249,23 @@ class Asked:
                 raise Wrong(f"{name}: `{line}` was answered `{answer}`")
 
     def row(self, pos, entity, body):
-        """A command stands in the journal: it's the one that was told this position, or the next that had no answer."""
-        number = self.told.pop(pos, None)
+        """A command is in the journal: it is the one whose answer was this position, or the next that had no answer."""
+        number = self.answered.pop(pos, None)
         while number is None and self.lost and (self.lost[0] < self.next or command_of(self.lines[self.lost[0]]) != (entity, body)):
             self.lost.popleft()
         if number is None:
             if not self.lost:
-                raise Wrong(f"{self.name}: row {pos} is {entity} {body}, which nobody asked for then")
+                raise Wrong(f"{self.name}: row {pos} is {entity} {body}, which no seat asked for then")
             number = self.lost.popleft()
         if number < self.next:
-            raise Wrong(f"{self.name}: row {pos}, `{self.lines[number]}`, was asked for before the row that stands before it")
-        check(f"{self.name}: row {pos}, which `{self.lines[number]}` was told", (entity, body), command_of(self.lines[number]))
+            raise Wrong(f"{self.name}: row {pos}, `{self.lines[number]}`, was asked for before the row above it")
+        check(f"{self.name}: row {pos}, of which `{self.lines[number]}` was the command", (entity, body), command_of(self.lines[number]))
         self.next = number + 1
 
     def refusals(self, pos, state):
-        """Looks, with a journal of so many rows, which refusals are right; those whose time is over have to be."""
-        while self.refused and self.refused[0][1] is not None and self.refused[0][1] < pos:
-            raise Wrong(f"{self.name}: `{self.refused[0][2]}` was refused {self.refused[0][3]}, and wouldn't have been")
+        """With a journal of so many rows, finds which refusals are right. Those whose time is over have to be."""
+        if self.refused and self.refused[0][1] is not None and self.refused[0][1] < pos:
+            raise Wrong(f"{self.name}: `{self.refused[0][2]}` was refused {self.refused[0][3]}, against the rules")
         while self.refused and self.refused[0][0] <= pos:
             entity, body = command_of(self.refused[0][2])
             if state(entity).refusal(body) != self.refused[0][3]:
@@ -307,11 +273,11 @@ class Asked:
             self.refused.popleft()
 
     def end(self, rows):
-        if self.told:
-            pos = min(self.told)
-            raise Wrong(f"{self.name}: `{self.lines[self.told[pos]]}` was told `committed {pos}`, and isn't there: {rows} rows")
+        if self.answered:
+            pos = min(self.answered)
+            raise Wrong(f"{self.name}: `{self.lines[self.answered[pos]]}` was answered `committed {pos}`, and is missing: {rows} rows")
         if self.refused:
-            raise Wrong(f"{self.name}: `{self.refused[0][2]}` was refused {self.refused[0][3]}, and wouldn't have been")
+            raise Wrong(f"{self.name}: `{self.refused[0][2]}` was refused {self.refused[0][3]}, against the rules")
 
 
 # ---- a journal, replayed
@@ -387,10 +353,6 @@ def check_tables(tables, replay):
         check(f"{name}: letter {letter} of the outbox", tables.outbox.get(letter), wanted.get(letter))
 
 
-def service_of(entity):
-    return next(name for name, kind in KIND.items() if entity.startswith(f"{kind}/"))
-
-
 def check_letters(tables, replays, at_rest):
     """What was handled are the first that were sent; what is settled is handled; what is held was sent."""
     for name in SERVICES:
@@ -433,19 +395,21 @@ def read_asked(folder, name):
     return Asked(name, [line.split("\t") for line in lines])
 
 
+def tables_of(folder, name):
+    path = folder / f"{name}.db"
+    if not path.exists():
+        raise Wrong(f"{path.name} isn't there")
+    try:
+        with opened(path) as connection:
+            return Tables(name, connection)
+    except (sqlite3.DatabaseError, sqlite3.Warning) as fault:
+        raise Wrong(f"{path.name} can't be read: {fault}") from None
+
+
 def check_folder(folder, at_rest):
-    """Checks all, and answers how many rows, letters and orders there are, and how the orders ended."""
+    """Checks everything: how many rows, letters and orders there are, and how the orders ended."""
     folder = pathlib.Path(folder)
-    tables = {}
-    with tempfile.TemporaryDirectory() as copy:
-        for name in SERVICES:
-            connection = copied(folder, name, pathlib.Path(copy))
-            try:
-                tables[name] = Tables(name, connection)
-            except (sqlite3.DatabaseError, sqlite3.Warning) as fault:
-                raise Wrong(f"{name}.db can't be read: {fault}") from None
-            finally:
-                connection.close()
+    tables = {name: tables_of(folder, name) for name in SERVICES}
     try:
         replays = {name: Replay(it, read_asked(folder, name)) for name, it in tables.items()}
     except (ValueError, KeyError, TypeError) as fault:

@@ -1,4 +1,4 @@
-"""A STOMP 1.2 client over a socket, which hides nothing: frames are written and read as they are."""
+"""A STOMP 1.2 client over a socket, which writes and reads frames as they are."""
 import re
 import socket
 
@@ -71,7 +71,7 @@ class Client:
         if stop < 0 or len(self.held) <= stop:
             return None
         if self.held[stop] != 0:
-            raise ValueError("no NUL behind a body")
+            raise ValueError("no NUL after a body")
         frame = Frame(lines[0], pairs, self.held[end + 2:stop])
         self.held = self.held[stop + 1:]
         return frame
@@ -90,6 +90,7 @@ class Client:
         """Whether nothing comes for a while."""
         if self.take_frame():
             return False
+        before = self.socket.gettimeout()
         self.socket.settimeout(seconds)
         try:
             self.more()
@@ -97,7 +98,7 @@ class Client:
         except socket.timeout:
             return True
         finally:
-            self.socket.settimeout(10)
+            self.socket.settimeout(before)
 
     def ends(self):
         """Whether the other side ends the connection cleanly, with nothing more before it."""

@@ -1,8 +1,10 @@
-"""What docs/FORMATS.md says of frames, sessions and a broker, written down once more, to compare a broker's answers with: it shares nothing
-with the proved code. `decoded` reads a frame; a `World` is what a broker holds, and a `Session` says which frames have to come to a client,
+"""What docs/FORMATS.md says of frames, sessions and a broker, written down once more, to compare a broker's answers with. It shares nothing
+with the proved code. `decoded` reads a frame, a `World` is what a broker holds, and a `Session` says which frames have to come to a client,
 one by one, whatever octets that client sends."""
 import bisect
 import re
+
+from .faults import Wrong
 
 MOST_BODY, MOST_LINE, MOST_HEADERS, MOST_OWN, MOST_ECHOED = 1_048_576, 1_024, 32, 28, 128
 MOST_SUBSCRIPTIONS, MOST_TRANSACTIONS, MOST_ACTIONS, CREDIT = 64, 16, 256, 16
@@ -25,15 +27,11 @@ ESCAPED = {b"\\r": b"\r", b"\\n": b"\n", b"\\c": b":", b"\\\\": b"\\"}
 
 
 class Bad(Exception):
-    """The octets aren't a frame."""
+    """The octets are not a frame."""
 
 
 class Short(Exception):
     """No whole frame is there."""
-
-
-class Wrong(Exception):
-    """Something else came than should."""
 
 
 def line_at(octets, at):
@@ -84,7 +82,7 @@ def length_of(text, command):
 
 
 def decoded(octets):
-    """The frame that begins the octets, behind line ends: its command, headers and body, and where it ends."""
+    """The frame that begins the octets, after line ends: its command, headers and body, and where it ends."""
     at, line = 0, b""
     while not line:
         line, at = line_at(octets, at)
@@ -161,7 +159,7 @@ class Subscription:
         self.destination, self.mode, self.out = destination, mode, {}  # unanswered: the messages by their ack
 
     def answered(self, ack):
-        """What an answer to one counts for."""
+        """Which messages an answer to one is for."""
         acks = list(self.out)
         return acks[:acks.index(ack) + 1] if self.mode == "client" else [ack]
 
@@ -193,7 +191,7 @@ class Session:
             self.take(command, pairs, body)
 
     def end(self):
-        """The session ends: what was out is ready again, in its old place."""
+        """The session ends: what was delivered and not answered is ready again, in its old place."""
         back = [message for it in self.subscriptions.values() for message in it.out.values()]
         self.subscriptions, self.transactions, self.is_closed = {}, {}, True
         self.world.put_back(back)
@@ -201,7 +199,7 @@ class Session:
     def expect(self, command, pairs, body=b""):
         frame = self.came()
         if (frame.command, frame.pairs, frame.body) != (command, pairs, body):
-            raise Wrong(f"{frame.command} {frame.pairs} {frame.body[:80]!r} came in place of {command} {pairs} {body[:80]!r}")
+            raise Wrong(f"{frame.command} {frame.pairs} {frame.body[:80]!r} came instead of {command} {pairs} {body[:80]!r}")
 
     def refuse(self, number, receipt):
         self.refused = number
@@ -357,7 +355,7 @@ class Session:
                   ("message-id", message.number or number), ("subscription", name),
                   *([("ack", ack)] if subscription.mode != "auto" else []), *message.own]
         if (frame.command, frame.pairs, frame.body) != ("MESSAGE", wanted, message.body):
-            raise Wrong(f"{frame.command} {frame.pairs} {frame.body[:80]!r} came in place of a MESSAGE {wanted} {message.body[:80]!r}")
+            raise Wrong(f"{frame.command} {frame.pairs} {frame.body[:80]!r} came instead of a MESSAGE {wanted} {message.body[:80]!r}")
         message.number = number
         if ack is not None:
             if self.subscription_of(ack) or not ack.isdecimal():
