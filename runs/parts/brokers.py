@@ -1,5 +1,5 @@
-"""Brokers that services talk over: the proved one, RabbitMQ and ActiveMQ. Each is started with what it needs, made on the fly in a folder
-of its own, on a free port of 127.0.0.1; it can be killed and started again over the same folder and port."""
+"""Brokers for services: outbox-broker, RabbitMQ and ActiveMQ. Each is started on a free port of 127.0.0.1, with a configuration that is
+made in a folder of its own. It can be killed and started again over the same folder and port."""
 import os
 import pathlib
 import shutil
@@ -7,20 +7,20 @@ import socket
 import subprocess
 import time
 
+from .processes import program
 from .stomp_client import Client, Closed
 
-TOP = pathlib.Path(__file__).resolve().parent.parent.parent
 RABBITMQ = "/usr/lib/rabbitmq/bin/rabbitmq-server"
 ACTIVEMQ = "/usr/share/activemq/bin/activemq.jar"
 SECONDS = 600  # the longest that a broker may take until it serves
 
 
 class Absent(Exception):
-    """It isn't installed."""
+    """The broker is not installed."""
 
 
 class Fault(Exception):
-    """It ended, or doesn't serve."""
+    """The broker ended, or doesn't serve."""
 
 
 def free_ports(count):
@@ -32,7 +32,7 @@ def free_ports(count):
 
 
 class Broker:
-    """A broker's process. `words` are what outbox-service has to be told besides `--port`."""
+    """A broker's process. `words` are the options that outbox-service needs besides `--port`."""
 
     words = []
 
@@ -91,13 +91,13 @@ class Broker:
 
 
 class Own(Broker):
-    """`outbox-broker`, proved and built first, or that of the folder OUTBOX_BUILT (bench/program)."""
+    """outbox-broker."""
 
     def prepare(self):
-        told = subprocess.run([TOP / "bench/program", "outbox_broker"], stdout=subprocess.PIPE, text=True)
-        if told.returncode:
-            raise Absent("outbox-broker isn't built")
-        self.program = told.stdout.strip()
+        try:
+            self.program = program("outbox_broker")
+        except SystemExit:
+            raise Absent("outbox-broker isn't built") from None
 
     def command(self):
         return [self.program, "--port", self.port], {}

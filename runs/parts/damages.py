@@ -1,63 +1,52 @@
-"""Damages copies of good files in many ways, each of which rules.py has to tell."""
+"""Damages copies of good files in many ways, each of which rules.py has to find."""
+import contextlib
 import json
 import pathlib
 import shutil
 import sqlite3
 
-from .rules import Replay, Tables, Wrong, check_folder
+from .faults import Wrong
+from .files import change
+from .rules import Replay, Tables, check_folder
 
 
-def change(folder, name, *texts):
-    """Runs statements over a file. References aren't looked at."""
-    connection = sqlite3.connect(pathlib.Path(folder) / f"{name}.db")
-    try:
-        changed = [connection.execute(text).rowcount for text in texts]
-        connection.commit()
-    finally:
-        connection.close()
-    if not all(changed):
-        raise ValueError(texts)
+def opened(folder, name):
+    return contextlib.closing(sqlite3.connect(pathlib.Path(folder) / f"{name}.db"))
 
 
-def first(folder, name, text):
-    connection = sqlite3.connect(pathlib.Path(folder) / f"{name}.db")
-    try:
-        return connection.execute(text).fetchone()
-    finally:
-        connection.close()
+def put(connection, table, rows):
+    if rows:
+        connection.executemany(f"INSERT INTO {table} VALUES ({', '.join('?' * len(rows[0]))})", rows)
 
 
 def rebuild(folder, name, journal):
     """Writes a journal and all tables that follow from it, so that the file by itself shows nothing."""
-    connection = sqlite3.connect(pathlib.Path(folder) / f"{name}.db")
-    tables = Tables(name, connection)
-    tables.journal = [(pos, *row[1:]) for pos, row in enumerate(journal, 1)]
-    replay = Replay(tables, None)
-    own = {"purchasing": ("order_lines", "order_heads"), "warehouse": ("stock_lines", "stocks"), "billing": ("account_lines", "accounts")}
-    for table in ("journal", "in_marks", *own[name]):
-        connection.execute(f"DELETE FROM {table}")
-    connection.executemany("INSERT INTO journal VALUES (?, ?, ?, ?, ?, ?)", tables.journal)
-    connection.executemany("INSERT INTO in_marks VALUES (?, ?, ?)", [(*pair, len(texts)) for pair, texts in replay.handled.items()])
-    lines, heads = own[name]
-    for state in replay.states.values():
-        head = (state.key, *(state.row()[:4] if name == "purchasing" else state.row()))
-        connection.execute(f"INSERT INTO {heads} VALUES ({', '.join('?' * len(head))})", head)
-        rows = [(state.key, number, *it) for number, it in enumerate(state.row()[4], 1)] if name == "purchasing" \
-            else [(state.key, order.split("/", 1)[1], *it) for order, it in state.lines.items()]
-        if rows:
-            connection.executemany(f"INSERT INTO {lines} VALUES ({', '.join('?' * len(rows[0]))})", rows)
-    connection.execute("DELETE FROM out_marks")
-    connection.executemany("INSERT INTO out_marks VALUES (?, ?, ?, ?)", [(*pair, len(it), len(it)) for pair, it in replay.sent.items()])
-    connection.commit()
-    connection.close()
+    lines, heads = {"purchasing": ("order_lines", "order_heads"), "warehouse": ("stock_lines", "stocks"),
+                    "billing": ("account_lines", "accounts")}[name]
+    with opened(folder, name) as connection:
+        tables = Tables(name, connection)
+        tables.journal = [(pos, *row[1:]) for pos, row in enumerate(journal, 1)]
+        replay = Replay(tables, None)
+        for table in ("journal", "in_marks", "out_marks", lines, heads):
+            connection.execute(f"DELETE FROM {table}")
+        put(connection, "journal", tables.journal)
+        put(connection, "in_marks", [(*pair, len(texts)) for pair, texts in replay.handled.items()])
+        put(connection, "out_marks", [(*pair, len(it), len(it)) for pair, it in replay.sent.items()])
+        for state in replay.states.values():
+            put(connection, heads, [(state.key, *(state.row()[:4] if name == "purchasing" else state.row()))])
+            put(connection, lines, lines_of(name, state))
+        connection.commit()
+
+
+def lines_of(name, state):
+    if name == "purchasing":
+        return [(state.key, number, *it) for number, it in enumerate(state.row()[4], 1)]
+    return [(state.key, order.split("/", 1)[1], *it) for order, it in state.lines.items()]
 
 
 def journal_of(folder, name):
-    connection = sqlite3.connect(pathlib.Path(folder) / f"{name}.db")
-    try:
+    with opened(folder, name) as connection:
         return Tables(name, connection).journal
-    finally:
-        connection.close()
 
 
 def a_letter_is_lost(folder, name, word):
@@ -118,13 +107,18 @@ def an_answer_is_another(folder, name, old, new):
 def octets_are_others(folder, name):
     """A page of the file is overwritten."""
     path = pathlib.Path(folder) / f"{name}.db"
+    # (a page that the log has too would be read from there)
+    change(path, "PRAGMA wal_checkpoint(TRUNCATE)")
     octets = bytearray(path.read_bytes())
     octets[4096 + 8:4096 + 40] = b"\xff" * 32
     path.write_bytes(octets)
 
 
 def sql(name, *texts):
-    return lambda folder: change(folder, name, *texts)
+    def damage(folder):
+        if not all(change(folder / f"{name}.db", *texts)):
+            raise ValueError(texts)
+    return damage
 
 
 LAST = "SELECT max(pos) FROM journal"
@@ -148,14 +142,14 @@ DAMAGES = {
     "an order's status is another": sql("purchasing", "UPDATE order_heads SET status = 'cancelled' WHERE key = "
                                         "(SELECT key FROM order_heads WHERE status = 'confirmed' LIMIT 1)"),
     "an order is gone from the tables": sql("purchasing", "DELETE FROM order_heads WHERE key = (SELECT max(key) FROM order_heads)"),
-    "a letter stands in an outbox": sql("purchasing", f"INSERT INTO outbox SELECT sender, receiver, sent, {CONFIRM} FROM out_marks "
+    "a letter is in an outbox": sql("purchasing", f"INSERT INTO outbox SELECT sender, receiver, sent, {CONFIRM} FROM out_marks "
                                         "LIMIT 1"),
     "a settled mark is too low": sql("warehouse", f"UPDATE out_marks SET settled = settled - 1 WHERE {SOME}"),
     "a sent mark is too high": sql("billing", f"UPDATE out_marks SET sent = sent + 1 WHERE {SOME}"),
     "a handled mark is too low": sql("purchasing", f"UPDATE in_marks SET handled = handled - 1 WHERE {SOME.replace('out', 'in')}"),
     "a letter is held": sql("warehouse", f"INSERT INTO held SELECT sender, receiver, handled + 1, {CONFIRM} FROM in_marks LIMIT 1"),
-    "the file says that it's another's": sql("billing", "UPDATE about SET service = 'warehouse'"),
-    "octets of a file are others": lambda folder: octets_are_others(folder, "warehouse"),
+    "the file names another service": sql("billing", "UPDATE about SET service = 'warehouse'"),
+    "octets of a file are changed": lambda folder: octets_are_others(folder, "warehouse"),
     "a confirm is lost with all it did": lambda folder: a_letter_is_lost(folder, "warehouse", "confirm"),
     "an answer is lost with all it did": lambda folder: a_letter_is_lost(folder, "purchasing", "tentative"),
     "a request is doubled with all it does": lambda folder: a_letter_is_doubled(folder, "warehouse", "request"),
@@ -163,30 +157,29 @@ DAMAGES = {
     "a second letter overtakes a first": lambda folder: two_letters_change_places(folder, "billing"),
     "a request asks for more than was sent": lambda folder: an_amount_is_another(folder, "warehouse"),
     "a committed line is missing with all it did": a_committed_line_is_missing,
-    "a command that nobody gave stands": a_command_is_made_up,
-    "an answer tells another position": lambda folder: an_answer_is_another(folder, "warehouse", "committed", "committed 1"),
+    "a command that nobody gave is there": a_command_is_made_up,
+    "an answer has another position": lambda folder: an_answer_is_another(folder, "warehouse", "committed", "committed 1"),
     "a refusal wasn't one": lambda folder: an_answer_is_another(folder, "billing", "committed", "refused 61 73"),
-    "an order that stands was refused": lambda folder: an_answer_is_another(folder, "purchasing", "committed", "refused 61 71"),
+    "an order that is there was refused": lambda folder: an_answer_is_another(folder, "purchasing", "committed", "refused 61 71"),
 }
 
 
 def try_damages(folder, target):
-    """Each damage is told, or `Wrong`."""
+    """Each damage is found, or `Wrong`."""
     for name, damage in DAMAGES.items():
-        target = pathlib.Path(target)
         shutil.rmtree(target, ignore_errors=True)
         target.mkdir(parents=True)
-        for path in pathlib.Path(folder).iterdir():
+        for path in folder.iterdir():
             if path.is_file():
                 shutil.copy(path, target)
         try:
             damage(target)
         except (ValueError, StopIteration):
-            raise Wrong(f"nothing to damage where {name}: it wants more kills") from None
+            raise Wrong(f"there is nothing to damage where {name}: more kills are needed") from None
         try:
             check_folder(target, at_rest=True)
         except Wrong as wrong:
-            print(f"told  {name}: {str(wrong)[:150]}", flush=True)
+            print(f"found  {name}: {str(wrong)[:150]}", flush=True)
         else:
-            raise Wrong(f"not told: {name}")
-    print(f"{len(DAMAGES)} damages, each told", flush=True)
+            raise Wrong(f"not found: {name}")
+    print(f"{len(DAMAGES)} damages, each found", flush=True)

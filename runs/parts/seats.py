@@ -1,10 +1,10 @@
-"""Processes of services, and those who give them commands."""
-import pathlib
-import subprocess
+"""Services that are killed and started again, and seats that give them commands."""
 import threading
 import time
 
-from .rules import Wrong
+from .faults import Wrong
+from .processes import Ended
+from .services import Service
 
 STOCKS = ("bolt", "wing nut", "c:clamp", "blech-ö", "a\\b", "pin/3", *(f"s{number}" for number in range(18)))
 ACCOUNTS = ("ann", "eve:x", "zoë", "carl & co", *(f"a{number}" for number in range(12)))
@@ -16,73 +16,45 @@ def word(text):
     return text.replace("\\", "\\\\").replace("\n", "\\n").replace("\r", "\\r").replace(" ", "\\s")
 
 
-class Service:
-    """A process of a service over its file: it's started, asked, killed and ended by others."""
+class Restarted:
+    """A service over its file, in one process after another."""
 
-    def __init__(self, program, name, folder, port, words):
-        self.name, self.folder = name, pathlib.Path(folder)
-        self.words = [program, "--service", name, "--port", str(port), *words, "--file", str(self.folder / f"{name}.db")]
-        self.process, self.first = None, None
+    def __init__(self, name, folder, port, words):
+        self.name, self.folder, self.port, self.words, self.one, self.first = name, folder, port, words, None, None
 
     def start(self):
-        with open(self.folder / f"{self.name}.log", "ab") as log:
-            self.process = subprocess.Popen(self.words, stdin=subprocess.PIPE, stdout=subprocess.PIPE, stderr=log)
-        self.first = None
-
-    def line(self, process):
-        """A line that it answers, or none where it was killed. A line without its end isn't one."""
-        line = b""
-        while not line.endswith(b"\n"):
-            octets = process.stdout.readline()
-            if not octets:
-                return None
-            line += octets
-        return line.decode().rstrip("\n")
+        words = [*self.words, "--file", self.folder / f"{self.name}.db"]
+        self.one, self.first = Service(self.name, self.port, *words, log=self.folder / f"{self.name}.log"), None
 
     def ask(self, lines):
-        """What it answers to these lines: fewer where it was killed meanwhile."""
-        process, answers = self.process, []
+        """The answers to these lines: fewer if it is killed meanwhile."""
+        one = self.one
         try:
             if self.first is None:
-                self.first = self.line(process)
-            process.stdin.write("".join(f"{it}\n" for it in lines).encode())
-            process.stdin.flush()
-            for _ in lines:
-                answer = self.line(process)
-                if answer is None:
-                    break
-                answers.append(answer)
-        except (BrokenPipeError, ConnectionResetError):
-            pass
-        return answers
+                self.first = one.line(SECONDS)
+        except Ended:
+            return []
+        return one.ask_all(lines, SECONDS)
 
     def kill(self):
-        if self.process.poll() is not None:
-            raise Wrong(f"{self.name} ended by itself with status {self.process.returncode}: {self.last_words()}")
-        self.process.kill()
-        self.process.wait()
+        if not self.one.is_running():
+            raise Ended(self.one)
+        # (its pipes stay open, since its seat may be reading them)
+        self.one.kill()
 
-    def end(self):
+    def finish(self):
         """Ends it by the end of its input."""
-        self.process.stdin.close()
-        try:
-            status = self.process.wait(SECONDS)
-        except subprocess.TimeoutExpired:
-            raise Wrong(f"{self.name} didn't end within {SECONDS} seconds") from None
-        if status:
-            raise Wrong(f"{self.name} ended with status {status}: {self.last_words()}")
-
-    def last_words(self):
-        return (self.folder / f"{self.name}.log").read_text(errors="replace").splitlines()[-3:]
+        if self.one.finish(SECONDS):
+            raise Ended(self.one)
 
 
 class Seat(threading.Thread):
-    """Gives commands to a service, some at once, and keeps what was asked and answered: no more than `most`, until it's told to stop."""
+    """Gives commands to a service, some at once and `most` at most, until it is stopped, and keeps each with its answer."""
 
     def __init__(self, service, dice, pause):
         super().__init__(daemon=True)
         self.service, self.dice, self.pause = service, dice, pause
-        self.asked, self.turn, self.stopped, self.fault, self.since = [], threading.Lock(), False, None, None
+        self.asked, self.turn, self.stopped, self.fault = [], threading.Lock(), False, None
         self.placed, self.limits, self.most = 0, {name: 60 for name in ACCOUNTS}, 0
         self.first = {"warehouse": [f"receive {word(name)} 20" for name in STOCKS],
                       "billing": [f"limit {word(name)} 60" for name in ACCOUNTS]}.get(service.name, [])
@@ -95,31 +67,25 @@ class Seat(threading.Thread):
                     with self.turn:
                         self.give(lines)
                 time.sleep(self.dice.expovariate(1 / self.pause))
-        except Exception as fault:  # told by the thread that looks
+        except Exception as fault:  # raised by the thread that looks
             self.fault = fault
 
     def give(self, lines):
-        if self.service.process.poll() is not None:
+        if not self.service.one.is_running():
             return
         asked = [[line, ""] for line in lines]
         self.asked += [it for it in asked if it[0] != "connect"]
-        self.since = time.monotonic()
         for it, answer in zip(asked, self.service.ask(lines)):
             it[1] = answer
-        self.since = None
 
-    def is_stuck(self):
-        since = self.since
-        return since is not None and time.monotonic() - since > SECONDS
-
-    def write(self, folder):
+    def write(self):
         text = "".join(f"{line}\t{answer}\n" for line, answer in self.asked)
-        (pathlib.Path(folder) / f"{self.service.name}.asked").write_text(text, encoding="utf-8")
+        (self.service.folder / f"{self.service.name}.asked").write_text(text, encoding="utf-8")
 
     def next_line(self):
         if self.first:
             return self.first.pop()
-        # what was cut is opened again at once now and then, else pauses grow up to 5 s
+        # now and then a service reconnects at once, else it waits up to 5 s
         if self.dice.random() < 0.1:
             return "connect"
         return getattr(self, self.service.name)()
@@ -152,7 +118,7 @@ class Seat(threading.Thread):
 
 
 def rows(services):
-    """How many rows the journals have."""
+    """How many rows the journals have, as the services print it."""
     answers = [it.ask(["await 0"]) for it in services.values()]
     if not all(answers):
         raise Wrong("a service ended while all ran undisturbed")
