@@ -7,7 +7,7 @@ import sys
 
 from copies import TOP, lines_of
 
-LIST = "bin/gate-edits"
+LIST, BY_RUN = "bin/gate-edits", "by-run/"
 FUNCTION = re.compile(r"(?m)^( *)(?:pub(?:\([^)]*\))? )?(?:const )?(?:unsafe )?fn (\w+)")
 IMPL = re.compile(r"(?m)^(?:unsafe )?(?:impl|trait)\b(?:<(?:[^<>]|<[^<>]*>)*>)?((?:(?!\bwhere\b)[^{])*)")
 # The edits of many bodies, and how their bodies are named.
@@ -84,14 +84,20 @@ def applied(body, folder, notes=False):
     return texts
 
 
+def listed():
+    """The lines of bin/gate-edits: a crate, an edit and what its body does wrong."""
+    lines = [it for it in (TOP / LIST).read_text("utf-8").splitlines() if it and not it.startswith("#")]
+    found = [re.fullmatch(r"(\w+) (\S+): (.+)", it) for it in lines]
+    if None in found:
+        fail(f"{LIST}: no crate, edit and words: {lines[found.index(None)]}")
+    return found
+
+
 def named_bodies(wanted):
     """The wrong bodies that bin/gate-edits lists, each with its crate and what it does wrong, in the order of the list."""
     found = []
-    for line in (TOP / LIST).read_text("utf-8").splitlines():
-        named = re.fullmatch(r"(\w+) (\S+): (.+)", line)
-        if line and not named and not line.startswith("#"):
-            fail(f"{LIST}: no crate, edit and words: {line}")
-        if named and (not wanted or named[1] in wanted):
+    for named in listed():
+        if not named[2].startswith(BY_RUN) and (not wanted or named[1] in wanted):
             bodies = [body for edit in edits_of(named[1]) for body in bodies_of(edit) if body.name == named[2]]
             if len(bodies) != 1:
                 fail(f"{LIST}: {named[1]} has {len(bodies)} edits {named[2]}, and not one")

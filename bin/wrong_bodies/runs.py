@@ -14,7 +14,7 @@ import tempfile
 
 import kit
 from copies import copy, test_programs
-from wrong_bodies.edits import TOP, bodies_of, fail
+from wrong_bodies.edits import BY_RUN, LIST, TOP, bodies_of, fail, listed
 
 SECONDS = 120  # in which a line has to be answered; a line that isn't is answered otherwise
 
@@ -51,8 +51,11 @@ def found_in(wanted):
 
 def stale_texts(wanted):
     """What is wrong with the texts of these crates' bodies and with their lines, a line for each."""
-    found = []
-    for body in found_in(wanted):
+    bodies = found_in(wanted)
+    named = {(it[1], it[2].removeprefix(BY_RUN)) for it in listed() if it[2].startswith(BY_RUN) and (not wanted or it[1] in wanted)}
+    differ = named ^ {(it.crate, it.name) for it in bodies}
+    found = [f"{LIST}: its lines by run aren't the bodies by run: {crate} {name}" for crate, name in differ]
+    for body in bodies:
         with tempfile.TemporaryDirectory() as room:
             copy(room, [body.program], test_programs()[0])
             wrong = body.apply(pathlib.Path(room, "crates", body.crate))
