@@ -1,22 +1,41 @@
 """Wrong bodies that no contract refuses, since nothing promises that work gets done: a run of a program has to show each.
 
 A body is a file crates/CRATE/tried/by-run/*.edit, or tests/NAME/tried/by-run/*.edit. Like other edits it has lines `file: PATH`, of a file
-of its crate, and pairs of lines `old: TEXT` and `new: TEXT`. Besides it names
+of its crate, and pairs of lines `old: TEXT` and `new: TEXT`. The word WRONG in a new text is a condition: whether the program is to have
+this body. Besides it names
   program: NAME     the program of tests/ that is run
   shown: LINE       a line of the program's stdin whose answer has to be another by the wrong body: one or more
   same: LINE        a line whose answer stays the same: none or more
+All bodies of a program are built into one program, since that costs as much as one of them. The environment's WRONG_BODY chooses one for
+a run; where none is chosen, the answer to each line has to be that of stdout.
 """
-import concurrent.futures
 import os
 import pathlib
-import subprocess
+import re
+import resource
+import signal
 import tempfile
 
 import kit
 from copies import copy, test_programs
 from wrong_bodies.edits import BY_RUN, LIST, TOP, bodies_of, fail, listed
 
-SECONDS = 120  # in which a line has to be answered; a line that isn't is answered otherwise
+# A line is answered in 0.1 s of CPU time; threads that wait in vain use up what they are given.
+SECONDS = 3
+WAITED = 120  # the wall-clock time, where all threads sleep or the machine is busy
+RUNS = 5  # threads may come in an order in which a wrong body isn't seen: so often it is tried
+FAULT = "it ended with status"
+CHOSEN = TOP / "bin/wrong_bodies/chosen.c"
+# The end of the root file of a crate that has bodies. It is in a copy alone: a crate of the repository declares no function of C.
+DECLARED = """
+unsafe extern "C" {
+    safe fn wrong_body() -> u64;
+}
+
+pub(crate) fn is_wrong(number: u64) -> bool {
+    wrong_body() == number
+}
+"""
 
 
 class ByRun:
@@ -33,76 +52,121 @@ class ByRun:
         lines, answers = ((TOP / "tests" / self.program / it).read_text("utf-8").splitlines() for it in ("stdin", "stdout"))
         return {line: answer for line, answer in zip(lines, answers) if line in self.shown + self.same}
 
-    def apply(self, crate):
-        """Changes a copy of its crate; returns the first text that isn't there once."""
+    def apply(self, crate, condition):
+        """Changes a copy of its crate, where WRONG is this condition; returns the first text that isn't there once."""
         for file, old, new in self.pairs:
-            path = next(it for it in (crate / file, crate / f"{file}.txt") if it.is_file())
-            text = path.read_text("utf-8")
+            text = (crate / file).read_text("utf-8")
             if text.count(old) != 1:
                 return f"{file} has {text.count(old)} times, and not once: {old.strip()[:100]}"
-            path.write_text(text.replace(old, new), "utf-8")
+            (crate / file).write_text(text.replace(old, re.sub(r"\bWRONG\b", condition, new)), "utf-8")
         return None
 
 
 def found_in(wanted):
+    """The bodies of these crates, or all, by the program that is to show them."""
     paths = [*TOP.glob("crates/*/tried/by-run/*.edit"), *TOP.glob("tests/*/tried/by-run/*.edit")]
-    return [ByRun(it) for it in sorted(paths) if not wanted or it.parts[-4] in wanted]
+    programs = {}
+    for body in map(ByRun, sorted(paths)):
+        if not wanted or body.crate in wanted:
+            programs.setdefault(body.program, []).append(body)
+    return programs
+
+
+def put_together(bodies, folder):
+    """Makes the folder a repository of the program with all these bodies, of which the n-th is chosen by n; returns what is wrong."""
+    copy(folder, [bodies[0].program], test_programs()[0])
+    wrong = [(body, body.apply(folder / "crates" / body.crate, f"crate::is_wrong({number})")) for number, body in enumerate(bodies, 1)]
+    for crate in {body.crate for body in bodies}:
+        root = next(it for it in (folder / f"crates/{crate}/src/{name}.rt" for name in ("lib", "main")) if it.is_file())
+        root.write_text(root.read_text("utf-8") + DECLARED, "utf-8")
+    return [f"{body.crate}/by-run/{body.name}: {why}" for body, why in wrong if why]
 
 
 def stale_texts(wanted):
     """What is wrong with the texts of these crates' bodies and with their lines, a line for each."""
-    bodies = found_in(wanted)
+    programs = found_in(wanted)
     named = {(it[1], it[2].removeprefix(BY_RUN)) for it in listed() if it[2].startswith(BY_RUN) and (not wanted or it[1] in wanted)}
-    differ = named ^ {(it.crate, it.name) for it in bodies}
+    differ = named ^ {(it.crate, it.name) for bodies in programs.values() for it in bodies}
     found = [f"{LIST}: its lines by run aren't the bodies by run: {crate} {name}" for crate, name in differ]
-    for body in bodies:
+    for bodies in programs.values():
         with tempfile.TemporaryDirectory() as room:
-            copy(room, [body.program], test_programs()[0])
-            wrong = body.apply(pathlib.Path(room, "crates", body.crate))
-        missing = [f"no line of stdin: {it}" for it in body.shown + body.same if it not in body.answers()]
-        found += [f"{body.crate}/by-run/{body.name}: {it}" for it in ([wrong] if wrong else []) + missing]
-        found += [f"{body.crate}/by-run/{body.name}: no line is to show it"] * (not body.shown)
+            found += put_together(bodies, pathlib.Path(room))
+        for body in bodies:
+            name, answers = f"{body.crate}/by-run/{body.name}", body.answers()
+            found += [f"{name}: no line of stdin: {it}" for it in body.shown + body.same if it not in answers]
+            found += [f"{name}: no line is to show it"] * (not body.shown)
+            found += [f"{name}: no new text has the word WRONG"] * (not any("WRONG" in new for _, _, new in body.pairs))
     return found
 
 
-def answer_of(program, line):
-    """What a program answers to a line; how it ended where it didn't answer."""
-    try:
-        streams = {"input": f"{line}\n", "capture_output": True, "encoding": "utf-8", "errors": "replace"}
-        ran = subprocess.run([program], timeout=SECONDS, check=False, **streams)
-    except subprocess.TimeoutExpired:
-        return f"none in {SECONDS} s"
-    return ran.stdout.strip("\n") if ran.returncode == 0 else f"status {ran.returncode}"
+def limit():
+    """Has the kernel end this process where it has used up its CPU time, or has waited for long."""
+    resource.setrlimit(resource.RLIMIT_CPU, (SECONDS, SECONDS + 1))
+    signal.alarm(WAITED)
 
 
-def judge(body):
-    """Whether its lines show a body, and the words about it."""
-    wanted = body.answers()
+def answer_of(program, line, number):
+    """What a program with the body of a number answers to a line, how it ended where it didn't answer, and the CPU seconds that it took."""
+    with tempfile.NamedTemporaryFile() as given:
+        pathlib.Path(given.name).write_text(f"{line}\n", "utf-8")
+        with open(given.name, "rb") as stdin:
+            ran = kit.Run([program], stdin=stdin, env={**os.environ, "WRONG_BODY": str(number)}, preexec_fn=limit)
+    told = "no answer" if ran.status in (-signal.SIGXCPU, -signal.SIGALRM) else f"{FAULT} {ran.status}"
+    return told if ran.status else ran.out.decode(errors="replace").strip("\n"), ran.seconds
+
+
+def runs_of(body, line, number, program):
+    """What a program answers to a line without the body, what it answers with it, and the CPU seconds that these runs took."""
+    right, seconds = answer_of(program, line, 0)
+    found, used = answer_of(program, line, number)
+    for _ in range(RUNS - 1 if line in body.shown else 0):
+        if found != right:
+            break
+        found, more = answer_of(program, line, number)
+        used += more
+    return right, found, seconds + used
+
+
+def judge(body, number, program):
+    """Whether its lines show a body, and the words about it. A program that ends by a fault answers nothing, and shows nothing."""
+    wanted, seconds, wrong, shown = body.answers(), 0, [], []
+    for line in body.shown + body.same:
+        right, found, used = runs_of(body, line, number, program)
+        seconds += used
+        if right != wanted[line]:
+            wrong.append(f"without it {line}: {right}")
+        elif (found != right) != (line in body.shown) or found.startswith(FAULT):
+            wrong.append(f"{line}: {found}")
+        elif line in body.shown:
+            shown.append(f"{line}: {found}")
+    told = f"NOT SHOWN: {'; '.join(wrong)}" if wrong else f"SHOWN: {'; '.join(shown)}"
+    return not wrong, f"{told} ({seconds:.0f} s of CPU time)"
+
+
+def show_all(bodies):
+    """Builds a program with these bodies, and runs it by each; returns how many are shown."""
+    good = 0
     with tempfile.TemporaryDirectory(prefix="by-run-") as room:
         room = pathlib.Path(room)
-        copy(room / "copy", [body.program], test_programs()[0])
-        wrong = body.apply(room / "copy/crates" / body.crate)
-        if wrong:
-            return False, f"NOT BUILT: {wrong}"
-        why, seconds, _ = kit.Builder(room / "tools").build(room / "copy/crates" / body.program, room / body.program)
+        wrong, program = put_together(bodies, room / "copy"), room / bodies[0].program
+        why, seconds, _ = (wrong[0], 0, 0) if wrong else kit.Builder(room / "tools").build(
+            room / "copy/crates" / bodies[0].program, program, c_files=[CHOSEN])
         if why:
-            return False, f"NOT BUILT: {' '.join(why.split())[-300:]}"
-        found = {line: answer_of(room / body.program, line) for line in body.shown + body.same}
-    hidden = [it for it in body.shown if found[it] == wanted[it]] + [it for it in body.same if found[it] != wanted[it]]
-    if hidden:
-        return False, "NOT SHOWN: " + "; ".join(f"{it}: {found[it]}" for it in hidden)
-    return True, "SHOWN: " + "; ".join(f"{it}: {found[it]}" for it in body.shown) + f" (built in {seconds:.0f} s of CPU time)"
+            print(f"{bodies[0].program} NOT BUILT with its wrong bodies: {' '.join(why.split())[-1000:]}", flush=True)
+            return 0
+        print(f"{bodies[0].program} with {len(bodies)} wrong bodies: built in {seconds:.0f} s of CPU time", flush=True)
+        for number, body in enumerate(bodies, 1):
+            is_shown, told = judge(body, number, program)
+            print(f"{body.crate}/by-run/{body.name}: {told}", flush=True)
+            good += is_shown
+    return good
 
 
 def show(wanted):
     """Builds and runs the bodies of these crates, or all."""
-    bodies = found_in(wanted)
-    if not bodies:
+    programs = found_in(wanted)
+    if not programs:
         fail(f"no body by run of {' '.join(wanted)}")
-    jobs, good = os.environ.get("RT_JOBS", ""), 0
-    with concurrent.futures.ThreadPoolExecutor(int(jobs) if jobs.isdigit() and int(jobs) else os.cpu_count()) as pool:
-        for body, (is_shown, told) in zip(bodies, pool.map(judge, bodies)):
-            print(f"{body.crate}/by-run/{body.name}: {told}", flush=True)
-            good += is_shown
-    print(f"wrong bodies by run: {good} passed, {len(bodies) - good} failed")
-    return 0 if good == len(bodies) else 1
+    good, count = sum(map(show_all, programs.values())), sum(map(len, programs.values()))
+    print(f"wrong bodies by run: {good} passed, {count - good} failed")
+    return 0 if good == count else 1
