@@ -12,7 +12,7 @@ use Rattle.schedule_runner.specs.Sight.{StaysClean, StaysMatching}
 use Rattle.schedule_runner.specs.Told.{Told}
 use Rattle.schedule_runner.specs.declared.world.World.{World}
 use Rattle.schedule_runner.proofs.Righting.{opened_good}
-use Rattle.programs.specs.Opened.{AreNew, AreOpened, AreLeftBy}
+use Rattle.schedule_io.specs.Opened.{AreNew, AreOpened, AreLeftBy}
 use Rattle.programs.specs.Runs.{IsBeginning, HasRun}
 
 -- a stop of stores that were opened leaves what it may leave of them

@@ -17,9 +17,9 @@ use Rattle.schedule_runner.specs.declared.world.World.{World}
 use Rattle.schedule_runner.proofs.Advancing.{SoFar, far_none, far_more}
 use Rattle.schedule_runner.proofs.Journaling.{goes_told}
 use Rattle.schedule_runner.proofs.Righting.{good_agree}
-use Rattle.programs.specs.Ends.{AreRun, lines_of}
+use Rattle.schedule_io.specs.Ends.{AreRun, lines_of}
 use Rattle.programs.specs.Runs.{IsBeginning, HasRun}
-use Rattle.programs.specs.declared.fault.RunFault.TheVariants.{Device}
+use Rattle.schedule_io.specs.declared.fault.RunFault.TheVariants.{Device}
 use Rattle.programs.proofs.Beginnings.{has_run}
 use Rattle.streams.specs.Written.{AppendsPart}
 use Rattle.streams.proofs.Writes.{appends_then, appends_nothing, appends_keeps, part_whole, part_keeps}

@@ -9,9 +9,7 @@ use Rattle.trade.specs.declared.commands.StockCommand.{StockCommand}
 use Rattle.purchasing.specs.declared.orders.Orders.{Orders}
 use Rattle.warehouse.specs.declared.stocks.Stocks.{Stocks}
 use Rattle.billing.specs.declared.accounts.Accounts.{Accounts}
-use Rattle.keep.specs.Seen.{Seen}
-use Rattle.keep.specs.Tables.{Tables}
-use Rattle.keep_plain.specs.Memory.{in_memory, tables_of}
+use Rattle.keep_plain.specs.Memory.{tables_of}
 use Rattle.keep_plain.specs.declared.plain.PlainKeep.{PlainKeep}
 use Rattle.schedule_text.specs.declared.event.Event.{Event}
 use Rattle.schedule_text.specs.declared.outcome.Outcome.{Outcome}
@@ -19,11 +17,8 @@ use Rattle.laws_stores.specs.Sight.{AllTables, all_empty}
 use Rattle.schedule_runner.specs.Sight.{sight}
 use Rattle.schedule_runner.specs.Told.{AllTold}
 use Rattle.schedule_runner.specs.declared.world.World.{World}
+use Rattle.schedule_io.specs.InMemory.{plain}
 use Rattle.programs.specs.Runs.{IsGoodStart, IsGoodEnd}
-
--- tables in memory, as the store's callers see them
-abbrev pub plain : {H S C : Type 0} → PlainKeep H S C → Seen (Tables S C)
-plain k = in_memory k.maps
 
 -- three services, each over tables in memory
 abbrev pub PlainWorld : Type 0

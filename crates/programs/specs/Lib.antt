@@ -1,10 +1,3 @@
-pub mod StoresFaults
-pub mod RunFaults
-pub mod Opened
 pub mod Runs
 pub mod GoodTables
 pub mod InMemory
-pub mod Written
-pub mod Ends
-pub mod Asked
-pub mod Usage

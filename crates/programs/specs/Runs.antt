@@ -13,7 +13,7 @@ use Rattle.schedule_runner.specs.Paths.{IsPath, Makes}
 use Rattle.schedule_runner.specs.Sight.{sight, StaysClean}
 use Rattle.schedule_runner.specs.Told.{AllTold}
 use Rattle.schedule_runner.specs.declared.world.World.{World}
-use Rattle.programs.specs.Opened.{AreOpened}
+use Rattle.schedule_io.specs.Opened.{AreOpened}
 
 -- A good start: the tables that were found match their journals, and those of all three are good together. Empty tables
 -- are so, and those that a good end left.

@@ -8,13 +8,13 @@ ghost use Rattle.schedule_runner.specs.Sight.{sight};
 ghost use Rattle.programs.specs.GoodTables.{AreGood, GoesOn};
 ghost use Rattle.programs.specs.InMemory.{EndsWellInMemory};
 ghost use Rattle.programs.specs.Runs.{HasRun};
-ghost use Rattle.programs.specs.declared.fault.StoresFault.{StoresFault};
+ghost use Rattle.schedule_io.specs.declared.fault.StoresFault.{StoresFault};
 
-use crate::stores::{PlainStores, Stores};
 use billing::Accounts;
 use keep::Keep;
 use keep_plain::PlainKeep;
 use purchasing::Orders;
+use schedule_io::{PlainStores, Stores};
 use warehouse::Stocks;
 
 /// Over tables in memory nothing is asked of a run: its start is good, no file is ever in doubt, and so its end is

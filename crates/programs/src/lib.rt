@@ -16,19 +16,10 @@
 //! The answer is true.
 #![tactic(auto)]
 
-mod choice;
-mod fault;
 mod laws;
 mod running;
 mod schedule;
-mod stores;
-mod words;
-mod writing;
 
-pub use choice::StoreChoice;
-pub use fault::{RunFault, StoresFault};
 pub use laws::{a_run_goes_on, a_run_in_memory_ends_well};
 pub use running::{open_world, run_events};
-pub use schedule::{read_events, run_input, run_text, tell_fault};
-pub use stores::{PlainStores, Stores};
-pub use words::{ask, run_over, tell_bad_words};
+pub use schedule::{run_input, run_over, run_text};

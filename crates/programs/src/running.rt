@@ -1,17 +1,15 @@
 //! Events, made one by one in the world of three services over their stores, and told as they are.
 
 ghost use Rattle.std.specs.Prelude.{IfOk, IfErr};
-ghost use Rattle.programs.specs.Ends.{AreRun};
-ghost use Rattle.programs.specs.Opened.{AreNew, AreLeftBy, shown};
+ghost use Rattle.schedule_io.specs.Ends.{AreRun};
+ghost use Rattle.schedule_io.specs.Opened.{AreNew, AreLeftBy, shown};
 ghost use Rattle.programs.specs.Runs.{IsBeginning, HasRun};
 
-use crate::fault::{RunFault, StoresFault};
-use crate::stores::Stores;
-use crate::writing::write_outcome;
 use billing::Account;
 use endpoint::Endpoint;
 use keep::{Faulty, Keep};
 use purchasing::Order;
+use schedule_io::{RunFault, Stores, StoresFault, write_outcome};
 use schedule_runner::World;
 use schedule_text::Event;
 use std::alloc::Global;

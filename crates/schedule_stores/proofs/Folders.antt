@@ -21,9 +21,9 @@ use Rattle.sql_rows.specs.declared.service.Service.TheVariants.{Purchasing, Ware
 use Rattle.keep_sqlite.specs.Accounts.{accounts}
 use Rattle.keep_sqlite.specs.Orders.{orders}
 use Rattle.keep_sqlite.specs.Stocks.{stocks}
-use Rattle.programs.specs.Opened.{AreOpened}
+use Rattle.schedule_io.specs.Opened.{AreOpened}
 use Rattle.keep_sqlite.specs.Migration.{FirstFiling, as_today, first_orders}
-use Rattle.schedule_stores.specs.Files.{IsOpenedWith, AreFoundIn, IsHeldIn, AreHeldIn, IsTakenOverIn, AreTakenOverIn}
+use Rattle.schedule_program.specs.Files.{IsOpenedWith, AreFoundIn, IsHeldIn, AreHeldIn, IsTakenOverIn, AreTakenOverIn}
 
 none_and_some : {A B : Type 0} (R : A → B → Type 0) (xs : List A) (y : B) (ys : List B) → AllZip R xs []
     → AllZip R xs (y ∷ ys) → ⊥

@@ -1,3 +1,2 @@
 pub mod Folders
 pub mod Making
-pub mod TakenOver

@@ -10,12 +10,13 @@ use Rattle.keep_sqlite.specs.Found.{IsFoundIn}
 use Rattle.keep_sqlite.specs.Orders.{orders}
 use Rattle.keep_sqlite.specs.Stocks.{stocks}
 use Rattle.programs.proofs.Beginnings.{run_as}
-use Rattle.programs.proofs.Endings.{are_run_as}
-use Rattle.programs.specs.Ends.{AreRun}
-use Rattle.programs.specs.Opened.{AreLeftBy, shown}
+use Rattle.schedule_io.proofs.Endings.{are_run_as}
+use Rattle.schedule_io.specs.Ends.{AreRun}
+use Rattle.schedule_io.specs.Opened.{AreLeftBy, shown}
 use Rattle.programs.specs.Runs.{HasRun}
-use Rattle.programs.specs.declared.fault.RunFault.{RunFault}
-use Rattle.schedule_stores.specs.Files.{AreFoundIn, IsLeftBy, IsOpenedWith, RunsOver}
+use Rattle.schedule_io.specs.declared.fault.RunFault.{RunFault}
+use Rattle.schedule_program.specs.Files.{AreFoundIn, IsOpenedWith}
+use Rattle.schedule_stores.specs.Over.{IsLeftBy, RunsOver}
 
 -- of a store that was opened with such tables a stop leaves no others
 found_left : {T : Type 0} (Has : T → Type 0) (s : Seen T) → IsOpenedWith Has s → (t : T) → IsLeftBy s t → Has t

@@ -1,2 +1,1 @@
-pub mod Files
-pub mod Migration
+pub mod Over

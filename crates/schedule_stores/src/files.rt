@@ -1,87 +1,28 @@
-//! Tables of SQL in the files of a folder.
+//! Runs over tables of SQL in the files of a folder.
 
-ghost use Rattle.std.specs.Prelude.{◌≡◌, IfOk, ⊤};
+ghost use Rattle.std.specs.Prelude.{⊤};
 ghost use Rattle.sqlite.specs.WalFiles.{image_at};
-ghost use Rattle.keep_sqlite.specs.Accounts.{accounts};
-ghost use Rattle.keep_sqlite.specs.Found.{IsFoundIn};
-ghost use Rattle.keep_sqlite.specs.Orders.{orders};
-ghost use Rattle.keep_sqlite.specs.Stocks.{stocks};
-ghost use Rattle.programs.specs.Ends.{AreRun};
-ghost use Rattle.programs.specs.Opened.{AreNew, shown};
+ghost use Rattle.schedule_io.specs.Ends.{AreRun};
+ghost use Rattle.schedule_io.specs.Opened.{AreNew, shown};
 ghost use Rattle.programs.specs.Runs.{HasRun};
-ghost use Rattle.schedule_stores.specs.Files.{AreFoundIn, IsOpenedWith, RunsOver};
+ghost use Rattle.schedule_program.specs.Files.{AreFoundIn};
+ghost use Rattle.schedule_stores.specs.Over.{RunsOver};
 
-use crate::memory::is_sound;
 use billing::Accounts;
-use keep::{Keep, KeepFault};
+use keep::Keep;
 use keep_files::{FileKeep, Reopenable};
-use keep_sqlite::Filed;
-use programs::{RunFault, StoresFault, run_events};
+use programs::run_events;
 use purchasing::Orders;
+use schedule_io::RunFault;
+use schedule_program::FileStores;
 use schedule_text::Event;
 use sqlite::{FileFrom, FileStore, Start};
-use std::alloc::{AllocError, Global};
+use std::alloc::Global;
 use std::io::Write;
 use warehouse::Stocks;
 
 /// A service's tables in a file of the operating system.
 type InFile<H, D> = FileKeep<H, FileStore<FileFrom<D>>>;
-
-/// The files `purchasing.db`, `warehouse.db` and `billing.db` of a folder, each with its log. What they hold when they
-/// are opened, nobody can know; `O`, `S` and `A` stand for it.
-#[derive(Drop)]
-pub struct FileStores<O: Start, S: Start, A: Start> {
-    rt: HostRuntime,
-    folder: String,
-    orders: O,
-    stocks: S,
-    accounts: A,
-}
-
-impl<O: Start, S: Start, A: Start> FileStores<O, S, A> {
-    /// Those of this folder. Nothing is opened yet; `starts` stand for what the three files hold.
-    ///
-    /// # Errors
-    /// Where memory was refused.
-    pub fn new(
-        rt: HostRuntime,
-        folder: &str,
-        starts: (O, S, A),
-    ) -> Result<FileStores<O, S, A>, AllocError>
-        ensures { IfOk result (λ stores. stores.folder.bytes.items ≡ folder.now) }
-    {
-        let (orders, stocks, accounts) = starts;
-        Ok(FileStores {
-            rt,
-            folder: String::from_str(rt.alloc(), folder)?,
-            orders,
-            stocks,
-            accounts,
-        })
-    }
-}
-
-/// Opens the file of this name in a folder.
-fn open_file<H: Filed, D: Start>(
-    rt: &HostRuntime,
-    folder: &str,
-    name: &str,
-    start: D,
-) -> Result<InFile<H, D>, KeepFault>
-    ensures { IfOk result (λ f. IsOpenedWith (IsFoundIn H.filing (image_at D.Start))
-        (⟦<FileKeep<H, FileStore<FileFrom<D>>> as Keep>⟧.seen f)) }
-{
-    let Ok(path) = format!(in rt.alloc(); "{folder}/{name}") else {
-        return Err(KeepFault::Memory);
-    };
-    match FileKeep::open(rt, path.as_str(), start) {
-        Ok(keep) => {
-            is_sound(&keep);
-            Ok(keep)
-        }
-        Err(fault) => Err(fault),
-    }
-}
 
 // A call whose types are three files of the operating system goes over the limits of its check. So each of the calls that
 // follow has one such file more than the one before it.
@@ -171,39 +112,6 @@ fn run_over_opened<O: Start, S: Start, A: Start, T: Write>(
     run_over_warehouse(alloc, keeps, events, out)
 }
 
-/// Opens the files, purchasing's first.
-fn open_files<O: Start, S: Start, A: Start>(
-    stores: FileStores<O, S, A>,
-) -> Result<(InFile<Orders, O>, InFile<Stocks, S>, InFile<Accounts, A>), StoresFault>
-    ensures purchasing { IfOk result (λ keeps. IsOpenedWith (IsFoundIn orders (image_at O.Start))
-        (⟦<FileKeep<Orders, FileStore<FileFrom<O>>> as Keep>⟧.seen keeps.0)) }
-    ensures warehouse { IfOk result (λ keeps. IsOpenedWith (IsFoundIn stocks (image_at S.Start))
-        (⟦<FileKeep<Stocks, FileStore<FileFrom<S>>> as Keep>⟧.seen keeps.1)) }
-    ensures billing { IfOk result (λ keeps. IsOpenedWith (IsFoundIn accounts (image_at A.Start))
-        (⟦<FileKeep<Accounts, FileStore<FileFrom<A>>> as Keep>⟧.seen keeps.2)) }
-{
-    let FileStores {
-        rt,
-        folder,
-        orders,
-        stocks,
-        accounts,
-    } = stores;
-    let orders = match open_file(&rt, folder.as_str(), "purchasing.db", orders) {
-        Ok(keep) => keep,
-        Err(fault) => return Err(StoresFault::Purchasing(fault)),
-    };
-    let stocks = match open_file(&rt, folder.as_str(), "warehouse.db", stocks) {
-        Ok(keep) => keep,
-        Err(fault) => return Err(StoresFault::Warehouse(fault)),
-    };
-    let accounts = match open_file(&rt, folder.as_str(), "billing.db", accounts) {
-        Ok(keep) => keep,
-        Err(fault) => return Err(StoresFault::Billing(fault)),
-    };
-    Ok((orders, stocks, accounts))
-}
-
 /// Opens the files and runs the events of a schedule over what they hold.
 ///
 /// # Errors
@@ -221,7 +129,7 @@ pub(crate) fn run_files<O: Start, S: Start, A: Start, T: Write>(
         (AreFoundIn (image_at O.Start) (image_at S.Start) (image_at A.Start))) (λ _. ⊤) events.items
         (T.contents out.old) (T.contents out.new) result }
 {
-    match open_files(stores) {
+    match stores.open() {
         Ok(keeps) => run_over_opened(alloc, keeps, events, out),
         Err(fault) => Err(RunFault::Unopened(fault)),
     }

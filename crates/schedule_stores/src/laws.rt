@@ -9,15 +9,16 @@ ghost use Rattle.schedule_text.specs.declared.outcome.Outcome.{Outcome};
 ghost use Rattle.schedule_runner.specs.Sight.{sight};
 ghost use Rattle.programs.specs.GoodTables.{AreGood, GoesOn};
 ghost use Rattle.programs.specs.Runs.{HasRun};
-ghost use Rattle.schedule_stores.specs.Files.{AreFoundIn, AreHeldIn, AreTakenOverIn};
+ghost use Rattle.schedule_program.specs.Files.{AreFoundIn, AreHeldIn, AreTakenOverIn};
 
-use crate::memory::SqliteStores;
 use billing::Accounts;
 use keep::Keep;
 use keep_files::FileKeep;
 use keep_sqlite::SqliteKeep;
-use programs::{Stores, a_run_goes_on};
+use programs::a_run_goes_on;
 use purchasing::Orders;
+use schedule_io::Stores;
+use schedule_program::SqliteStores;
 use sqlite::{FileFrom, FileStore, MemStore, Start};
 use warehouse::Stocks;
 

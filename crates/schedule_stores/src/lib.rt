@@ -1,10 +1,9 @@
-//! The stores in SQL that a schedule's three services may stand on: in memory, or in the files of a folder.
+//! Runs over the stores in SQL that a schedule's three services may stand on, and what holds of them.
 //!
-//! [`SqliteStores`] are empty at first, and gone in the end. [`FileStores`] are `purchasing.db`, `warehouse.db` and
-//! `billing.db` in a folder, each with its log beside it: what an earlier run left there is found, and where there is
-//! nothing, empty files are made. Where files hold what a run with a good end left, another run over them begins well,
-//! by [`a_run_over_files_goes_on`]. Files of version 1, where an order had one stock, are taken over by [`migrate_files`],
-//! and [`files_taken_over_go_on`] is that law for them.
+//! [`run_over_files`] runs a schedule over the three files of a folder, and a run over tables of SQL in memory is
+//! `run_text`'s. Where files hold what a run with a good end left, another run over them begins well, by
+//! [`a_run_over_files_goes_on`]; [`files_taken_over_go_on`] is that law for files that were of version 1, and
+//! [`a_run_in_sql_ends_well`] the one for tables in memory.
 //!
 //! ```rust
 //! pub fn a_schedule_is_run_in_sql(alloc: Global) -> Result<bool, RunFault> {
@@ -19,12 +18,7 @@
 
 mod files;
 mod laws;
-mod memory;
-mod migration;
 mod running;
 
-pub use files::FileStores;
 pub use laws::{a_run_in_sql_ends_well, a_run_over_files_goes_on, files_taken_over_go_on};
-pub use memory::SqliteStores;
-pub use migration::migrate_files;
 pub use running::run_over_files;

@@ -2,17 +2,18 @@
 
 ghost use Rattle.std.specs.Prelude.{⊤};
 ghost use Rattle.sqlite.specs.WalFiles.{image_at};
-ghost use Rattle.programs.specs.Ends.{IsRunFrom};
+ghost use Rattle.schedule_io.specs.Ends.{IsRunFrom};
 ghost use Rattle.programs.specs.Runs.{HasRun};
-ghost use Rattle.programs.specs.Usage.{IsStatusOf};
-ghost use Rattle.schedule_stores.specs.Files.{AreFoundIn};
+ghost use Rattle.schedule_io.specs.Usage.{IsStatusOf};
+ghost use Rattle.schedule_program.specs.Files.{AreFoundIn};
 
-use crate::files::{FileStores, run_files};
+use crate::files::run_files;
 use billing::Accounts;
 use keep::Keep;
 use keep_files::FileKeep;
-use programs::{RunFault, read_events, tell_fault};
 use purchasing::Orders;
+use schedule_io::{RunFault, read_events, tell_fault};
+use schedule_program::FileStores;
 use sqlite::{FileFrom, FileStore, Start};
 use std::alloc::Global;
 use std::io::{Read, Write};

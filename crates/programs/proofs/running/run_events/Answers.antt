@@ -1,8 +1,8 @@
 use Rattle.std.proofs.Common.{◌≡◌, length, arith, subst, Ok, Err}
-use Rattle.programs.specs.Ends.{AreRun}
-use Rattle.programs.specs.Opened.{AreLeftBy, shown}
+use Rattle.schedule_io.specs.Ends.{AreRun}
+use Rattle.schedule_io.specs.Opened.{AreLeftBy, shown}
 use Rattle.programs.specs.Runs.{HasRun}
-use Rattle.programs.specs.declared.fault.RunFault.TheVariants.{Device}
+use Rattle.schedule_io.specs.declared.fault.RunFault.TheVariants.{Device}
 use Rattle.programs.proofs.Going.{told_none, told_more, all_told, not_flushed, cut_off}
 use Rattle.programs.proofs.running.run_events.Goals as goal
 

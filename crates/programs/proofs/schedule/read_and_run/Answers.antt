@@ -1,6 +1,6 @@
 use Rattle.std.proofs.lemmas.Result.{err_from_is_err_and}
 use Rattle.programs.specs.Runs.{HasRun}
-use Rattle.programs.proofs.Endings.{from_nothing, from_text}
+use Rattle.schedule_io.proofs.Endings.{from_nothing, from_text}
 use Rattle.programs.proofs.schedule.read_and_run.Goals as goal
 
 pub returns-in_err-text : goal.returns-in_err-text

@@ -1,7 +1,7 @@
 use Rattle.std.proofs.lemmas.Result.{err_from_is_err_and}
 use Rattle.programs.proofs.Beginnings.{run_found}
-use Rattle.programs.proofs.Endings.{are_run_as, run_told, unread}
-use Rattle.programs.specs.Opened.{AreLeftBy, shown}
+use Rattle.schedule_io.proofs.Endings.{are_run_as, run_told, unread}
+use Rattle.schedule_io.specs.Opened.{AreLeftBy, shown}
 use Rattle.programs.specs.Runs.{HasRun}
 use Rattle.programs.proofs.schedule.run_text.Goals as goal
 

@@ -1,4 +1,4 @@
-use Rattle.programs.proofs.Endings.{from_events}
+use Rattle.schedule_io.proofs.Endings.{from_events}
 use Rattle.schedule_stores.proofs.running.read_and_run.Goals as goal
 
 pub returns : goal.returns

@@ -1,0 +1,44 @@
+//! Faults of whole schedules, told.
+
+ghost use Rattle.std.specs.Prelude.{◌≡◌, OnOk, OnErr, IfOk};
+ghost use Rattle.std.specs.Io.KnownBytes.{Appends};
+ghost use Rattle.schedule_io.specs.Ends.{fault_line};
+ghost use Rattle.streams.specs.Written.{AppendsPart};
+
+use crate::fault::RunFault;
+use crate::writing::write_numbered;
+use std::io;
+use std::io::Write;
+use streams::{write_octets, write_three};
+
+/// Writes why a schedule ended before its end.
+fn write_run_fault<E: Write>(err: &mut E, fault: RunFault) -> io::Result<()>
+    ensures ok { OnOk result (Appends (E.contents err.old) (E.contents err.new) (fault_line fault)) }
+    ensures err { OnErr result (AppendsPart (E.contents err.old) (E.contents err.new) (fault_line fault)) }
+{
+    match fault {
+        RunFault::BadEvent(number) => write_numbered(err, b"line ", number, b": bad event\n"),
+        RunFault::Memory => write_octets(err, b"fault 81 Memory\n"),
+        RunFault::Device => write_octets(err, b"fault 2 Device\n"),
+        RunFault::Unopened(stores) => write_three(
+            err,
+            stores.reason().as_bytes(),
+            stores.service().as_bytes(),
+            b"\n",
+        ),
+    }
+}
+
+/// Tells on `err` why a schedule ended before its end. The status is 1 then.
+///
+/// # Errors
+/// Where `err` failed: it took a beginning of the line.
+pub fn tell_fault<E: Write>(err: &mut E, fault: RunFault) -> io::Result<u8>
+    ensures told { IfOk result (λ status. (status ≡ 1)
+        × Appends (E.contents err.old) (E.contents err.new) (fault_line fault)) }
+    ensures untold { OnErr result (AppendsPart (E.contents err.old) (E.contents err.new) (fault_line fault)) }
+{
+    write_run_fault(err, fault)?;
+    err.flush()?;
+    Ok(1)
+}

@@ -1,0 +1,29 @@
+//! What runs schedules, for a program that is given it.
+
+use crate::files::FileStores;
+use schedule_io::Stores;
+use sqlite::Start;
+use std::alloc::Global;
+use std::io::{Read, Write};
+
+/// Runs schedules. Each reads a schedule from `input`, runs it over these stores, and writes the outcome of each line to
+/// `out`. A fault is told on `err`. The answer is the status: 0 where all lines were run, else 1.
+pub trait Runs {
+    /// Over any stores.
+    fn run_over<S: Stores, R: Read, W: Write, E: Write>(
+        alloc: Global,
+        stores: S,
+        input: &mut R,
+        out: &mut W,
+        err: &mut E,
+    ) -> u8;
+
+    /// Over the files of a folder.
+    fn run_over_files<O: Start, S: Start, A: Start, R: Read, W: Write, E: Write>(
+        alloc: Global,
+        stores: FileStores<O, S, A>,
+        input: &mut R,
+        out: &mut W,
+        err: &mut E,
+    ) -> u8;
+}
