@@ -15,7 +15,6 @@ use Rattle.trade.specs.declared.commands.StockCommand.{StockCommand}
 use Rattle.trade.specs.declared.commands.StockCommand.TheVariants.{Receive}
 use Rattle.activities.specs.declared.input.Input.TheVariants.{FromSeat}
 use Rattle.activities.proofs.Sameness.{either}
-use Rattle.keep.specs.Seen.{Seen}
 use Rattle.keep.specs.Tables.{empty}
 use Rattle.endpoint.specs.Arrivals.{row_of_letter}
 use Rattle.endpoint.specs.Deeds.{Kept, kept, Deed, TakesIn, Holds, Did, with_held}
@@ -28,27 +27,24 @@ use Rattle.laws_stores.proofs.Doing.{both_same}
 use Rattle.laws_services.specs.Good.{AreGoodServices}
 use Rattle.laws_services.specs.Services.{Traffic, Services, DidNothing}
 use Rattle.laws_services.specs.Steps.{IsFounded, CameByDeeds, Does, TakesLetter, StepOfOne, AtWarehouse}
+use Rattle.laws_services.proofs.Living.{only}
 use Rattle.laws_services.proofs.Running.{new_good}
 
--- a store in memory: a stop leaves its tables and no others
-abbrev pub only : {T : Type 0} → T → Seen T
-only t = record { tables = t; may_leave = λ x. x ≡ t; failures = 0; usable = true; doubt = 0; armed = None }
-
 -- a letter of an order to its stock, and the one behind it, which comes early
-abbrev pair : Pair
+abbrev pub pair : Pair
 pair = record { from = o1; to = bolts }
 
 abbrev pub first : letter.Letter
 first = record { pair = pair; number = 1; message = Request 3 }
 
-abbrev early : letter.Letter
+abbrev pub early : letter.Letter
 early = record { pair = pair; number = 2; message = Request 3 }
 
 -- warehouse did nothing, or holds the early one
 abbrev pub idle : StockTables
 idle = empty
 
-abbrev holding : StockTables
+abbrev pub holding : StockTables
 holding = record empty { held = with_held early idle.held }
 
 -- nothing was written or taken; the early one was written; it was taken
@@ -67,10 +63,10 @@ services warehouse traffic = record { purchasing = empty; warehouse = warehouse;
 
 -- ---- what is taken in
 
-has_none : {A : Type 0} (x : A) → Contains [] x → ⊥
+pub has_none : {A : Type 0} (x : A) → Contains [] x → ⊥
 has_none x h = let least = h.1 in omega (arith, least)
 
-abbrev number_in : Envelope → ℕ
+abbrev pub number_in : Envelope → ℕ
 number_in (Letter l) = l.number
 number_in (Settle p n) = n
 

@@ -36,7 +36,8 @@ use Rattle.group_commit.specs.declared.grouped.Grouped.TheVariants as grouped
 use Rattle.laws_stores.specs.Sight.{StockTables, stocks_service}
 use Rattle.laws_services.specs.Services.{Traffic}
 use Rattle.laws_services.specs.Steps.{TakesLetter, MayWrite, StepOfOne, AtWarehouse}
-use Rattle.laws_services.proofs.Examples.{only, first, idle, services}
+use Rattle.laws_services.proofs.Examples.{first, idle, services}
+use Rattle.laws_services.proofs.Living.{only}
 use Rattle.laws_services.proofs.Grouping.{group_does, group_takes, group_handled}
 
 only_sound : {T : Type 0} (t : T) → IsSound (only t)

@@ -6,5 +6,7 @@ pub mod Running
 pub mod Contracts
 pub mod Receiving
 pub mod Grouping
+pub mod Living
 mod Examples
 mod GroupExamples
+mod LifeExamples

@@ -32,6 +32,7 @@
 mod calls;
 mod frames;
 mod laws;
+mod lives;
 mod reads;
 
 pub use calls::{
@@ -43,4 +44,5 @@ pub use laws::{
     any_broker_keeps_the_laws, handled_is_a_beginning, new_services_are_good,
     nothing_waits_all_was_handled,
 };
+pub use lives::{lives_go_on, overlapping_lives_agree};
 pub use reads::{counts_are_steps, listings_are_steps, reads_are_steps};
