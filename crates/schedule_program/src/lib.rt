@@ -2,9 +2,8 @@
 //! memory, in SQL, or in the files of a folder.
 //!
 //! [`run_program`] is all of it, over a type that implements [`Runs`]. [`SqliteStores`] are empty at first, and gone in the
-//! end. [`FileStores`] are `purchasing.db`, `warehouse.db` and `billing.db` in a folder, each with its log beside it:
-//! opened, they are found to hold what an earlier run left there, and where there is nothing, empty files are made.
-//! Files of version 1, where an order had one stock, are taken over by [`migrate_files`].
+//! end. [`FileStores`] are `purchasing.db`, `warehouse.db` and `billing.db` in a folder, each with its log beside it;
+//! `schedule_stores` opens them. Files of version 1, where an order had one stock, are taken over by [`migrate_files`].
 //!
 //! ```rust
 //! pub fn tables_in_sql_are_opened(alloc: Global) -> Result<bool, StoresFault> {
@@ -23,7 +22,7 @@ mod program;
 mod runs;
 
 pub use files::FileStores;
-pub use memory::SqliteStores;
+pub use memory::{SqliteStores, is_sound};
 pub use migration::migrate_files;
 pub use program::run_program;
 pub use runs::Runs;

@@ -1,20 +1,25 @@
 //! Runs over tables of SQL in the files of a folder.
 
-ghost use Rattle.std.specs.Prelude.{⊤};
+ghost use Rattle.std.specs.Prelude.{IfOk, ⊤};
 ghost use Rattle.sqlite.specs.WalFiles.{image_at};
+ghost use Rattle.keep_sqlite.specs.Accounts.{accounts};
+ghost use Rattle.keep_sqlite.specs.Found.{IsFoundIn};
+ghost use Rattle.keep_sqlite.specs.Orders.{orders};
+ghost use Rattle.keep_sqlite.specs.Stocks.{stocks};
 ghost use Rattle.schedule_io.specs.Ends.{AreRun};
 ghost use Rattle.schedule_io.specs.Opened.{AreNew, shown};
 ghost use Rattle.programs.specs.Runs.{HasRun};
-ghost use Rattle.schedule_program.specs.Files.{AreFoundIn};
+ghost use Rattle.schedule_program.specs.Files.{AreFoundIn, IsOpenedWith};
 ghost use Rattle.schedule_stores.specs.Over.{RunsOver};
 
 use billing::Accounts;
-use keep::Keep;
+use keep::{Keep, KeepFault};
 use keep_files::{FileKeep, Reopenable};
+use keep_sqlite::Filed;
 use programs::run_events;
 use purchasing::Orders;
-use schedule_io::RunFault;
-use schedule_program::FileStores;
+use schedule_io::{RunFault, StoresFault};
+use schedule_program::{FileStores, is_sound};
 use schedule_text::Event;
 use sqlite::{FileFrom, FileStore, Start};
 use std::alloc::Global;
@@ -23,6 +28,28 @@ use warehouse::Stocks;
 
 /// A service's tables in a file of the operating system.
 type InFile<H, D> = FileKeep<H, FileStore<FileFrom<D>>>;
+
+/// Opens the file of this name in a folder.
+fn open_file<H: Filed, D: Start>(
+    rt: &HostRuntime,
+    folder: &str,
+    name: &str,
+    start: D,
+) -> Result<InFile<H, D>, KeepFault>
+    ensures { IfOk result (λ f. IsOpenedWith (IsFoundIn H.filing (image_at D.Start))
+        (⟦<FileKeep<H, FileStore<FileFrom<D>>> as Keep>⟧.seen f)) }
+{
+    let Ok(path) = format!(in rt.alloc(); "{folder}/{name}") else {
+        return Err(KeepFault::Memory);
+    };
+    match FileKeep::open(rt, path.as_str(), start) {
+        Ok(keep) => {
+            is_sound(&keep);
+            Ok(keep)
+        }
+        Err(fault) => Err(fault),
+    }
+}
 
 // A call whose types are three files of the operating system goes over the limits of its check. So each of the calls that
 // follow has one such file more than the one before it.
@@ -112,6 +139,33 @@ fn run_over_opened<O: Start, S: Start, A: Start, T: Write>(
     run_over_warehouse(alloc, keeps, events, out)
 }
 
+/// Opens the files, purchasing's first.
+fn open_files<O: Start, S: Start, A: Start>(
+    stores: FileStores<O, S, A>,
+) -> Result<(InFile<Orders, O>, InFile<Stocks, S>, InFile<Accounts, A>), StoresFault>
+    ensures purchasing { IfOk result (λ keeps. IsOpenedWith (IsFoundIn orders (image_at O.Start))
+        (⟦<FileKeep<Orders, FileStore<FileFrom<O>>> as Keep>⟧.seen keeps.0)) }
+    ensures warehouse { IfOk result (λ keeps. IsOpenedWith (IsFoundIn stocks (image_at S.Start))
+        (⟦<FileKeep<Stocks, FileStore<FileFrom<S>>> as Keep>⟧.seen keeps.1)) }
+    ensures billing { IfOk result (λ keeps. IsOpenedWith (IsFoundIn accounts (image_at A.Start))
+        (⟦<FileKeep<Accounts, FileStore<FileFrom<A>>> as Keep>⟧.seen keeps.2)) }
+{
+    let (rt, folder, (orders, stocks, accounts)) = stores.into_parts();
+    let orders = match open_file(&rt, folder.as_str(), "purchasing.db", orders) {
+        Ok(keep) => keep,
+        Err(fault) => return Err(StoresFault::Purchasing(fault)),
+    };
+    let stocks = match open_file(&rt, folder.as_str(), "warehouse.db", stocks) {
+        Ok(keep) => keep,
+        Err(fault) => return Err(StoresFault::Warehouse(fault)),
+    };
+    let accounts = match open_file(&rt, folder.as_str(), "billing.db", accounts) {
+        Ok(keep) => keep,
+        Err(fault) => return Err(StoresFault::Billing(fault)),
+    };
+    Ok((orders, stocks, accounts))
+}
+
 /// Opens the files and runs the events of a schedule over what they hold.
 ///
 /// # Errors
@@ -129,7 +183,7 @@ pub(crate) fn run_files<O: Start, S: Start, A: Start, T: Write>(
         (AreFoundIn (image_at O.Start) (image_at S.Start) (image_at A.Start))) (λ _. ⊤) events.items
         (T.contents out.old) (T.contents out.new) result }
 {
-    match stores.open() {
+    match open_files(stores) {
         Ok(keeps) => run_over_opened(alloc, keeps, events, out),
         Err(fault) => Err(RunFault::Unopened(fault)),
     }
