@@ -1,7 +1,7 @@
 -- What is tested of tables that are found.
 use Rattle.std.proofs.Common.{◌≡◌, ℕ, pos, List, [], ◌∷◌, map, length, Bool, None, Result, Ok, Err, IfOk, Ordering}
 use Rattle.std.proofs.Common.{IsPermutation, sym, ap, subst, ◌∙◌, ◌≤◌, inl, inr, arith, slice_index_or}
-use Rattle.std.specs.Prelude.{IsTrue}
+use Rattle.std.specs.Prelude.{IsTrue, IsOkAnd}
 use Rattle.std.proofs.lemmas.List.Sorted.{length_permutation}
 use lib.ListN.{length-map}
 use Rattle.sqlite.specs.declared.types.Value.TheVariants.{Int, Text}
@@ -51,12 +51,19 @@ tells_of_table cmp number service rows items a one r at (Ok t) h = λ so.
     let cells = h so in tells number service r cells.0 cells.1 items a.all a.shown one at rows a.same
 tells_of_table cmp number service rows items a one r at (Err e) h = tt
 
+-- no doubt is forgotten of the connection that was opened
+pub opened_clean : {K E X F : Type 0} (of : K → ℕ) (state_of : X → State) (x : X) (opened : Result X F)
+    → opened ≡ Ok x → (result : Result K E) → IfOk result (λ k. doubt (state_of x).is_clean ≤ of k)
+    → IfOk result (λ k. IsOkAnd opened (λ y. doubt (state_of y).is_clean ≤ of k))
+opened_clean of state_of x opened is result h =
+    subst (λ o. IfOk result (λ k. IsOkAnd o (λ y. doubt (state_of y).is_clean ≤ of k))) (sym is) h
+
 -- what is taken over of files that were opened is what they held
-module _ {S C K E : Type 0} (f : Filing S C) (image : Image) (s : State) (of : K → ℕ) (tables : K → Tables S C) where
-  pub found_in : (result : Result K E) → IfOk result (λ k. doubt s.is_clean ≤ of k)
+module _ {S C K E : Type 0} (f : Filing S C) (of : K → ℕ) (tables : K → Tables S C) where
+  found_in : (image : Image) (s : State) (result : Result K E) → IfOk result (λ k. doubt s.is_clean ≤ of k)
       → IfOk result (λ k. of k ≡ 0 → IsTakenOver f s (tables k)) → (HasCleanDisk s → Opens s × IsLive s)
       → (HasCleanDisk s → FindsIn image s) → IfOk result (λ k. of k ≡ 0 → IsFoundIn f image (tables k))
-  found_in (Ok k) early taken opened found = λ none.
+  found_in image s (Ok k) early taken opened found = λ none.
       let clean : HasCleanDisk s = omega (arith, early, none) in
       let it = opened clean in
       let held = found clean in
@@ -74,4 +81,22 @@ module _ {S C K E : Type 0} (f : Filing S C) (image : Image) (s : State) (of : K
           )
         ];
       }
-  found_in (Err e) early taken opened found = tt
+  found_in image s (Err e) early taken opened found = tt
+
+  -- the same, where they were to be opened
+  pub found_opened : {X F : Type 0} (image : Image) (state_of : X → State) (opened : Result X F) (result : Result K E)
+      → IfOk result (λ k. IsOkAnd opened (λ x. doubt (state_of x).is_clean ≤ of k))
+      → IfOk result (λ k. IsOkAnd opened (λ x. of k ≡ 0 → IsTakenOver f (state_of x) (tables k)))
+      → IfOk opened (λ x. HasCleanDisk (state_of x) → Opens (state_of x) × IsLive (state_of x))
+      → IfOk opened (λ x. HasCleanDisk (state_of x) → FindsIn image (state_of x))
+      → IfOk result (λ k. of k ≡ 0 → IsFoundIn f image (tables k))
+  found_opened image state_of (Ok x) result early taken opens found = found_in image (state_of x) result early taken opens found
+  found_opened image state_of (Err e) (Ok k) early taken opens found = absurd early
+  found_opened image state_of (Err e) (Err d) early taken opens found = tt
+
+  -- what holds of the connection that was opened
+  pub opened_taken : {X F : Type 0} (state_of : X → State) (x : X) (opened : Result X F) → opened ≡ Ok x
+      → (result : Result K E) → IfOk result (λ k. of k ≡ 0 → IsTakenOver f (state_of x) (tables k))
+      → IfOk result (λ k. IsOkAnd opened (λ y. of k ≡ 0 → IsTakenOver f (state_of y) (tables k)))
+  opened_taken state_of x opened is result h =
+      subst (λ o. IfOk result (λ k. IsOkAnd o (λ y. of k ≡ 0 → IsTakenOver f (state_of y) (tables k)))) (sym is) h

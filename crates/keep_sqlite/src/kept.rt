@@ -1,6 +1,6 @@
 //! A store over a connection.
 
-ghost use Rattle.std.specs.Prelude.{◌≡◌, ◌≤◌, ◌⊎◌, true, false, IsTrue, IfOk, IfErr, IfSome, OnOk, Err, Some};
+ghost use Rattle.std.specs.Prelude.{◌≡◌, ◌≤◌, ◌⊎◌, true, false, IsTrue, IfOk, IfErr, IfSome, IsOkAnd, OnOk, Err, Some};
 ghost use Rattle.sqlite_trees.specs.Tree.{Trees};
 ghost use Rattle.sqlite_trees.specs.View.{doubt};
 ghost use Rattle.sqlite.specs.Held.{state};
@@ -399,6 +399,25 @@ impl<H: Filed, S: Alter + Drop> SqliteKeep<H, S> {
             Err((fault, _store)) => Err(fault),
         }
     }
+
+    /// Takes over a connection where it was opened. The store is a parameter, since the arms of a `match` over files cost
+    /// a proof of how all their parts are dropped.
+    fn adopt_opened<L: Drop>(
+        alloc: Global,
+        opened: Result<Connection<S>, (Error, L)>,
+    ) -> Result<Self, KeepFault>
+        ensures usable { IfOk result (λ k. (⟦<SqliteKeep<H, S> as Keep>⟧.seen k).usable ≡ true) }
+        ensures failures { IfOk result (λ k. (⟦<SqliteKeep<H, S> as Keep>⟧.seen k).failures ≡ 0) }
+        ensures found { IfOk result (λ k. IsOkAnd opened (λ conn. (⟦<SqliteKeep<H, S> as Keep>⟧.seen k).doubt ≡ 0
+            → IsTakenOver H.filing (state S.Store conn) (⟦<SqliteKeep<H, S> as Keep>⟧.seen k).tables)) }
+        ensures clean { IfOk result (λ k. IsOkAnd opened (λ conn. doubt (state S.Store conn).is_clean
+            ≤ (⟦<SqliteKeep<H, S> as Keep>⟧.seen k).doubt)) }
+    {
+        match opened {
+            Ok(conn) => SqliteKeep::adopt(alloc, conn),
+            Err((error, _left)) => Err(opening_fault(&error)),
+        }
+    }
 }
 
 impl<H: Filed, D: Start> SqliteKeep<H, FileStore<FileFrom<D>>> {
@@ -417,10 +436,7 @@ impl<H: Filed, D: Start> SqliteKeep<H, FileStore<FileFrom<D>>> {
             → IsFoundIn H.filing (image_at D.Start)
             (⟦<SqliteKeep<H, FileStore<FileFrom<D>>> as Keep>⟧.seen k).tables) }
     {
-        match Connection::open_from(rt, path, false, start) {
-            Ok(conn) => SqliteKeep::adopt(rt.alloc(), conn),
-            Err((error, _left)) => Err(opening_fault(&error)),
-        }
+        SqliteKeep::adopt_opened(rt.alloc(), Connection::open_from(rt, path, false, start))
     }
 }
 

@@ -171,6 +171,27 @@ impl<H: Filed, S: Alter> SqliteKeep<H, S> {
     }
 }
 
+impl<H: Filed, S: Alter + Drop> SqliteKeep<H, S> {
+    /// Takes over what a connection holds, where it was opened. The store is a parameter, since the arms of a `match` over
+    /// files cost a proof of how all their parts are dropped.
+    fn migrate_opened<L: Drop, P: Progress>(
+        alloc: Global,
+        progress: &mut P,
+        opened: Result<Connection<S>, (Error, L)>,
+    ) -> Result<Migrated, KeepFault>
+        ensures { IfOk result (λ m. IsVersions m) }
+    {
+        let opened = match opened {
+            Ok(conn) => conn,
+            Err((error, _left)) => return Err(opening_fault(&error)),
+        };
+        match with_sorted_rows(alloc, opened) {
+            Ok(mut conn) => SqliteKeep::<H, S>::migrate_connection(alloc, &mut conn, progress),
+            Err((error, _store)) => Err(opening_fault(&error)),
+        }
+    }
+}
+
 impl<H: Filed, D: Start> SqliteKeep<H, FileStore<FileFrom<D>>> {
     /// Takes the file at a path over, with its log beside it, as [`migrate_connection`](SqliteKeep::migrate_connection)
     /// does. `start` stands for what the two hold. Where there is no file, one without tables is made.
@@ -185,19 +206,10 @@ impl<H: Filed, D: Start> SqliteKeep<H, FileStore<FileFrom<D>>> {
     ) -> Result<Migrated, KeepFault>
         ensures { IfOk result (λ m. IsVersions m) }
     {
-        let opened = match Connection::open_from(rt, path, false, start) {
-            Ok(conn) => conn,
-            Err((error, _left)) => return Err(opening_fault(&error)),
-        };
-        match with_sorted_rows(rt.alloc(), opened) {
-            Ok(mut conn) => {
-                SqliteKeep::<H, FileStore<FileFrom<D>>>::migrate_connection(
-                    rt.alloc(),
-                    &mut conn,
-                    progress,
-                )
-            }
-            Err((error, _store)) => Err(opening_fault(&error)),
-        }
+        SqliteKeep::<H, FileStore<FileFrom<D>>>::migrate_opened(
+            rt.alloc(),
+            progress,
+            Connection::open_from(rt, path, false, start),
+        )
     }
 }

@@ -1,9 +1,10 @@
 use Rattle.sqlite.specs.Files.{file_state}
 use Rattle.sqlite.specs.WalFiles.{image_at}
-use Rattle.keep_sqlite.proofs.Abouts.{found_in}
+use Rattle.keep_sqlite.proofs.Abouts.{found_opened}
 use Rattle.keep_sqlite.proofs.kept.«SqliteKeep+H+FileStore+FileFrom+D».open.Goals as goal
 
-pub returns-in-Ok-clause-found : goal.returns-in-Ok-clause-found
-returns-in-Ok-clause-found g c =
-    found_in g.H.Filed.filing (image_at g.D.Start) (file_state c.in-Ok.conn) _ _ c.adopt.result c.adopt.ensures.clean
-    c.adopt.ensures.found c.in-Ok.ensures.opened c.in-Ok.ensures.found
+pub returns-clause-found : goal.returns-clause-found
+returns-clause-found g c =
+    found_opened g.H.Filed.filing _ _ (image_at g.D.Start) file_state c.open_from.result c.adopt_opened.result
+    c.adopt_opened.ensures.clean c.adopt_opened.ensures.found c.open_from.ensures.opened
+    c.open_from.ensures.found
