@@ -1,8 +1,8 @@
 -- Why the journal's rows are read today as they were in version 1.
 use Rattle.std.proofs.Common.{◌≡◌, ◌≢◌, ◌≤◌, ◌<◌, ℕ, ◌+◌, ◌-◌, pos, List, [], ◌∷◌, map, filter, take, drop, length}
 use Rattle.std.proofs.Common.{slice_index_or, suc, ◌==◌, Bool, Option, Some, None, refl, sym, ap, ap₂, subst, ◌∙◌}
-use Rattle.std.proofs.Common.{inl, inr, arith}
-use Rattle.std.specs.Prelude.{IsTrue, nat_le, if◌then◌else◌, unwrap_or}
+use Rattle.std.proofs.Common.{inl, inr, arith, Result, Ok, IfOk}
+use Rattle.std.specs.Prelude.{IsOkAnd, IsTrue, nat_le, if◌then◌else◌, unwrap_or}
 use Rattle.std.specs.List.{AllByRecursion, AllZip}
 use Rattle.std.specs.Option.{option_and_then, option_map}
 use Rattle.std.proofs.lemmas.Bool.{cases_Bool}
@@ -25,7 +25,7 @@ use Rattle.sql_rows.specs.FirstVersion.{Rebodies, rebodied, with_body}
 use Rattle.sql_rows.specs.Schema.{purchasing}
 use Rattle.sql_rows.specs.Tables.{AreInOrder, Edits, IsRising, by_position, is_from, shown_entry}
 use Rattle.trade.specs.declared.commands.OrderCommand.{OrderCommand}
-use Rattle.keep_sqlite.specs.JournalRenewal.{IsBodyOfToday, IsRenewedAt, IsRenewedUpto, shown_input}
+use Rattle.keep_sqlite.specs.JournalRenewal.{IsBodyOfOne, IsBodyOfToday, IsRenewedAt, IsRenewedUpto, shown_input}
 use Rattle.keep_sqlite.specs.Migration.{RenewsJournal, first_orders, first_row_in}
 use Rattle.keep_sqlite.specs.Orders.{orders}
 use Rattle.keep_sqlite.specs.Ready.{AreNumbered, AreRising}
@@ -87,6 +87,22 @@ pub one_item : (items : List Row) (x : Row) → length items ≡ 1 → x ≡ sli
 one_item [] x one is = absurd (omega (arith, one))
 one_item (y ∷ []) x one is = ap (λ r. r ∷ []) (sym is)
 one_item (y ∷ z ∷ items) x one is = absurd (omega (arith, one))
+
+-- what is told of an answer's one row
+pub one_body : {V E F T : Type 0} (items_of : V → List Row) (bytes : T → List ℕ) (rows : V) (answer : Result V E)
+    (x : Row) (result : Result (Option T) F) → answer ≡ Ok rows → items_of rows ≡ x ∷ []
+    → IfOk result (λ b. IsBodyOfToday x (option_map bytes b))
+    → IfOk result (λ b. IsOkAnd answer (λ v. IsBodyOfOne (items_of v) (option_map bytes b)))
+one_body items_of bytes rows answer x result is one h =
+    subst (λ a. IfOk result (λ b. IsOkAnd a (λ v. IsBodyOfOne (items_of v) (option_map bytes b)))) (sym is)
+    (subst (λ l. IfOk result (λ b. IsBodyOfOne l (option_map bytes b))) (sym one) h)
+
+-- and by what there is one
+pub the_one : (items : List Row) (body : Option (List ℕ)) → IsBodyOfOne items body
+    → (x : Row) × (items ≡ x ∷ []) × IsBodyOfToday x body
+the_one [] body h = absurd h
+the_one (x ∷ []) body h = (x, refl, h)
+the_one (x ∷ y ∷ rows) body h = absurd h
 
 one_place : (r : Row) (m n : ℕ) → rowid r ≡ Int (pos m) → rowid r ≡ Int (pos n) → m ≡ n
 one_place r m n a b = ap number_in (sym a ∙ b)

@@ -1,3 +1,5 @@
+mod Clean
+mod Through
 mod Lookup
 mod Unique
 mod Keys

@@ -77,32 +77,29 @@ module _ {S C : Type 0} (f : Filing S C) (count : ℕ) (db : Database) (filed : 
   is_sound : IsSound f.schema db.trees
   is_sound = subst (λ s. IsSound s db.trees) filed.is sound
 
-  pub handled_is : {E : Type 0} (items : List Row) (r : Result ℕ E)
+  pub handled_is : (items : List Row) (n : ℕ)
       → AreInOrder cmp None (λ x. column x 3 ∷ []) (filter (has_key (key_of q)) (db.trees 5)) items
-      → IfOk r (IsFirstMark 0 items) → IfOk r (λ n. n ≡ marks_in 3 (db.trees 5) q)
-  handled_is items (Ok n) a mark =
+      → IsFirstMark 0 items n → n ≡ marks_in 3 (db.trees 5) q
+  handled_is items n a mark =
       first_mark (has_key (key_of q)) (db.trees 5)
       (one_in_in_marks f.schema f.is_service db.trees is_sound filed.rising q) cmp (λ x. column x 3 ∷ []) 0 3 (λ x.
       refl)
       items n a mark
-  handled_is items (Err e) a mark = tt
 
   one_out : IsOne (has_key (key_of q)) (db.trees 3)
   one_out = one_in_out_marks f.schema f.is_service db.trees is_sound filed.rising q
 
-  pub sent_is : {E : Type 0} (items : List Row) (r : Result ℕ E)
+  pub sent_is : (items : List Row) (n : ℕ)
       → AreInOrder cmp None (λ x. column x 3 ∷ column x 4 ∷ []) (filter (has_key (key_of q)) (db.trees 3)) items
-      → IfOk r (IsFirstMark 0 items) → IfOk r (λ n. n ≡ marks_in 3 (db.trees 3) q)
-  sent_is items (Ok n) a mark = first_mark (has_key (key_of q)) (db.trees 3) one_out cmp
+      → IsFirstMark 0 items n → n ≡ marks_in 3 (db.trees 3) q
+  sent_is items n a mark = first_mark (has_key (key_of q)) (db.trees 3) one_out cmp
       (λ x. column x 3 ∷ column x 4 ∷ []) 0 3 (λ x. refl) items n a mark
-  sent_is items (Err e) a mark = tt
 
-  pub settled_is : {E : Type 0} (items : List Row) (r : Result ℕ E)
+  pub settled_is : (items : List Row) (n : ℕ)
       → AreInOrder cmp None (λ x. column x 3 ∷ column x 4 ∷ []) (filter (has_key (key_of q)) (db.trees 3)) items
-      → IfOk r (IsFirstMark 1 items) → IfOk r (λ n. n ≡ marks_in 4 (db.trees 3) q)
-  settled_is items (Ok n) a mark = first_mark (has_key (key_of q)) (db.trees 3) one_out cmp
+      → IsFirstMark 1 items n → n ≡ marks_in 4 (db.trees 3) q
+  settled_is items n a mark = first_mark (has_key (key_of q)) (db.trees 3) one_out cmp
       (λ x. column x 3 ∷ column x 4 ∷ []) 1 4 (λ x. refl) items n a mark
-  settled_is items (Err e) a mark = tt
 
   pub held_is : {E : Type 0} (k : ℕ) (s t : List ℕ) (z : ℤ) → s ≡ text_of q.from → t ≡ text_of q.to → z ≡ pos k
       → (items : List Row) (r : Result (Option Message) E)

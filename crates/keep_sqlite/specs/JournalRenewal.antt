@@ -1,5 +1,5 @@
 -- What becomes of the journal's rows, one by one, where version 1's commands are written as those of today.
-use Rattle.std.specs.Prelude.{◌≡◌, ◌≢◌, ℕ, ◌+◌, ◌≤◌, ◌<◌, pos, List, Option, Some, None}
+use Rattle.std.specs.Prelude.{◌≡◌, ◌≢◌, ℕ, ◌+◌, ◌≤◌, ◌<◌, pos, List, [], ◌∷◌, Option, Some, None}
 use Rattle.sqlite.specs.declared.types.Value.{Value}
 use Rattle.sqlite.specs.declared.types.Value.TheVariants.{Int, Text}
 use Rattle.sqlite_trees.specs.Tree.{rowid}
@@ -22,6 +22,12 @@ IsBodyOfToday x None =
     shown_input read_order_command x (column x 5) ≡ shown_input read_first_order_command x (column x 5)
 IsBodyOfToday x (Some body) =
     shown_input read_order_command x (Text body) ≡ shown_input read_first_order_command x (column x 5)
+
+-- the same of an answer's one row
+abbrev pub IsBodyOfOne : List Row → Option (List ℕ) → Type 0
+IsBodyOfOne [] body = ⊥
+IsBodyOfOne (x ∷ []) body = IsBodyOfToday x body
+IsBodyOfOne (_ ∷ _ ∷ _) body = ⊥
 
 -- the second row stands where the first stood; at this position it is read today as the first was in version 1, and at
 -- any other it is the first

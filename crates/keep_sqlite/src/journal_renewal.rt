@@ -1,7 +1,7 @@
 //! The journal of version 1, written as today's: a placing's body told its one line beside the account, and now it
 //! tells its lines in a list.
 
-ghost use Rattle.std.specs.Prelude.{◌≡◌, ℕ, min, OnOk, IfOk, IsTrue, filter, length, pos, string_bytes};
+ghost use Rattle.std.specs.Prelude.{◌≡◌, ℕ, min, IsOkAnd, OnOk, IfOk, IsTrue, filter, length, pos, string_bytes};
 ghost use Rattle.std.specs.List.{AllZip};
 ghost use Rattle.std.specs.Option.{option_map};
 ghost use Rattle.sqlite.specs.Effect.{IsDatabase};
@@ -11,7 +11,7 @@ ghost use Rattle.sqlite.specs.declared.types.Value.TheVariants.{Int};
 ghost use Rattle.sqlite_value.specs.Order.{column};
 ghost use Rattle.sql_rows.specs.Schema.{IsService, purchasing};
 ghost use Rattle.sql_rows.specs.Tables.{Edits, IsRising, is_within};
-ghost use Rattle.keep_sqlite.specs.JournalRenewal.{IsBodyOfToday, IsRenewedAt, IsRenewedUpto};
+ghost use Rattle.keep_sqlite.specs.JournalRenewal.{IsBodyOfOne, IsBodyOfToday, IsRenewedAt, IsRenewedUpto};
 ghost use Rattle.keep_sqlite.specs.Migration.{RenewsJournal};
 ghost use Rattle.keep_sqlite.specs.Ready.{AreNumbered, AreRising};
 
@@ -114,6 +114,19 @@ fn body_of_today(alloc: Global, row: &Row) -> Result<Option<String>, Error>
     }
 }
 
+/// The same of the one row of an answer, where there is an answer. It takes the answer as it comes, so that its caller doesn't
+/// owe its contract at each `?`.
+fn body_of_one(alloc: Global, answer: Result<Vec<Row>, Error>) -> Result<Option<String>, Error>
+    ensures { IfOk result (λ body. IsOkAnd answer (λ rows.
+        IsBodyOfOne rows.items (option_map (λ s. string_bytes s) body))) }
+{
+    let rows = answer?;
+    let [row] = rows.as_slice() else {
+        return Err(Error::InvalidQuery);
+    };
+    body_of_today(alloc, row)
+}
+
 /// Writes the row at a position as one of today.
 fn renew_row<S: Alter>(
     alloc: Global,
@@ -137,11 +150,8 @@ fn renew_row<S: Alter>(
     ensures survives { Survives (state S.Store tx.old.conn.now) (state S.Store tx.new.conn.now) (λ _. ⊥) }
 {
     let at = bound_count(position)?;
-    let rows = read_journal_inside(tx, at, 1)?;
-    let [row] = rows.as_slice() else {
-        return Err(Error::InvalidQuery);
-    };
-    match body_of_today(alloc, row)? {
+    let rows = read_journal_inside(tx, at, 1);
+    match body_of_one(alloc, rows)? {
         Some(body) => {
             set_body(tx, at, body.as_str())?;
             Ok(())

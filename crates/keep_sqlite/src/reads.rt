@@ -1,6 +1,6 @@
 //! What is read of a file. A `_count`, how many rows the journal has, stands for the contracts alone: nothing reads it.
 
-ghost use Rattle.std.specs.Prelude.{◌≡◌, ◌≤◌, ◌⊎◌, false, OnOk, IfOk, IfErr, IsTrue, Err};
+ghost use Rattle.std.specs.Prelude.{◌≡◌, ◌≤◌, ◌⊎◌, false, IsOkAnd, OnOk, IfOk, IfErr, IsTrue, Err};
 ghost use Rattle.sqlite_value.specs.Order.{column};
 ghost use Rattle.sqlite_trees.specs.Tree.{Trees};
 ghost use Rattle.sqlite_trees.specs.View.{doubt};
@@ -78,6 +78,17 @@ pub fn mark_in(rows: &[Row], at: usize) -> Result<u64, Error>
     }
 }
 
+/// The mark in a column of an answer's first row, or 0, where there is an answer. It takes the answer as it comes, so that
+/// no caller owes its contract at a `?`.
+fn mark_of(answer: Result<Vec<Row>, Error>, at: usize) -> Result<u64, Error>
+    ensures { IfOk result (λ n. IsOkAnd answer (λ rows. IsFirstMark at rows.items n)) }
+{
+    match answer {
+        Ok(rows) => mark_in(rows.as_slice(), at),
+        Err(error) => Err(error),
+    }
+}
+
 /// The handled mark of a pair.
 pub fn find_handled<H: Filed, S: Alter>(
     conn: &mut Connection<S>,
@@ -98,8 +109,8 @@ pub fn find_handled<H: Filed, S: Alter>(
 {
     // Called for what its contract says: the rows are as the schema demands.
     let _ = conn.schema();
-    let rows = read_handled(conn, pair.from.text(), pair.to.text())?;
-    mark_in(rows.as_slice(), 0)
+    let rows = read_handled(conn, pair.from.text(), pair.to.text());
+    mark_of(rows, 0)
 }
 
 /// The number of the last letter that a pair sent.
@@ -122,8 +133,8 @@ pub fn find_sent<H: Filed, S: Alter>(
 {
     // Called for what its contract says: the rows are as the schema demands.
     let _ = conn.schema();
-    let rows = read_marks(conn, pair.from.text(), pair.to.text())?;
-    mark_in(rows.as_slice(), SENT)
+    let rows = read_marks(conn, pair.from.text(), pair.to.text());
+    mark_of(rows, SENT)
 }
 
 /// The settled mark of a pair.
@@ -146,8 +157,8 @@ pub fn find_settled<H: Filed, S: Alter>(
 {
     // Called for what its contract says: the rows are as the schema demands.
     let _ = conn.schema();
-    let rows = read_marks(conn, pair.from.text(), pair.to.text())?;
-    mark_in(rows.as_slice(), SETTLED)
+    let rows = read_marks(conn, pair.from.text(), pair.to.text());
+    mark_of(rows, SETTLED)
 }
 
 /// The message whose body a value is.

@@ -1,7 +1,7 @@
 //! The changes of a transaction.
 
 ghost use Rattle.std.specs.Prelude.{◌≡◌, ◌<◌, ◌^◌, ◌≤◌, ◌⊎◌};
-ghost use Rattle.std.specs.Prelude.{true, false, IfOk, OnOk, OnErr, IsTrue, FitsSigned, pos, is_some, option_copied};
+ghost use Rattle.std.specs.Prelude.{true, false, IfOk, IsOkAnd, OnOk, OnErr, IsTrue, FitsSigned, pos, is_some, option_copied};
 ghost use Rattle.std.specs.Prelude.{option_map, Option, drop, length, ◌+◌};
 ghost use Rattle.std.specs.Int.{w64};
 ghost use Rattle.sqlite_trees.specs.Tree.{Trees};
@@ -56,6 +56,17 @@ pub fn bound_quantity(quantity: u64) -> i64
     quantity as i64
 }
 
+/// How many rows the journal has, where a statement was made. It takes what the statement ended in, so that no caller owes
+/// its contract at a `?`.
+fn counted(made: Result<usize, Error>, count: u64) -> Result<u64, Error>
+    ensures { IfOk result (λ n. IsOkAnd made (λ _. n ≡ count)) }
+{
+    match made {
+        Ok(_) => Ok(count),
+        Err(error) => Err(error),
+    }
+}
+
 /// Sets the handled mark of a pair.
 fn write_handled<H: Filed, S: Alter>(
     tx: &mut Transaction<'_, S>,
@@ -76,8 +87,8 @@ fn write_handled<H: Filed, S: Alter>(
         → KeepsCommit (state S.Store tx.old.conn.now) (state S.Store tx.new.conn.now) }
     ensures survives { Survives (state S.Store tx.old.conn.now) (state S.Store tx.new.conn.now) (λ _. ⊥) }
 {
-    put_in_marks(tx, pair.from.text(), pair.to.text(), bound_number(number))?;
-    Ok(count)
+    let made = put_in_marks(tx, pair.from.text(), pair.to.text(), bound_number(number));
+    counted(made, count)
 }
 
 /// Takes a held message away.
@@ -100,8 +111,8 @@ fn write_not_held<H: Filed, S: Alter>(
         → KeepsCommit (state S.Store tx.old.conn.now) (state S.Store tx.new.conn.now) }
     ensures survives { Survives (state S.Store tx.old.conn.now) (state S.Store tx.new.conn.now) (λ _. ⊥) }
 {
-    take_held(tx, pair.from.text(), pair.to.text(), bound_number(number))?;
-    Ok(count)
+    let made = take_held(tx, pair.from.text(), pair.to.text(), bound_number(number));
+    counted(made, count)
 }
 
 /// Holds a letter that came too early.
@@ -126,14 +137,14 @@ fn write_held<H: Filed, S: Alter>(
 {
     let body = letter.message.body(alloc)?;
     let pair = &letter.pair;
-    put_held(
+    let made = put_held(
         tx,
         pair.from.text(),
         pair.to.text(),
         bound_number(letter.number),
         body.as_str(),
-    )?;
-    Ok(count)
+    );
+    counted(made, count)
 }
 
 /// The value in a column of an answer's first row, or 0.
@@ -144,6 +155,17 @@ fn cell_in(rows: &[Row], at: usize) -> Result<i64, Error>
     match rows.first() {
         None => Ok(0),
         Some(row) => row.get(at),
+    }
+}
+
+/// The same, where there is an answer.
+fn cell_of(answer: Result<Vec<Row>, Error>, at: usize) -> Result<i64, Error>
+    ensures cell { IfOk result (λ z. IsOkAnd answer (λ rows. IsFirstCell at rows.items z)) }
+    ensures fits { IfOk result (FitsSigned w64) }
+{
+    match answer {
+        Ok(rows) => cell_in(rows.as_slice(), at),
+        Err(error) => Err(error),
     }
 }
 
@@ -167,16 +189,16 @@ fn put_sent<H: Filed, S: Alter>(
         → KeepsCommit (state S.Store tx.old.conn.now) (state S.Store tx.new.conn.now) }
     ensures survives { Survives (state S.Store tx.old.conn.now) (state S.Store tx.new.conn.now) (λ _. ⊥) }
 {
-    let rows = find_marks(tx, pair.from.text(), pair.to.text())?;
-    let settled = cell_in(rows.as_slice(), 1)?;
-    put_out_marks(
+    let rows = find_marks(tx, pair.from.text(), pair.to.text());
+    let settled = cell_of(rows, 1)?;
+    let made = put_out_marks(
         tx,
         pair.from.text(),
         pair.to.text(),
         bound_number(number),
         settled,
-    )?;
-    Ok(count)
+    );
+    counted(made, count)
 }
 
 /// Puts a letter into the outbox.
@@ -201,14 +223,14 @@ fn put_letter<H: Filed, S: Alter>(
 {
     let body = letter.message.body(alloc)?;
     let pair = &letter.pair;
-    put_outbox(
+    let made = put_outbox(
         tx,
         pair.from.text(),
         pair.to.text(),
         bound_number(letter.number),
         body.as_str(),
-    )?;
-    Ok(count)
+    );
+    counted(made, count)
 }
 
 /// Sends a letter: its row of the outbox is put, and its number is the last that the pair sent.
@@ -255,16 +277,16 @@ fn put_settled<H: Filed, S: Alter>(
         → KeepsCommit (state S.Store tx.old.conn.now) (state S.Store tx.new.conn.now) }
     ensures survives { Survives (state S.Store tx.old.conn.now) (state S.Store tx.new.conn.now) (λ _. ⊥) }
 {
-    let rows = find_marks(tx, pair.from.text(), pair.to.text())?;
-    let sent = cell_in(rows.as_slice(), 0)?;
-    put_out_marks(
+    let rows = find_marks(tx, pair.from.text(), pair.to.text());
+    let sent = cell_of(rows, 0)?;
+    let made = put_out_marks(
         tx,
         pair.from.text(),
         pair.to.text(),
         sent,
         bound_number(number),
-    )?;
-    Ok(count)
+    );
+    counted(made, count)
 }
 
 /// Takes the letters of a pair up to a number out of the outbox.
@@ -287,8 +309,8 @@ fn take_letters<H: Filed, S: Alter>(
         → KeepsCommit (state S.Store tx.old.conn.now) (state S.Store tx.new.conn.now) }
     ensures survives { Survives (state S.Store tx.old.conn.now) (state S.Store tx.new.conn.now) (λ _. ⊥) }
 {
-    settle_outbox(tx, pair.from.text(), pair.to.text(), bound_number(number))?;
-    Ok(count)
+    let made = settle_outbox(tx, pair.from.text(), pair.to.text(), bound_number(number));
+    counted(made, count)
 }
 
 /// Settles a pair up to a number.
@@ -342,8 +364,8 @@ fn write_command<H: Filed, S: Alter>(
         return Err(Error::InvalidQuery);
     }
     let body = command.body(alloc)?;
-    add_command(tx, entity.text(), i64::from(seat), body.as_str())?;
-    Ok(count + 1)
+    let made = add_command(tx, entity.text(), i64::from(seat), body.as_str());
+    counted(made, count + 1)
 }
 
 /// Adds a row of a message to the journal.
@@ -374,14 +396,14 @@ fn write_message<H: Filed, S: Alter>(
         return Err(Error::InvalidQuery);
     }
     let body = message.body(alloc)?;
-    add_message(
+    let made = add_message(
         tx,
         entity.text(),
         sender.text(),
         bound_number(number),
         body.as_str(),
-    )?;
-    Ok(count + 1)
+    );
+    counted(made, count + 1)
 }
 
 /// Adds a row to the journal, behind the others.
