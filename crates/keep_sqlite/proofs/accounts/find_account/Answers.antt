@@ -1,4 +1,4 @@
-use Rattle.std.proofs.Common.{◌≡◌, [], ◌∷◌, None, filter, IfOk, arith, subst, refl, IsTrue}
+use Rattle.std.proofs.Common.{◌≡◌, [], ◌∷◌, None, filter, IfOk, subst, refl, IsTrue}
 use Rattle.sqlite.specs.Effect.{Database}
 use Rattle.sqlite.specs.Held.{state}
 use Rattle.sqlite.specs.State.{HasCleanDisk}
@@ -6,6 +6,7 @@ use Rattle.sqlite_catalog.specs.Listing.{IsSound}
 use Rattle.sqlite_value.specs.Order.{column}
 use Rattle.sql_rows.specs.Tables.{AreInOrder, by_pair, by_text, has_key, text_key}
 use Rattle.keep_sqlite.specs.Accounts.{account_rows, account_from}
+use Rattle.keep_sqlite.proofs.Clean.{clean_before}
 use Rattle.keep_sqlite.proofs.Holders.{show_line, state_shown}
 use Rattle.keep_sqlite.proofs.AccountsHeld.{accounts_held}
 use Rattle.keep_sqlite.proofs.accounts.find_account.Goals as goal
@@ -16,8 +17,8 @@ returns-clause-found g c clean =
     let mid = state g.S.Store c.read_account.new.conn in
     let key = c.args.key.now in
     let db = old.now.trees in
-    let between : HasCleanDisk mid = omega (arith, c.read_account_lines.ensures.clean) in
-    let early : HasCleanDisk old = omega (arith, c.read_account.ensures.clean, between) in
+    let between : HasCleanDisk mid = clean_before _ _ c.read_account_lines.ensures.clean clean in
+    let early : HasCleanDisk old = clean_before _ _ c.read_account.ensures.clean between in
     let ready = c.requires.ready early in
     let live : IsTrue mid.is_open = c.in_ok-heads.ensures.open between in
     let same = (c.read_account.ensures.stays between).now_is live in

@@ -1,8 +1,9 @@
-use Rattle.std.proofs.Common.{◌≡◌, pos, arith, ap, ◌∙◌, to_z, of_z, w64}
+use Rattle.std.proofs.Common.{◌≡◌, pos, ap, ◌∙◌, to_z, of_z, w64}
 use Rattle.std.proofs.lemmas.Int.{to_z_pos}
 use Rattle.sqlite.specs.Effect.{Database}
 use Rattle.sqlite.specs.Held.{state}
 use Rattle.sqlite.specs.State.{HasCleanDisk}
+use Rattle.keep_sqlite.proofs.Clean.{clean_before}
 use Rattle.keep_sqlite.proofs.Positions.{counted, not_greatest}
 use Rattle.keep_sqlite.proofs.journal_renewal.count_journal.Goals as goal
 
@@ -10,12 +11,12 @@ pub returns-clause-counted : goal.returns-clause-counted
 returns-clause-counted g c clean =
     let old = state g.S.Store c.args.tx.now.conn.now in
     let mid = state g.S.Store c.count_all.new.tx.conn.now in
-    let before : HasCleanDisk mid = omega (arith, c.count_upto.ensures.survives.clean, clean) in
-    let first : HasCleanDisk old = omega (arith, c.count_all.ensures.survives.clean, before) in
+    let before : HasCleanDisk mid = clean_before _ _ c.count_upto.ensures.survives.clean clean in
+    let first : HasCleanDisk old = clean_before _ _ c.count_all.ensures.survives.clean before in
     let n = c.in_ok-count.count in
     let last : to_z w64 (of_z w64 c.in_ok-last.last) ≡ pos n =
     ap (λ z. to_z w64 (of_z w64 z)) c.in_ok-last.ensures.value
-    ∙ to_z_pos w64 n (omega (arith, c.in_ok-last.ensures.small)) in
+    ∙ to_z_pos w64 n c.in_ok-last.ensures.small in
     let rows : mid.now.trees 0 ≡ old.now.trees 0 =
     ap (λ (d : Database). d.trees 0) (c.in_ok-count.ensures.ok before).0.now_is in
     counted (old.now.trees 0) n c.in_ok-count_upto.field-0 (c.requires.rising first)

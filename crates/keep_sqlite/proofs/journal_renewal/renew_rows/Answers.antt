@@ -6,6 +6,7 @@ use Rattle.sql_rows.specs.Schema.{IsService}
 use Rattle.sql_rows.specs.Tables.{Edits}
 use Rattle.keep_sqlite.specs.JournalRenewal.{IsRenewedUpto}
 use Rattle.keep_sqlite.specs.Orders.{orders}
+use Rattle.keep_sqlite.proofs.Clean.{clean_before}
 use Rattle.keep_sqlite.proofs.Changes.{both_keep, survives_quietly}
 use Rattle.keep_sqlite.proofs.JournalRenewal.{renewing_starts, renewing_keeps, renewing_more, still_numbered}
 use Rattle.keep_sqlite.proofs.journal_renewal.renew_rows.Goals as goal
@@ -20,7 +21,7 @@ loop-index-init g c = (
 pub renew_row-requires-clause-schema : goal.renew_row-requires-clause-schema
 renew_row-requires-clause-schema g c clean =
     let early : HasCleanDisk (state g.S.Store c.args.tx.now.conn.now) =
-    omega (arith, c.loop-index.invariant.1.survives.clean, clean) in
+    clean_before _ _ c.loop-index.invariant.1.survives.clean clean in
     subst IsService (sym (c.loop-index.invariant.1.done clean).same_schema) (c.requires.schema early)
 
 pub renew_row-requires-clause-rising : goal.renew_row-requires-clause-rising
@@ -29,7 +30,7 @@ renew_row-requires-clause-rising g c clean = (c.loop-index.invariant.1.done clea
 pub renew_row-requires-clause-numbered : goal.renew_row-requires-clause-numbered
 renew_row-requires-clause-numbered g c clean =
     let old = state g.S.Store c.args.tx.now.conn.now in
-    let early : HasCleanDisk old = omega (arith, c.loop-index.invariant.1.survives.clean, clean) in
+    let early : HasCleanDisk old = clean_before _ _ c.loop-index.invariant.1.survives.clean clean in
     still_numbered c.loop-index.index 1 (old.now.trees 0) ((state g.S.Store c.loop-index.tx.conn.now).now.trees 0)
     (c.loop-index.invariant.1.done clean).rows (c.requires.numbered early)
 
@@ -46,7 +47,7 @@ pub returns-in_err-renew_row-clause-kept : goal.returns-in_err-renew_row-clause-
 returns-in_err-renew_row-clause-kept g c clean =
     let old = state g.S.Store c.args.tx.now.conn.now in
     let mid = state g.S.Store c.loop-index.tx.conn.now in
-    let between : HasCleanDisk mid = omega (arith, c.renew_row.ensures.survives.clean, clean) in
+    let between : HasCleanDisk mid = clean_before _ _ c.renew_row.ensures.survives.clean clean in
     both_keep orders old mid (state g.S.Store c.renew_row.new.tx.conn.now)
     (renewing_keeps _ _ _ c.loop-index.invariant.1 between) (c.renew_row.ensures.kept clean)
 

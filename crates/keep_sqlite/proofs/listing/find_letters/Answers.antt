@@ -4,13 +4,14 @@ use Rattle.sqlite.specs.Held.{state}
 use Rattle.sqlite.specs.State.{HasCleanDisk}
 use Rattle.sqlite.specs.declared.types.Value.TheVariants.{Int}
 use Rattle.sqlite_sql.specs.Query.{as_count}
+use Rattle.keep_sqlite.proofs.Clean.{clean_before}
 use Rattle.keep_sqlite.proofs.Letters.{letters_are}
 use Rattle.keep_sqlite.proofs.listing.find_letters.Goals as goal
 
 pub returns-clause-letters : goal.returns-clause-letters
 returns-clause-letters g c clean =
     let old = state g.S.Store c.args.conn.now in
-    let early : HasCleanDisk old = omega (arith, c.read_after.ensures.clean) in
+    let early : HasCleanDisk old = clean_before _ _ c.read_after.ensures.clean clean in
     let ready = c.requires.ready early in
     letters_are g.H.Filed.filing c.args._count old.now ready.filed (c.schema.ensures.live ready.is_open).0
     (λ v. v.items) c.letters_at.result c.args.after.now c.args.limit _

@@ -1,4 +1,4 @@
-use Rattle.std.proofs.Common.{◌≡◌, pos, arith, ap, ◌∙◌, to_z, of_z, w64}
+use Rattle.std.proofs.Common.{◌≡◌, pos, ap, ◌∙◌, to_z, of_z, w64}
 use Rattle.std.proofs.lemmas.Int.{to_z_pos, to_z-of_z}
 use Rattle.sqlite.specs.Held.{state}
 use Rattle.keep_sqlite.proofs.Letters.{behind_none, behind_some}
@@ -14,7 +14,7 @@ returns-in-Some-clause-rows g c clean =
     let place = c.in-Some.place in
     let number : to_z w64 (of_z w64 c.bound_number-number.result) ≡ pos place.number =
     ap (λ z. to_z w64 (of_z w64 z)) c.bound_number-number.ensures.value
-    ∙ to_z_pos w64 place.number (omega (arith, c.bound_number-number.ensures.small)) in
+    ∙ to_z_pos w64 place.number c.bound_number-number.ensures.small in
     behind_some (λ v. v.items) c.read_letters_after.result ((state g.S.Store c.args.conn.now).now.trees 1)
     c.args.after.now _ c.args.limit (to_z-of_z w64 c.args.limit c.ranges.limit) place _ _ _ c.in-Some.is
     c.text.ensures.text c.text-in-Some.ensures.text number (c.read_letters_after.ensures.rows clean)

@@ -3,6 +3,7 @@ use Rattle.std.specs.Prelude.{IsTrue}
 use Rattle.sqlite.specs.Held.{state}
 use Rattle.sqlite.specs.State.{HasCleanDisk}
 use Rattle.sql_rows.specs.FirstVersion.{first_about_tree}
+use Rattle.keep_sqlite.proofs.Clean.{clean_before}
 use Rattle.keep_sqlite.proofs.Abouts.{tells_of_table}
 use Rattle.keep_sqlite.proofs.Renewals.{first_file}
 use Rattle.keep_sqlite.proofs.migration.is_first.Goals as goal
@@ -11,7 +12,7 @@ pub returns-clause-first : goal.returns-clause-first
 returns-clause-first g c clean =
     let old = state g.S.Store c.args.conn.now in
     let new = state g.S.Store c.read_first_about.new.conn in
-    let early : HasCleanDisk old = omega (arith, c.read_first_about.ensures.clean, clean) in
+    let early : HasCleanDisk old = clean_before _ _ c.read_first_about.ensures.clean clean in
     let has : IsTrue c.in_ok-has_first_tables.field-0 = c.if-not-branch.false in
     let low = c.in-len1.len_at_least in
     let high = c.in-len1.len_below in

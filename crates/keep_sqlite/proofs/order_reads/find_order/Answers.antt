@@ -1,7 +1,8 @@
-use Rattle.std.proofs.Common.{arith, ap}
+use Rattle.std.proofs.Common.{ap}
 use Rattle.sqlite.specs.Held.{state}
 use Rattle.sqlite.specs.State.{HasCleanDisk}
 use Rattle.sqlite.specs.Effect.{Database}
+use Rattle.keep_sqlite.proofs.Clean.{clean_before}
 use Rattle.keep_sqlite.proofs.OrdersRead.{order_is}
 use Rattle.keep_sqlite.proofs.OrdersWritten.{one_head}
 use Rattle.keep_sqlite.proofs.order_reads.find_order.Goals as goal
@@ -10,8 +11,8 @@ pub returns-clause-order : goal.returns-clause-order
 returns-clause-order g c clean =
     let old = state g.S.Store c.args.conn.now in
     let mid = state g.S.Store c.read_order_head.new.conn in
-    let between : HasCleanDisk mid = omega (arith, c.read_order_lines.ensures.clean) in
-    let early : HasCleanDisk old = omega (arith, c.read_order_head.ensures.clean, between) in
+    let between : HasCleanDisk mid = clean_before _ _ c.read_order_lines.ensures.clean clean in
+    let early : HasCleanDisk old = clean_before _ _ c.read_order_head.ensures.clean between in
     let ready = c.requires.ready early in
     let sound = (c.schema.ensures.live ready.is_open).0 in
     let same = (c.in_ok-heads.ensures.stays between).now_is (c.in_ok-heads.ensures.open between) in

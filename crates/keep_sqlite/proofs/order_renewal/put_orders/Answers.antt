@@ -4,6 +4,7 @@ use Rattle.sqlite.specs.Held.{state}
 use Rattle.sqlite.specs.State.{HasCleanDisk}
 use Rattle.keep_sqlite.specs.OrderRenewal.{order_change}
 use Rattle.keep_sqlite.specs.Orders.{orders}
+use Rattle.keep_sqlite.proofs.Clean.{clean_before}
 use Rattle.keep_sqlite.proofs.Changes.{both_keep, survives_quietly}
 use Rattle.keep_sqlite.proofs.Commits.{all_made, way_keeps}
 use Rattle.keep_sqlite.proofs.OrderRenewal.{none_put, one_more_put}
@@ -24,7 +25,7 @@ pub returns-in_err-count-clause-kept : goal.returns-in_err-count-clause-kept
 returns-in_err-count-clause-kept g c clean =
     let old = state g.S.Store c.args.tx.now.conn.now in
     let mid = state g.S.Store c.loop-one.tx.conn.now in
-    let early : HasCleanDisk mid = omega (arith, c.put_order.ensures.survives.clean, clean) in
+    let early : HasCleanDisk mid = clean_before _ _ c.put_order.ensures.survives.clean clean in
     both_keep orders old mid (state g.S.Store c.put_order.new.tx.conn.now)
     (way_keeps orders _ (map order_change c.args.keyed.now) c.loop-one.count old mid (c.loop-one.invariant.2 early))
     (c.put_order.ensures.kept clean)
@@ -40,7 +41,7 @@ loop-one-preserved g c =
     let mid = state g.S.Store c.loop-one.tx.conn.now in
     let new = state g.S.Store c.put_order.new.tx.conn.now in
     let early : HasCleanDisk new → HasCleanDisk mid =
-    (λ clean. omega (arith, c.put_order.ensures.survives.clean, clean)) in (
+    (λ clean. clean_before _ _ c.put_order.ensures.survives.clean clean) in (
       c.put_order.ensures.same_reference ∙ c.loop-one.invariant.0,
       survives_quietly old mid new c.loop-one.invariant.1 c.put_order.ensures.survives,
       λ clean. one_more_put c.args.keyed.now c.loop-one.one-index c.one-item.result c.loop-one-test.true c.one-item.is

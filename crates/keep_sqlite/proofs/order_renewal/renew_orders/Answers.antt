@@ -1,7 +1,8 @@
-use Rattle.std.proofs.Common.{arith, subst, sym}
+use Rattle.std.proofs.Common.{subst, sym}
 use Rattle.sqlite.specs.Held.{state}
 use Rattle.sqlite.specs.State.{HasCleanDisk}
 use Rattle.keep_sqlite.specs.OrderRenewal.{AreTold}
+use Rattle.keep_sqlite.proofs.Clean.{clean_before}
 use Rattle.keep_sqlite.proofs.OrderRenewal.{all_keep, all_survive, empty_rises, orders_renewed}
 use Rattle.keep_sqlite.proofs.OrderRenewal.{seen_schema}
 use Rattle.keep_sqlite.proofs.order_renewal.renew_orders.Goals as goal
@@ -9,7 +10,7 @@ use Rattle.keep_sqlite.proofs.order_renewal.renew_orders.Goals as goal
 pub replace_tables-requires-clause-schema : goal.replace_tables-requires-clause-schema
 replace_tables-requires-clause-schema g c clean =
     let old = state g.S.Store c.args.tx.now.conn.now in
-    let early : HasCleanDisk old = omega (arith, c.read_first_orders_inside.ensures.survives.clean) in
+    let early : HasCleanDisk old = clean_before _ _ c.read_first_orders_inside.ensures.survives.clean clean in
     seen_schema old (state g.S.Store c.read_first_orders_inside.new.tx.conn.now)
     (c.in_ok-rows.ensures.ok clean) (c.requires.first early) (c.requires.sound early)
 
@@ -18,8 +19,8 @@ renew_journal-requires-clause-rising g c clean =
     let old = state g.S.Store c.args.tx.now.conn.now in
     let seen = state g.S.Store c.read_first_orders_inside.new.tx.conn.now in
     let empty = state g.S.Store c.replace_tables.new.tx.conn.now in
-    let read : HasCleanDisk seen = omega (arith, c.replace_tables.ensures.survives.clean, clean) in
-    let early : HasCleanDisk old = omega (arith, c.read_first_orders_inside.ensures.survives.clean, read) in
+    let read : HasCleanDisk seen = clean_before _ _ c.replace_tables.ensures.survives.clean clean in
+    let early : HasCleanDisk old = clean_before _ _ c.read_first_orders_inside.ensures.survives.clean read in
     empty_rises old seen (c.in_ok-rows.ensures.ok read) (c.requires.first early) (c.requires.sound early) empty
     (c.in_ok-replace_tables.ensures.ok clean)
 
@@ -30,10 +31,10 @@ returns-clause-ok g c clean =
     let empty = state g.S.Store c.replace_tables.new.tx.conn.now in
     let journal = state g.S.Store c.renew_journal.new.tx.conn.now in
     let new = state g.S.Store c.put_orders.new.tx.conn.now in
-    let written : HasCleanDisk journal = omega (arith, c.put_orders.ensures.survives.clean, clean) in
-    let without : HasCleanDisk empty = omega (arith, c.renew_journal.ensures.survives.clean, written) in
-    let read : HasCleanDisk seen = omega (arith, c.replace_tables.ensures.survives.clean, without) in
-    let early : HasCleanDisk old = omega (arith, c.read_first_orders_inside.ensures.survives.clean, read) in
+    let written : HasCleanDisk journal = clean_before _ _ c.put_orders.ensures.survives.clean clean in
+    let without : HasCleanDisk empty = clean_before _ _ c.renew_journal.ensures.survives.clean written in
+    let read : HasCleanDisk seen = clean_before _ _ c.replace_tables.ensures.survives.clean without in
+    let early : HasCleanDisk old = clean_before _ _ c.read_first_orders_inside.ensures.survives.clean read in
     let told : AreTold c.in_ok-rows.rows.items c.as_slice-2.result.now =
     subst (λ l. AreTold l c.as_slice-2.result.now) c.as_slice.ensures.value
     (subst (AreTold c.as_slice.result.now) (sym c.as_slice-2.ensures.value) c.in_ok-keyed.ensures) in
@@ -49,9 +50,9 @@ returns-clause-kept g c clean =
     let empty = state g.S.Store c.replace_tables.new.tx.conn.now in
     let journal = state g.S.Store c.renew_journal.new.tx.conn.now in
     let new = state g.S.Store c.put_orders.new.tx.conn.now in
-    let written : HasCleanDisk journal = omega (arith, c.put_orders.ensures.survives.clean, clean) in
-    let without : HasCleanDisk empty = omega (arith, c.renew_journal.ensures.survives.clean, written) in
-    let read : HasCleanDisk seen = omega (arith, c.replace_tables.ensures.survives.clean, without) in
+    let written : HasCleanDisk journal = clean_before _ _ c.put_orders.ensures.survives.clean clean in
+    let without : HasCleanDisk empty = clean_before _ _ c.renew_journal.ensures.survives.clean written in
+    let read : HasCleanDisk seen = clean_before _ _ c.replace_tables.ensures.survives.clean without in
     all_keep old seen empty journal new (c.read_first_orders_inside.ensures.kept read)
     (c.replace_tables.ensures.kept without) (c.renew_journal.ensures.kept written) (c.put_orders.ensures.kept clean)
 
@@ -70,9 +71,9 @@ returns-in_err-put_orders-clause-kept g c clean =
     let empty = state g.S.Store c.replace_tables.new.tx.conn.now in
     let journal = state g.S.Store c.renew_journal.new.tx.conn.now in
     let new = state g.S.Store c.put_orders.new.tx.conn.now in
-    let written : HasCleanDisk journal = omega (arith, c.put_orders.ensures.survives.clean, clean) in
-    let without : HasCleanDisk empty = omega (arith, c.renew_journal.ensures.survives.clean, written) in
-    let read : HasCleanDisk seen = omega (arith, c.replace_tables.ensures.survives.clean, without) in
+    let written : HasCleanDisk journal = clean_before _ _ c.put_orders.ensures.survives.clean clean in
+    let without : HasCleanDisk empty = clean_before _ _ c.renew_journal.ensures.survives.clean written in
+    let read : HasCleanDisk seen = clean_before _ _ c.replace_tables.ensures.survives.clean without in
     all_keep old seen empty journal new (c.read_first_orders_inside.ensures.kept read)
     (c.replace_tables.ensures.kept without) (c.renew_journal.ensures.kept written) (c.put_orders.ensures.kept clean)
 

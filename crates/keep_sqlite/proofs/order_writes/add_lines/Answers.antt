@@ -5,6 +5,7 @@ use Rattle.sqlite.specs.State.{HasCleanDisk}
 use Rattle.sql_rows.specs.Tables.{Edits}
 use Rattle.keep_sqlite.specs.AddedRows.{AreAdded}
 use Rattle.keep_sqlite.specs.Orders.{orders, lines_cells, IsNamed}
+use Rattle.keep_sqlite.proofs.Clean.{clean_before}
 use Rattle.keep_sqlite.proofs.Changes.{both_keep, survives_quietly}
 use Rattle.keep_sqlite.proofs.OrdersWritten.{adding_starts, adding_keeps, adding_more}
 use Rattle.keep_sqlite.proofs.order_writes.add_lines.Goals as goal
@@ -28,7 +29,7 @@ returns-in_default-clause-survives g c = c.loop-index.invariant.1.survives
 pub add_line-requires-clause-schema : goal.add_line-requires-clause-schema
 add_line-requires-clause-schema g c clean =
     let early : HasCleanDisk (state g.S.Store c.args.tx.now.conn.now) =
-    omega (arith, c.loop-index.invariant.1.survives.clean, clean) in
+    clean_before _ _ c.loop-index.invariant.1.survives.clean clean in
     (c.loop-index.invariant.1.done clean).same_schema ∙ c.requires.schema early
 
 pub add_line-requires-clause-rising : goal.add_line-requires-clause-rising
@@ -44,7 +45,7 @@ pub returns-in_err-add_line-clause-kept : goal.returns-in_err-add_line-clause-ke
 returns-in_err-add_line-clause-kept g c clean =
     let old = state g.S.Store c.args.tx.now.conn.now in
     let mid = state g.S.Store c.loop-index.tx.conn.now in
-    let between : HasCleanDisk mid = omega (arith, c.add_line.ensures.survives.clean, clean) in
+    let between : HasCleanDisk mid = clean_before _ _ c.add_line.ensures.survives.clean clean in
     both_keep orders old mid (state g.S.Store c.add_line.new.tx.conn.now)
     (adding_keeps _ _ _ _ _ c.loop-index.invariant.1 between) (c.add_line.ensures.kept clean)
 

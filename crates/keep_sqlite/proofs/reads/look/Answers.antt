@@ -1,7 +1,7 @@
-use Rattle.std.proofs.Common.{arith}
 use Rattle.sqlite.specs.Held.{state}
 use Rattle.sqlite.specs.State.{HasCleanDisk}
 use Rattle.sql_rows.proofs.Stays.{prepared_stays}
+use Rattle.keep_sqlite.proofs.Clean.{clean_before}
 use Rattle.keep_sqlite.proofs.Looks.{looks_true}
 use Rattle.keep_sqlite.proofs.reads.look.Goals as goal
 
@@ -17,6 +17,6 @@ returns-clause-shut g c clean is =
 
 pub returns-clause-stays : goal.returns-clause-stays
 returns-clause-stays g c clean =
-    let early : HasCleanDisk (state g.S.Store c.args.conn.now) = omega (arith, c.prepare.ensures.survives.clean) in
+    let early : HasCleanDisk (state g.S.Store c.args.conn.now) = clean_before _ _ c.prepare.ensures.survives.clean clean in
     prepared_stays (state g.S.Store c.args.conn.now) (state g.S.Store c.prepare.new.self) (c.requires.settled early)
     _ _ c.prepare.result (c.prepare.ensures.ok clean) (c.prepare.ensures.err clean)

@@ -1,9 +1,10 @@
-use Rattle.std.proofs.Common.{arith, refl}
+use Rattle.std.proofs.Common.{refl}
 use Rattle.sqlite.specs.Held.{state}
 use Rattle.sqlite.specs.State.{HasCleanDisk}
 use Rattle.base.specs.declared.entity.Kind.TheVariants as kind
 use Rattle.trade.specs.Words.{stock_line_word}
 use Rattle.keep_sqlite.specs.Stocks.{stocks as filing, stock_rows, stock_cells}
+use Rattle.keep_sqlite.proofs.Clean.{clean_before}
 use Rattle.keep_sqlite.proofs.Holders.{sets}
 use Rattle.keep_sqlite.proofs.StocksHeld.{stocks_held}
 use Rattle.keep_sqlite.proofs.stocks.set_stock.Goals as goal
@@ -14,9 +15,9 @@ returns-clause-ok g c clean =
     let cut = state g.S.Store c.take_stock_lines.new.tx.conn.now in
     let head = state g.S.Store c.put_head.new.tx.conn.now in
     let new = state g.S.Store c.add_lines.new.tx.conn.now in
-    let late : HasCleanDisk head = omega (arith, c.add_lines.ensures.survives.clean) in
-    let between : HasCleanDisk cut = omega (arith, c.put_head.ensures.survives.clean, late) in
-    let early : HasCleanDisk old = omega (arith, c.take_stock_lines.ensures.survives.clean, between) in
+    let late : HasCleanDisk head = clean_before _ _ c.add_lines.ensures.survives.clean clean in
+    let between : HasCleanDisk cut = clean_before _ _ c.put_head.ensures.survives.clean late in
+    let early : HasCleanDisk old = clean_before _ _ c.take_stock_lines.ensures.survives.clean between in
     let x = c.args.stock.now in
     let items = rw c.lines.ensures at c.in_ok-lines.ensures.value in
     let lines = rw (c.as_slice.ensures.value, items) at c.in_ok-add_lines.ensures.ok clean in

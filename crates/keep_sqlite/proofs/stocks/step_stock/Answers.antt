@@ -1,4 +1,4 @@
-use Rattle.std.proofs.Common.{◌≡◌, Some, None, arith, refl, sym, ap, ◌∙◌}
+use Rattle.std.proofs.Common.{◌≡◌, Some, None, refl, sym, ap, ◌∙◌}
 use Rattle.std.specs.Prelude.{option_copied}
 use Rattle.sqlite.specs.Held.{state}
 use Rattle.sqlite.specs.State.{HasCleanDisk}
@@ -6,6 +6,7 @@ use Rattle.base.specs.declared.entity.Kind.TheVariants as kind
 use Rattle.trade.specs.Words.{stock_line_word}
 use Rattle.keep_sqlite.specs.Holders.{sender_line}
 use Rattle.keep_sqlite.specs.Stocks.{stocks as filing, stock_rows, stock_cells}
+use Rattle.keep_sqlite.proofs.Clean.{clean_before}
 use Rattle.keep_sqlite.proofs.StocksHeld.{stocks_held}
 use Rattle.keep_sqlite.proofs.HolderSteps.{steps_head, steps_line}
 use Rattle.keep_sqlite.proofs.stocks.step_stock.Goals as goal
@@ -15,8 +16,8 @@ returns-in_ok-set_line-in-Some-clause-ok g c clean =
     let old = state g.S.Store c.args.tx.now.conn.now in
     let head = state g.S.Store c.put_head.new.tx.conn.now in
     let new = state g.S.Store c.set_line.new.tx.conn.now in
-    let late : HasCleanDisk head = omega (arith, c.set_line.ensures.survives.clean) in
-    let early : HasCleanDisk old = omega (arith, c.put_head.ensures.survives.clean, late) in
+    let late : HasCleanDisk head = clean_before _ _ c.set_line.ensures.survives.clean clean in
+    let early : HasCleanDisk old = clean_before _ _ c.put_head.ensures.survives.clean late in
     let x = c.args.stock.now in
     let found : sender_line (option_copied c.args.sender) x.lines ≡ Some c.in-Some.line.now =
     sym (c.in-Some.ensures ∙ ap (sender_line (option_copied c.args.sender)) c.lines.ensures) in
@@ -30,7 +31,7 @@ pub returns-in-None-clause-ok : goal.returns-in-None-clause-ok
 returns-in-None-clause-ok g c clean =
     let old = state g.S.Store c.args.tx.now.conn.now in
     let new = state g.S.Store c.put_head.new.tx.conn.now in
-    let early : HasCleanDisk old = omega (arith, c.put_head.ensures.survives.clean) in
+    let early : HasCleanDisk old = clean_before _ _ c.put_head.ensures.survives.clean clean in
     let x = c.args.stock.now in
     let none : sender_line (option_copied c.args.sender) x.lines ≡ None =
     sym (c.in-None.ensures ∙ ap (sender_line (option_copied c.args.sender)) c.lines.ensures) in

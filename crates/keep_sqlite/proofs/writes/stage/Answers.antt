@@ -5,6 +5,7 @@ use Rattle.sqlite.specs.State.{HasCleanDisk}
 use Rattle.keep.specs.Steps.{AreSteps}
 use Rattle.keep_sqlite.specs.Ready.{IsUnderWay}
 use Rattle.keep_sqlite.specs.Tables.{tables_of}
+use Rattle.keep_sqlite.proofs.Clean.{clean_before}
 use Rattle.keep_sqlite.proofs.Changes.{both_keep, one_more, survives_quietly}
 use Rattle.keep_sqlite.proofs.Commits.{all_made, way_keeps}
 use Rattle.keep_sqlite.proofs.Knowing.{next_steps, step_by}
@@ -28,7 +29,7 @@ returns-in_err-count-clause-kept g c clean =
     let old = state g.S.Store c.args.tx.now.conn.now in
     let mid = state g.S.Store c.loop-place.tx.conn.now in
     let new = state g.S.Store c.write_one.new.tx.conn.now in
-    let early : HasCleanDisk mid = omega (arith, c.write_one.ensures.survives.clean, clean) in
+    let early : HasCleanDisk mid = clean_before _ _ c.write_one.ensures.survives.clean clean in
     both_keep f old mid new
     (way_keeps f _ c.args.changes.now c.loop-place.count old mid (c.loop-place.invariant.2 early))
     (c.write_one.ensures.kept clean)
@@ -53,12 +54,12 @@ loop-place-preserved g c =
       c.write_one.ensures.same_reference ∙ c.loop-place.invariant.0,
       survives_quietly old mid new c.loop-place.invariant.1 c.write_one.ensures.survives,
       λ clean.
-          let early : HasCleanDisk mid = omega (arith, c.write_one.ensures.survives.clean) in
+          let early : HasCleanDisk mid = clean_before _ _ c.write_one.ensures.survives.clean clean in
           one_more f change (drop (at + 1) all) all c.loop-place.count _ old mid new (c.in_ok-count.ensures.ok clean)
           (subst (λ rest. IsUnderWay f rest all c.loop-place.count old mid) next (c.loop-place.invariant.2 early)),
       c.in_ok-count.ensures.known,
       λ clean are.
-          let early : HasCleanDisk mid = omega (arith, c.write_one.ensures.survives.clean) in
+          let early : HasCleanDisk mid = clean_before _ _ c.write_one.ensures.survives.clean clean in
           next_steps follows f change (drop (at + 1) all) _ mid new (c.in_ok-count.ensures.ok clean)
           (subst (λ rest. AreSteps follows rest (tables_of f mid.now.trees)) next (c.loop-place.invariant.4 early are)),
     )

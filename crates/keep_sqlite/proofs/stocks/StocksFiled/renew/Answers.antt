@@ -4,6 +4,7 @@ use Rattle.sqlite.specs.Held.{state}
 use Rattle.sqlite.specs.State.{HasCleanDisk}
 use Rattle.keep_sqlite.specs.Stocks.{stocks as filing, stock_rows}
 use Rattle.keep_sqlite.specs.Holders.{holder_in}
+use Rattle.keep_sqlite.proofs.Clean.{clean_before}
 use Rattle.keep_sqlite.proofs.Frames.{IsLeft}
 use Rattle.keep_sqlite.proofs.Renewals.{version_renews}
 use Rattle.keep_sqlite.proofs.stocks.StocksFiled.renew.Goals as goal
@@ -18,7 +19,7 @@ pub returns-clause-ok : goal.returns-clause-ok
 returns-clause-ok g c clean =
     let old = state g.S.Store c.args.tx.now.conn.now in
     let new = state g.S.Store c.set_version.new.tx.conn.now in
-    let early : HasCleanDisk old = omega (arith, c.set_version.ensures.survives.clean, clean) in
+    let early : HasCleanDisk old = clean_before _ _ c.set_version.ensures.survives.clean clean in
     let was = c.requires.first early in
     let told = c.in_ok-set_version.ensures.ok clean in
     let left = subst (λ s. AllByRecursion (IsLeft 13 old.now.trees new.now.trees) s.tables) was.is told.others in
