@@ -1,48 +1,56 @@
--- What the answers to a token tell of the journal that it has then seen.
-use Rattle.std.specs.Prelude.{◌≡◌, ◌⊎◌, ℕ, ◌≤◌, Bool, true, false, List, [], ◌∷◌, Option, Some, None, Result, Ok, Err, ⊤}
-use Rattle.std.specs.Prelude.{slice_get}
+-- What the answers to a token tell of what its service has then kept.
+use Rattle.std.specs.Prelude.{◌≡◌, ◌⊎◌, ℕ, ◌≤◌, ◌<◌, Bool, true, false, List, [], ◌∷◌, Option, Some, None, Result, Ok, Err, ⊤}
+use Rattle.std.specs.List.{AllByRecursion}
 use Rattle.std.specs.Global.{Vec}
 use Rattle.base.specs.declared.pair.Pair.{Pair}
 use Rattle.base.specs.declared.entity.Kind.{Kind}
 use Rattle.stomp_frame.specs.Frames.{Content}
 use Rattle.stomp_client.specs.Clients.{Client}
 use Rattle.stomp_client.specs.declared.fault.ClientFault.TheVariants as client
+use Rattle.envelope.specs.Reading.{read_frame}
+use Rattle.envelope.specs.declared.fault.EnvelopeFault.TheVariants as envelope_fault
+use Rattle.envelope.specs.declared.message.Letter.{Letter}
+use Rattle.envelope.specs.declared.message.Envelope.{Envelope}
+use Rattle.envelope.specs.declared.message.Envelope.TheVariants as envelope
+use Rattle.activities.specs.Reaction.{Reactions}
+use Rattle.activities.specs.Service.{Service}
+use Rattle.keep.specs.Seen.{Seen}
+use Rattle.keep.specs.Tables.{Tables}
+use Rattle.endpoint.specs.Deeds.{Kept, kept}
+use Rattle.endpoint.specs.declared.answer.Ingested.{Ingested}
+use Rattle.endpoint.specs.declared.answer.Ingested.TheVariants as ingested
+use Rattle.endpoint.specs.declared.fault.EndFault.{EndFault}
+use Rattle.endpoint.specs.declared.fault.EndFault.TheVariants as end
+use Rattle.group_commit.specs.declared.grouped.Grouped.{Grouped}
+use Rattle.group_commit.specs.declared.grouped.Grouped.TheVariants as grouped
 use Rattle.reception.specs.Answers.{Answers}
 use Rattle.reception.specs.Prepared.{IsUnaskedFor, IsUnasked, ToldOfLetter, ToldOfSettle}
-use Rattle.endpoint.specs.declared.fault.EndFault.TheVariants as end
-use Rattle.envelope.specs.declared.fault.EnvelopeFault.TheVariants as envelope_fault
 use Rattle.reception.specs.declared.fault.ReceptionFault.{ReceptionFault}
 use Rattle.reception.specs.declared.fault.ReceptionFault.TheVariants as fault
 use Rattle.reception.specs.declared.taken.Taken.{Taken}
 use Rattle.reception.specs.declared.taken.Taken.TheVariants as taken
-use Rattle.envelope.specs.Reading.{read_frame}
-use Rattle.envelope.specs.declared.message.Letter.{Letter}
-use Rattle.envelope.specs.declared.message.Envelope.{Envelope}
-use Rattle.envelope.specs.declared.message.Envelope.TheVariants as envelope
-use Rattle.activities.specs.Journal.{handled_of}
-use Rattle.activities.specs.Reaction.{Reactions}
-use Rattle.activities.specs.Service.{Service}
-use Rattle.activities.specs.declared.input.JournalRow.{JournalRow}
-use Rattle.keep.specs.Seen.{Seen}
-use Rattle.keep.specs.Tables.{Tables}
-use Rattle.endpoint.specs.declared.answer.Ingested.{Ingested}
-use Rattle.endpoint.specs.declared.answer.Ingested.TheVariants as ingested
-use Rattle.endpoint.specs.declared.fault.EndFault.{EndFault}
 use Rattle.laws_stores.specs.Writing.{IsTrueIn}
 use Rattle.told_lock.specs.declared.view.Told.{Told}
 use Rattle.shared_endpoint.specs.Promises.{IsGood}
+use Rattle.service_workers.specs.Tokens.{Progress, progress_of, HasArrived, GoesOn}
 use Rattle.service_workers.specs.declared.worker.Answer.{Answer}
 use Rattle.service_workers.specs.declared.worker.Answer.TheVariants as answer
 
 module _ {E S C : Type 0} (seen : E → Seen (Tables S C)) (service : Service S C) where
-  -- this holds of the journal that the token has then seen, where no file is in doubt and the token was good before
-  abbrev pub Tells : (List (JournalRow C) → Type 0) → (v w : Told E) → Type 0
-  Tells P v w = (seen w.last).doubt ≡ 0 → IsGood seen service v → P (seen w.seen).tables.journal
+  -- this holds of what the token has then seen, where no file is in doubt and the token was good before
+  abbrev pub TokenLearns : (Kept C → Type 0) → (v w : Told E) → Type 0
+  TokenLearns P v w = (seen w.last).doubt ≡ 0 → IsGood seen service v → P (kept (seen w.seen).tables)
 
   -- the same of what two keys know: each stands for this one token
-  abbrev pub Learns : (List (JournalRow C) → Type 0) → (vs ws : List (Told E)) → Type 0
-  Learns P (v ∷ []) (w ∷ []) = Tells P v w
+  abbrev pub Learns : (Kept C → Type 0) → (vs ws : List (Told E)) → Type 0
+  Learns P (v ∷ []) (w ∷ []) = TokenLearns P v w
   Learns P _ _ = ⊥
+
+  -- the token of this number, as it was at some time, has learned this since
+  abbrev pub Knows : (n : ℕ) → (Kept C → Type 0) → (ws : List (Told E)) → Type 0
+  Knows n P ws = (vs : List (Told E)) × GoesOn seen service n vs ws × Learns P vs ws
+
+-- ---- what the Hand is told
 
 -- whether a letter is handled, now or before
 abbrev pub handles : Result Ingested EndFault → Bool
@@ -50,76 +58,126 @@ handles (Ok (ingested.Handled position)) = true
 handles (Ok (ingested.Repeated number)) = true
 handles _ = false
 
--- a letter that is told to be handled is, and its pair so far, where so many of each pair are
-abbrev pub IngestedBy : Letter → Result Ingested EndFault → (Pair → ℕ) → Type 0
-IngestedBy l (Ok (ingested.Handled position)) handled = l.number ≤ handled l.pair
-IngestedBy l (Ok (ingested.Repeated number)) handled = (l.number ≤ handled l.pair) × (number ≤ handled l.pair)
-IngestedBy l _ handled = ⊤
+-- A letter that is told as handled is, and so is its pair up to the number that is told; one that is told as held has
+-- arrived.
+abbrev pub IngestedBy : Letter → Result Ingested EndFault → Progress → Type 0
+IngestedBy l (Ok (ingested.Handled position)) x = l.number ≤ x.handled l.pair
+IngestedBy l (Ok (ingested.Repeated number)) x = (l.number ≤ x.handled l.pair) × (number ≤ x.handled l.pair)
+IngestedBy l (Ok ingested.Held) x = HasArrived x l.pair l.number
+IngestedBy l (Err fault) x = ⊤
 
-abbrev pub IngestedIn : {C : Type 0} → Letter → Result Ingested EndFault → List (JournalRow C) → Type 0
-IngestedIn l r j = IngestedBy l r (handled_of j)
+-- what was sent on a pair is settled up to the number that is told, and up to the one that came
+abbrev pub NotedBy : Pair → ℕ → Result ℕ EndFault → Progress → Type 0
+NotedBy p n (Ok mark) x = (n ≤ x.settled p) × (mark ≤ x.settled p)
+NotedBy p n (Err fault) x = ⊤
 
--- a held letter that is told to be handled is
-abbrev pub IsDrainedIn : {C : Type 0} → Pair → Option ℕ → List (JournalRow C) → Type 0
-IsDrainedIn p (Some number) j = number ≤ handled_of j p
-IsDrainedIn p None j = ⊤
+-- the same of an envelope that was taken in with others
+abbrev pub GroupedBy : Envelope → Grouped → Progress → Type 0
+GroupedBy (envelope.Letter l) (grouped.Handled position) x = l.number ≤ x.handled l.pair
+GroupedBy (envelope.Letter l) (grouped.Settled mark) x = ⊥
+GroupedBy (envelope.Settle p n) (grouped.Handled position) x = ⊥
+GroupedBy (envelope.Settle p n) (grouped.Settled mark) x = (n ≤ x.settled p) × (mark ≤ x.settled p)
 
-abbrev pub DrainedIn : {C : Type 0} → Pair → Result (Option ℕ) EndFault → List (JournalRow C) → Type 0
-DrainedIn p (Ok drained) j = IsDrainedIn p drained j
-DrainedIn p (Err fault) j = ⊤
+-- of the first of these envelopes, one by one, as many as something is told of
+abbrev pub AreGroupedBy : List Envelope → List Grouped → Progress → Type 0
+AreGroupedBy es [] x = ⊤
+AreGroupedBy [] (g ∷ gs) x = ⊥
+AreGroupedBy (e ∷ es) (g ∷ gs) x = GroupedBy e g x × AreGroupedBy es gs x
 
--- each letter is what the journal sends under its number
-abbrev pub AreSentIn : {S C : Type 0} → Reactions S C → List Letter → List (JournalRow C) → Type 0
-AreSentIn reactions ls j = (i : ℕ) (l : Letter) → slice_get ls i ≡ Some l → IsTrueIn reactions j (envelope.Letter l)
+-- the same by what a service has kept
+abbrev pub IngestedIn : {C : Type 0} → Letter → Result Ingested EndFault → Kept C → Type 0
+IngestedIn l r x = IngestedBy l r (progress_of x)
 
-abbrev pub ListedIn : {S C : Type 0} → Reactions S C → Result (Vec Letter) EndFault → List (JournalRow C) → Type 0
-ListedIn reactions (Ok letters) j = AreSentIn reactions letters.items j
-ListedIn reactions (Err fault) j = ⊤
+abbrev pub NotedIn : {C : Type 0} → Pair → ℕ → Result ℕ EndFault → Kept C → Type 0
+NotedIn p n r x = NotedBy p n r (progress_of x)
+
+abbrev pub GroupedIn : {C : Type 0} → List Envelope → Result (Vec Grouped) EndFault → Kept C → Type 0
+GroupedIn es (Ok told) x = AreGroupedBy es told.items (progress_of x)
+GroupedIn es (Err fault) x = ⊤
+
+abbrev pub OneGroupedIn : {C : Type 0} → Envelope → Grouped → Kept C → Type 0
+OneGroupedIn e g x = GroupedBy e g (progress_of x)
+
+abbrev pub AreGroupedIn : {C : Type 0} → List Envelope → List Grouped → Kept C → Type 0
+AreGroupedIn es gs x = AreGroupedBy es gs (progress_of x)
+
+-- so many are left of what is told of these envelopes, and it is this
+abbrev pub IsLeftIn : {C : Type 0} → List Envelope → (count : ℕ) → List Grouped → Kept C → Type 0
+IsLeftIn es count gs x = 0 < count → AreGroupedIn es gs x
+
+-- it is told of the first of these envelopes, and what is left of those behind it; or nothing is left
+abbrev pub IsNextIn : {C : Type 0} → List Envelope → Option Grouped → (count : ℕ) → List Grouped → Kept C → Type 0
+IsNextIn es (Some g) count gs x = AreGroupedIn es (g ∷ gs) x
+IsNextIn es None count gs x = count ≡ 0
+
+-- the next letter of a pair was held, and is handled up to this number
+abbrev pub DrainedIn : {C : Type 0} → Pair → Option ℕ → Kept C → Type 0
+DrainedIn p (Some number) x = number ≤ (progress_of x).handled p
+DrainedIn p None x = ⊤
+
+abbrev pub DrainToldIn : {C : Type 0} → Pair → Result (Option ℕ) EndFault → Kept C → Type 0
+DrainToldIn p (Ok drained) x = DrainedIn p drained x
+DrainToldIn p (Err fault) x = ⊤
+
+-- ---- what the worker answers
+
+-- what is told of a letter is told of this envelope
+abbrev pub OfLetter : Envelope → Result Ingested EndFault → Progress → Type 0
+OfLetter (envelope.Letter l) r x = IngestedBy l r x
+OfLetter (envelope.Settle p n) r x = ⊥
+
+-- and what is told of a settle
+abbrev pub OfSettle : Envelope → Result ℕ EndFault → Progress → Type 0
+OfSettle (envelope.Letter l) r x = ⊥
+OfSettle (envelope.Settle p n) r x = NotedBy p n r x
 
 -- what is answered to an envelope is true
-abbrev pub AnsweredBy : Envelope → Answer → (Pair → ℕ) → Type 0
-AnsweredBy (envelope.Letter l) (answer.Letter r) handled = IngestedBy l r handled
-AnsweredBy (envelope.Settle p n) (answer.Letter r) handled = ⊥
-AnsweredBy (envelope.Letter l) (answer.Settle r) handled = ⊥
-AnsweredBy (envelope.Settle p n) (answer.Settle r) handled = ⊤
-AnsweredBy e answer.Unasked handled = ⊤
+abbrev pub AnsweredBy : Envelope → Answer → Progress → Type 0
+AnsweredBy e (answer.Letter r) x = OfLetter e r x
+AnsweredBy e (answer.Settle r) x = OfSettle e r x
+AnsweredBy e answer.Unasked x = ⊤
 
-abbrev pub AnsweredIn : {C : Type 0} → Envelope → Answer → List (JournalRow C) → Type 0
-AnsweredIn e a j = AnsweredBy e a (handled_of j)
+abbrev pub AnsweredIn : {C : Type 0} → Envelope → Answer → Kept C → Type 0
+AnsweredIn e a x = AnsweredBy e a (progress_of x)
 
 -- so is what is answered to what a MESSAGE carries
-abbrev pub CarriedBy : Content → Answer → (Pair → ℕ) → Type 0
-CarriedBy f a handled = (e : Envelope) → read_frame f ≡ Some e → AnsweredBy e a handled
+abbrev pub CarriedBy : Content → Answer → Progress → Type 0
+CarriedBy f a x = (e : Envelope) → read_frame f ≡ Some e → AnsweredBy e a x
 
-abbrev pub AnsweredTo : {C : Type 0} → Content → Answer → List (JournalRow C) → Type 0
-AnsweredTo f a j = CarriedBy f a (handled_of j)
+abbrev pub AnsweredTo : {C : Type 0} → Content → Answer → Kept C → Type 0
+AnsweredTo f a x = CarriedBy f a (progress_of x)
 
 -- ---- what is written
 
--- by what is told of a MESSAGE: the letter that it carries is handled, where it's acknowledged so, and its pair is as far as
--- it is settled
-abbrev pub SettledBy : Content → Result Taken ReceptionFault → (Pair → ℕ) → Type 0
-SettledBy f (Ok (taken.Handled position)) handled =
-    (l : Letter) → read_frame f ≡ Some (envelope.Letter l) → l.number ≤ handled l.pair
-SettledBy f (Ok (taken.Repeated number)) handled =
-    (l : Letter) → read_frame f ≡ Some (envelope.Letter l) → (l.number ≤ handled l.pair) × (number ≤ handled l.pair)
-SettledBy f _ handled = ⊤
+-- By what is told of a MESSAGE: the letter that it carries is handled where it's settled, and its pair as far as it is; it
+-- has arrived where it's acknowledged; and a settle that is acknowledged is noted.
+abbrev pub RepliedBy : Content → Result Taken ReceptionFault → Progress → Type 0
+RepliedBy f (Ok (taken.Handled position)) x =
+    (l : Letter) → read_frame f ≡ Some (envelope.Letter l) → l.number ≤ x.handled l.pair
+RepliedBy f (Ok (taken.Repeated number)) x =
+    (l : Letter) → read_frame f ≡ Some (envelope.Letter l) → (l.number ≤ x.handled l.pair) × (number ≤ x.handled l.pair)
+RepliedBy f (Ok taken.Held) x =
+    (l : Letter) → read_frame f ≡ Some (envelope.Letter l) → HasArrived x l.pair l.number
+RepliedBy f (Ok (taken.Settled mark)) x =
+    (p : Pair) (n : ℕ) → read_frame f ≡ Some (envelope.Settle p n) → (n ≤ x.settled p) × (mark ≤ x.settled p)
+RepliedBy f _ x = ⊤
 
 -- the client writes what is told, or what was prepared doesn't go with the answer, and it writes nothing
 abbrev pub Finishes : Kind → Content → (old new : Client ℕ) → Result Taken ReceptionFault → Type 0
 Finishes kind f old new result =
     Answers kind f old new result ⊎ ((result ≡ Err (fault.Client client.Unexpected)) × (new ≡ old))
 
--- what is told asks nothing of the endpoint
-abbrev pub NeedsNone : Result Taken ReceptionFault → Type 0
-NeedsNone (Ok t) = IsUnaskedFor t
-NeedsNone (Err f) = IsUnasked f
+-- what is told needs nothing of the endpoint
+abbrev pub NeedsNoAnswer : Result Taken ReceptionFault → Type 0
+NeedsNoAnswer (Ok t) = IsUnaskedFor t
+NeedsNoAnswer (Err f) = IsUnasked f
 
 -- what is told is what the endpoint answered to what the MESSAGE carries
-abbrev pub Tied : Content → Answer → Result Taken ReceptionFault → Type 0
-Tied f (answer.Letter r) told = (l : Letter) × (read_frame f ≡ Some (envelope.Letter l)) × ToldOfLetter l r told
-Tied f (answer.Settle r) told = ToldOfSettle r told
-Tied f answer.Unasked told = ⊥
+abbrev pub IsItsAnswer : Content → Answer → Result Taken ReceptionFault → Type 0
+IsItsAnswer f (answer.Letter r) told = (l : Letter) × (read_frame f ≡ Some (envelope.Letter l)) × ToldOfLetter l r told
+IsItsAnswer f (answer.Settle r) told =
+    (p : Pair) × (n : ℕ) × (read_frame f ≡ Some (envelope.Settle p n)) × ToldOfSettle r told
+IsItsAnswer f answer.Unasked told = ⊥
 
 -- behind these faults the frame was answered
 abbrev pub is_answered : ReceptionFault → Bool
@@ -128,3 +186,13 @@ is_answered (fault.End end.Unusable) = false
 is_answered (fault.End _) = true
 is_answered (fault.Envelope envelope_fault.BadEnvelope) = true
 is_answered _ = false
+
+-- ---- what the Scout is told
+
+-- each letter is what the journal sends under its number
+abbrev pub AreSentIn : {S C : Type 0} → Reactions S C → List Letter → Kept C → Type 0
+AreSentIn reactions ls x = AllByRecursion (λ l. IsTrueIn reactions x.journal (envelope.Letter l)) ls
+
+abbrev pub ListedIn : {S C : Type 0} → Reactions S C → Result (Vec Letter) EndFault → Kept C → Type 0
+ListedIn reactions (Ok letters) x = AreSentIn reactions letters.items x
+ListedIn reactions (Err fault) x = ⊤

@@ -1,0 +1,14 @@
+use Rattle.std.proofs.Common.{subst, sym}
+use Rattle.shared_endpoint.specs.Token.{scout_number}
+use Rattle.service_workers.specs.Truth.{AreSentIn, ListedIn}
+use Rattle.service_workers.proofs.Truth.{knows_now, so_tells}
+use Rattle.service_workers.proofs.sender.send_page.Goals as goal
+
+pub send-requires : goal.send-requires
+send-requires g c = record {
+  told = knows_now g.K.Keep.seen g.H.Handler.service scout_number
+      (AreSentIn g.H.Handler.service.reactions c.as_slice.result.now) _ _ c.unsettled.ensures.goes_on
+      (so_tells g.K.Keep.seen g.H.Handler.service (ListedIn g.H.Handler.service.reactions c.unsettled.result) _
+      (λ x h. subst (λ ls. AreSentIn g.H.Handler.service.reactions ls x) (sym c.as_slice.ensures.value)
+      (subst (λ r. ListedIn g.H.Handler.service.reactions r x) c.in-Ok.is h)) _ _ c.unsettled.ensures.told);
+}
