@@ -14,32 +14,10 @@ use Rattle.told_lock.specs.declared.view.Stage.TheVariants.{New, Waiting, Open}
 use Rattle.told_lock.specs.Rule.{Every, opener, waiting, entered, gone, holding, without, new_told, saw, counted}
 use Rattle.told_lock.specs.Rule.{Began, Entered, Saw, Stayed, told_by, token_of, next_of, both_of, Holds, IsChief}
 use Rattle.told_lock.specs.Rule.{IsTold, IsKnown, Each, IsFree, MayHold, Opened, Kept, Took, MaySee, MayStay}
-use Rattle.told_lock.specs.Rule.{Sums}
-
-pub every_map : {X : Type 0} (P Q : X → Type 0) (xs : List X) → ((x : X) → P x → Q x) → Every P xs → Every Q xs
-every_map P Q [] f p = tt
-every_map P Q (x ∷ xs) f p = (f x p.0, every_map P Q xs f p.1)
-
-pub every_over : {X : Type 0} (P Q : X → Type 0) (g : X → X) (xs : List X) → ((x : X) → P x → Q (g x)) → Every P xs
-    → Every Q (map g xs)
-every_over P Q g [] f p = tt
-every_over P Q g (x ∷ xs) f p = (f x p.0, every_over P Q g xs f p.1)
-
-pub every_both : {X : Type 0} (P : X → Type 0) (xs ys : List X) → Every P xs → Every P ys → Every P (xs ++ ys)
-every_both P [] ys p q = q
-every_both P (x ∷ xs) ys p q = (p.0, every_both P xs ys p.1 q)
+use Rattle.told_lock.specs.Rule.{Sums, seen_by, witness_of, shown_of}
+use Rattle.told_lock.proofs.Views.{every_map, every_over, every_both, at_end, each_set, each_more, each_other}
 
 module _ {T : Type 0} where
-  -- one view is changed
-  pub each_set : (F : ℕ → Known T → Type 0) (views : List (Known T)) (i : ℕ) (w : Known T) → F i w
-      → ((j : ℕ) (u : Known T) → j ≢ i → get_elem? views j ≡ some u → F j u)
-      → (j : ℕ) (u : Known T) → get_elem? (set views i w) j ≡ some u → F j u
-  each_set F views i w mine others j u e =
-      ⊎_elim
-      (λ (x : (j ≡ i) × (w ≡ u)). subst (λ (y : ℕ × Known T). F y.0 y.1) (λ k. (sym x.0 k, x.1 k)) mine)
-      (λ (x : (j ≢ i) × (get_elem? views j ≡ some u)). others j u x.0 x.1)
-      (at_set views i j w u e)
-
   new_apart : (x : T) → opener ≡ waiting x → ⊥
   new_apart x is = let same : New ≡ Waiting = ap (λ (k : Known T). k.stage) is in absurd (cc same)
 
@@ -55,30 +33,33 @@ pick_here s n a b e = grind (arith, nat_tests)
 pick_else : (s n a b : ℕ) → s ≢ n → (if s == n then a else b) ≡ b
 pick_else s n a b e = grind (arith, nat_tests)
 
-at_end : {A : Type 0} (l : List A) (a b : A) (j : ℕ) → get_elem? (l ++ a ∷ []) j ≡ some b → (get_elem? l j ≡ some b)
-    ⊎ ((j ≡ length l) × (a ≡ b))
-at_end [] a b zero e = inr (refl, some-injective a b e)
-at_end [] a b (suc j) e = absurd (some-ne-none b (sym e))
-at_end (x ∷ xs) a b zero e = inl e
-at_end (x ∷ xs) a b (suc j) e = ⊎_elim (λ p. inl p) (λ p. inr (ap suc p.0, p.1)) (at_end xs a b j e)
-
 module _ {T : Type 0} (Since : ℕ → T → T → Type 0) (Later Ends : T → T → Type 0)
     (since_same : (n : ℕ) (a : T) → Since n a a)
     (since_join : (n : ℕ) (a b c : T) → Since n a b → Since n b c → Since n a c)
     (later_same : (a : T) → Later a a) (later_join : (a b c : T) → Later a b → Later b c → Later a c)
-    (ends_same : (a : T) → Ends a a) where
+    (ends_same : (a : T) → Ends a a) (Ever : T → T → Type 0)
+    (ever_of : (n : ℕ) (a b : T) → Since n a b → Ever a b)
+    (ever_join : (a b c : T) → Ever a b → Ever b c → Ever a c) where
+  -- a number below the top is not the top
+  below : (a top : ℕ) → a < top → a ≢ top
+  below a top lt same = absurd (omega arith)
+
+  -- what was shown is so of what came of it
+  on_shown : (a b : T) (ys : List T) → Ever a b → Every (λ y. Ever y a) ys → Every (λ y. Ever y b) ys
+  on_shown a b ys e all = every_map (λ y. Ever y a) (λ y. Ever y b) ys (λ y h. ever_join y a b h e) all
+
   abbrev K : List T → List (Known T) → Type 0
-  K = Kept Since Later Ends
+  K = Kept Since Later Ends Ever
 
   abbrev Is : T → T → Told T → Type 0
   Is = IsTold Since Later Ends
 
   abbrev Knows : T → T → (ℕ → ℕ) → ℕ → ℕ → ℕ → Known T → Type 0
-  Knows = IsKnown Since Later Ends
+  Knows = IsKnown Since Later Ends Ever
 
   -- a key of an open lock
   opened : (items : List T) (views : List (Known T)) (i : ℕ) (v : Known T) → v.stage ≡ Open
-      → get_elem? views i ≡ some v → K items views → Opened Since Later Ends items views
+      → get_elem? views i ≡ some v → K items views → Opened Since Later Ends Ever items views
   opened items views i v two at (inl h) = absurd (not_first views i v two (h.1) at)
     where
       not_first : (views : List (Known T)) (i : ℕ) (v : Known T) → v.stage ≡ Open → views ≡ opener ∷ []
@@ -103,7 +84,7 @@ module _ {T : Type 0} (Since : ℕ → T → T → Type 0) (Later Ends : T → T
       waits (x ∷ y ∷ ys) (suc i) v e two is at = absurd (cc is)
   opened items views i v two at (inr (inr h)) = h
 
-  pub takes : (i : ℕ) (v : Known T) → v.stage ≡ Open → Pops K i v (Took Since Later Ends v)
+  pub takes : (i : ℕ) (v : Known T) → v.stage ≡ Open → Pops K i v (Took Since Later Ends Ever v)
   takes i v two x items views rule at =
       let h = opened (x ∷ items) views i v two at rule in
       let me = h.known i v at in
@@ -131,7 +112,7 @@ module _ {T : Type 0} (Since : ℕ → T → T → Type 0) (Later Ends : T → T
             ),
           );
           known = each_set (Knows x h.good h.owner h.chief h.top) views i w
-              (record { opened = refl; told = told; chief_is = me.chief_is })
+              (record { opened = refl; told = told; chief_is = me.chief_is; shown = me.shown })
               (λ j u apart e. subst (λ y. Knows y h.good h.owner h.chief h.top j u) is (h.known j u e));
         })),
         record {
@@ -139,6 +120,7 @@ module _ {T : Type 0} (Since : ℕ → T → T → Type 0) (Later Ends : T → T
           is = refl;
           ends = end;
           told = every_map _ _ v.own (λ t p. p.0) told;
+          shown = me.shown;
         },
       )
 
@@ -199,6 +181,8 @@ module _ {T : Type 0} (Since : ℕ → T → T → Type 0) (Later Ends : T → T
       let h = mine items views i v may.value may.stage may.has at rule in
       let same : h.good ≡ may.good = mine_at items views i v may.value may.good h may.was in
       let me = h.known i v at in
+      let on : Ever h.good x = ever_of h.top h.good x (subst (λ y. Since h.top y x) (sym same)
+      (may.others h.top (every_map _ _ v.own (λ y q. below y.number h.top q.2) me.told))) in
       let w : Known T = without (map (saw x) v.own) v in (
         w,
         inr (inr (record {
@@ -224,6 +208,7 @@ module _ {T : Type 0} (Since : ℕ → T → T → Type 0) (Later Ends : T → T
                       p.2,
                     )) me.told;
                 chief_is = me.chief_is;
+                shown = on_shown h.good x v.shown on me.shown;
               })
               (λ j u apart there.
               let k = h.known j u there in
@@ -243,6 +228,7 @@ module _ {T : Type 0} (Since : ℕ → T → T → Type 0) (Later Ends : T → T
                       p.2,
                     )) k.told;
                 chief_is = k.chief_is;
+                shown = on_shown h.good x u.shown on k.shown;
               });
         })),
         refl,
@@ -256,6 +242,7 @@ module _ {T : Type 0} (Since : ℕ → T → T → Type 0) (Later Ends : T → T
       let on : (t : Told T) → Since t.number t.seen h.good
       → Since t.number t.seen may.now = λ t s. since_join t.number t.seen h.good may.now s
       (subst (λ y. Since t.number y may.now) (sym same) (may.all t.number)) in
+      let ever : Ever h.good may.now = ever_of 0 h.good may.now (subst (λ y. Since 0 y may.now) (sym same) (may.all 0)) in
       let w : Known T = without (map (counted x) v.own) v in (
         w,
         inr (inr (record {
@@ -281,6 +268,7 @@ module _ {T : Type 0} (Since : ℕ → T → T → Type 0) (Later Ends : T → T
                       p.2,
                     )) me.told;
                 chief_is = me.chief_is;
+                shown = on_shown h.good may.now v.shown ever me.shown;
               })
               (λ j u apart there.
               let k = h.known j u there in
@@ -297,6 +285,7 @@ module _ {T : Type 0} (Since : ℕ → T → T → Type 0) (Later Ends : T → T
                       p.2,
                     )) k.told;
                 chief_is = k.chief_is;
+                shown = on_shown h.good may.now u.shown ever k.shown;
               });
         })),
         refl,
@@ -356,7 +345,7 @@ module _ {T : Type 0} (Since : ℕ → T → T → Type 0) (Later Ends : T → T
             ),
           );
           known = all (Knows x x (λ _. 0) 0 0) (set views i w) w one.2
-              (record { opened = refl; told = tt; chief_is = λ _. (refl, refl) });
+              (record { opened = refl; told = tt; chief_is = λ _. (refl, refl); shown = tt });
         })),
         (ap Some dx, refl),
       )
@@ -379,10 +368,11 @@ module _ {T : Type 0} (Since : ℕ → T → T → Type 0) (Later Ends : T → T
       no : Waiting ≡ Open → ⊥
       no e = absurd (cc e)
 
-  pub sums : (i : ℕ) (v : Known T) → v.stage ≡ Open → Learns K i v (λ _. Sums Since Later Ends v)
+  pub sums : (i : ℕ) (v : Known T) → v.stage ≡ Open → Learns K i v (λ _. Sums Since Later Ends Ever v)
   sums i v two items views rule at e has =
       let h = mine items views i v e two has at rule in
-      (h.good, h.ends, every_map _ _ v.own (λ t p. p.0) (h.known i v at).told)
+      let me = h.known i v at in
+      (h.good, h.ends, every_map _ _ v.own (λ t p. p.0) me.told, me.shown)
 
   pub forks : (i : ℕ) (v : Known T) → IsChief v → Forks K i v (next_of v) (token_of v)
   forks i v c items views rule at =
@@ -437,6 +427,7 @@ module _ {T : Type 0} (Since : ℕ → T → T → Type 0) (Later Ends : T → T
               told = every_map _ _ v.own (keeps i) me.told;
               chief_is = λ _.
                   (mine'.0, ap suc mine'.1);
+              shown = me.shown;
             })
             (λ k x apart e.
             let o = h.known k x e in
@@ -445,6 +436,7 @@ module _ {T : Type 0} (Since : ℕ → T → T → Type 0) (Later Ends : T → T
               told = every_map _ _ x.own (keeps k) o.told;
               chief_is = λ y. absurd
                   (apart ((o.chief_is y).0 ∙ sym mine'.0));
+              shown = o.shown;
             })
             j u old)
             (λ new. subst (λ (y : ℕ × Known T). Knows d h.good owner h.chief (suc h.top) y.0 y.1)
@@ -456,6 +448,7 @@ module _ {T : Type 0} (Since : ℕ → T → T → Type 0) (Later Ends : T → T
                   (sym c.has)
                   ((fresh, pick_here v.next v.next (length vs) (h.owner v.next) refl, last v.next h.top mine'.1), tt);
               chief_is = λ y. absurd (true≢false (sym y));
+              shown = tt;
             }))
             (at_end vs right u j there);
       }))
@@ -499,7 +492,7 @@ module _ {T : Type 0} (Since : ℕ → T → T → Type 0) (Later Ends : T → T
           ),
         );
         known = each_set (Knows d h.good owner h.chief h.top) (set views i both) other gone
-            (record { opened = refl; told = tt; chief_is = λ y. absurd (true≢false (sym y)) })
+            (record { opened = refl; told = tt; chief_is = λ y. absurd (true≢false (sym y)); shown = tt })
             (λ j u off e.
             each_set (λ k x. k ≢ other → Knows d h.good owner h.chief h.top k x) views i both
             (λ off'. record {
@@ -508,12 +501,90 @@ module _ {T : Type 0} (Since : ℕ → T → T → Type 0) (Later Ends : T → T
                   (every_map _ _ w.own (λ t p.
                   (p.0, pick_here (h.owner t.number) other i (h.owner t.number) p.1, p.2)) theirs.told);
               chief_is = me.chief_is;
+              shown = every_both _ v.shown w.shown me.shown theirs.shown;
             })
             (λ k x away e' off'. let o = h.known k x e' in record {
               opened = o.opened;
               told = every_map _ _ x.own
                   (keeps k off') o.told;
               chief_is = o.chief_is;
+              shown = o.shown;
             })
             j u e off);
+      }))
+
+  -- ---- what was shown
+
+  every_seen : (x good : T) (own : List (Told T)) → Every (Is x good) own → Every (λ y. Ever y good) (seen_by own)
+  every_seen x good [] all = tt
+  every_seen x good (t ∷ ts) all = (ever_of t.number t.seen good all.0.since, every_seen x good ts all.1)
+
+  pub shows : (i : ℕ) (v : Known T) → v.stage ≡ Open → Forks K i v v (witness_of v)
+  shows i v two items views rule at =
+      let h = opened items views i v two at rule in
+      let me = h.known i v at in
+      let right : Known T = witness_of v in
+      inr (inr (record {
+        value = h.value;
+        good = h.good;
+        owner = h.owner;
+        chief = h.chief;
+        top = h.top;
+        ends = h.ends;
+        place = ⊎_elim
+            (λ p. inl (p.0, each_more (IsFree Since Later Ends) views i v right at p.1 refl))
+            (λ p. inr (
+              p.0,
+              (
+                p.1.0,
+                each_more (MayHold Since Later Ends p.1.0 h.value h.good) views i v right at p.1.1 (inl refl),
+              ),
+            ))
+            h.place;
+        known = each_more (Knows h.value h.good h.owner h.chief h.top) views i v right at h.known
+            (record {
+              opened = refl;
+              told = tt;
+              chief_is = λ y. absurd (true≢false (sym y));
+              shown = every_both _ (seen_by v.own) v.shown
+                  (every_seen h.value h.good v.own (every_map _ _ v.own (λ t p. p.0) me.told)) me.shown;
+            });
+      }))
+
+  pub is_shown : (i : ℕ) (v : Known T) (other : ℕ) (w : Known T) → v.stage ≡ Open
+      → Merges K i v other w (shown_of v w) gone
+  is_shown i v other w two items views rule at apart there =
+      let h = opened items views i v two at rule in
+      let me = h.known i v at in
+      let both : Known T = shown_of v w in
+      let was : get_elem? views other ≡ some w = ⊎_elim (λ (x : (other ≡ i) × (both ≡ w)). absurd (apart x.0))
+      (λ (x : (other ≢ i) × (get_elem? views other ≡ some w)). x.1) (at_set views i other both w there) in
+      let theirs = h.known other w was in
+      inr (inr (record {
+        value = h.value;
+        good = h.good;
+        owner = h.owner;
+        chief = h.chief;
+        top = h.top;
+        ends = h.ends;
+        place = ⊎_elim
+            (λ p. inl (p.0, each_other (IsFree Since Later Ends) views i other both gone (p.1 i v at) refl p.1))
+            (λ p. inr (
+              p.0,
+              (
+                p.1.0,
+                each_other (MayHold Since Later Ends p.1.0 h.value h.good) views i other both gone (p.1.1 i v at)
+                    (inl refl) p.1.1,
+              ),
+            ))
+            h.place;
+        known = each_other (Knows h.value h.good h.owner h.chief h.top) views i other both gone
+            (record {
+              opened = me.opened;
+              told = me.told;
+              chief_is = me.chief_is;
+              shown = every_both _ v.shown w.shown me.shown theirs.shown;
+            })
+            (record { opened = refl; told = tt; chief_is = λ y. absurd (true≢false (sym y)); shown = tt })
+            h.known;
       }))

@@ -14,19 +14,27 @@ Every P (x ∷ xs) = P x × Every P xs
 module _ {T : Type 0} where
   -- the first key, before a value was put in
   abbrev pub opener : Known T
-  opener = record { stage = New; own = []; has = None; good = None; chief = true; next = 0 }
+  opener = record { stage = New; own = []; has = None; good = None; chief = true; next = 0; shown = [] }
 
   -- that key, once the first value waits
   abbrev pub waiting : T → Known T
-  waiting x = record { stage = Waiting; own = []; has = Some x; good = None; chief = true; next = 0 }
+  waiting x = record {
+    stage = Waiting;
+    own = [];
+    has = Some x;
+    good = None;
+    chief = true;
+    next = 0;
+    shown = [];
+  }
 
   -- that key, once it holds the value
   abbrev pub entered : T → Known T
-  entered x = record { stage = Open; own = []; has = Some x; good = Some x; chief = true; next = 0 }
+  entered x = record { stage = Open; own = []; has = Some x; good = Some x; chief = true; next = 0; shown = [] }
 
   -- a key whose tokens joined another's
   abbrev pub gone : Known T
-  gone = record { stage = Open; own = []; has = None; good = None; chief = false; next = 0 }
+  gone = record { stage = Open; own = []; has = None; good = None; chief = false; next = 0; shown = [] }
 
   -- the key holds the value, of which that was good
   abbrev pub holding : T → T → Known T → Known T
@@ -37,11 +45,20 @@ module _ {T : Type 0} where
     good = Some good;
     chief = v.chief;
     next = v.next;
+    shown = v.shown;
   }
 
   -- it stands for these tokens, and holds nothing
   abbrev pub without : List (Told T) → Known T → Known T
-  without own v = record { stage = Open; own = own; has = None; good = None; chief = v.chief; next = v.next }
+  without own v = record {
+    stage = Open;
+    own = own;
+    has = None;
+    good = None;
+    chief = v.chief;
+    next = v.next;
+    shown = v.shown;
+  }
 
   -- a new token: all that it knows is this value
   abbrev pub new_told : ℕ → T → Told T
@@ -75,10 +92,26 @@ module _ {T : Type 0} where
 
   -- the key of a token that is made; the one that makes it then; and one that took another's tokens in
   abbrev pub token_of : Known T → Known T
-  token_of v = record { stage = Open; own = told_by v.next v.has; has = None; good = None; chief = false; next = 0 }
+  token_of v = record {
+    stage = Open;
+    own = told_by v.next v.has;
+    has = None;
+    good = None;
+    chief = false;
+    next = 0;
+    shown = [];
+  }
 
   abbrev pub next_of : Known T → Known T
-  next_of v = record { stage = v.stage; own = v.own; has = v.has; good = v.good; chief = v.chief; next = suc v.next }
+  next_of v = record {
+    stage = v.stage;
+    own = v.own;
+    has = v.has;
+    good = v.good;
+    chief = v.chief;
+    next = suc v.next;
+    shown = v.shown;
+  }
 
   abbrev pub both_of : Known T → Known T → Known T
   both_of v w = record {
@@ -88,6 +121,35 @@ module _ {T : Type 0} where
     good = v.good;
     chief = v.chief;
     next = v.next;
+    shown = v.shown ++ w.shown;
+  }
+
+  -- the values that tokens have seen
+  abbrev pub seen_by : List (Told T) → List T
+  seen_by own = map (λ t. t.seen) own
+
+  -- the key of a witness that is made: it was shown what the other key's tokens have seen, and all that this was shown
+  abbrev pub witness_of : Known T → Known T
+  witness_of v = record {
+    stage = Open;
+    own = [];
+    has = None;
+    good = None;
+    chief = false;
+    next = 0;
+    shown = seen_by v.own ++ v.shown;
+  }
+
+  -- a key that is shown all that another was shown
+  abbrev pub shown_of : Known T → Known T → Known T
+  shown_of v w = record {
+    stage = v.stage;
+    own = v.own;
+    has = v.has;
+    good = v.good;
+    chief = v.chief;
+    next = v.next;
+    shown = v.shown ++ w.shown;
   }
 
   -- the key holds the value
@@ -111,12 +173,6 @@ module _ {T : Type 0} (Since : ℕ → T → T → Type 0) (Later Ends : T → T
     pub last : Later t.last x
     pub found : Later t.found x
 
-  -- what the rule says of one key: each number belongs to one key, and only the first one makes more
-  pub record IsKnown (x good : T) (owner : ℕ → ℕ) (chief top : ℕ) (i : ℕ) (v : Known T) : Type 0 where
-    pub opened : v.stage ≡ Open
-    pub told : Every (λ t. IsTold x good t × (owner t.number ≡ i) × (t.number < top)) v.own
-    pub chief_is : v.chief ≡ true → (i ≡ chief) × (v.next ≡ top)
-
   -- of each key
   abbrev pub Each : (ℕ → Known T → Type 0) → List (Known T) → Type 0
   Each F views = (i : ℕ) (v : Known T) → get_elem? views i ≡ some v → F i v
@@ -133,29 +189,6 @@ module _ {T : Type 0} (Since : ℕ → T → T → Type 0) (Later Ends : T → T
   abbrev pub Place : List T → List (Known T) → T → T → Type 0
   Place items views x good = ((items ≡ x ∷ []) × Each IsFree views)
       ⊎ ((items ≡ []) × ((holder : ℕ) × Each (MayHold holder x good) views))
-
-  -- a lock in use: there is a value, and one that is good; all that any token knows is so of these
-  pub record Opened (items : List T) (views : List (Known T)) : Type 0 where
-    pub value : T
-    pub good : T
-    pub owner : ℕ → ℕ
-    pub chief : ℕ
-    pub top : ℕ
-    pub ends : Ends good value
-    pub place : Place items views value good
-    pub known : Each (IsKnown value good owner chief top) views
-
-  -- the rule: nothing was put in, or the first value waits, or the lock is in use
-  abbrev pub Kept : List T → List (Known T) → Type 0
-  Kept items views = ((items ≡ []) × (views ≡ opener ∷ []))
-      ⊎ (((x : T) × (items ≡ x ∷ []) × (views ≡ waiting x ∷ [])) ⊎ Opened items views)
-
-  -- the lock was taken: all that the key's tokens know is so of the value
-  pub record Took (v : Known T) (x : T) (w : Known T) : Type 0 where
-    pub good : T
-    pub is : w ≡ holding x good v
-    pub ends : Ends good x
-    pub told : Every (IsTold x good) v.own
 
   -- x may be given back as seen: what any other token knows still holds
   pub record MaySee (v : Known T) (x : T) : Type 0 where
@@ -179,6 +212,40 @@ module _ {T : Type 0} (Since : ℕ → T → T → Type 0) (Later Ends : T → T
     pub ends : Ends now x
     pub all : (n : ℕ) → Since n good now
 
-  -- what a key that holds the value learns of it: all that its tokens know is so
-  abbrev pub Sums : Known T → Type 0
-  Sums v = (x : T) → v.has ≡ Some x → (good : T) × Ends good x × Every (IsTold x good) v.own
+  module _ (Ever : T → T → Type 0) where
+    -- What the rule says of one key: each number belongs to one key, and only the first one makes more. All that was
+    -- shown to it is so of what is good of the value.
+    pub record IsKnown (x good : T) (owner : ℕ → ℕ) (chief top : ℕ) (i : ℕ) (v : Known T) : Type 0 where
+      pub opened : v.stage ≡ Open
+      pub told : Every (λ t. IsTold x good t × (owner t.number ≡ i) × (t.number < top)) v.own
+      pub chief_is : v.chief ≡ true → (i ≡ chief) × (v.next ≡ top)
+      pub shown : Every (λ y. Ever y good) v.shown
+
+    -- a lock in use: there is a value, and one that is good; all that any key knows is so of these
+    pub record Opened (items : List T) (views : List (Known T)) : Type 0 where
+      pub value : T
+      pub good : T
+      pub owner : ℕ → ℕ
+      pub chief : ℕ
+      pub top : ℕ
+      pub ends : Ends good value
+      pub place : Place items views value good
+      pub known : Each (IsKnown value good owner chief top) views
+
+    -- the rule: nothing was put in, or the first value waits, or the lock is in use
+    abbrev pub Kept : List T → List (Known T) → Type 0
+    Kept items views = ((items ≡ []) × (views ≡ opener ∷ []))
+        ⊎ (((x : T) × (items ≡ x ∷ []) × (views ≡ waiting x ∷ [])) ⊎ Opened items views)
+
+    -- the lock was taken: all that the key's tokens know, and all that was shown to it, is so of the value
+    pub record Took (v : Known T) (x : T) (w : Known T) : Type 0 where
+      pub good : T
+      pub is : w ≡ holding x good v
+      pub ends : Ends good x
+      pub told : Every (IsTold x good) v.own
+      pub shown : Every (λ y. Ever y good) v.shown
+
+    -- what a key that holds the value learns of it: all that its tokens know, and all that was shown to it, is so
+    abbrev pub Sums : Known T → Type 0
+    Sums v = (x : T) → v.has ≡ Some x
+        → (good : T) × Ends good x × Every (IsTold x good) v.own × Every (λ y. Ever y good) v.shown

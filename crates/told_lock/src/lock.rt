@@ -5,10 +5,10 @@ ghost use Rattle.crossbeam_channel.specs.Ends.{sends_on, receives_on, ruled_capa
 ghost use Rattle.crossbeam_channel.specs.Fifo.{Pushes, Learns};
 ghost use Rattle.told_lock.specs.declared.view.Stage.TheVariants.{Open};
 ghost use Rattle.told_lock.specs.Rule.{Kept, Took, Entered, Saw, Stayed, MaySee, MayStay, IsChief, Holds, Sums};
-ghost use Rattle.told_lock.specs.Rule.{waiting, next_of, both_of, token_of, entered};
+ghost use Rattle.told_lock.specs.Rule.{waiting, next_of, both_of, token_of, entered, witness_of, shown_of};
 
 use crate::Lore;
-use crate::view::{Begins, Compares, Enters, Known, Law, Parts, Sees, Stays, Takes};
+use crate::view::{Begins, Compares, Enters, Known, Law, Parts, Sees, Shows, Stays, Takes};
 use crossbeam_channel::protocol::{Lesson, Outcome};
 use crossbeam_channel::{Pass, RuledReceiver, RuledSender, bounded_with};
 use std::alloc::Global;
@@ -49,12 +49,12 @@ impl<T: Drop, L: Lore<T>> Lock<T, L> {
         Ok((lock, key, value))
     }
 
-    /// Waits for the value, and takes it: all that the key's tokens know is so of it.
+    /// Waits for the value, and takes it: all that the key's tokens know is so of it, and all that the key was shown.
     pub fn take<R: Wait>(&self, rt: &R, key: &mut Key<T>) -> T
         requires key { IsKeyOf self.now key.old }
         requires open { (knows key.old).stage ≡ Open }
         ensures key { IsKeyOf self.now key.new }
-        ensures took { Took L.since L.later L.ends (knows key.old) result (knows key.new) }
+        ensures took { Took L.since L.later L.ends L.ever (knows key.old) result (knows key.new) }
     {
         if let Some(value) = self.try_take(rt, key) {
             return value;
@@ -74,7 +74,7 @@ impl<T: Drop, L: Lore<T>> Lock<T, L> {
         requires open { (knows key.old).stage ≡ Open }
         ensures key { IsKeyOf self.now key.new }
         ensures took { MatchOption result (knows key.new ≡ knows key.old)
-            (λ x. Took L.since L.later L.ends (knows key.old) x (knows key.new)) }
+            (λ x. Took L.since L.later L.ends L.ever (knows key.old) x (knows key.new)) }
     {
         for _ in 0..TRIES {
             match self.from.try_recv_as::<Takes<T, L>, R>(rt, key) {
@@ -93,9 +93,9 @@ impl<T: Drop, L: Lore<T>> Lock<T, L> {
         mut value: T,
     )
         requires key { IsKeyOf self.now key.old }
-        requires rule { Pushes (Kept L.since L.later L.ends) 1 key.old.id (knows key.old) value
+        requires rule { Pushes (Kept L.since L.later L.ends L.ever) 1 key.old.id (knows key.old) value
             (M.then (knows key.old) value) }
-        requires fact { Learns (Kept L.since L.later L.ends) key.old.id (knows key.old) (M.fact (knows key.old)) }
+        requires fact { Learns (Kept L.since L.later L.ends L.ever) key.old.id (knows key.old) (M.fact (knows key.old)) }
         ensures key { IsKeyOf self.now key.new × (key.new.id ≡ key.old.id) }
         ensures gave { M.then (knows key.old) value (knows key.new) }
     {
@@ -167,13 +167,36 @@ impl<T: Drop, L: Lore<T>> Lock<T, L> {
         self.to.absorb::<Parts<T>>(key, other);
     }
 
-    /// Nothing changes: it tells that all that the tokens of a key know is so of the value, where the key holds it.
+    /// Nothing changes: it tells that all that the tokens of a key know is so of the value, and all that the key was shown,
+    /// where the key holds it.
     pub fn compare(&self, key: &mut Key<T>)
         requires key { IsKeyOf self.now key.old }
         requires open { (knows key.old).stage ≡ Open }
         ensures key { IsKeyOf self.now key.new × (knows key.new ≡ knows key.old) }
-        ensures sums { Sums L.since L.later L.ends (knows key.old) }
+        ensures sums { Sums L.since L.later L.ends L.ever (knows key.old) }
     {
         self.to.learn_as::<Compares<T, L>>(key);
+    }
+
+    /// Makes a witness: a key that stands for no token, has no bytes, and knows that the value has been at least what this
+    /// key's tokens have seen, and all that this key was shown. It may lie anywhere, and makes witnesses itself.
+    pub fn witness(&self, key: &mut Key<T>) -> Key<T>
+        requires key { IsKeyOf self.now key.old }
+        requires open { (knows key.old).stage ≡ Open }
+        ensures key { IsKeyOf self.now key.new × (knows key.new ≡ knows key.old) }
+        ensures witness { IsKeyOf self.now result × (knows result ≡ witness_of (knows key.old)) }
+    {
+        self.to.another::<Shows<T>>(key)
+    }
+
+    /// Shows a key all that another was shown, which is a witness: of any other key the tokens, and the value where it
+    /// holds it, are lost. What was shown is so of each value that the key takes from then on.
+    pub fn learn(&self, key: &mut Key<T>, other: Key<T>)
+        requires key { IsKeyOf self.now key.old }
+        requires other { IsKeyOf self.now other }
+        requires open { (knows key.old).stage ≡ Open }
+        ensures key { IsKeyOf self.now key.new × (knows key.new ≡ shown_of (knows key.old) (knows other)) }
+    {
+        self.to.absorb::<Shows<T>>(key, other);
     }
 }

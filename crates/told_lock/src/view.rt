@@ -43,6 +43,8 @@ pub struct Known<T> {
     pub chief: bool,
     /// The number of the next.
     pub next: u64,
+    /// The values that were shown to this key: each as some token has seen it.
+    pub shown: LinkedList<T>,
 }
 
 /// The rule of the lock.
@@ -53,7 +55,7 @@ pub struct Law<T, L> {
 impl<T, L: Lore<T>> Protocol<T, Known<T>> for Law<T, L> {
     ghost use Rattle.told_lock.specs.Rule.{Kept, opener};
 
-    ghost holds = { Kept L.since L.later L.ends };
+    ghost holds = { Kept L.since L.later L.ends L.ever };
 
     ghost first = { opener };
 }
@@ -100,7 +102,7 @@ pub struct Takes<T, L> {
 impl<T, L: Lore<T>> Outcome<T, Known<T>> for Takes<T, L> {
     ghost use Rattle.told_lock.specs.Rule.{Took};
 
-    ghost then = { Took L.since L.later L.ends };
+    ghost then = { Took L.since L.later L.ends L.ever };
 }
 
 impl<T, L: Lore<T>> Lesson<T, Known<T>> for Takes<T, L> {
@@ -172,5 +174,26 @@ pub struct Compares<T, L> {
 impl<T, L: Lore<T>> Lesson<T, Known<T>> for Compares<T, L> {
     ghost use Rattle.told_lock.specs.Rule.{Sums};
 
-    ghost fact = { λ v items. Sums L.since L.later L.ends v };
+    ghost fact = { λ v items. Sums L.since L.later L.ends L.ever v };
+}
+
+/// A witness is made, or is shown to a key.
+pub struct Shows<T> {
+    of: PhantomData<T>,
+}
+
+impl<T> Split<Known<T>> for Shows<T> {
+    ghost use Rattle.told_lock.specs.Rule.{witness_of};
+
+    ghost left = { λ v. v };
+
+    ghost right = { witness_of };
+}
+
+impl<T> Join<Known<T>> for Shows<T> {
+    ghost use Rattle.told_lock.specs.Rule.{shown_of, gone};
+
+    ghost both = { shown_of };
+
+    ghost spent = { gone };
 }
