@@ -17,17 +17,17 @@ use Rattle.shared_endpoint.specs.declared.tokens.Seat.{Seat}
 use Rattle.shared_endpoint.specs.declared.tokens.Hand.{Hand}
 use Rattle.shared_endpoint.specs.declared.tokens.Scout.{Scout}
 use Rattle.shared_endpoint.specs.Token.{hand_number, scout_number}
-use Rattle.shared_endpoint.specs.History.{IsLater, Since, EndsAs}
+use Rattle.shared_endpoint.specs.History.{IsLater, Since, EverSince, EndsAs}
 use Rattle.shared_endpoint.specs.Keys.{Any, told, IsSeatOf, IsHandOf, IsScoutOf, AreSeatsOf, IsNewSeat}
 use Rattle.shared_endpoint.specs.Keys.{AreNewSeats}
 use Rattle.shared_endpoint.specs.Keys.{seat_number, told_seat, told_seats, told_hand, told_scout, Closes}
 
-any_left : {X : Type 0} (P : X → Type 0) (xs ys : List X) → Any P xs → Any P (xs ++ ys)
+pub any_left : {X : Type 0} (P : X → Type 0) (xs ys : List X) → Any P xs → Any P (xs ++ ys)
 any_left P [] ys h = absurd h
 any_left P (x ∷ xs) ys (inl h) = inl h
 any_left P (x ∷ xs) ys (inr h) = inr (any_left P xs ys h)
 
-any_right : {X : Type 0} (P : X → Type 0) (xs ys : List X) → Any P ys → Any P (xs ++ ys)
+pub any_right : {X : Type 0} (P : X → Type 0) (xs ys : List X) → Any P ys → Any P (xs ++ ys)
 any_right P [] ys h = h
 any_right P (x ∷ xs) ys h = inr (any_right P xs ys h)
 
@@ -105,13 +105,16 @@ module _ {H E S C : Type 0} where
 module _ {E S C : Type 0} where
   -- all tokens are back
   pub closes : (seen : E → Seen (Tables S C)) (service : Service S C) (v : Known E) (e : E) (tokens : List (Told E))
-      → Sums (Since seen service) (IsLater seen) (EndsAs seen service) v → v.has ≡ Some e → v.own ≡ tokens
-      → ((n : ℕ) → n < suc scout_number → Any (λ t. t.number ≡ n) tokens) → Closes seen service tokens e
-  closes seen service v e tokens sums has own all =
+      (witnessed : List E)
+      → Sums (Since seen service) (IsLater seen) (EndsAs seen service) (EverSince seen service) v → v.has ≡ Some e
+      → v.own ≡ tokens → v.shown ≡ witnessed → ((n : ℕ) → n < suc scout_number → Any (λ t. t.number ≡ n) tokens)
+      → Closes seen service tokens witnessed e
+  closes seen service v e tokens witnessed sums has own shown all =
       let h = sums e has in
       record {
         all = all;
         good = h.0;
         ends = h.1;
         told = subst (Every (IsTold (Since seen service) (IsLater seen) (EndsAs seen service) e h.0)) own h.2;
+        borne_out = subst (Every (λ y. EverSince seen service y h.0)) shown h.3;
       }

@@ -15,8 +15,9 @@ use Rattle.endpoint.specs.Deeds.{kept}
 use Rattle.endpoint.specs.Matches.{AllMatch}
 use Rattle.told_lock.specs.declared.view.Told.{Told}
 use Rattle.told_lock.specs.Rule.{Every, IsTold}
+use Rattle.told_lock.proofs.Views.{every_map}
 use Rattle.shared_endpoint.specs.Token.{hand_number, scout_number, is_of, rows_of}
-use Rattle.shared_endpoint.specs.History.{DidAll, IsLater, Since, Broke, EndsAs, Stands}
+use Rattle.shared_endpoint.specs.History.{DidAll, IsLater, Since, EverSince, Broke, EndsAs, Stands, Grows}
 use Rattle.shared_endpoint.specs.Keys.{Any}
 use Rattle.shared_endpoint.specs.Lore.{zero_below}
 use Rattle.shared_endpoint.specs.Promises.{IsGood, Continues, AllListed, IsLeft, ClosesToOneHistory}
@@ -86,9 +87,12 @@ module _ {E S C : Type 0} (seen : E → Seen (Tables S C)) (service : Service S 
         )
 
     pub closes_to_one : ClosesToOneHistory seen service
-    closes_to_one tokens e c goods clean = record {
+    closes_to_one tokens witnessed e c goods clean = record {
       tables = tables;
       continues = continues;
+      borne_out = every_map (λ y. EverSince seen service y c.good)
+          (λ y. AllMatch service (seen y).may_leave → Grows (seen y).tables tables) witnessed
+          (λ y h m. (h.clean clean0 m).1) c.borne_out;
       no_others = all_listed tokens tables.journal tables.journal 1 (all_match tables stays).legal.seated (λ n x h. h)
           (every_two (λ k. Continues seen service k.number k tables) (λ k. IsGood seen service k)
           (λ k. rows_of k.number 1 tables.journal ≡ rows_of k.number 1 (seen k.seen).tables.journal) tokens

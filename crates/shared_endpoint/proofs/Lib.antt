@@ -6,4 +6,5 @@ pub mod Grouping
 pub mod Closing
 pub mod Telling
 pub mod Ending
+pub mod Witnessing
 pub mod ListExamples

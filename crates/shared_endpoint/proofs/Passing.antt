@@ -10,11 +10,11 @@ use Rattle.endpoint.specs.declared.fault.EndFault.{EndFault}
 use Rattle.told_lock.specs.declared.lock.Lock.{Lock}
 use Rattle.told_lock.specs.declared.view.Known.{Known}
 use Rattle.told_lock.specs.Keys.{knows, IsKeyOf}
-use Rattle.told_lock.specs.Rule.{Took, MayStay, IsChief, without, token_of, new_told}
-use Rattle.shared_endpoint.specs.History.{IsLater, Since, EndsAs, Steps, Turns, Gives, given, tells}
-use Rattle.shared_endpoint.specs.Keys.{told, maker, IsToken, IsNew}
+use Rattle.told_lock.specs.Rule.{Every, Took, MayStay, IsChief, without, token_of, new_told}
+use Rattle.shared_endpoint.specs.History.{IsLater, Since, EverSince, EndsAs, Steps, Turns, BearsOut, Gives, given, tells}
+use Rattle.shared_endpoint.specs.Keys.{told, shown, maker, IsToken, IsNew}
 use Rattle.shared_endpoint.specs.Lore.{later_same, since_same}
-use Rattle.shared_endpoint.proofs.Steps.{gives, turns}
+use Rattle.shared_endpoint.proofs.Steps.{gives, turns, bears}
 
 module _ {E S C : Type 0} (seen : E → Seen (Tables S C)) (service : Service S C) (sound : (e : E) → IsSound (seen e))
   where
@@ -23,7 +23,7 @@ module _ {E S C : Type 0} (seen : E → Seen (Tables S C)) (service : Service S 
     pub token_gives : {L : Type 0} (lock : Lock E L) (n : ℕ) (p : Pass E (Known E)) (w : Known E) (d c e : E)
         (b : Bool)
         (fault : Option EndFault)
-        → IsToken lock n p → Took (Since seen service) (IsLater seen) (EndsAs seen service) (knows p) d w → c ≡ d
+        → IsToken lock n p → Took (Since seen service) (IsLater seen) (EndsAs seen service) (EverSince seen service) (knows p) d w → c ≡ d
         → b ≡ tells fault → Steps seen service n c e fault → Gives seen service w e b
     token_gives lock n p w d c e b fault t took same is s = subst (Gives seen service w e) (sym is)
         (gives seen service sound n (knows p) w d e t.one fault took t.own t.number
@@ -32,7 +32,7 @@ module _ {E S C : Type 0} (seen : E → Seen (Tables S C)) (service : Service S 
     pub token_turns : {L : Type 0} (lock : Lock E L) (n : ℕ) (p p' : Pass E (Known E)) (w : Known E) (d c e : E)
         (b : Bool)
         (fault : Option EndFault) (Call : E → E → Type 0)
-        → IsToken lock n p → Took (Since seen service) (IsLater seen) (EndsAs seen service) (knows p) d w → c ≡ d
+        → IsToken lock n p → Took (Since seen service) (IsLater seen) (EndsAs seen service) (EverSince seen service) (knows p) d w → c ≡ d
         → b ≡ tells fault → Steps seen service n c e fault → Call c e
         → knows p' ≡ without (map (given b e) w.own) w → Turns seen service n (told p) (told p') Call fault
     token_turns lock n p p' w d c e b fault Call t took same is s call gave =
@@ -40,9 +40,20 @@ module _ {E S C : Type 0} (seen : E → Seen (Tables S C)) (service : Service S 
         (subst (λ x. Steps seen service n x e fault) same s) (subst (λ x. Call x e) same call)
         (gave ∙ ap (λ it. without (map (given it e) w.own) w) is)
 
+    pub token_bears : {L : Type 0} (lock : Lock E L) (n : ℕ) (p p' : Pass E (Known E)) (w : Known E) (d c e : E)
+        (b : Bool)
+        (fault : Option EndFault)
+        → IsToken lock n p
+        → Took (Since seen service) (IsLater seen) (EndsAs seen service) (EverSince seen service) (knows p) d w → c ≡ d
+        → b ≡ tells fault → Steps seen service n c e fault → knows p' ≡ without (map (given b e) w.own) w
+        → Every (BearsOut seen service (shown p)) (told p')
+    token_bears lock n p p' w d c e b fault t took same is s gave =
+        bears seen service sound n (knows p) w (knows p') d e t.one fault took t.own
+        (subst (λ x. Steps seen service n x e fault) same s) (gave ∙ ap (λ it. without (map (given it e) w.own) w) is)
+
     pub token_stays : {L : Type 0} (lock : Lock E L) (n : ℕ) (p p' : Pass E (Known E)) (w : Known E) (d e : E)
         (b : Bool)
-        → IsToken lock n p → Took (Since seen service) (IsLater seen) (EndsAs seen service) (knows p) d w
+        → IsToken lock n p → Took (Since seen service) (IsLater seen) (EndsAs seen service) (EverSince seen service) (knows p) d w
         → IsKeyOf lock p' → knows p' ≡ without (map (given b e) w.own) w → IsToken lock n p'
     token_stays lock n p p' w d e b t took at gave = record {
       at = at;

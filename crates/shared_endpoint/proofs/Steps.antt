@@ -1,5 +1,5 @@
 -- One call of a token, between taking the lock and giving it back.
-use Rattle.std.proofs.Common.{◌≡◌, ◌≢◌, ◌⊎◌, ℕ, ◌≤◌, Bool, true, false, true≢false, List, [], ◌∷◌, map, Option, Some}
+use Rattle.std.proofs.Common.{◌≡◌, ◌≢◌, ◌⊎◌, ℕ, suc, ◌≤◌, Bool, true, false, true≢false, List, [], ◌∷◌, map, Option, Some}
 use Rattle.std.proofs.Common.{None}
 use Rattle.std.proofs.Common.{inl, inr, ⊎_elim, refl, sym, ap, ◌∙◌, subst, arith}
 use Rattle.std.specs.Prelude.{if◌then◌else◌}
@@ -15,13 +15,17 @@ use Rattle.endpoint.specs.Matches.{AllMatch}
 use Rattle.told_lock.specs.declared.view.Told.{Told}
 use Rattle.told_lock.specs.declared.view.Known.{Known}
 use Rattle.told_lock.specs.Rule.{Every, IsTold, Took, MaySee, MayStay, without}
-use Rattle.shared_endpoint.specs.History.{IsDeedOf, DidAll, IsLater, Since, Broke, EndsAs, IsUsed, Steps, Turns}
-use Rattle.shared_endpoint.specs.History.{Gives, given, tells}
-use Rattle.shared_endpoint.specs.Lore.{zero_below, later_same, since_same}
+use Rattle.told_lock.proofs.Views.{every_map}
+use Rattle.shared_endpoint.specs.History.{IsDeedOf, DidAll, IsLater, Since, EverSince, Broke, EndsAs, IsUsed, Steps}
+use Rattle.shared_endpoint.specs.History.{Turns, BearsOut, Gives, given, tells}
+use Rattle.shared_endpoint.specs.Lore.{zero_below, later_same, since_same, ever_of, ever_join}
 use Rattle.shared_endpoint.proofs.Deeds.{deeds_of_other, no_deeds}
 
 same_below : (a b : ℕ) → b ≡ a → a ≤ b
 same_below a b e = omega arith
+
+another : (n : ℕ) → suc n ≢ n
+another n same = absurd (omega arith)
 
 module _ {E S C : Type 0} (seen : E → Seen (Tables S C)) where
   -- how the endpoint was used, by whether the answer tells of the journal
@@ -105,6 +109,20 @@ module _ {E S C : Type 0} (seen : E → Seen (Tables S C)) (service : Service S 
               );
         }
 
+    -- a step that leaves a usable endpoint was served, and what any witness knew of it before still holds
+    pub was_served : (n : ℕ) (d e : E) (fault : Option EndFault) → Steps seen service n d e fault
+        → (seen e).usable ≡ true → IsServed seen d e
+    was_served n d e fault s up = ⊎_elim (λ served. served)
+        (λ r. ⊎_elim (λ f. absurd (true≢false (sym up ∙ f.1)))
+        (λ f. absurd (true≢false (sym up ∙ (ap (λ (k : E). (seen k).usable) f.1 ∙ f.0))))
+        r.1)
+        (used_or seen d e fault s.used)
+
+    pub grows_of : (n : ℕ) (d e : E) (fault : Option EndFault) → Steps seen service n d e fault
+        → (seen e).usable ≡ true → EverSince seen service d e
+    grows_of n d e fault s up = ever_of seen service (suc n) d e
+        (others_stand n d e fault s (was_served n d e fault s up) (suc n) (another n))
+
     -- what the holder of a usable endpoint holds is good
     good_is : (good d : E) → EndsAs seen service good d → (seen d).usable ≡ true → d ≡ good
     good_is good d (inl same) up = same
@@ -112,7 +130,7 @@ module _ {E S C : Type 0} (seen : E → Seen (Tables S C)) (service : Service S 
 
     -- it may be given back
     pub gives : (n : ℕ) (v w : Known E) (d e : E) (t : Told E) (fault : Option EndFault)
-        → Took (Since seen service) (IsLater seen) (EndsAs seen service) v d w
+        → Took (Since seen service) (IsLater seen) (EndsAs seen service) (EverSince seen service) v d w
         → v.own ≡ t ∷ [] → t.number ≡ n → Steps seen service n d e fault → Gives seen service w e (tells fault)
     gives n v w d e t fault took own number s = (see, stay)
       where
@@ -188,7 +206,7 @@ module _ {E S C : Type 0} (seen : E → Seen (Tables S C)) (service : Service S 
 
     -- and what the token knows then is this turn
     pub turns : (n : ℕ) (v w u : Known E) (d e : E) (t : Told E) (fault : Option EndFault) (Call : E → E → Type 0)
-        → Took (Since seen service) (IsLater seen) (EndsAs seen service) v d w
+        → Took (Since seen service) (IsLater seen) (EndsAs seen service) (EverSince seen service) v d w
         → v.own ≡ t ∷ [] → t.number ≡ n → Steps seen service n d e fault → Call d e
         → u ≡ without (map (given (tells fault) e) w.own) w → Turns seen service n v.own u.own Call fault
     turns n v w u d e t fault Call took own number s call is =
@@ -212,6 +230,7 @@ module _ {E S C : Type 0} (seen : E → Seen (Tables S C)) (service : Service S 
                 (subst (Since seen service t.number t.seen) (sym (good_is took.good d took.ends up)) mine.since);
             used = subst (λ y. IsUsed seen d y fault) (sym last) s.used;
             next = subst (IsLater seen d) (sym last) (later_of n d e fault s);
+            grows = subst (λ y. (seen y).usable ≡ true → EverSince seen service d y) (sym last) (grows_of n d e fault s);
             matches = subst (λ y. (seen y).doubt ≡ 0 → AllMatch service (seen d).may_leave
                 → AllMatch service (seen y).may_leave)
                 (sym last) s.matches;
@@ -237,3 +256,30 @@ module _ {E S C : Type 0} (seen : E → Seen (Tables S C)) (service : Service S 
         seen_of : (b : Bool) → (given b e t).seen ≡ (if b then (given b e t).last else t.seen)
         seen_of true = refl
         seen_of false = refl
+
+    -- and what was shown to its key is so of what the turn gave back
+    pub bears : (n : ℕ) (v w u : Known E) (d e : E) (t : Told E) (fault : Option EndFault)
+        → Took (Since seen service) (IsLater seen) (EndsAs seen service) (EverSince seen service) v d w
+        → v.own ≡ t ∷ [] → Steps seen service n d e fault → u ≡ without (map (given (tells fault) e) w.own) w
+        → Every (BearsOut seen service v.shown) u.own
+    bears n v w u d e t fault took own s is =
+        let w_own : w.own ≡ t ∷ [] = ap (λ (k : Known E). k.own) took.is ∙ own in
+        let u_own : u.own ≡ given (tells fault) e t ∷ [] =
+        ap (λ (k : Known E). k.own) is ∙ ap (map (given (tells fault) e)) w_own in
+        subst (λ (ts : List (Told E)). Every (BearsOut seen service v.shown) ts) (sym u_own) (
+          subst (λ y. (seen y).usable ≡ true → Every (λ x. EverSince seen service x y) v.shown)
+              (sym (last_is (tells fault))) so,
+          tt,
+        )
+      where
+        last_is : (b : Bool) → (given b e t).last ≡ e
+        last_is true = refl
+        last_is false = refl
+
+        so : (seen e).usable ≡ true → Every (λ x. EverSince seen service x e) v.shown
+        so up =
+            let good : d ≡ took.good = good_is took.good d took.ends (was_served n d e fault s up).0 in
+            every_map (λ x. EverSince seen service x took.good) (λ x. EverSince seen service x e) v.shown
+            (λ x h. ever_join seen service x took.good e h
+            (subst (λ y. EverSince seen service y e) good (grows_of n d e fault s up)))
+            took.shown

@@ -42,6 +42,10 @@ pub record Stands {C : Type 0} (n : ℕ) (x y : Kept C) : Type 0 where
   pub marks : (p : Pair) → x.settled p ≤ y.settled p
   pub held : n ≡ hand_number → (y.settled ≡ x.settled) × (y.held ≡ x.held)
 
+-- tables that have grown: the journal begins with the one before, and no settled mark is lower
+abbrev pub Grows : {S C : Type 0} → (t u : Tables S C) → Type 0
+Grows t u = IsPrefixOf t.journal u.journal × ((p : Pair) → t.settled p ≤ u.settled p)
+
 -- deeds of the token of this number: a seat takes in commands, the Hand does all else
 abbrev pub IsDeedOf : {C : Type 0} → ℕ → Deed C → Type 0
 IsDeedOf n Nothing = ⊤
@@ -102,6 +106,14 @@ module _ {E S C : Type 0} (seen : E → Seen (Tables S C)) where
       pub clean : (seen b).doubt ≡ 0 → AllMatch service (seen a).may_leave
           → AllMatch service (seen b).may_leave × Stands n (kept (seen a).tables) (kept (seen b).tables)
 
+    -- What a witness knew of one endpoint still holds of the other, whoever used it meanwhile: it's usable where that was;
+    -- and while no file is in doubt its tables match their journal where that one's did, and have grown.
+    pub record EverSince (a b : E) : Type 0 where
+      pub usable : (seen a).usable ≡ true → (seen b).usable ≡ true
+      pub doubt : (seen a).doubt ≤ (seen b).doubt
+      pub clean : (seen b).doubt ≡ 0 → AllMatch service (seen a).may_leave
+          → AllMatch service (seen b).may_leave × Grows (seen a).tables (seen b).tables
+
     -- an endpoint that failed: a stop leaves what it was, but for what one call does
     pub record Broke (good e : E) : Type 0 where
       pub was : (seen good).usable ≡ true
@@ -129,6 +141,8 @@ module _ {E S C : Type 0} (seen : E → Seen (Tables S C)) where
       pub used : IsUsed taken w.last fault
       pub next : IsLater taken w.last
       pub matches : StillMatches seen taken w.last service
+      -- where it's usable then, what any witness knew of it before still holds
+      pub grows : (seen w.last).usable ≡ true → EverSince taken w.last
       -- the token gave it back, and has seen it where the answer tells of the journal
       pub seen_is : w.seen ≡ (if tells fault then w.last else v.seen)
       pub found_is : w.found ≡ v.found
@@ -144,6 +158,10 @@ module _ {E S C : Type 0} (seen : E → Seen (Tables S C)) where
     abbrev pub Turns : ℕ → (v w : List (Told E)) → (E → E → Type 0) → Option EndFault → Type 0
     Turns n (v ∷ []) (w ∷ []) Call fault = Turn n v w Call fault
     Turns n _ _ Call fault = ⊥
+
+    -- All that was shown is so of the endpoint that a token's call gave back, where that is usable.
+    abbrev pub BearsOut : List E → Told E → Type 0
+    BearsOut shown w = (seen w.last).usable ≡ true → Every (λ y. EverSince y w.last) shown
 
     -- ---- between taking and giving back
 

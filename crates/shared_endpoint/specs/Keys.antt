@@ -13,19 +13,25 @@ use Rattle.told_lock.specs.declared.lock.Lock.{Lock}
 use Rattle.told_lock.specs.declared.view.Stage.TheVariants.{Open}
 use Rattle.told_lock.specs.declared.view.Told.{Told}
 use Rattle.told_lock.specs.declared.view.Known.{Known}
-use Rattle.told_lock.specs.Keys.{knows, IsKeyOf}
+use Rattle.told_lock.specs.Keys.{knows, IsKeyOf, LockName, IsKeyAt}
+use Rattle.told_lock.specs.Keys as lock_keys
 use Rattle.told_lock.specs.Rule.{Every, IsTold, new_told}
 use Rattle.shared_endpoint.specs.declared.shared.Shared.{Shared}
 use Rattle.shared_endpoint.specs.declared.tokens.Seat.{Seat}
 use Rattle.shared_endpoint.specs.declared.tokens.Hand.{Hand}
 use Rattle.shared_endpoint.specs.declared.tokens.Scout.{Scout}
+use Rattle.shared_endpoint.specs.declared.tokens.Witness.{Witness}
 use Rattle.shared_endpoint.specs.Token.{number_of, the_hand, the_scout}
-use Rattle.shared_endpoint.specs.History.{IsLater, Since, EndsAs}
+use Rattle.shared_endpoint.specs.History.{IsLater, Since, EverSince, EndsAs}
 
 module _ {E : Type 0} where
   -- the tokens that a key stands for, by what they know
   abbrev pub told : Pass E (Known E) → List (Told E)
   told key = (knows key).own
+
+  -- the endpoints that were shown to a key, each as some token has seen it
+  abbrev pub shown : Pass E (Known E) → List E
+  shown key = (knows key).shown
 
   -- the key of one token, with this number, that holds nothing
   pub record IsToken {L : Type 0} (lock : Lock E L) (n : ℕ) (key : Pass E (Known E)) : Type 0 where
@@ -35,9 +41,13 @@ module _ {E : Type 0} where
     pub own : told key ≡ one ∷ []
     pub number : one.number ≡ n
 
+  -- the key of a witness: it stands for no token
+  abbrev pub IsWitness : Pass E (Known E) → Type 0
+  IsWitness key = ((knows key).stage ≡ Open) × (told key ≡ [])
+
   -- the key that makes tokens, and makes the n-th next; it holds this endpoint
   abbrev pub maker : ℕ → E → Known E
-  maker n e = record { stage = Open; own = []; has = Some e; good = Some e; chief = true; next = n }
+  maker n e = record { stage = Open; own = []; has = Some e; good = Some e; chief = true; next = n; shown = [] }
 
   -- a new token: all that it knows is this endpoint
   abbrev pub IsNew : ℕ → E → Pass E (Known E) → Type 0
@@ -58,6 +68,16 @@ module _ {H E S C : Type 0} where
   abbrev pub told_scout : Scout H E S C → List (Told E)
   told_scout scout = told scout.key
 
+  -- the endpoints that were shown to the Hand and to the Scout, and those that a witness knows
+  abbrev pub shown_hand : Hand H E S C → List E
+  shown_hand hand = shown hand.key
+
+  abbrev pub shown_scout : Scout H E S C → List E
+  shown_scout scout = shown scout.key
+
+  abbrev pub shown_witness : Witness H E S C → List E
+  shown_witness witness = shown witness.key
+
   -- the lengths to which a seat and the Hand have raised the mark, and those that the Scout has read of it, in order
   abbrev pub marks_raised : Seat H E S C → List Entry
   marks_raised seat = raised_by seat.mark
@@ -72,6 +92,11 @@ module _ {H E S C : Type 0} where
   abbrev pub told_seats : List (Seat H E S C) → List (Told E)
   told_seats [] = []
   told_seats (seat ∷ seats) = told_seat seat ++ told_seats seats
+
+  -- what was shown to them
+  abbrev pub shown_seats : List (Seat H E S C) → List E
+  shown_seats [] = []
+  shown_seats (seat ∷ seats) = shown seat.key ++ shown_seats seats
 
   -- the right to raise and read this service's mark
   abbrev pub IsMarkOf : Shared H E S C → MarkSeat → Type 0
@@ -91,13 +116,25 @@ module _ {H E S C : Type 0} where
   abbrev pub IsScoutOf : Shared H E S C → Scout H E S C → Type 0
   IsScoutOf shared scout = IsToken shared.lock (number_of the_scout) scout.key × IsMarkOf shared scout.mark
 
+  -- a witness of this service
+  abbrev pub IsWitnessOf : Shared H E S C → Witness H E S C → Type 0
+  IsWitnessOf shared witness = IsKeyOf shared.lock witness.key × IsWitness witness.key
+
+  -- The name of this service, and a witness of the service of a name. So a type that can't hold the service, such as one
+  -- under another lock, knows of which its witness is.
+  abbrev pub name_of : Shared H E S C → LockName E
+  name_of shared = lock_keys.name_of shared.lock
+
+  abbrev pub IsWitnessAt : LockName E → Witness H E S C → Type 0
+  IsWitnessAt name witness = IsKeyAt name witness.key × IsWitness witness.key
+
   -- the seats of this service, 0 to 15, in order
   abbrev pub AreSeatsOf : Shared H E S C → List (Seat H E S C) → Type 0
   AreSeatsOf shared seats = (length seats ≡ SEATS)
       × ((i : ℕ) (d : Seat H E S C) → i < length seats
       → IsSeatOf shared (slice_index_or seats i d) × (seat_number (slice_index_or seats i d) ≡ i))
 
-  -- they know this endpoint and no more, and have neither raised nor read the mark
+  -- they know this endpoint and no more, have neither raised nor read the mark, and nothing was shown to the Hand
   abbrev pub IsNewSeat : E → Seat H E S C → Type 0
   IsNewSeat e seat = IsNew seat.number e seat.key × (marks_raised seat ≡ [])
 
@@ -105,7 +142,7 @@ module _ {H E S C : Type 0} where
   AreNewSeats e seats = All (IsNewSeat e) seats
 
   abbrev pub IsNewHand : E → Hand H E S C → Type 0
-  IsNewHand e hand = IsNew (number_of the_hand) e hand.key × (hand_raised hand ≡ [])
+  IsNewHand e hand = IsNew (number_of the_hand) e hand.key × (hand_raised hand ≡ []) × (shown_hand hand ≡ [])
 
   abbrev pub IsNewScout : E → Scout H E S C → Type 0
   IsNewScout e scout = IsNew (number_of the_scout) e scout.key × (marks_read scout ≡ [])
@@ -118,11 +155,13 @@ Any P [] = ⊥
 Any P (x ∷ xs) = P x ⊎ Any P xs
 
 -- What is so of an endpoint that comes out of the lock with these tokens: all are there, up to the Scout's number.
--- There is an endpoint that was good to the end, of which all holds that any token has seen; and the one that comes out
--- is that, or what became of it where its store failed, and is later than all that tokens gave back.
+-- There is an endpoint that was good to the end, of which all holds that any token has seen or that was shown to one; and
+-- the one that comes out is that, or what became of it where its store failed, and is later than all that tokens gave
+-- back.
 pub record Closes {E S C : Type 0} (seen : E → Seen (Tables S C)) (service : Service S C) (tokens : List (Told E))
-    (e : E) : Type 0 where
+    (witnessed : List E) (e : E) : Type 0 where
   pub all : (n : ℕ) → n < suc (number_of the_scout) → Any (λ t. t.number ≡ n) tokens
   pub good : E
   pub ends : EndsAs seen service good e
   pub told : Every (IsTold (Since seen service) (IsLater seen) (EndsAs seen service) e good) tokens
+  pub borne_out : Every (λ y. EverSince seen service y good) witnessed

@@ -1,4 +1,4 @@
--- What always holds of `Since`, `IsLater` and `EndsAs`.
+-- What always holds of `Since`, `IsLater`, `EndsAs` and `EverSince`.
 use Rattle.std.proofs.Common.{◌≡◌, ℕ, ◌+◌, ◌-◌, ◌^◌, ◌≤◌, Bool, true, false, true≢false, ◌++◌, inl, refl, sym}
 use Rattle.std.proofs.Common.{ap, ◌∙◌}
 use Rattle.std.proofs.Common.{subst, [], append-nil, append_assoc}
@@ -9,7 +9,7 @@ use Rattle.keep.specs.Law.{MoreFailures}
 use Rattle.keep.specs.Seen.{Seen}
 use Rattle.keep.specs.Tables.{Tables}
 use Rattle.endpoint.specs.Deeds.{Kept, kept}
-use Rattle.shared_endpoint.specs.History.{Stands, IsLater, Since, EndsAs}
+use Rattle.shared_endpoint.specs.History.{Stands, Grows, IsLater, Since, EverSince, EndsAs}
 
 pub zero_below : (a b : ℕ) → a ≤ b → b ≡ 0 → a ≡ 0
 zero_below a b le z = le-zero (subst (λ n. a ≤ n) z le)
@@ -46,6 +46,18 @@ stands_join n x y z a b = record {
   marks = λ p. le_trans (a.marks p) (b.marks p);
   held = λ is. ((b.held is).0 ∙ (a.held is).0, (b.held is).1 ∙ (a.held is).1);
 }
+
+pub grows_same : {S C : Type 0} (t : Tables S C) → Grows t t
+grows_same t = (([], append-nil t.journal), λ p. le_refl (t.settled p))
+
+pub grows_join : {S C : Type 0} (t u v : Tables S C) → Grows t u → Grows u v → Grows t v
+grows_join t u v a b = (
+  (
+    a.0.0 ++ b.0.0,
+    sym (append_assoc t.journal a.0.0 b.0.0) ∙ (ap (λ w. w ++ b.0.0) a.0.1 ∙ b.0.1),
+  ),
+  λ p. le_trans (a.1 p) (b.1 p),
+)
 
 module _ {E S C : Type 0} (seen : E → Seen (Tables S C)) where
   pub later_same : (a : E) → IsLater seen a a
@@ -89,3 +101,20 @@ module _ {E S C : Type 0} (seen : E → Seen (Tables S C)) where
 
     pub ends_same : (a : E) → EndsAs seen service a a
     ends_same a = inl refl
+
+    pub ever_of : (n : ℕ) (a b : E) → Since seen service n a b → EverSince seen service a b
+    ever_of n a b s = record {
+      usable = s.usable;
+      doubt = s.doubt;
+      clean = λ z m. let known = s.clean z m in (known.0, (known.1.begins, known.1.marks));
+    }
+
+    pub ever_join : (a b c : E) → EverSince seen service a b → EverSince seen service b c → EverSince seen service a c
+    ever_join a b c p q = record {
+      usable = λ u. q.usable (p.usable u);
+      doubt = le_trans p.doubt q.doubt;
+      clean = λ z m.
+          let first = p.clean (zero_below (seen b).doubt (seen c).doubt q.doubt z) m in
+          let then' = q.clean z first.0 in
+          (then'.0, grows_join (seen a).tables (seen b).tables (seen c).tables first.1 then'.1);
+    }

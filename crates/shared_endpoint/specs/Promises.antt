@@ -35,7 +35,8 @@ use Rattle.group_commit.specs.declared.grouped.Grouped.TheVariants as grouped
 use Rattle.told_lock.specs.declared.view.Told.{Told}
 use Rattle.told_lock.specs.Rule.{Every}
 use Rattle.shared_endpoint.specs.Token.{hand_number, is_of, rows_of}
-use Rattle.shared_endpoint.specs.History.{fault_in, tells, Stands, AreOneCalls, DidAll, Passes, Turn}
+use Rattle.shared_endpoint.specs.History.{fault_in, tells, Stands, Grows, AreOneCalls, DidAll, Passes, Turn}
+use Rattle.shared_endpoint.specs.History.{BearsOut}
 use Rattle.shared_endpoint.specs.Keys.{Any, Closes}
 
 -- ---- answers at one journal
@@ -215,6 +216,23 @@ module _ {E S C : Type 0} (seen : E → Seen (Tables S C)) (service : Service S 
   TokensStayGood = (n : ℕ) (v w : Told E) (taken : E) (fault : Option EndFault) → Passes seen service n v w taken fault
       → (seen w.last).doubt ≡ 0 → IsGood v → IsGood w
 
+  -- ---- witnesses
+
+  -- P was so of the tables of one of these endpoints, which matched their journal
+  abbrev pub WasSo : (Tables S C → Type 0) → List E → Type 0
+  WasSo P witnessed = Any (λ y. AllMatch service (seen y).may_leave × P (seen y).tables) witnessed
+
+  -- what was so of each endpoint that is witnessed still is so of these tables: they have grown since
+  abbrev pub AreBorneOut : List E → Tables S C → Type 0
+  AreBorneOut witnessed t = Every (λ y. AllMatch service (seen y).may_leave → Grows (seen y).tables t) witnessed
+
+  -- A call that bears out what was shown to its token, and whose answer tells of the journal, where no file is in doubt:
+  -- the tables that the token has then seen have grown since each of these.
+  abbrev pub WitnessesAreBorneOut : Type 0
+  WitnessesAreBorneOut = (n : ℕ) (witnessed : List E) (v w : Told E) (taken : E) (fault : Option EndFault)
+      → Passes seen service n v w taken fault → BearsOut seen service witnessed w
+      → tells fault ≡ true → (seen w.last).doubt ≡ 0 → AreBorneOut witnessed (seen w.seen).tables
+
   -- ---- the end
 
   -- each row of a journal, with its position, stands in the list of one of the tokens
@@ -234,14 +252,17 @@ module _ {E S C : Type 0} (seen : E → Seen (Tables S C)) (service : Service S 
     pub none : (seen e).usable ≡ true → deeds ≡ []
 
   -- One history of all: tables that match their journal, of which all holds that any token has seen, so that each list
-  -- stands in it; it has no other rows; and no more failures were seen by any than are counted.
-  pub record IsOneHistory (tokens : List (Told E)) (e : E) : Type 0 where
+  -- stands in it, and all that was shown to one; it has no other rows; and no more failures were seen by any than are
+  -- counted.
+  pub record IsOneHistory (tokens : List (Told E)) (witnessed : List E) (e : E) : Type 0 where
     pub tables : Tables S C
     pub continues : Every (λ k. Continues k.number k tables) tokens
+    pub borne_out : AreBorneOut witnessed tables
     pub no_others : AllListed tokens 1 tables.journal
     pub failures : Every (λ k. (seen k.last).failures ≤ (seen e).failures) tokens
     pub left : (t : Tables S C) → (seen e).may_leave t → IsLeft tables e t
 
   abbrev pub ClosesToOneHistory : Type 0
-  ClosesToOneHistory = (tokens : List (Told E)) (e : E) → Closes seen service tokens e → Every IsGood tokens
-      → (seen e).doubt ≡ 0 → IsOneHistory tokens e
+  ClosesToOneHistory = (tokens : List (Told E)) (witnessed : List E) (e : E)
+      → Closes seen service tokens witnessed e → Every IsGood tokens → (seen e).doubt ≡ 0
+      → IsOneHistory tokens witnessed e

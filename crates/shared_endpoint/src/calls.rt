@@ -12,7 +12,7 @@ ghost use Rattle.group_commit.specs.Group.{Groups};
 ghost use Rattle.told_lock.specs.Rule.{Every};
 ghost use Rattle.shared_endpoint.specs.Mark.{raised_after, row_committed, row_handled, rows_grouped, AreRowsDrained};
 ghost use Rattle.shared_endpoint.specs.Token.{hand_number, scout_number};
-ghost use Rattle.shared_endpoint.specs.History.{fault_in, Turns};
+ghost use Rattle.shared_endpoint.specs.History.{fault_in, Turns, BearsOut};
 
 use crate::mark::{row_committed, row_handled, rows_grouped};
 use crate::shared::{Shared, tells};
@@ -33,6 +33,7 @@ where
 {
     ghost use Rattle.shared_endpoint.specs.Keys.{IsSeatOf, IsHandOf, IsScoutOf, seat_number};
     ghost use Rattle.shared_endpoint.specs.Keys.{told_seat, told_hand, told_scout, marks_raised, hand_raised, marks_read};
+    ghost use Rattle.shared_endpoint.specs.Keys.{shown_hand};
 
     /// Takes in a command of this seat, as `Endpoint::commit` does for one thread: the row that it adds is the last of
     /// the journal then.
@@ -119,6 +120,8 @@ where
     ) -> Result<Ingested, EndFault>
         requires hand { IsHandOf self.now hand.old }
         ensures hand { IsHandOf self.now hand.new }
+        ensures knows { shown_hand hand.new ≡ shown_hand hand.old }
+        ensures shown { Every (BearsOut K.seen H.service (shown_hand hand.old)) (told_hand hand.new) }
         ensures turn { Turns K.seen H.service hand_number (told_hand hand.old) (told_hand hand.new)
             (λ d e. DoesDeed K.seen d e HELD_WINDOW H.service OfLetter letter.now.pair.to
             (IngestMay H.service letter.now) result) (fault_in result) }
@@ -145,6 +148,8 @@ where
     ) -> Result<Option<u64>, EndFault>
         requires hand { IsHandOf self.now hand.old }
         ensures hand { IsHandOf self.now hand.new }
+        ensures knows { shown_hand hand.new ≡ shown_hand hand.old }
+        ensures shown { Every (BearsOut K.seen H.service (shown_hand hand.old)) (told_hand hand.new) }
         ensures turn { Turns K.seen H.service hand_number (told_hand hand.old) (told_hand hand.new)
             (λ d e. DoesDeed K.seen d e HELD_WINDOW H.service OfHeldLetter pair.now.to (DrainMay H.service pair.now)
             result) (fault_in result) }
@@ -174,6 +179,8 @@ where
     ) -> Result<u64, EndFault>
         requires hand { IsHandOf self.now hand.old }
         ensures hand { IsHandOf self.now hand.new }
+        ensures knows { shown_hand hand.new ≡ shown_hand hand.old }
+        ensures shown { Every (BearsOut K.seen H.service (shown_hand hand.old)) (told_hand hand.new) }
         ensures raised { hand_raised hand.new ≡ hand_raised hand.old }
         ensures turn { Turns K.seen H.service hand_number (told_hand hand.old) (told_hand hand.new)
             (λ d e. DoesDeed K.seen d e HELD_WINDOW H.service OfSettle pair.now.from
@@ -200,6 +207,8 @@ where
     ) -> Result<Vec<Grouped>, EndFault>
         requires hand { IsHandOf self.now hand.old }
         ensures hand { IsHandOf self.now hand.new }
+        ensures knows { shown_hand hand.new ≡ shown_hand hand.old }
+        ensures shown { Every (BearsOut K.seen H.service (shown_hand hand.old)) (told_hand hand.new) }
         ensures turn { Turns K.seen H.service hand_number (told_hand hand.old) (told_hand hand.new)
             (λ d e. Groups K.seen d e H.service envelopes.now result) (fault_in result) }
         ensures raised { hand_raised hand.new ≡ raised_after (hand_raised hand.old) (rows_grouped result) }
@@ -225,6 +234,8 @@ where
     ) -> Result<u64, EndFault>
         requires hand { IsHandOf self.now hand.old }
         ensures hand { IsHandOf self.now hand.new }
+        ensures knows { shown_hand hand.new ≡ shown_hand hand.old }
+        ensures shown { Every (BearsOut K.seen H.service (shown_hand hand.old)) (told_hand hand.new) }
         ensures raised { hand_raised hand.new ≡ hand_raised hand.old }
         ensures turn { Turns K.seen H.service hand_number (told_hand hand.old) (told_hand hand.new)
             (λ d e. Reads K.seen d e (λ t n. n ≡ t.handled pair.now) (end_of result)) (fault_in result) }
@@ -234,6 +245,27 @@ where
         let told = tells(&count);
         self.give(rt, &mut hand.key, boxed, told);
         count
+    }
+
+    /// Looks at the service, and tells how many rows its journal has: `Endpoint::length`. So the Hand sees that journal, and
+    /// whether it bears out what was shown to the Hand. It takes no memory.
+    ///
+    /// # Errors
+    /// `Unusable`, and no other.
+    pub fn look<R: Wait>(&self, rt: &R, hand: &mut Hand<H, K>) -> Result<u64, EndFault>
+        requires hand { IsHandOf self.now hand.old }
+        ensures hand { IsHandOf self.now hand.new }
+        ensures knows { shown_hand hand.new ≡ shown_hand hand.old }
+        ensures shown { Every (BearsOut K.seen H.service (shown_hand hand.old)) (told_hand hand.new) }
+        ensures raised { hand_raised hand.new ≡ hand_raised hand.old }
+        ensures turn { Turns K.seen H.service hand_number (told_hand hand.old) (told_hand hand.new)
+            (λ d e. (e ≡ d) × Counts K.seen d (λ t. length t.journal) result) (fault_in result) }
+    {
+        let boxed = self.lock.take(rt, &mut hand.key);
+        let looked = boxed.endpoint.length();
+        let told = tells(&looked);
+        self.give(rt, &mut hand.key, boxed, told);
+        looked
     }
 
     /// The first `limit` letters after a place that were sent and aren't settled, or all of them where they are fewer:

@@ -5,6 +5,7 @@ ghost use Rattle.shared_endpoint.specs.Promises.{IngestsAreOneThreads, DrainsAre
 ghost use Rattle.shared_endpoint.specs.Promises.{GroupsAreOneThreads, HandledIsTheLists, UnsettledAreAboveMarks};
 ghost use Rattle.shared_endpoint.specs.Promises.{JournalsAreOneThreads};
 ghost use Rattle.shared_endpoint.specs.Promises.{ClosesToOneHistory, FailuresAreCounted, FailuresAreForGood, TokensStayGood};
+ghost use Rattle.shared_endpoint.specs.Promises.{WitnessesAreBorneOut};
 
 use activities::Handler;
 use keep::Keep;
@@ -118,9 +119,18 @@ where
     ensures { TokensStayGood K.seen H.service }
 {}
 
-/// What `close` gives is one history: its journal begins with each that a token has seen, consists of the tokens' lists
-/// and of no other rows, and its marks and held letters are the Hand's; where the store failed, with one deed more at
-/// most.
+/// What was shown to the Hand is so of the journal that it has seen behind its next answer: that begins with each journal
+/// that a witness knows, and no settled mark is lower than one of these.
+pub fn witnesses_are_borne_out<H, K>()
+where
+    H: Handler,
+    K: Keep<State = H::State, Command = H::Command> + Drop,
+    ensures { WitnessesAreBorneOut K.seen H.service }
+{}
+
+/// What `close` gives is one history: its journal begins with each that a token has seen or that was shown to one, consists
+/// of the tokens' lists and of no other rows, and its marks and held letters are the Hand's; where the store failed, with
+/// one deed more at most.
 pub fn closes_to_one_history<H, K>()
 where
     H: Handler,

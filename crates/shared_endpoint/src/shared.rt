@@ -62,6 +62,7 @@ where
     ghost use Rattle.shared_endpoint.specs.Keys.{maker, IsToken, IsNew, IsSeatOf, IsHandOf, IsScoutOf, AreSeatsOf};
     ghost use Rattle.shared_endpoint.specs.Keys.{IsNewSeat, AreNewSeats, IsNewHand, IsNewScout, seat_number, IsNewMarkOf};
     ghost use Rattle.shared_endpoint.specs.Keys.{told_seats, told_hand, told_scout, Closes};
+    ghost use Rattle.shared_endpoint.specs.Keys.{shown, shown_seats, shown_hand, shown_scout};
 
     /// Gives the endpoint back: as seen, where the answer tells of the journal.
     pub(crate) fn give<R: Wait>(
@@ -95,6 +96,7 @@ where
         ensures key { IsKeyOf self.now.lock key.new }
         ensures maker { knows key.new ≡ maker (suc _number) _endpoint.now }
         ensures token { IsToken self.now.lock _number result × IsNew _number _endpoint.now result }
+        ensures shown { shown result ≡ [] }
     {
         self.lock.token(key)
     }
@@ -221,6 +223,7 @@ where
         ensures key { IsKeyOf self.now.lock key.new }
         ensures holds { ((knows key.new).stage ≡ Open) × ((knows key.new).has ≡ (knows key.old).has) }
         ensures own { (knows key.new).own ≡ (knows key.old).own ++ told_seats seats }
+        ensures shown { (knows key.new).shown ≡ (knows key.old).shown ++ shown_seats seats }
     {
         for seat in seats {
             let Seat {
@@ -243,7 +246,8 @@ where
         requires seats { AreSeatsOf self seats }
         requires hand { IsHandOf self hand }
         requires scout { IsScoutOf self scout }
-        ensures { Closes K.seen H.service ((told_scout scout ++ told_hand hand) ++ told_seats seats) result }
+        ensures { Closes K.seen H.service ((told_scout scout ++ told_hand hand) ++ told_seats seats)
+            ((shown_scout scout ++ shown_hand hand) ++ shown_seats seats) result }
     {
         let Scout { mut key, mark: _ } = scout;
         let Hand {

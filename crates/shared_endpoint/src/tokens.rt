@@ -1,4 +1,4 @@
-//! Those who may use the endpoint.
+//! Those who may use the endpoint, and who only know of it.
 
 use crate::boxed::Boxed;
 use activities::Handler;
@@ -38,4 +38,15 @@ where
 {
     pub(crate) key: Key<Boxed<H, K>>,
     pub(crate) mark: MarkSeat,
+}
+
+/// A record of what the endpoint has been: all that the token had seen of it by which it was made, and all that was shown
+/// to that. It has no bytes, stands for no token, and may lie anywhere, as under another lock.
+#[derive(Drop)]
+pub struct Witness<H, K>
+where
+    H: Handler,
+    K: Keep<State = H::State, Command = H::Command> + Drop,
+{
+    pub(crate) key: Key<Boxed<H, K>>,
 }

@@ -3,7 +3,7 @@ use Rattle.std.specs.Array.Iter.{array_into_iter_items}
 use Rattle.told_lock.specs.Keys.{knows, IsKeyOf}
 use Rattle.told_lock.specs.Rule.{Every}
 use Rattle.told_lock.specs.declared.view.Stage.TheVariants.{Open}
-use Rattle.shared_endpoint.specs.Keys.{told_seats}
+use Rattle.shared_endpoint.specs.Keys.{told_seats, shown_seats}
 use Rattle.shared_endpoint.proofs.shared.Shared.all_in.Given as goal
 
 abbrev pub invariant-loop-seat : goal.invariant-loop-seat
@@ -13,3 +13,5 @@ invariant-loop-seat g l = (goal.iterator-loop-seat g).can_next l.seat-iterator
     × Every (λ s. IsKeyOf l.self.lock s.key) (array_into_iter_items l.seat-iterator)
     × ((knows l.key).own ++ told_seats (array_into_iter_items l.seat-iterator)
     ≡ (knows l.initial.key).own ++ told_seats l.fn.seats)
+    × ((knows l.key).shown ++ shown_seats (array_into_iter_items l.seat-iterator)
+    ≡ (knows l.initial.key).shown ++ shown_seats l.fn.seats)

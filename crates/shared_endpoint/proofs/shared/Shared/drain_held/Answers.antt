@@ -1,7 +1,7 @@
-use Rattle.std.proofs.Common.{◌∙◌}
+use Rattle.std.proofs.Common.{ap, ◌∙◌}
 use Rattle.endpoint.specs.Calls.{OfHeldLetter}
 use Rattle.shared_endpoint.specs.Token.{hand_number}
-use Rattle.shared_endpoint.proofs.Passing.{token_gives, token_turns, token_stays}
+use Rattle.shared_endpoint.proofs.Passing.{token_gives, token_turns, token_bears, token_stays}
 use Rattle.shared_endpoint.proofs.Stepping.{drain_steps}
 use Rattle.shared_endpoint.proofs.shared.Shared.drain_held.Goals as goal
 
@@ -26,6 +26,23 @@ returns-clause-hand g c =
           c.requires.hand.0 c.take-boxed.ensures.took c.give.ensures.key c.give.ensures.gave,
       c.raise.ensures.mark,
     )
+
+pub returns-clause-knows : goal.returns-clause-knows
+returns-clause-knows g c =
+    ap (λ v. v.shown) c.give.ensures.gave ∙ ap (λ v. v.shown) c.take-boxed.ensures.took.is
+
+pub returns-clause-shown : goal.returns-clause-shown
+returns-clause-shown g c =
+    let k = g.K.Keep in
+    let h = g.H.Handler in
+    let same = c.deref_mut.ensures.value ∙ c.boxed.view_is in
+    token_bears k.seen h.service g.met.K.Keep.sound c.args.self.now.lock
+    hand_number c.args.hand.now.key c.give.new.key _ _ _ _ _ _
+    c.requires.hand.0 c.take-boxed.ensures.took same c.tells-told.ensures
+    (drain_steps k.seen h.service _ _ c.args.pair.now OfHeldLetter c.args.pair.now.to
+    c.drain_held-drained.result c.drain_held-drained.ensures.drain c.drain_held-drained.ensures.comes
+    c.drain_held-drained.ensures.matches)
+    c.give.ensures.gave
 
 pub returns-clause-turn : goal.returns-clause-turn
 returns-clause-turn g c =

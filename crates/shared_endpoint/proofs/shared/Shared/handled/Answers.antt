@@ -1,6 +1,6 @@
-use Rattle.std.proofs.Common.{◌∙◌}
+use Rattle.std.proofs.Common.{ap, ◌∙◌}
 use Rattle.shared_endpoint.specs.Token.{hand_number}
-use Rattle.shared_endpoint.proofs.Passing.{token_gives, token_turns, token_stays}
+use Rattle.shared_endpoint.proofs.Passing.{token_gives, token_turns, token_bears, token_stays}
 use Rattle.shared_endpoint.proofs.Stepping.{read_steps}
 use Rattle.shared_endpoint.proofs.shared.Shared.handled.Goals as goal
 
@@ -24,6 +24,22 @@ returns-clause-hand g c =
           c.requires.hand.0 c.take-boxed.ensures.took c.give.ensures.key c.give.ensures.gave,
       c.requires.hand.1,
     )
+
+pub returns-clause-knows : goal.returns-clause-knows
+returns-clause-knows g c =
+    ap (λ v. v.shown) c.give.ensures.gave ∙ ap (λ v. v.shown) c.take-boxed.ensures.took.is
+
+pub returns-clause-shown : goal.returns-clause-shown
+returns-clause-shown g c =
+    let k = g.K.Keep in
+    let h = g.H.Handler in
+    let same = c.deref_mut.ensures.value ∙ c.boxed.view_is in
+    token_bears k.seen h.service g.met.K.Keep.sound c.args.self.now.lock
+    hand_number c.args.hand.now.key c.give.new.key _ _ _ _ _ _
+    c.requires.hand.0 c.take-boxed.ensures.took same c.tells-told.ensures
+    (read_steps k.seen h.service _ _ hand_number _ _ c.handled-count.ensures.read.doubt
+    c.handled-count.ensures.read.call c.handled-count.ensures.stays)
+    c.give.ensures.gave
 
 pub returns-clause-turn : goal.returns-clause-turn
 returns-clause-turn g c =

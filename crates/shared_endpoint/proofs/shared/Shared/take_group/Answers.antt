@@ -1,6 +1,6 @@
-use Rattle.std.proofs.Common.{◌∙◌}
+use Rattle.std.proofs.Common.{ap, ◌∙◌}
 use Rattle.shared_endpoint.specs.Token.{hand_number}
-use Rattle.shared_endpoint.proofs.Passing.{token_gives, token_turns, token_stays}
+use Rattle.shared_endpoint.proofs.Passing.{token_gives, token_turns, token_bears, token_stays}
 use Rattle.shared_endpoint.proofs.Grouping.{group_steps}
 use Rattle.shared_endpoint.proofs.shared.Shared.take_group.Goals as goal
 
@@ -24,6 +24,22 @@ returns-clause-hand g c =
           c.requires.hand.0 c.take-boxed.ensures.took c.give.ensures.key c.give.ensures.gave,
       c.raise.ensures.mark,
     )
+
+pub returns-clause-knows : goal.returns-clause-knows
+returns-clause-knows g c =
+    ap (λ v. v.shown) c.give.ensures.gave ∙ ap (λ v. v.shown) c.take-boxed.ensures.took.is
+
+pub returns-clause-shown : goal.returns-clause-shown
+returns-clause-shown g c =
+    let k = g.K.Keep in
+    let h = g.H.Handler in
+    let same = c.deref_mut.ensures.value ∙ c.boxed.view_is in
+    token_bears k.seen h.service g.met.K.Keep.sound c.args.self.now.lock
+    hand_number c.args.hand.now.key c.give.new.key _ _ _ _ _ _
+    c.requires.hand.0 c.take-boxed.ensures.took same c.tells-told.ensures
+    (group_steps k.seen h.service g.met.K.Keep.sound _ _ c.args.envelopes.now c.take_group-grouped.result
+    c.take_group-grouped.ensures.groups c.take_group-grouped.ensures.matches)
+    c.give.ensures.gave
 
 pub returns-clause-turn : goal.returns-clause-turn
 returns-clause-turn g c =
