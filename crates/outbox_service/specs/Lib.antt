@@ -1,3 +1,4 @@
+pub mod Backoffs
 pub mod Faults
 pub mod Input
 pub mod Silences

@@ -16,7 +16,7 @@ use service_workers::Resting;
 use shared_endpoint::{Seat, Shared};
 use std::alloc::Global;
 use std::io;
-use std::io::{ErrorKind, Write};
+use std::io::{BufRead, ErrorKind, Write};
 use std::sync::Wait;
 use std::time::Duration;
 
@@ -29,24 +29,67 @@ const MOMENT: u64 = 1;
 /// How long it's waited for a line or an answer at once, in milliseconds.
 const PATIENCE: u64 = 500;
 
-/// Tells why a line wasn't done.
-fn refuse<W: Write>(out: &mut W, board: &Board, fault: EndFault) -> io::Result<()> {
-    board.heed(fault);
-    match fault {
-        EndFault::Business(refusal) => writeln!(out, "refused 61 {}", refusal.number()),
-        _ => writeln!(out, "refused {}", fault.number()),
+/// Where lines come from and where their answers go.
+struct Desk<'a, I: BufRead + Drop, W: Write + Drop> {
+    alloc: Global,
+    board: &'a Board,
+    input: InputLines<I>,
+    out: W,
+}
+
+/// Written by hand, so that an owner doesn't prove at each of its exits how each part is dropped.
+impl<'a, I: BufRead + Drop, W: Write + Drop> Drop for Desk<'a, I, W> {
+    fn drop(self) {
+        let Desk {
+            alloc: _,
+            board: _,
+            input: _input,
+            out: _out,
+        } = self;
+    }
+}
+
+impl<'a, I: BufRead + Drop, W: Write + Drop> Desk<'a, I, W> {
+    /// Prints why a line wasn't done.
+    fn refuse(&mut self, fault: EndFault) -> io::Result<()> {
+        self.board.heed(fault);
+        match fault {
+            EndFault::Business(refusal) => writeln!(self.out, "refused 61 {}", refusal.number()),
+            _ => writeln!(self.out, "refused {}", fault.number()),
+        }
+    }
+
+    /// Prints how many connections are open, once this asking is answered.
+    fn tell_connected<R: Wait>(&mut self, rt: &R, asking: u64) -> io::Result<()> {
+        let board = self.board;
+        for _ in rt.forever() {
+            if board.askings.is_answered(asking) || board.life.is_over() {
+                break;
+            }
+            board.seat.park_timeout(rt, Duration::from_millis(PATIENCE));
+        }
+        writeln!(self.out, "connected {}", board.askings.open())
+    }
+
+    /// Waits a moment for rows of the journal, unless the program ends. Whether it has waited.
+    fn wait_for_rows<R: Wait>(&self, rt: &R) -> bool {
+        if self.board.life.has_ended() {
+            return false;
+        }
+        self.board
+            .seat
+            .park_timeout(rt, Duration::from_millis(MOMENT));
+        true
     }
 }
 
 /// Gives a command, and has its letters sent.
-fn commit<H, K, W: Write, R: Wait>(
+fn commit<H, K, I: BufRead + Drop, W: Write + Drop, R: Wait>(
     rt: &R,
-    alloc: Global,
     shared: &Shared<H, K>,
     seat: &mut Seat<H, K>,
-    board: &Board,
+    desk: &mut Desk<'_, I, W>,
     event: Event,
-    out: &mut W,
 ) -> io::Result<()>
 where
     H: Told,
@@ -62,26 +105,24 @@ where
         },
     ) = H::command(event)
     else {
-        return refuse(out, board, EndFault::NotMine);
+        return desk.refuse(EndFault::NotMine);
     };
-    match shared.commit(rt, alloc, seat, &entity, command) {
+    match shared.commit(rt, desk.alloc, seat, &entity, command) {
         Ok(committed) => {
-            board.wake(Resting::Relay);
-            writeln!(out, "committed {}", committed.pos)
+            desk.board.rests.wake(Resting::Relay);
+            writeln!(desk.out, "committed {}", committed.pos)
         }
-        Err(fault) => refuse(out, board, fault),
+        Err(fault) => desk.refuse(fault),
     }
 }
 
 /// Shows the row of an entity.
-fn show<H, K, W: Write, R: Wait>(
+fn show<H, K, I: BufRead + Drop, W: Write + Drop, R: Wait>(
     rt: &R,
-    alloc: Global,
     shared: &Shared<H, K>,
     seat: &mut Seat<H, K>,
-    board: &Board,
+    desk: &mut Desk<'_, I, W>,
     entity: &Entity,
-    out: &mut W,
 ) -> io::Result<()>
 where
     H: Told,
@@ -89,23 +130,22 @@ where
     requires seat { IsSeatOf shared.now seat.old }
     ensures seat { IsSeatOf shared.now seat.new }
 {
-    match shared.view(rt, alloc, seat, entity) {
-        Ok(row) => match show_row::<H>(alloc, entity, &row) {
-            Ok(line) => out.write_all(line.as_slice()),
-            Err(_) => refuse(out, board, EndFault::Memory),
+    match shared.view(rt, desk.alloc, seat, entity) {
+        Ok(row) => match show_row::<H>(desk.alloc, entity, &row) {
+            Ok(line) => desk.out.write_all(line.as_slice()),
+            Err(_) => desk.refuse(EndFault::Memory),
         },
-        Err(fault) => refuse(out, board, fault),
+        Err(fault) => desk.refuse(fault),
     }
 }
 
-/// Waits until the journal has so many rows, or for long, and tells how many it has.
-fn await_rows<H, K, W: Write, R: Wait>(
+/// Waits until the journal has so many rows, or for long, and prints how many it has.
+fn await_rows<H, K, I: BufRead + Drop, W: Write + Drop, R: Wait>(
     rt: &R,
     shared: &Shared<H, K>,
     seat: &mut Seat<H, K>,
-    board: &Board,
+    desk: &mut Desk<'_, I, W>,
     rows: u64,
-    out: &mut W,
 ) -> io::Result<()>
 where
     H: Told,
@@ -115,45 +155,28 @@ where
 {
     let mut length = shared.length(rt, seat);
     for _ in 0..TURNS {
-        match length {
-            Ok(there) if there < rows && !board.has_ended() => {
-                board.wait_at_seat(rt, Duration::from_millis(MOMENT));
-            }
-            _ => break,
+        let has_waited = match length {
+            Ok(there) if there < rows => desk.wait_for_rows(rt),
+            _ => false,
+        };
+        if !has_waited {
+            break;
         }
         length = shared.length(rt, seat);
     }
     match length {
-        Ok(there) => writeln!(out, "journal {there}"),
-        Err(fault) => refuse(out, board, fault),
+        Ok(there) => writeln!(desk.out, "journal {there}"),
+        Err(fault) => desk.refuse(fault),
     }
 }
 
-/// Tells how many connections are open, once this asking is answered.
-fn tell_connected<W: Write, R: Wait>(
+/// Does what a line asks for, and prints what became of it.
+fn answer<H, K, I: BufRead + Drop, W: Write + Drop, R: Wait>(
     rt: &R,
-    board: &Board,
-    asking: u64,
-    out: &mut W,
-) -> io::Result<()> {
-    for _ in rt.forever() {
-        if board.answered() >= asking || board.is_over() {
-            break;
-        }
-        board.wait_at_seat(rt, Duration::from_millis(PATIENCE));
-    }
-    writeln!(out, "connected {}", board.open())
-}
-
-/// Does what a line asks for, and tells what became of it.
-fn answer<H, K, W: Write, R: Wait>(
-    rt: &R,
-    alloc: Global,
     shared: &Shared<H, K>,
     seat: &mut Seat<H, K>,
-    board: &Board,
+    desk: &mut Desk<'_, I, W>,
     ask: Ask,
-    out: &mut W,
 ) -> io::Result<()>
 where
     H: Told,
@@ -163,20 +186,60 @@ where
 {
     match ask {
         Ask::Nothing => Ok(()),
-        Ask::Command(event) => commit(rt, alloc, shared, seat, board, event, out),
-        Ask::Show(entity) => show(rt, alloc, shared, seat, board, &entity, out),
-        Ask::Connect => tell_connected(rt, board, board.ask(), out),
-        Ask::Await(rows) => await_rows(rt, shared, seat, board, rows, out),
-        Ask::Unreadable => writeln!(out, "refused 80"),
-        Ask::Memory => refuse(out, board, EndFault::Memory),
+        Ask::Command(event) => commit(rt, shared, seat, desk, event),
+        Ask::Show(entity) => show(rt, shared, seat, desk, &entity),
+        Ask::Connect => {
+            let asking = desk.board.ask();
+            desk.tell_connected(rt, asking)
+        }
+        Ask::Await(rows) => await_rows(rt, shared, seat, desk, rows),
+        Ask::Unreadable => writeln!(desk.out, "refused 80"),
+        Ask::Memory => desk.refuse(EndFault::Memory),
     }
 }
 
 /// Answers lines until they end, or the store has failed.
+fn answer_all<H, K, I: BufRead + Drop, W: Write + Drop, R: Wait>(
+    rt: &R,
+    shared: &Shared<H, K>,
+    seat: &mut Seat<H, K>,
+    desk: &mut Desk<'_, I, W>,
+) -> io::Result<()>
+where
+    H: Told,
+    K: Keep<State = H::State, Command = H::Command> + Drop,
+    requires seat { IsSeatOf shared.now seat.old }
+{
+    desk.tell_connected(rt, 1)?;
+    desk.out.flush()?;
+    for _ in rt.forever() {
+        if desk.board.life.has_ended() {
+            break;
+        }
+        match desk.input.next(Duration::from_millis(PATIENCE)) {
+            Ok(Came::Line(line)) => {
+                let ask = read_ask(desk.alloc, line.as_slice());
+                answer(rt, shared, seat, desk, ask)?;
+                desk.out.flush()?;
+            }
+            Ok(Came::Nothing) => (),
+            Ok(Came::End) => break,
+            // The line isn't lost: it waits until there is memory.
+            Err(error) if error.kind() == ErrorKind::OutOfMemory => {
+                desk.board
+                    .seat
+                    .park_timeout(rt, Duration::from_millis(MOMENT));
+            }
+            Err(error) => return Err(error),
+        }
+    }
+    Ok(())
+}
+
+/// Answers the lines of the standard input until they end, or the store has failed.
 fn answer_lines<H, K, R>(
     rt: &R,
     host: &HostRuntime,
-    alloc: Global,
     shared: &Shared<H, K>,
     seat: &mut Seat<H, K>,
     board: &Board,
@@ -187,37 +250,21 @@ where
     R: Wait,
     requires seat { IsSeatOf shared.now seat.old }
 {
-    let mut input = InputLines::new(host, alloc, host.reader())?;
-    let mut out = io::writer(host);
-    tell_connected(rt, board, 1, &mut out)?;
-    out.flush()?;
-    for _ in rt.forever() {
-        if board.has_ended() {
-            break;
-        }
-        match input.next(Duration::from_millis(PATIENCE)) {
-            Ok(Came::Line(line)) => {
-                let ask = read_ask(alloc, line.as_slice());
-                answer(rt, alloc, shared, seat, board, ask, &mut out)?;
-                out.flush()?;
-            }
-            Ok(Came::Nothing) => (),
-            Ok(Came::End) => break,
-            // The line isn't lost: it waits until there is memory.
-            Err(error) if error.kind() == ErrorKind::OutOfMemory => {
-                board.wait_at_seat(rt, Duration::from_millis(MOMENT));
-            }
-            Err(error) => return Err(error),
-        }
-    }
-    Ok(())
+    let alloc = host.alloc();
+    let reader = host.reader();
+    let mut desk = Desk {
+        alloc,
+        board,
+        input: InputLines::new(host, alloc, reader)?,
+        out: io::writer(host),
+    };
+    answer_all(rt, shared, seat, &mut desk)
 }
 
 /// Answers lines with the first of all seats, and then has all end.
 pub fn answer_first<H, K, R>(
     rt: &R,
     host: &HostRuntime,
-    alloc: Global,
     shared: &Shared<H, K>,
     seats: &mut [Seat<H, K>],
     board: &Board,
@@ -228,7 +275,7 @@ where
     R: Wait,
     requires seats { AreSeatsOf shared.now seats.old }
 {
-    let answered = answer_lines(rt, host, alloc, shared, &mut seats[0], board);
+    let answered = answer_lines(rt, host, shared, &mut seats[0], board);
     board.end();
     answered
 }

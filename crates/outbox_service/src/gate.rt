@@ -28,10 +28,10 @@ impl<'a> Turn<'a> {
     }
 
     /// Ends it where the board says so.
-    fn look<R: Clock>(&self, rt: &R) {
+    fn look<R: Wait + Clock>(&self, rt: &R) {
         if !self.stop.asked() && self.board.is_due(rt) {
             self.stop.ask();
-            self.board.wake_all();
+            self.board.rests.wake_all();
         }
     }
 }
@@ -78,11 +78,11 @@ impl<R: Wait + Clock + Log> Gate<R> for Turn<'_> {
     fn before_send(&self, _rt: &R) {}
 
     fn after_ingest(&self, _rt: &R) {
-        self.board.wake_seat();
+        self.board.seat.unpark();
     }
 
     fn after_settle(&self, _rt: &R) {
-        self.board.note_settle();
+        self.board.settles.note();
     }
 
     fn not_taken(&self, rt: &R, number: u8, fault: ReceptionFault, envelope: Option<&Envelope>) {
@@ -104,7 +104,7 @@ impl<R: Wait + Clock + Log> Gate<R> for Turn<'_> {
     }
 
     fn wake(&self, _rt: &R, who: Resting) {
-        self.board.wake(who);
+        self.board.rests.wake(who);
     }
 
     fn cut(&self, rt: &R, number: u8, cut: Cut) {
@@ -113,6 +113,5 @@ impl<R: Wait + Clock + Log> Gate<R> for Turn<'_> {
             self.board.heed(fault);
         }
         self.board.lose(rt);
-        self.board.wake_all();
     }
 }

@@ -33,15 +33,19 @@
 #![tactic(auto)]
 
 mod answers;
+mod askings;
 mod asks;
+mod backoff;
 mod board;
 mod fault;
 mod gate;
 mod input;
+mod life;
 mod migration;
 mod overdue;
 mod pulse;
 mod rest;
+mod rests;
 mod running;
 mod serving;
 mod sockets;

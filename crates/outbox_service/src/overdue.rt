@@ -9,6 +9,7 @@ use keep::{Keep, Place};
 use shared_endpoint::{Scout, Shared};
 use std::alloc::Global;
 use std::sync::Wait;
+use std::sync::atomic::{AtomicU64, Ordering};
 use std::time::Clock;
 
 /// How long it is at first until it's looked again whether the first letter is settled, in milliseconds.
@@ -16,6 +17,31 @@ const FIRST: u64 = 30_000;
 
 /// The longest that this grows to: while a partner is away, its queue isn't to be filled with copies.
 const LONGEST: u64 = 3_600_000;
+
+/// How many settles the worker has taken: as long as this grows, receivers are at work.
+#[derive(Drop)]
+pub struct Settles {
+    count: AtomicU64,
+}
+
+impl Settles {
+    /// None was taken.
+    pub fn new() -> Settles {
+        Settles {
+            count: AtomicU64::new(0),
+        }
+    }
+
+    /// One was taken.
+    pub fn note(&self) {
+        self.count.fetch_add(1, Ordering::SeqCst);
+    }
+
+    /// How many were taken so far.
+    fn count(&self) -> u64 {
+        self.count.load(Ordering::SeqCst)
+    }
+}
 
 /// The first letter that wasn't settled when it was looked last, how many settles were taken until then, and when it is
 /// looked again; and whether any wasn't settled just now.
@@ -94,7 +120,7 @@ impl Overdue {
         if !is_time {
             return false;
         }
-        let is_overdue = self.found(first, board.settles());
+        let is_overdue = self.found(first, board.settles.count());
         self.next = now.saturating_add(self.pause);
         is_overdue
     }

@@ -8,7 +8,7 @@ use crate::board::Board;
 use crate::fault::RunFault;
 use crate::migration::take_over;
 use crate::serving::keep_serving;
-use crate::sockets::Broker;
+use crate::sockets::{Broker, Site};
 use crate::told::Told;
 use crate::words::Settings;
 use activities::Handler;
@@ -24,7 +24,6 @@ use schedule_text::ServiceName;
 use shared_endpoint::{Hand, Scout, Seat, Shared};
 use sqlite::{FileFrom, FileStore, Start, Unknown};
 use sqlite_disk::Disk;
-use std::alloc::Global;
 use std::sync::Wait;
 use std::thread::Threads;
 use std::time::Clock;
@@ -34,7 +33,7 @@ use warehouse::Stocks;
 /// How the service ended, whose lines were answered so.
 fn end_of(answered: io::Result<()>, board: &Board) -> Result<(), RunFault> {
     match answered {
-        _ if board.is_broken() => Err(RunFault::Store),
+        _ if board.life.is_broken() => Err(RunFault::Store),
         Ok(()) => Ok(()),
         Err(error) => Err(RunFault::of_kind(error.kind())),
     }
@@ -44,13 +43,11 @@ fn end_of(answered: io::Result<()>, board: &Board) -> Result<(), RunFault> {
 /// can be made for these, no line is answered.
 fn run_threads<H, K, R>(
     rt: &R,
-    host: &HostRuntime,
-    alloc: Global,
+    site: Site<'_>,
     shared: &Shared<H, K>,
     seats: &mut [Seat<H, K>],
     hand: Hand<H, K>,
     scout: Scout<H, K>,
-    broker: Broker<'_>,
 ) -> Result<(), RunFault>
 where
     H: Told + Send + Sync,
@@ -62,11 +59,6 @@ where
     requires hand { IsHandOf shared.now hand }
     requires scout { IsScoutOf shared.now scout }
 {
-    let board = match Board::new(host, alloc) {
-        Ok(board) => board,
-        Err(error) => return Err(RunFault::of_kind(error.kind())),
-    };
-    let board = &board;
     thread::scope(
         thread::scope_env(),
         rt,
@@ -81,13 +73,13 @@ where
                 move ||
                     requires hand { IsHandOf shared.now hand }
                     requires scout { IsScoutOf shared.now scout }
-                { keep_serving(rt, host, alloc, shared, hand, scout, broker, board) },
+                { keep_serving(rt, site, shared, hand, scout) },
             );
             match begun {
                 Ok(serving) => {
-                    let answered = answer_first(rt, host, alloc, shared, seats, board);
+                    let answered = answer_first(rt, site.host, shared, seats, site.board);
                     serving.join(rt);
-                    end_of(answered, board)
+                    end_of(answered, site.board)
                 }
                 Err(_) => Err(RunFault::Memory),
             }
@@ -109,14 +101,20 @@ where
     K: Keep<State = H::State, Command = H::Command> + Drop + Send,
     R: Threads + Wait + Clock + Log + Sync,
 {
-    let alloc = host.alloc();
-    match Shared::<H, K>::open(rt, alloc, Endpoint::new(keep)) {
+    let board = match Board::new(host, host.alloc()) {
+        Ok(board) => board,
+        Err(error) => return Err(RunFault::of_kind(error.kind())),
+    };
+    let site = Site {
+        host,
+        broker,
+        board: &board,
+    };
+    match Shared::<H, K>::open(rt, host.alloc(), Endpoint::new(keep)) {
         Ok(opened) => {
             let shared = opened.0;
             let mut seats = opened.1;
-            run_threads(
-                rt, host, alloc, &shared, &mut seats, opened.2, opened.3, broker,
-            )
+            run_threads(rt, site, &shared, &mut seats, opened.2, opened.3)
         }
         Err(_) => Err(RunFault::Memory),
     }

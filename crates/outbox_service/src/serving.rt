@@ -6,7 +6,7 @@ use crate::board::Board;
 use crate::gate::Turn;
 use crate::overdue::Overdue;
 use crate::pulse::{Pulse, Silence};
-use crate::sockets::{Broker, Socket, open};
+use crate::sockets::{Site, Socket, open};
 use activities::Handler;
 use keep::Keep;
 use log::{Log, info, warn};
@@ -53,24 +53,18 @@ impl Slot {
     }
 
     /// Opens the connection where it isn't open. Whether it is then.
-    fn open<R: Clock + Log>(
-        &mut self,
-        rt: &R,
-        host: &HostRuntime,
-        alloc: Global,
-        broker: Broker<'_>,
-        board: &Board,
-    ) -> bool {
+    fn open<R: Wait + Clock + Log>(&mut self, rt: &R, site: Site<'_>) -> bool {
         if self.conn.is_some() {
             return true;
         }
         let number = self.number;
-        match open(host, alloc, broker, board, number) {
+        match open(site, number) {
             Ok(opened) => {
                 info!(rt; "connection {number} is open");
-                board.note_opened(rt);
+                let now = site.board.now(rt);
+                site.board.backoff.lock(rt).note_opened(now);
                 self.conn = Some(opened);
-                self.pulse = Pulse::new(board.now(rt));
+                self.pulse = Pulse::new(now);
                 true
             }
             Err(error) => {
@@ -136,7 +130,7 @@ impl Slot {
             // There may be more where something came.
             if !conn.has_come() {
                 let moment = Duration::from_millis(MOMENT);
-                board.rest(self.number).wait(rt, moment);
+                board.rests.reader(self.number).wait(rt, moment);
             }
         }
     }
@@ -179,22 +173,16 @@ impl Conns {
     }
 
     /// Opens those that aren't open. Where all are, there is nothing to do before this time but to look at them.
-    fn open<R: Clock + Log>(
-        &mut self,
-        rt: &R,
-        host: &HostRuntime,
-        alloc: Global,
-        broker: Broker<'_>,
-        board: &Board,
-        due: u64,
-    ) {
-        let asked = board.asked();
-        let zero = self.zero.open(rt, host, alloc, broker, board);
-        let one = self.one.open(rt, host, alloc, broker, board);
+    fn open<R: Wait + Clock + Log>(&mut self, rt: &R, site: Site<'_>, due: u64) {
+        let board = site.board;
+        let asked = board.askings.asked();
+        let zero = self.zero.open(rt, site);
+        let one = self.one.open(rt, site);
         if zero && one {
-            board.set_due(due.min(self.zero.next()).min(self.one.next()));
+            let next = due.min(self.zero.next()).min(self.one.next());
+            board.backoff.lock(rt).set_due(next);
         } else {
-            board.put_off(rt);
+            board.backoff.lock(rt).put_off(board.now(rt));
         }
         board.answer(asked, u64::from(zero).saturating_add(u64::from(one)));
     }
@@ -232,15 +220,14 @@ impl Conns {
     }
 }
 
-/// Runs the service's threads until the board says otherwise.
+/// Runs the service's threads for a turn, which ends where the board says so.
 fn run_turn<H, K, R>(
     rt: &R,
-    alloc: Global,
+    site: Site<'_>,
     shared: &Shared<H, K>,
     hand: Hand<H, K>,
     scout: Scout<H, K>,
     conns: &mut Conns,
-    board: &Board,
 ) -> (Hand<H, K>, Scout<H, K>)
 where
     H: Handler + Send + Sync,
@@ -254,8 +241,9 @@ where
     ensures scout { IsScoutOf shared.now result.1 }
 {
     let stop = Stop::new();
-    let turn = Turn::new(board, &stop);
+    let turn = Turn::new(site.board, &stop);
     let given = conns.take();
+    let alloc = site.host.alloc();
     let (hand, scout, ended) = run_service(rt, alloc, shared, hand, scout, given, &turn, &stop);
     match ended {
         Ok(left) => conns.put(left),
@@ -268,16 +256,13 @@ where
     (hand, scout)
 }
 
-/// Keeps the service connected, until all ends.
+/// Keeps the service connected, until the program ends.
 pub fn keep_serving<H, K, R>(
     rt: &R,
-    host: &HostRuntime,
-    alloc: Global,
+    site: Site<'_>,
     shared: &Shared<H, K>,
     hand: Hand<H, K>,
     scout: Scout<H, K>,
-    broker: Broker<'_>,
-    board: &Board,
 )
 where
     H: Handler + Send + Sync,
@@ -288,11 +273,13 @@ where
     requires hand { IsHandOf shared.now hand }
     requires scout { IsScoutOf shared.now scout }
 {
+    let alloc = site.host.alloc();
+    let board = site.board;
     let mut conns = Conns::none();
     let mut overdue = Overdue::new();
     let mut tokens = (hand, scout);
     for _ in rt.forever() {
-        if board.has_ended() {
+        if board.life.has_ended() {
             break;
         }
         let (hand, mut scout) = tokens;
@@ -301,8 +288,8 @@ where
             conns = Conns::none();
         }
         conns.look(rt, alloc, board, overdue.has_unsettled());
-        conns.open(rt, host, alloc, broker, board, overdue.next());
-        tokens = run_turn(rt, alloc, shared, hand, scout, &mut conns, board);
+        conns.open(rt, site, overdue.next());
+        tokens = run_turn(rt, site, shared, hand, scout, &mut conns);
     }
     conns.leave(rt, alloc, board);
     board.close();

@@ -55,6 +55,14 @@ impl Broker<'_> {
     }
 }
 
+/// What connections are opened with: the system, the broker, and the board of the threads that use them.
+#[derive(Clone, Copy)]
+pub struct Site<'a> {
+    pub host: &'a HostRuntime,
+    pub broker: Broker<'a>,
+    pub board: &'a Board,
+}
+
 /// A socket to the first address of the host that accepts.
 fn reach(host: &HostRuntime, broker: Broker<'_>) -> io::Result<net::TcpStream> {
     let mut last = io::Error::from(ErrorKind::AddrNotAvailable);
@@ -81,20 +89,20 @@ fn connect(host: &HostRuntime, address: SocketAddr) -> io::Result<net::TcpStream
 ///
 /// # Errors
 /// Where the broker isn't there, or the system or memory refused a socket.
-pub fn open(
-    host: &HostRuntime,
-    alloc: Global,
-    broker: Broker<'_>,
-    board: &Board,
-    number: u8,
-) -> io::Result<Conn<Socket>> {
+pub fn open(site: Site<'_>, number: u8) -> io::Result<Conn<Socket>> {
+    let Site {
+        host,
+        broker,
+        board,
+    } = site;
+    let alloc = host.alloc();
     let Ok(connect) = broker.greet(alloc) else {
         return Err(io::Error::from(ErrorKind::OutOfMemory));
     };
     let stream = reach(host, broker)?;
     let writer = TcpStream::from_std(stream.try_clone()?);
     let mut reader = TcpStream::from_std(stream);
-    board.rest(number).watch(&mut reader)?;
+    board.rests.reader(number).watch(&mut reader)?;
     let link = StreamLink::new(reader, writer);
     match Conn::open_by(alloc, link, &connect, broker.prefetch) {
         Ok(conn) => Ok(conn),

@@ -1,5 +1,5 @@
 use Rattle.shared_endpoint.specs.Keys.{IsSeatOf}
-use Rattle.outbox_service.proofs.answers.answer_lines.Given as goal
+use Rattle.outbox_service.proofs.answers.answer_all.Given as goal
 
 abbrev pub invariant-loop : goal.invariant-loop
 invariant-loop g l = IsSeatOf l.shared l.seat
