@@ -74,6 +74,12 @@ def computed(pid):
         return int(file.read().split()[0]) / 1e9
 
 
+def reads(pid):
+    """How many system calls of a process have read a descriptor."""
+    with open(f"/proc/{pid}/io", encoding="ascii") as file:
+        return next(int(line.split()[1]) for line in file if line.startswith("syscr:"))
+
+
 RUNNING = set()  # however a script ends, it ends these
 
 

@@ -16,7 +16,7 @@ use service_workers::Resting;
 use shared_endpoint::{Seat, Shared};
 use std::alloc::Global;
 use std::io;
-use std::io::{BufRead, ErrorKind, Write};
+use std::io::{BufRead, BufReader, ErrorKind, Write};
 use std::sync::Wait;
 use std::time::Duration;
 
@@ -251,11 +251,12 @@ where
     requires seat { IsSeatOf shared.now seat.old }
 {
     let alloc = host.alloc();
-    let reader = host.reader();
+    // The runtime's own reader takes a pipe octet by octet, so that it never takes more than a line. Nobody else reads here.
+    let blocks = BufReader::new(alloc, host.stdin())?;
     let mut desk = Desk {
         alloc,
         board,
-        input: InputLines::new(host, alloc, reader)?,
+        input: InputLines::new(host, alloc, blocks)?,
         out: io::writer(host),
     };
     answer_all(rt, shared, seat, &mut desk)

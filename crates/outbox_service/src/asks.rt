@@ -1,5 +1,6 @@
 //! What a line asks for.
 
+use crate::input::LONGEST;
 use base::Entity;
 use schedule_text::{Event, ScheduleFault, read_schedule};
 use std::alloc::{AllocError, Global};
@@ -70,8 +71,19 @@ fn read_text(alloc: Global, line: &str) -> Ask {
     }
 }
 
+/// Reads a line that is too long, of which only a beginning may be there: it's nothing where that begins a comment.
+fn read_beginning(line: &[u8]) -> Ask {
+    match line.first() {
+        Some(b'#') => Ask::Nothing,
+        _ => Ask::Unreadable,
+    }
+}
+
 /// Reads a line, without the LF that ends it.
 pub fn read_ask(alloc: Global, line: &[u8]) -> Ask {
+    if line.len() > LONGEST {
+        return read_beginning(line);
+    }
     match str::from_utf8(line) {
         Ok(line) => read_text(alloc, line),
         Err(_) => Ask::Unreadable,

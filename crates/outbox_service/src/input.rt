@@ -16,8 +16,11 @@ const DESCRIPTOR: i32 = 0;
 
 const TOKEN: Token = Token(0);
 
-/// How many octets of a line are kept at most: no line that can be read has more.
-const LONGEST: usize = 4_096;
+/// How many octets a line has at most that can be read: those of the longest command are fewer.
+pub const LONGEST: usize = 4_096;
+
+/// How many octets of a line are kept at most, so that one that is too long is known by what is kept of it.
+const KEPT: usize = LONGEST + 1;
 
 /// Waits for the standard input.
 struct Waits {
@@ -148,7 +151,7 @@ impl<I: BufRead + Drop> InputLines<I> {
         Ok(Some(line))
     }
 
-    /// Keeps what is there, and nothing that no line can have. Where memory is refused it's there still.
+    /// Keeps what is there, but of a line that is too long only its beginning. Where memory is refused it's there still.
     fn keep(&mut self) -> io::Result<()> {
         let piece = self.input.fill_buf()?;
         let count = piece.len();
@@ -156,7 +159,7 @@ impl<I: BufRead + Drop> InputLines<I> {
         self.input.consume(count);
         self.has_ended = count == 0;
         if !self.text.contains(&b'\n') {
-            self.text.truncate(LONGEST);
+            self.text.truncate(KEPT);
         }
         Ok(())
     }
