@@ -71,15 +71,15 @@ impl<'a, I: BufRead + Drop, W: Write + Drop> Desk<'a, I, W> {
         writeln!(self.out, "connected {}", board.askings.open())
     }
 
-    /// Waits a moment for rows of the journal, unless the program ends. Whether it has waited.
-    fn wait_for_rows<R: Wait>(&self, rt: &R) -> bool {
-        if self.board.life.has_ended() {
-            return false;
+    /// Waits a moment for rows of the journal, unless it's in vain: the program ends, or its input is over, and with that
+    /// goes whoever could want them. Whether it has waited.
+    fn wait_for_rows<R: Wait>(&mut self, rt: &R) -> io::Result<bool> {
+        let board = self.board;
+        if board.life.has_ended() || self.input.is_over()? {
+            return Ok(false);
         }
-        self.board
-            .seat
-            .park_timeout(rt, Duration::from_millis(MOMENT));
-        true
+        board.seat.park_timeout(rt, Duration::from_millis(MOMENT));
+        Ok(true)
     }
 }
 
@@ -139,7 +139,7 @@ where
     }
 }
 
-/// Waits until the journal has so many rows, or for long, and prints how many it has.
+/// Waits until the journal has so many rows, or the input is over, or for long, and prints how many it has.
 fn await_rows<H, K, I: BufRead + Drop, W: Write + Drop, R: Wait>(
     rt: &R,
     shared: &Shared<H, K>,
@@ -156,7 +156,7 @@ where
     let mut length = shared.length(rt, seat);
     for _ in 0..TURNS {
         let has_waited = match length {
-            Ok(there) if there < rows => desk.wait_for_rows(rt),
+            Ok(there) if there < rows => desk.wait_for_rows(rt)?,
             _ => false,
         };
         if !has_waited {

@@ -1,13 +1,13 @@
 //! The lines of the standard input.
 
-ghost use Rattle.std.specs.Prelude.{◌≡◌, IfOk, OnErr, option_map};
+ghost use Rattle.std.specs.Prelude.{◌≡◌, [], true, IfOk, OnErr, option_map};
 ghost use Rattle.outbox_service.specs.Input.{IsTaken};
 
 use mio::unix::SourceFd;
 use mio::{Events, Interest, Poll, Token};
 use std::alloc::{AllocError, Global};
 use std::io;
-use std::io::BufRead;
+use std::io::{BufRead, ErrorKind};
 use std::net::Net;
 use std::time::Duration;
 
@@ -187,5 +187,23 @@ impl<I: BufRead + Drop> InputLines<I> {
             self.read()?;
         }
         Ok(Came::Nothing)
+    }
+
+    /// Whether no line is left and none can come. It reads what is there, unless a line or a part of one waits already: so
+    /// no more of the input is held than one reading gives.
+    ///
+    /// # Errors
+    /// Where the reader failed. Where memory was refused it isn't over: the next call tries again.
+    pub fn is_over(&mut self) -> io::Result<bool>
+        ensures over { IfOk result (λ over. over ≡ true → (self.new.has_ended ≡ true) × (self.new.text.items ≡ [])) }
+    {
+        let is_idle = self.text.is_empty() && !self.has_ended;
+        if is_idle && (self.is_held || self.waits.is_ready(Duration::from_millis(0))) {
+            match self.read() {
+                Err(error) if error.kind() != ErrorKind::OutOfMemory => return Err(error),
+                _ => (),
+            }
+        }
+        Ok(self.has_ended && self.text.is_empty())
     }
 }

@@ -8,8 +8,8 @@
 //! each line of its standard input by a line on standard output. A service's commands are `place KEY STOCK N .. ACCOUNT
 //! AMOUNT` and `cancel KEY` (purchasing), `receive KEY N` (warehouse) and `limit KEY N` (billing), answered `committed POS`
 //! or `refused N`; `show KIND/KEY` shows a row, `connect` opens what isn't open and answers `connected N`, how many
-//! connections are open then, and `await N` answers `journal M` once the journal has N rows. A command of another service
-//! is `refused 60`, a line that can't be read `refused 80`; `--help` lists all.
+//! connections are open then, and `await N` answers `journal M` once the journal has N rows, or the input has ended after
+//! this line. A command of another service is `refused 60`, a line that can't be read `refused 80`; `--help` lists all.
 //!
 //! - What was answered `committed` is in the tables: in the file of `--file`, or in memory until the program ends. With
 //!   `--migrate` a file of version 1 is taken over before all else, and `migrated SERVICE 1 2` printed.

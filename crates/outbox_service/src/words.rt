@@ -38,7 +38,8 @@ Lines:
   limit KEY N                          billing: the limit of an account is N from now on
   show KIND/KEY                        shows an entity's row, as order/o1
   connect                              opens now what isn't open
-  await N                              waits until the journal has N rows, 1,000 seconds at most
+  await N                              waits until the journal has N rows, 1,000 seconds at most, or
+                                       until the input ends, if this was its last line
 
 A key has 1 to 64 octets, with \\s for a space, \\n for LF, \\r for CR and \\\\ for a backslash. Empty
 lines and lines that begin with # are passed over.
