@@ -1,11 +1,13 @@
 //! What the program has to say to the threads of the service.
 
 use crate::board::Board;
+use base::Pair;
 use endpoint::EndFault;
-use envelope::Envelope;
+use envelope::{Envelope, Letter};
 use log::{Log, warn};
 use reception::ReceptionFault;
 use service_workers::{Cut, Gate, Resting, Stop};
+use std::fmt::Display;
 use std::sync::Wait;
 use std::thread;
 use std::time::{Clock, Duration};
@@ -36,14 +38,19 @@ impl<'a> Turn<'a> {
     }
 }
 
-/// Tells why a connection ended.
+/// Tells that a connection is no more, how that came, and why.
+fn tell_end<R: Log, D: Display>(rt: &R, number: u8, how: &str, why: &D) {
+    warn!(rt; "connection {number}{how}: {why}");
+}
+
+/// Tells why a connection ended. Each arm is one call: what an arm writes by itself is proved in each way to it.
 fn tell_cut<R: Log>(rt: &R, number: u8, cut: &Cut) {
     match cut {
-        Cut::Link(fault) => warn!(rt; "connection {number} ended: {fault}"),
-        Cut::Frame(fault) => warn!(rt; "connection {number} is cut: {fault}"),
-        Cut::Reception(fault) => warn!(rt; "connection {number} is cut: {fault}"),
-        Cut::Relay(fault) => warn!(rt; "connection {number} is cut: {fault}"),
-        Cut::Error(text) => warn!(rt; "connection {number}: ERROR of the broker: {text}"),
+        Cut::Link(fault) => tell_end(rt, number, " ended", fault),
+        Cut::Frame(fault) => tell_end(rt, number, " is cut", fault),
+        Cut::Reception(fault) => tell_end(rt, number, " is cut", fault),
+        Cut::Relay(fault) => tell_end(rt, number, " is cut", fault),
+        Cut::Error(text) => tell_end(rt, number, ": ERROR of the broker", text),
     }
 }
 
@@ -55,20 +62,26 @@ fn comes_again(fault: ReceptionFault) -> bool {
     )
 }
 
+/// Tells that a letter was thrown away, and why.
+fn tell_letter<R: Log>(rt: &R, number: u8, fault: ReceptionFault, letter: &Letter) {
+    let from = letter.pair.from.text();
+    let to = letter.pair.to.text();
+    let count = letter.number.get();
+    warn!(rt; "connection {number}: letter {count} from {from} to {to} isn't taken: {fault}")
+}
+
+/// Tells that a settle of so many letters was thrown away, and why.
+fn tell_settle<R: Log>(rt: &R, number: u8, fault: ReceptionFault, pair: &Pair, count: u64) {
+    let from = pair.from.text();
+    let to = pair.to.text();
+    warn!(rt; "connection {number}: that {to} has handled {count} letters of {from} isn't taken: {fault}")
+}
+
 /// Tells what was thrown away, and why.
 fn tell_not_taken<R: Log>(rt: &R, number: u8, fault: ReceptionFault, envelope: Option<&Envelope>) {
     match envelope {
-        Some(Envelope::Letter(letter)) => {
-            let from = letter.pair.from.text();
-            let to = letter.pair.to.text();
-            let count = letter.number.get();
-            warn!(rt; "connection {number}: letter {count} from {from} to {to} isn't taken: {fault}")
-        }
-        Some(Envelope::Settle(pair, count)) => {
-            let from = pair.from.text();
-            let to = pair.to.text();
-            warn!(rt; "connection {number}: that {to} has handled {count} letters of {from} isn't taken: {fault}")
-        }
+        Some(Envelope::Letter(letter)) => tell_letter(rt, number, fault, letter),
+        Some(Envelope::Settle(pair, count)) => tell_settle(rt, number, fault, pair, *count),
         None => warn!(rt; "connection {number}: a message isn't taken: {fault}"),
     }
 }

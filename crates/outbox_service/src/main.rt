@@ -60,6 +60,7 @@ use command_line::{tell_bad_words, tell_words};
 use fault::RunFault;
 use log::Log;
 use running::run;
+use sockets::Broker;
 use std::io::ErrorKind;
 use std::process::ExitCode;
 use std::sync::Wait;
@@ -79,13 +80,21 @@ fn tell_fault(rt: &HostRuntime, fault: RunFault) -> io::Result<u8> {
     Ok(1)
 }
 
+/// Whether the words for the broker can stand in a CONNECT.
+fn try_greeting(host: &HostRuntime, broker: &Broker<'_>) -> Result<(), FrameFault> {
+    match broker.greet(host.alloc()) {
+        Ok(_) => Ok(()),
+        Err(fault) => Err(fault),
+    }
+}
+
 /// Runs the service, once it's known that its words can stand in a CONNECT. The answer is the status.
 fn run_settings<R>(rt: &R, host: &HostRuntime, settings: Settings<'_>) -> io::Result<u8>
 where
     R: Threads + Wait + Clock + Log + Sync,
 {
-    match settings.broker.greet(host.alloc()) {
-        Ok(_) => match run(rt, host, settings) {
+    match try_greeting(host, &settings.broker) {
+        Ok(()) => match run(rt, host, settings) {
             Ok(()) => Ok(0),
             Err(fault) => tell_fault(host, fault),
         },
@@ -97,13 +106,12 @@ where
     }
 }
 
-/// Runs what the words of the command line ask for. The answer is the status.
-fn start<R>(rt: &R, host: &HostRuntime) -> io::Result<u8>
+/// Runs what these words of the command line ask for. The answer is the status.
+fn run_words<R>(rt: &R, host: &HostRuntime, words: &[String]) -> io::Result<u8>
 where
     R: Threads + Wait + Clock + Log + Sync,
 {
-    let words: Vec<String> = env::args(host)?.collect(host.alloc())?;
-    match read_settings(host.alloc(), words.as_slice()) {
+    match read_settings(host.alloc(), words) {
         Ok(settings) => run_settings(rt, host, settings),
         Err(error) if error.kind() == WordFault::OutOfMemory => {
             Err(io::Error::from(ErrorKind::OutOfMemory))
@@ -112,17 +120,29 @@ where
     }
 }
 
+/// Runs what the words of the command line ask for. The answer is the status.
+fn start<R>(rt: &R, host: &HostRuntime) -> io::Result<u8>
+where
+    R: Threads + Wait + Clock + Log + Sync,
+{
+    let words: Vec<String> = env::args(host)?.collect(host.alloc())?;
+    run_words(rt, host, words.as_slice())
+}
+
+/// Prints why the program couldn't begin, where there are words for that. The answer is the status.
+fn tell_error(host: &HostRuntime, error: io::Error) -> io::Result<u8> {
+    match error.kind() {
+        ErrorKind::OutOfMemory => tell_fault(host, RunFault::Memory),
+        // Words that aren't UTF-8, which nothing else here is.
+        ErrorKind::InvalidData => tell_bad_words(&mut host.stderr(), USAGE),
+        _ => Err(error),
+    }
+}
+
 fn main(rt: HostRuntime) -> io::Result<ExitCode> {
     let status = match start(&rt, &rt) {
         Ok(status) => status,
-        Err(error) if error.kind() == ErrorKind::OutOfMemory => {
-            tell_fault(&rt, RunFault::Memory)?
-        }
-        // Words that aren't UTF-8, which nothing else here is.
-        Err(error) if error.kind() == ErrorKind::InvalidData => {
-            tell_bad_words(&mut rt.stderr(), USAGE)?
-        }
-        Err(error) => return Err(error),
+        Err(error) => tell_error(&rt, error)?,
     };
     Ok(ExitCode::from(status))
 }

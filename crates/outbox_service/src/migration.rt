@@ -31,6 +31,11 @@ fn tell(host: &HostRuntime, done: Result<Migrated, KeepFault>, line: &str) -> Re
     }
 }
 
+/// Takes the file of one service over, and prints this line where it did.
+fn take_over_of<H: Filed>(host: &HostRuntime, path: &str, line: &str) -> Result<(), RunFault> {
+    tell(host, migrate_file::<H>(host, path), line)
+}
+
 /// Takes the file of a service over where it's of version 1, and tells so on standard output, as `migrated billing 1 2`.
 ///
 /// # Errors
@@ -38,25 +43,9 @@ fn tell(host: &HostRuntime, done: Result<Migrated, KeepFault>, line: &str) -> Re
 pub fn take_over(host: &HostRuntime, service: ServiceName, path: &str) -> Result<(), RunFault> {
     match service {
         ServiceName::Purchasing => {
-            tell(
-                host,
-                migrate_file::<Orders>(host, path),
-                "migrated purchasing 1 2\n",
-            )
+            take_over_of::<Orders>(host, path, "migrated purchasing 1 2\n")
         }
-        ServiceName::Warehouse => {
-            tell(
-                host,
-                migrate_file::<Stocks>(host, path),
-                "migrated warehouse 1 2\n",
-            )
-        }
-        ServiceName::Billing => {
-            tell(
-                host,
-                migrate_file::<Accounts>(host, path),
-                "migrated billing 1 2\n",
-            )
-        }
+        ServiceName::Warehouse => take_over_of::<Stocks>(host, path, "migrated warehouse 1 2\n"),
+        ServiceName::Billing => take_over_of::<Accounts>(host, path, "migrated billing 1 2\n"),
     }
 }

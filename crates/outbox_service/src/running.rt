@@ -120,12 +120,21 @@ where
     }
 }
 
-// Each step makes one type more concrete: a call over types that are all known takes a minute of the check.
+/// Tells where a file has no rows: its letters are numbered from 1 on, which partners that know others take for repeats.
+fn tell_new<K: Keep, R: Log>(rt: &R, path: &str, keep: &K) {
+    if keep.usable() && keep.length() == 0 {
+        warn!(rt; "{path} has no rows: if this isn't a new service, it's the wrong file");
+    }
+}
 
-/// Runs a service over the tables of a file that is open, on whatever disk.
+// Each step makes one type more concrete: a call over types that are all known takes a minute of the check. So what is
+// done with the tables is done in the first, which knows least of them.
+
+/// Runs a service over the tables of the file at a path, which is open, on whatever disk.
 fn run_kept<H, S, R>(
     rt: &R,
     host: &HostRuntime,
+    path: &str,
     keep: FileKeep<H, S>,
     broker: Broker<'_>,
 ) -> Result<(), RunFault>
@@ -137,13 +146,15 @@ where
     S::Files: Send,
     R: Threads + Wait + Clock + Log + Sync,
 {
+    tell_new(rt, path, &keep);
     run_over::<H, FileKeep<H, S>, R>(rt, host, keep, broker)
 }
 
-/// The same on a disk.
+/// Runs it on a disk.
 fn run_on_disk<H, D, R>(
     rt: &R,
     host: &HostRuntime,
+    path: &str,
     keep: FileKeep<H, FileStore<D>>,
     broker: Broker<'_>,
 ) -> Result<(), RunFault>
@@ -154,13 +165,14 @@ where
     D: Disk + Drop + Send,
     R: Threads + Wait + Clock + Log + Sync,
 {
-    run_kept::<H, FileStore<D>, R>(rt, host, keep, broker)
+    run_kept::<H, FileStore<D>, R>(rt, host, path, keep, broker)
 }
 
-/// The same on a disk of the operating system.
+/// Runs it on a disk of the operating system.
 fn run_from<H, D, R>(
     rt: &R,
     host: &HostRuntime,
+    path: &str,
     keep: FileKeep<H, FileStore<FileFrom<D>>>,
     broker: Broker<'_>,
 ) -> Result<(), RunFault>
@@ -171,7 +183,7 @@ where
     D: Start + Send,
     R: Threads + Wait + Clock + Log + Sync,
 {
-    run_on_disk::<H, FileFrom<D>, R>(rt, host, keep, broker)
+    run_on_disk::<H, FileFrom<D>, R>(rt, host, path, keep, broker)
 }
 
 /// Opens a file, and tells why it can't be opened.
@@ -183,13 +195,6 @@ fn open_file<H: Filed, D: Start>(
     match FileKeep::open(host, path, start) {
         Ok(keep) => Ok(keep),
         Err(fault) => Err(RunFault::of_file(fault)),
-    }
-}
-
-/// Tells where a file has no rows: its letters are numbered from 1 on, which partners that know others take for repeats.
-fn tell_new<K: Keep, R: Log>(rt: &R, path: &str, keep: &K) {
-    if keep.usable() && keep.length() == 0 {
-        warn!(rt; "{path} has no rows: if this isn't a new service, it's the wrong file");
     }
 }
 
@@ -208,9 +213,10 @@ where
     D: Start + Send,
     R: Threads + Wait + Clock + Log + Sync,
 {
-    let keep = open_file::<H, D>(host, path, start)?;
-    tell_new(rt, path, &keep);
-    run_from::<H, D, R>(rt, host, keep, broker)
+    match open_file::<H, D>(host, path, start) {
+        Ok(keep) => run_from::<H, D, R>(rt, host, path, keep, broker),
+        Err(fault) => Err(fault),
+    }
 }
 
 /// Runs a service over tables in memory, or over those of a file where there is one.
