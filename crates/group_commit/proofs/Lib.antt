@@ -1,4 +1,5 @@
 mod Apart
+mod Ends
 mod Following
 pub mod Reading
 mod Steps

@@ -7,8 +7,8 @@ ghost use Rattle.activities.specs.declared.input.Input.TheVariants.{FromEntity};
 ghost use Rattle.envelope.specs.declared.message.Envelope.TheVariants.{Letter as OfLetter, Settle as OfSettle};
 ghost use Rattle.keep.specs.Law.{Reads};
 ghost use Rattle.keep.specs.Seen.{keep_end};
-ghost use Rattle.outbox.specs.Numbering.{numbering, NumbersFit};
-ghost use Rattle.group_commit.specs.Parts.Planning.{touches, IsStep, IsNext, stopped};
+ghost use Rattle.outbox.specs.Numbering.{numbering, NumbersFit, NumbersPass};
+ghost use Rattle.group_commit.specs.Parts.Planning.{own_of, touches, IsStep, IsNext, stopped};
 
 use crate::Grouped;
 use activities::{Handler, HandlerFault, Input, Out, Outs};
@@ -79,9 +79,10 @@ where
     K: Keep<State = H::State, Command = H::Command>,
     requires usable { (K.seen keep.old).usable ≡ true }
     requires room { length outs.now < 2 ^ 63 }
-    ensures { Reads K.seen keep.old keep.new (λ t fit. fit ≡ true → (changes.new.items ≡ changes.old.items
+    ensures { Reads K.seen keep.old keep.new (λ t fit. (fit ≡ true → (changes.new.items ≡ changes.old.items
         ++ numbering t.sent entity.now outs.now)
-        × NumbersFit t.sent entity.now outs.now) (keep_end result) }
+        × NumbersFit t.sent entity.now outs.now)
+        × (fit ≡ false → NumbersPass t.sent entity.now outs.now)) (keep_end result) }
 {
     match number_outs::<H, K>(alloc, keep, entity, outs, changes) {
         Ok(()) => Ok(true),
@@ -262,6 +263,16 @@ where
     }
 }
 
+/// The entity that an envelope concerns: a letter's receiver, a settle's sender.
+fn own_of(envelope: &Envelope) -> &Entity
+    ensures { result.now ≡ own_of envelope.now }
+{
+    match envelope {
+        Envelope::Letter(letter) => &letter.pair.to,
+        Envelope::Settle(pair, _) => &pair.from,
+    }
+}
+
 /// The step of an envelope, where it can be taken in behind these changes, none of which concerns its own entity: a
 /// letter that is the next of its pair, or a settle by which a mark rises. `rows` is how long the journal is with them.
 pub(crate) fn plan<H, K>(
@@ -277,11 +288,11 @@ where
     requires usable { (K.seen keep.old).usable ≡ true }
     ensures { Reads K.seen keep.old keep.new (IsStep H.service H.State.follows before.now rows envelope.now) (keep_end result) }
 {
-    let own = match envelope {
-        Envelope::Letter(letter) => &letter.pair.to,
-        Envelope::Settle(pair, _) => &pair.from,
-    };
-    if own.kind() != H::kind() || are_touching(before, own) {
+    let own = own_of(envelope);
+    if own.kind() != H::kind() {
+        return Ok(None);
+    }
+    if are_touching(before, own) {
         return Ok(None);
     }
     match envelope {
