@@ -3,6 +3,22 @@ import pathlib
 import shutil
 
 TOP = pathlib.Path(__file__).resolve().parent.parent
+JOINED = """//! Several programs, compiled as one.
+#![tactic(auto)]
+
+use std::io;
+use std::process::ExitCode;
+
+unsafe extern "C" {
+    safe fn member() -> u64;
+}
+
+fn main(rt: HostRuntime) -> io::Result<ExitCode> {
+    match member() {
+ARMS        _ => Ok(ExitCode::from(2)),
+    }
+}
+"""
 
 
 def lines_of(path):
@@ -35,8 +51,25 @@ def copy(folder, names, programs):
 
 
 def test_programs():
-    """The folder and the line of each program that tests, and how far it is optimized, in the order of tests/programs.txt. A line may have
-    the word opt_level=1 after the name, which isn't for `rt`."""
-    lines = lines_of(TOP / "tests/programs.txt")
-    programs = {name: (TOP / "tests" / name, line.replace(" opt_level=1", "")) for name, line in lines.items()}
-    return programs, {name: int(" opt_level=1" in line) for name, line in lines.items()}
+    """The folder and the line of each program that tests, and the words between its name and the colon, which aren't for `rt`, in the order
+    of tests/programs.txt."""
+    lines = {name: line.partition(":") for name, line in lines_of(TOP / "tests/programs.txt").items()}
+    programs = {name: (TOP / "tests" / name, f"{name}:{rest}") for name, (_, _, rest) in lines.items()}
+    return programs, {name: dict(word.split("=") for word in head.split()[1:]) for name, (head, _, _) in lines.items()}
+
+
+def join(folder, name, members, programs):
+    """Makes the folder a repository of these programs, each a library there, and of one program that runs the member whose place in the
+    list the function `member` of C returns."""
+    copy(folder, members, programs)
+    for member in members:
+        root = folder / "crates" / member / "src/main.rt"
+        (root.parent / "lib.rt").write_text(root.read_text("utf-8").replace("\nfn main(", "\npub fn main("), "utf-8")
+        root.unlink()
+    crate = folder / "crates" / name
+    (crate / "src").mkdir(parents=True)
+    arms = "".join(f"        {number} => {member}::main(rt),\n" for number, member in enumerate(members))
+    (crate / "src/main.rt").write_text(JOINED.replace("ARMS", arms), "utf-8")
+    with (folder / "crates.txt").open("a", encoding="utf-8") as lines:
+        lines.write(f"{name}: {' '.join(members)}\n")
+    return crate
