@@ -4,8 +4,8 @@ use Rattle.service_workers.specs.Truth.{AreSentIn, ListedIn}
 use Rattle.service_workers.proofs.Truth.{knows_now, so_tells}
 use Rattle.service_workers.proofs.sender.send_page.Goals as goal
 
-pub send-requires : goal.send-requires
-send-requires g c = record {
+pub send_letters-requires : goal.send_letters-requires
+send_letters-requires g c = record {
   told = knows_now g.K.Keep.seen g.H.Handler.service scout_number
       (AreSentIn g.H.Handler.service.reactions c.as_slice.result.now) _ _ c.unsettled.ensures.goes_on
       (so_tells g.K.Keep.seen g.H.Handler.service (ListedIn g.H.Handler.service.reactions c.unsettled.result) _
