@@ -63,8 +63,9 @@ def function_at(file, text, at):
     if found[-1][1]:
         head = [it for it in IMPL.finditer(text) if it.start() < found[-1].start()][-1][1]
         trait, _, kind = head.rpartition(" for ")
+        kind = re.sub(r"'\w+(, )?", "", kind)
         owner = re.search(r"\w+", kind)[0] + "".join(re.findall(r"\w+", re.sub(r"(<\w+)<.*", r"\1", trait)))
-        # An impl for one form of a type is told from others by a type among its arguments.
+        # An impl for one form of a type is told from others by a type among its arguments; a lifetime is none.
         if re.search("<.*[a-z]", kind):
             owner = "+".join(re.findall(r"\w+", kind))
     path = "::".join(it for it in (module, owner, name) if it)

@@ -10,7 +10,7 @@ use crate::sockets::{Site, Socket, open};
 use activities::Handler;
 use keep::Keep;
 use log::{Log, info, warn};
-use service_workers::{Conn, Stop, run_service};
+use service_workers::{Conn, End, Ended, Start, Stop, run_unnamed};
 use shared_endpoint::{Hand, Scout, Shared};
 use std::alloc::Global;
 use std::sync::Wait;
@@ -18,7 +18,7 @@ use std::thread;
 use std::thread::Threads;
 use std::time::{Clock, Duration};
 
-/// How long it is until the threads are run again where memory was refused, in milliseconds.
+/// How long it is until the threads are started again after an allocation for them failed, in milliseconds.
 const MOMENT: u64 = 100;
 
 /// How long it's waited at most until the broker has answered DISCONNECT, in milliseconds.
@@ -188,17 +188,16 @@ impl Conns {
     }
 
     /// Those that are open, which leave their places.
-    fn take(&mut self) -> [Option<Conn<Socket>>; 2] {
+    fn take(&mut self) -> (Option<Conn<Socket>>, Option<Conn<Socket>>) {
         let zero = self.zero.conn.take();
         let one = self.one.conn.take();
-        [zero, one]
+        (zero, one)
     }
 
-    /// Puts these in their places.
-    fn put(&mut self, conns: [Option<Conn<Socket>>; 2]) {
-        let [zero, one] = conns;
-        self.zero.put(zero);
-        self.one.put(one);
+    /// Puts what a run left of them in their places.
+    fn put(&mut self, zero: Ended<Socket>, one: Ended<Socket>) {
+        self.zero.put(zero.into_conn());
+        self.one.put(one.into_conn());
     }
 
     /// Takes leave of those on which nothing comes.
@@ -242,16 +241,25 @@ where
 {
     let stop = Stop::new();
     let turn = Turn::new(site.board, &stop);
-    let given = conns.take();
+    let (zero, one) = conns.take();
     let alloc = site.host.alloc();
-    let (hand, scout, ended) = run_service(rt, alloc, shared, hand, scout, given, &turn, &stop);
-    match ended {
-        Ok(left) => conns.put(left),
-        // The connections are gone, and it's tried again in a moment.
-        Err(_) => {
-            warn!(rt; "memory is refused to the service's threads: connections are opened anew");
-            thread::sleep(rt, Duration::from_millis(MOMENT));
-        }
+    let start = Start {
+        hand,
+        scout,
+        zero,
+        one,
+    };
+    let (end, served) = run_unnamed(rt, alloc, shared, start, &turn, &stop);
+    let End {
+        hand,
+        scout,
+        zero,
+        one,
+    } = end;
+    conns.put(zero, one);
+    if served.is_err() {
+        warn!(rt; "out of memory for the service's threads: they are started again in a moment");
+        thread::sleep(rt, Duration::from_millis(MOMENT));
     }
     (hand, scout)
 }

@@ -1,5 +1,5 @@
 -- What the answers to a token tell of what its service has then kept.
-use Rattle.std.specs.Prelude.{◌≡◌, ◌⊎◌, ℕ, ◌≤◌, ◌<◌, Bool, true, false, List, [], ◌∷◌, Option, Some, None, Result, Ok, Err, ⊤}
+use Rattle.std.specs.Prelude.{◌≡◌, ◌≢◌, ◌⊎◌, ℕ, ◌≤◌, ◌<◌, Bool, true, false, List, [], ◌∷◌, Option, Some, None, Result, Ok, Err, ⊤}
 use Rattle.std.specs.List.{AllByRecursion}
 use Rattle.std.specs.Global.{Vec}
 use Rattle.base.specs.declared.pair.Pair.{Pair}
@@ -32,23 +32,30 @@ use Rattle.reception.specs.declared.taken.Taken.TheVariants as taken
 use Rattle.laws_stores.specs.Writing.{IsTrueIn}
 use Rattle.told_lock.specs.declared.view.Told.{Told}
 use Rattle.shared_endpoint.specs.Promises.{IsGood}
-use Rattle.service_workers.specs.Tokens.{Progress, progress_of, HasArrived, GoesOn}
+use Rattle.service_workers.specs.Tokens.{Progress, progress_of, HasArrived}
 use Rattle.service_workers.specs.declared.worker.Answer.{Answer}
 use Rattle.service_workers.specs.declared.worker.Answer.TheVariants as answer
 
 module _ {E S C : Type 0} (seen : E → Seen (Tables S C)) (service : Service S C) where
-  -- this holds of what the token has then seen, where no file is in doubt and the token was good before
+  -- this holds of what the token has then seen, where that file isn't in doubt and the token was good before
   abbrev pub TokenLearns : (Kept C → Type 0) → (v w : Told E) → Type 0
-  TokenLearns P v w = (seen w.last).doubt ≡ 0 → IsGood seen service v → P (kept (seen w.seen).tables)
+  TokenLearns P v w = (seen w.seen).doubt ≡ 0 → IsGood seen service v → P (kept (seen w.seen).tables)
 
   -- the same of what two keys know: each stands for this one token
   abbrev pub Learns : (Kept C → Type 0) → (vs ws : List (Told E)) → Type 0
   Learns P (v ∷ []) (w ∷ []) = TokenLearns P v w
   Learns P _ _ = ⊥
 
-  -- the token of this number, as it was at some time, has learned this since
-  abbrev pub Knows : (n : ℕ) → (Kept C → Type 0) → (ws : List (Told E)) → Type 0
-  Knows n P ws = (vs : List (Told E)) × GoesOn seen service n vs ws × Learns P vs ws
+  -- While the service is sound the token of this key is good, where the file that it has seen isn't in doubt; and this holds
+  -- of what it has seen.
+  abbrev pub Knows : (sound : Type 0) → (Kept C → Type 0) → (ws : List (Told E)) → Type 0
+  Knows sound P (w ∷ []) =
+      sound → (seen w.seen).doubt ≡ 0 → IsGood seen service w × P (kept (seen w.seen).tables)
+  Knows sound P _ = ⊥
+
+  -- it is good
+  abbrev pub IsSound : (sound : Type 0) → (ws : List (Told E)) → Type 0
+  IsSound sound = Knows sound (λ x. ⊤)
 
 -- ---- what the Hand is told
 
@@ -58,18 +65,34 @@ handles (Ok (ingested.Handled position)) = true
 handles (Ok (ingested.Repeated number)) = true
 handles _ = false
 
+-- the envelope is for a service of another kind: the letter's receiver is, or whose letters are settled
+abbrev pub IsForeign : Envelope → Progress → Type 0
+IsForeign (envelope.Letter l) x = l.pair.to.kind ≢ x.mine
+IsForeign (envelope.Settle p n) x = p.from.kind ≢ x.mine
+
+-- it settles what the service hasn't sent
+abbrev pub IsNotSent : Envelope → Progress → Type 0
+IsNotSent (envelope.Letter l) x = ⊥
+IsNotSent (envelope.Settle p n) x = x.sent p < n
+
+-- why an envelope was refused that isn't taken at any other time
+abbrev pub RefusedAs : EndFault → Envelope → Progress → Type 0
+RefusedAs end.NotMine e x = IsForeign e x
+RefusedAs end.NotSent e x = IsNotSent e x
+RefusedAs _ e x = ⊤
+
 -- A letter that is told as handled is, and so is its pair up to the number that is told; one that is told as held has
 -- arrived.
 abbrev pub IngestedBy : Letter → Result Ingested EndFault → Progress → Type 0
 IngestedBy l (Ok (ingested.Handled position)) x = l.number ≤ x.handled l.pair
 IngestedBy l (Ok (ingested.Repeated number)) x = (l.number ≤ x.handled l.pair) × (number ≤ x.handled l.pair)
 IngestedBy l (Ok ingested.Held) x = HasArrived x l.pair l.number
-IngestedBy l (Err fault) x = ⊤
+IngestedBy l (Err fault) x = RefusedAs fault (envelope.Letter l) x
 
 -- what was sent on a pair is settled up to the number that is told, and up to the one that came
 abbrev pub NotedBy : Pair → ℕ → Result ℕ EndFault → Progress → Type 0
 NotedBy p n (Ok mark) x = (n ≤ x.settled p) × (mark ≤ x.settled p)
-NotedBy p n (Err fault) x = ⊤
+NotedBy p n (Err fault) x = RefusedAs fault (envelope.Settle p n) x
 
 -- the same of an envelope that was taken in with others
 abbrev pub GroupedBy : Envelope → Grouped → Progress → Type 0
@@ -85,39 +108,39 @@ AreGroupedBy [] (g ∷ gs) x = ⊥
 AreGroupedBy (e ∷ es) (g ∷ gs) x = GroupedBy e g x × AreGroupedBy es gs x
 
 -- the same by what a service has kept
-abbrev pub IngestedIn : {C : Type 0} → Letter → Result Ingested EndFault → Kept C → Type 0
-IngestedIn l r x = IngestedBy l r (progress_of x)
+abbrev pub IngestedIn : {S C : Type 0} → Service S C → Letter → Result Ingested EndFault → Kept C → Type 0
+IngestedIn service l r x = IngestedBy l r (progress_of service x)
 
-abbrev pub NotedIn : {C : Type 0} → Pair → ℕ → Result ℕ EndFault → Kept C → Type 0
-NotedIn p n r x = NotedBy p n r (progress_of x)
+abbrev pub NotedIn : {S C : Type 0} → Service S C → Pair → ℕ → Result ℕ EndFault → Kept C → Type 0
+NotedIn service p n r x = NotedBy p n r (progress_of service x)
 
-abbrev pub GroupedIn : {C : Type 0} → List Envelope → Result (Vec Grouped) EndFault → Kept C → Type 0
-GroupedIn es (Ok told) x = AreGroupedBy es told.items (progress_of x)
-GroupedIn es (Err fault) x = ⊤
+abbrev pub GroupedIn : {S C : Type 0} → Service S C → List Envelope → Result (Vec Grouped) EndFault → Kept C → Type 0
+GroupedIn service es (Ok told) x = AreGroupedBy es told.items (progress_of service x)
+GroupedIn service es (Err fault) x = ⊤
 
-abbrev pub OneGroupedIn : {C : Type 0} → Envelope → Grouped → Kept C → Type 0
-OneGroupedIn e g x = GroupedBy e g (progress_of x)
+abbrev pub OneGroupedIn : {S C : Type 0} → Service S C → Envelope → Grouped → Kept C → Type 0
+OneGroupedIn service e g x = GroupedBy e g (progress_of service x)
 
-abbrev pub AreGroupedIn : {C : Type 0} → List Envelope → List Grouped → Kept C → Type 0
-AreGroupedIn es gs x = AreGroupedBy es gs (progress_of x)
+abbrev pub AreGroupedIn : {S C : Type 0} → Service S C → List Envelope → List Grouped → Kept C → Type 0
+AreGroupedIn service es gs x = AreGroupedBy es gs (progress_of service x)
 
 -- so many are left of what is told of these envelopes, and it is this
-abbrev pub IsLeftIn : {C : Type 0} → List Envelope → (count : ℕ) → List Grouped → Kept C → Type 0
-IsLeftIn es count gs x = 0 < count → AreGroupedIn es gs x
+abbrev pub IsLeftIn : {S C : Type 0} → Service S C → List Envelope → (count : ℕ) → List Grouped → Kept C → Type 0
+IsLeftIn service es count gs x = 0 < count → AreGroupedIn service es gs x
 
 -- it is told of the first of these envelopes, and what is left of those behind it; or nothing is left
-abbrev pub IsNextIn : {C : Type 0} → List Envelope → Option Grouped → (count : ℕ) → List Grouped → Kept C → Type 0
-IsNextIn es (Some g) count gs x = AreGroupedIn es (g ∷ gs) x
-IsNextIn es None count gs x = count ≡ 0
+abbrev pub IsNextIn : {S C : Type 0} → Service S C → List Envelope → Option Grouped → (count : ℕ) → List Grouped → Kept C → Type 0
+IsNextIn service es (Some g) count gs x = AreGroupedIn service es (g ∷ gs) x
+IsNextIn service es None count gs x = count ≡ 0
 
 -- the next letter of a pair was held, and is handled up to this number
-abbrev pub DrainedIn : {C : Type 0} → Pair → Option ℕ → Kept C → Type 0
-DrainedIn p (Some number) x = number ≤ (progress_of x).handled p
-DrainedIn p None x = ⊤
+abbrev pub DrainedIn : {S C : Type 0} → Service S C → Pair → Option ℕ → Kept C → Type 0
+DrainedIn service p (Some number) x = number ≤ (progress_of service x).handled p
+DrainedIn service p None x = ⊤
 
-abbrev pub DrainToldIn : {C : Type 0} → Pair → Result (Option ℕ) EndFault → Kept C → Type 0
-DrainToldIn p (Ok drained) x = DrainedIn p drained x
-DrainToldIn p (Err fault) x = ⊤
+abbrev pub DrainToldIn : {S C : Type 0} → Service S C → Pair → Result (Option ℕ) EndFault → Kept C → Type 0
+DrainToldIn service p (Ok drained) x = DrainedIn service p drained x
+DrainToldIn service p (Err fault) x = ⊤
 
 -- ---- what the worker answers
 
@@ -137,20 +160,20 @@ AnsweredBy e (answer.Letter r) x = OfLetter e r x
 AnsweredBy e (answer.Settle r) x = OfSettle e r x
 AnsweredBy e answer.Unasked x = ⊤
 
-abbrev pub AnsweredIn : {C : Type 0} → Envelope → Answer → Kept C → Type 0
-AnsweredIn e a x = AnsweredBy e a (progress_of x)
+abbrev pub AnsweredIn : {S C : Type 0} → Service S C → Envelope → Answer → Kept C → Type 0
+AnsweredIn service e a x = AnsweredBy e a (progress_of service x)
 
 -- so is what is answered to what a MESSAGE carries
 abbrev pub CarriedBy : Content → Answer → Progress → Type 0
 CarriedBy f a x = (e : Envelope) → read_frame f ≡ Some e → AnsweredBy e a x
 
-abbrev pub AnsweredTo : {C : Type 0} → Content → Answer → Kept C → Type 0
-AnsweredTo f a x = CarriedBy f a (progress_of x)
+abbrev pub AnsweredTo : {S C : Type 0} → Service S C → Content → Answer → Kept C → Type 0
+AnsweredTo service f a x = CarriedBy f a (progress_of service x)
 
 -- ---- what is written
 
 -- By what is told of a MESSAGE: the letter that it carries is handled where it's settled, and its pair as far as it is; it
--- has arrived where it's acknowledged; and a settle that is acknowledged is noted.
+-- has arrived where it's acknowledged; a settle that is acknowledged is noted; and what is refused for good was so.
 abbrev pub RepliedBy : Content → Result Taken ReceptionFault → Progress → Type 0
 RepliedBy f (Ok (taken.Handled position)) x =
     (l : Letter) → read_frame f ≡ Some (envelope.Letter l) → l.number ≤ x.handled l.pair
@@ -160,6 +183,7 @@ RepliedBy f (Ok taken.Held) x =
     (l : Letter) → read_frame f ≡ Some (envelope.Letter l) → HasArrived x l.pair l.number
 RepliedBy f (Ok (taken.Settled mark)) x =
     (p : Pair) (n : ℕ) → read_frame f ≡ Some (envelope.Settle p n) → (n ≤ x.settled p) × (mark ≤ x.settled p)
+RepliedBy f (Err (fault.End cause)) x = (e : Envelope) → read_frame f ≡ Some e → RefusedAs cause e x
 RepliedBy f _ x = ⊤
 
 -- the client writes what is told, or what was prepared doesn't go with the answer, and it writes nothing

@@ -1,0 +1,60 @@
+//! What a run of a service is given, and what it gives back.
+
+use crate::line::{Line, Naming};
+use crate::{Conn, Ended};
+use activities::Handler;
+use keep::Keep;
+use shared_endpoint::{Hand, Scout};
+use stomp_wire::Link;
+
+/// What a run of a service is given: the tokens of two of its threads, and its two connections, where they are there.
+pub struct Start<L, H, K>
+where
+    L: Link + Drop,
+    H: Handler,
+    K: Keep<State = H::State, Command = H::Command> + Drop,
+{
+    /// By which what arrives is handled.
+    pub hand: Hand<H, K>,
+    /// By which it's looked what is to be sent.
+    pub scout: Scout<H, K>,
+    /// The first connection.
+    pub zero: Option<Conn<L>>,
+    /// The second one.
+    pub one: Option<Conn<L>>,
+}
+
+/// What a run of a service gives back: the same tokens, and what is left of its connections.
+pub struct End<L, H, K>
+where
+    L: Link + Drop,
+    H: Handler,
+    K: Keep<State = H::State, Command = H::Command> + Drop,
+{
+    /// By which what arrives is handled.
+    pub hand: Hand<H, K>,
+    /// By which it's looked what is to be sent.
+    pub scout: Scout<H, K>,
+    /// What is left of the first connection.
+    pub zero: Ended<L>,
+    /// And of the second one.
+    pub one: Ended<L>,
+}
+
+/// What the threads of a run hold: the tokens of two of them, and the places of its two connections.
+pub struct Held<N, L, H, K>
+where
+    N: Naming<K, L>,
+    L: Link + Drop,
+    H: Handler,
+    K: Keep<State = H::State, Command = H::Command> + Drop,
+{
+    /// By which what arrives is handled.
+    pub hand: Hand<H, K>,
+    /// By which it's looked what is to be sent.
+    pub scout: Scout<H, K>,
+    /// The first connection.
+    pub zero: Line<N, L, H, K>,
+    /// The second one.
+    pub one: Line<N, L, H, K>,
+}

@@ -1,0 +1,44 @@
+//! What connections have written, from the first frame to the end: each law is the contract of a function with nothing to do.
+
+ghost use Rattle.std.specs.Prelude.{◌≡◌, ℕ, List, Option};
+ghost use Rattle.stomp_frame.specs.Frames.{Content};
+ghost use Rattle.stomp_frame.specs.declared.command.Command.TheVariants.{Connect};
+ghost use Rattle.service_workers.specs.Conns.{IsNewConnBy};
+ghost use Rattle.service_workers.specs.Written.{ConnectionsStand, HasSpoken, WrittenStands, WritesOfSession};
+ghost use Rattle.service_workers.specs.declared.conn.Conn.{Conn};
+
+use activities::Handler;
+use keep::Keep;
+use stomp_wire::Link;
+
+/// A new connection has written its CONNECT and nothing else, which needs no witness; and one on which no more was written
+/// than frames of the session, as where it takes leave, has written what needs no more witnesses than before.
+pub fn connections_speak_of_themselves<L, H, K>()
+where
+    L: Link + Drop,
+    H: Handler,
+    K: Keep<State = H::State, Command = H::Command> + Drop,
+    ensures new { (shown : List K) (connect : Content) (prefetch : Option ℕ) (link : L) (c : Conn L) → connect.command ≡ Connect →
+        IsNewConnBy connect prefetch link c → HasSpoken L.put_gives L.take_gives K.seen H.service shown c }
+    ensures goes_on { (shown : List K) (c d : Conn L) → HasSpoken L.put_gives L.take_gives K.seen H.service shown c →
+        WritesOfSession L.put_gives L.take_gives c d → HasSpoken L.put_gives L.take_gives K.seen H.service shown d }
+{}
+
+/// What was written stands by the journal in the end, whatever was written meanwhile: each letter is what the journal sends
+/// under its number, no settle is ahead of what it has handled, and what was acknowledged else was held, noted or not for
+/// this service, at a beginning of that journal.
+pub fn what_was_written_stands<H, K>()
+where
+    H: Handler,
+    K: Keep<State = H::State, Command = H::Command> + Drop,
+    ensures { WrittenStands K.seen H.service }
+{}
+
+/// So all stands that was put on a connection's link, from its first frame to its last.
+pub fn what_connections_wrote_stands<L, H, K>()
+where
+    L: Link + Drop,
+    H: Handler,
+    K: Keep<State = H::State, Command = H::Command> + Drop,
+    ensures { ConnectionsStand L.put_gives L.take_gives K.seen H.service }
+{}

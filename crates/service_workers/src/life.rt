@@ -1,0 +1,77 @@
+//! The end of a service's life.
+
+ghost use Rattle.std.specs.Prelude.{◌≡◌, vec_len};
+ghost use Rattle.shared_endpoint.specs.Keys.{AreSeatsOf, IsHandOf, IsScoutOf, name_of};
+ghost use Rattle.service_workers.specs.Conns.{values_of};
+ghost use Rattle.service_workers.specs.Written.{LifeStands};
+
+use crate::Conn;
+use crate::line::Naming;
+use crate::past::Past;
+use activities::Handler;
+use endpoint::Endpoint;
+use keep::Keep;
+use shared_endpoint::{Hand, Scout, Seat, Shared};
+use std::snapshot::Snapshot;
+use std::sync::Wait;
+use stomp_wire::Link;
+
+/// What is left of a service's life. Contracts also see all connections that it had, each as it was at its end.
+pub struct Life<L, H, K>
+where
+    L: Link + Drop,
+    H: Handler,
+    K: Keep<State = H::State, Command = H::Command> + Drop,
+{
+    /// The endpoint.
+    pub endpoint: Endpoint<H, K>,
+    pub(crate) conns: Vec<Snapshot<Option<Conn<L>>>>,
+}
+
+/// Written by hand, so that an owner doesn't prove anew how each of its parts is dropped.
+impl<L, H, K> Drop for Life<L, H, K>
+where
+    L: Link + Drop,
+    H: Handler,
+    K: Keep<State = H::State, Command = H::Command> + Drop,
+{
+    fn drop(self) {
+        let Life {
+            endpoint: _endpoint,
+            conns: _conns,
+        } = self;
+    }
+}
+
+/// Ends a service's life: its tokens come back, and its endpoint is what is left. By the tables in the end stands all that
+/// was put on the links of the life's connections, from the first frame of each to its last; and their journal begins with
+/// the one that was found.
+pub fn close_life<N, L, H, K, R: Wait>(
+    rt: &R,
+    shared: Shared<H, K>,
+    seats: [Seat<H, K>; 16],
+    hand: Hand<H, K>,
+    scout: Scout<H, K>,
+    past: Past<N, L, H, K>,
+) -> Life<L, H, K>
+where
+    N: Naming<K, L>,
+    L: Link + Drop,
+    H: Handler,
+    K: Keep<State = H::State, Command = H::Command> + Drop,
+    requires at { name_of shared ≡ N.lock }
+    requires seats { AreSeatsOf shared seats }
+    requires hand { IsHandOf shared hand }
+    requires scout { IsScoutOf shared scout }
+    ensures count { vec_len result.conns ≡ past }
+    ensures stands { N.sound → (K.seen result.endpoint).doubt ≡ 0
+        → LifeStands L.put_gives L.take_gives K.seen H.service N.found result.endpoint (values_of result.conns.items) }
+{
+    let (conns, witness) = past.into_parts();
+    let mut hand = hand;
+    hand.learn(&shared, witness);
+    Life {
+        endpoint: shared.close(rt, seats, hand, scout),
+        conns,
+    }
+}

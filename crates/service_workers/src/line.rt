@@ -1,0 +1,365 @@
+//! A connection under its lock, with a witness of what was written on it.
+
+ghost use Rattle.std.specs.Prelude.{◌≡◌, Bool, true, false, is_some, IfOk, IfErr, ⊤};
+ghost use Rattle.stomp_frame.specs.declared.command.Command.TheVariants.{Connect};
+ghost use Rattle.activities.specs.Numbered.{IsPrefixOf};
+ghost use Rattle.told_lock.specs.Keys.{LockName, no_name};
+ghost use Rattle.shared_endpoint.specs.Keys.{IsHandOf, IsScoutOf, IsWitnessAt, name_of, told_hand, told_scout};
+ghost use Rattle.shared_endpoint.specs.Keys.{shown_hand, shown_witness};
+ghost use Rattle.service_workers.specs.Conns.{or_was, IsGiven};
+ghost use Rattle.service_workers.specs.Truth.{Knows, AnsweredTo, AreSentIn};
+ghost use Rattle.service_workers.specs.Written.{HasSpokenIf};
+
+use crate::conn::Found;
+use crate::replying::{finish, goes_on};
+use crate::worker::Answer;
+use crate::{Conn, Cut, Ended};
+use activities::Handler;
+use base::Kind;
+use base::limits::MAX_BODY;
+use envelope::Letter;
+use keep::Keep;
+use reception::ReceptionFault;
+use shared_endpoint::{Hand, Scout, Shared, Witness};
+use std::alloc::Global;
+use std::marker::{Brand, Model, PhantomData};
+use std::snapshot::Snapshot;
+use stomp_frame::Frame;
+use stomp_wire::Link;
+
+/// Names one run of a service, for what lies under a connection's lock and can't hold the service: its lock, and what has
+/// to be so that what is written is true. Each call of `run_service` picks it.
+pub trait Naming<T, L> {
+    ghost lock: { LockName T };
+
+    // What has to be so.
+    ghost sound: { Type 0 };
+
+    // What is so of the links of the connections that were given, each as it was when its connection was opened.
+    ghost given: { L → Type 0 };
+
+    // What is so of the endpoint that was found when the service's life began.
+    ghost found: { T → Type 0 };
+}
+
+impl<T, L> Naming<T, L> for Brand {
+    ghost lock = { no_name };
+
+    ghost sound = { ⊤ };
+
+    ghost given = { λ link. ⊤ };
+
+    ghost found = { λ e. ⊤ };
+}
+
+/// The place of a connection, and a witness of what its frames were allowed by. Contracts see whether the connection is
+/// there.
+pub struct Line<N, L, H, K>
+where
+    N: Naming<K, L>,
+    L: Link + Drop,
+    H: Handler,
+    K: Keep<State = H::State, Command = H::Command> + Drop,
+{
+    conn: Option<Conn<L>>,
+    // The connection as it was when it was cut, for contracts alone.
+    was: Snapshot<Option<Conn<L>>>,
+    witness: Witness<H, K>,
+    of: PhantomData<N>,
+}
+
+/// Written by hand, so that an owner doesn't prove anew how each of its parts is dropped.
+impl<N, L, H, K> Drop for Line<N, L, H, K>
+where
+    N: Naming<K, L>,
+    L: Link + Drop,
+    H: Handler,
+    K: Keep<State = H::State, Command = H::Command> + Drop,
+{
+    fn drop(self) {
+        let Line {
+            conn: _conn,
+            was: _,
+            witness: _witness,
+            of: _,
+        } = self;
+    }
+}
+
+impl<N, L, H, K> Model for Line<N, L, H, K>
+where
+    N: Naming<K, L>,
+    L: Link + Drop,
+    H: Handler,
+    K: Keep<State = H::State, Command = H::Command> + Drop,
+{
+    ghost Value = { Bool };
+
+    ghost view = { λ l. is_some l.conn };
+
+    ghost invariant = { λ l. IsWitnessAt N.lock l.witness
+        × IsGiven N.given (or_was l.conn l.was.value)
+        × (N.sound → HasSpokenIf L.put_gives L.take_gives K.seen H.service (shown_witness l.witness)
+        (or_was l.conn l.was.value)) };
+}
+
+impl<N, L, H, K> Line<N, L, H, K>
+where
+    N: Naming<K, L>,
+    L: Link + Drop,
+    H: Handler,
+    K: Keep<State = H::State, Command = H::Command> + Drop,
+{
+    /// A connection, if there is one, with a witness of what was written on it.
+    pub(crate) fn new(conn: Option<Conn<L>>, witness: Witness<H, K>) -> Line<N, L, H, K>
+        requires at { IsWitnessAt N.lock witness }
+        requires given { IsGiven N.given conn }
+        requires spoken { N.sound → HasSpokenIf L.put_gives L.take_gives K.seen H.service (shown_witness witness) conn }
+        ensures { result ≡ is_some conn }
+    {
+        let was = Snapshot::of(&conn);
+        Line {
+            conn,
+            was,
+            witness,
+            of: PhantomData,
+        }
+    }
+
+    /// A place with no connection.
+    pub fn none(shared: &Shared<H, K>, hand: &mut Hand<H, K>) -> Line<N, L, H, K>
+        requires at { name_of shared.now ≡ N.lock }
+        requires hand { IsHandOf shared.now hand.old }
+        ensures hand { IsHandOf shared.now hand.new }
+        ensures knows { told_hand hand.new ≡ told_hand hand.old }
+        ensures none { result ≡ false }
+    {
+        let witness = hand.witness(shared);
+        Line::new(None, witness)
+    }
+
+    /// A new connection over a link, on which this CONNECT waits to be written. Where a prefetch is given, the broker is
+    /// asked to hand out so many messages at most that aren't answered. If an allocation fails, the link is returned.
+    pub fn open_by(
+        shared: &Shared<H, K>,
+        hand: &mut Hand<H, K>,
+        alloc: Global,
+        link: L,
+        connect: &Frame<MAX_BODY>,
+        prefetch: Option<u64>,
+    ) -> Result<Line<N, L, H, K>, L>
+        requires at { name_of shared.now ≡ N.lock }
+        requires hand { IsHandOf shared.now hand.old }
+        requires command { connect.now.command ≡ Connect }
+        requires given { N.given link }
+        ensures hand { IsHandOf shared.now hand.new }
+        ensures knows { told_hand hand.new ≡ told_hand hand.old }
+        ensures ok { IfOk result (λ line. line ≡ true) }
+        ensures err { IfErr result (λ back. back ≡ link) }
+    {
+        match Conn::open_by(alloc, link, connect, prefetch) {
+            Ok(conn) => {
+                let witness = hand.witness(shared);
+                Ok(Line::new(Some(conn), witness))
+            }
+            Err(link) => Err(link),
+        }
+    }
+
+    /// Whether the connection is there.
+    pub fn is_there(&self) -> bool
+        ensures { result ≡ self.now }
+    {
+        self.conn.is_some()
+    }
+
+    /// Whether octets came since this was asked last. None where the connection isn't there.
+    pub fn has_come(&mut self) -> bool {
+        let Some(conn) = &mut self.conn else {
+            return false;
+        };
+        conn.has_come()
+    }
+
+    /// Takes leave of the broker, as `Conn::leave`. None where the connection isn't there, or can't.
+    pub fn leave(&mut self) -> Option<u64> {
+        let Some(conn) = &mut self.conn else {
+            return None;
+        };
+        conn.leave().ok()
+    }
+
+    /// Writes what waits, reads what came, and throws it away. Whether there is nothing more to wait for.
+    pub fn has_left(&mut self, alloc: Global, receipt: u64) -> bool {
+        let Some(conn) = &mut self.conn else {
+            return true;
+        };
+        conn.has_left(alloc, receipt)
+    }
+
+    /// Whether letters can be sent on it.
+    pub fn is_connected(&self) -> bool {
+        match &self.conn {
+            Some(conn) => conn.is_connected(),
+            None => false,
+        }
+    }
+
+    /// Writes what waits, if the connection is there.
+    pub(crate) fn write(&mut self) -> Result<(), Cut> {
+        let Some(conn) = &mut self.conn else {
+            return Ok(());
+        };
+        conn.write()
+    }
+
+    /// Reads what came: whether something did. An error without a cause where the connection isn't there.
+    pub(crate) fn read(&mut self, alloc: Global) -> Result<bool, Option<Cut>> {
+        let Some(conn) = &mut self.conn else {
+            return Err(None);
+        };
+        match conn.read(alloc) {
+            Ok(count) => Ok(count > 0),
+            Err(cut) => Err(Some(cut)),
+        }
+    }
+
+    /// The next frame that came, if the connection is there.
+    pub(crate) fn next(&mut self, alloc: Global, kind: Kind) -> Found {
+        let Some(conn) = &mut self.conn else {
+            return Found::Nothing;
+        };
+        conn.next(alloc, kind)
+    }
+
+    /// Keeps a frame that `next` gave, if the connection is there.
+    pub(crate) fn keep(&mut self, frame: Frame<MAX_BODY>) {
+        let Some(conn) = &mut self.conn else {
+            return;
+        };
+        conn.keep(frame);
+    }
+
+    /// So many of its letters aren't settled.
+    pub(crate) fn counted(&mut self, on_way: usize) {
+        if let Some(conn) = &mut self.conn {
+            conn.counted(on_way);
+        }
+    }
+
+    /// Sends of these letters what wasn't sent on the connection, and answers how many of all were, now or before. None
+    /// where the connection isn't there.
+    pub(crate) fn send(
+        &mut self,
+        shared: &Shared<H, K>,
+        scout: &mut Scout<H, K>,
+        letters: &[Letter],
+    ) -> Result<Option<usize>, Cut>
+        requires at { name_of shared.now ≡ N.lock }
+        requires scout { IsScoutOf shared.now scout.old }
+        requires told { Knows K.seen H.service N.sound (AreSentIn H.service.reactions letters.now) (told_scout scout.old) }
+        ensures scout { IsScoutOf shared.now scout.new }
+        ensures knows { told_scout scout.new ≡ told_scout scout.old }
+    {
+        let Some(conn) = &mut self.conn else {
+            return Ok(None);
+        };
+        let witness = scout.witness(shared);
+        self.witness.learn(shared, witness);
+        match conn.send(letters) {
+            Ok(sent) => Ok(Some(sent)),
+            Err(cut) => Err(cut),
+        }
+    }
+
+    /// Writes what is answered to a MESSAGE, and tells why it wasn't taken, where it's answered so. Where the connection is of
+    /// no more use, as behind a failure of the store, it's cut at once: nothing more is written on it.
+    pub(crate) fn reply(
+        &mut self,
+        alloc: Global,
+        shared: &Shared<H, K>,
+        hand: &mut Hand<H, K>,
+        message: Frame<MAX_BODY>,
+        answer: Answer,
+    ) -> Result<Option<ReceptionFault>, Cut>
+        requires at { name_of shared.now ≡ N.lock }
+        requires hand { IsHandOf shared.now hand.old }
+        requires told { Knows K.seen H.service N.sound (AnsweredTo H.service message answer) (told_hand hand.old) }
+        ensures hand { IsHandOf shared.now hand.new }
+        ensures knows { told_hand hand.new ≡ told_hand hand.old }
+        ensures cut { IfErr result (λ _. self.new ≡ false) }
+    {
+        let Some(conn) = &mut self.conn else {
+            return Ok(None);
+        };
+        let witness = hand.witness(shared);
+        self.witness.learn(shared, witness);
+        match finish(alloc, conn, H::kind(), message, answer) {
+            Ok(_) => Ok(None),
+            Err(fault) if goes_on(fault) => Ok(Some(fault)),
+            Err(fault) => {
+                self.cut();
+                Err(Cut::Reception(fault))
+            }
+        }
+    }
+
+    /// Writes what waits where that is much, if the connection is there.
+    pub(crate) fn write_much(&mut self) -> Result<(), Cut> {
+        let Some(conn) = &mut self.conn else {
+            return Ok(());
+        };
+        conn.write_much()
+    }
+
+    /// The connection is no more.
+    pub(crate) fn cut(&mut self)
+        ensures { self.new ≡ false }
+    {
+        if self.conn.is_some() {
+            self.was = Snapshot::of(&self.conn);
+            self.conn = None;
+        }
+    }
+
+    /// The connection as it is, or as it was when it was cut, for contracts alone, with the witness; it's dropped.
+    pub(crate) fn into_last(self) -> (Snapshot<Option<Conn<L>>>, Witness<H, K>)
+        ensures at { IsWitnessAt N.lock result.1 }
+        ensures spoken { N.sound → HasSpokenIf L.put_gives L.take_gives K.seen H.service (shown_witness result.1)
+            result.0.value }
+    {
+        let Line {
+            conn,
+            was,
+            witness,
+            of: _,
+        } = self;
+        if conn.is_some() {
+            (Snapshot::of(&conn), witness)
+        } else {
+            (was, witness)
+        }
+    }
+
+    /// What is left of the connection. The Hand learns the witness.
+    pub(crate) fn end(self, shared: &Shared<H, K>, hand: &mut Hand<H, K>) -> Ended<L>
+        requires at { name_of shared.now ≡ N.lock }
+        requires hand { IsHandOf shared.now hand.old }
+        ensures hand { IsHandOf shared.now hand.new }
+        ensures knows { told_hand hand.new ≡ told_hand hand.old }
+        ensures conn { is_some result.conn ≡ self }
+        ensures given { IsGiven N.given (or_was result.conn result.was.value) }
+        ensures shown { IsPrefixOf (shown_hand hand.old) (shown_hand hand.new) }
+        ensures spoken { N.sound → HasSpokenIf L.put_gives L.take_gives K.seen H.service (shown_hand hand.new)
+            (or_was result.conn result.was.value) }
+    {
+        let Line {
+            conn,
+            was,
+            witness,
+            of: _,
+        } = self;
+        hand.learn(shared, witness);
+        Ended { conn, was }
+    }
+}

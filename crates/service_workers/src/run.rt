@@ -1,0 +1,33 @@
+//! One run of a service: what its threads share.
+
+use crate::line::{Line, Naming};
+use crate::lines::Signals;
+use crate::{Gate, Stop};
+use activities::Handler;
+use keep::Keep;
+use shared_endpoint::Shared;
+use std::alloc::Global;
+use std::sync::{Mutex, Wait};
+use stomp_wire::Link;
+
+/// One run of a service: what its threads share. The connections' locks are borrowed one by one: that a thread may have one
+/// is found of each by itself.
+#[derive(Clone, Copy)]
+pub(crate) struct Run<'a, N, L, H, K, G, R>
+where
+    N: Naming<K, L>,
+    L: Link + Drop,
+    H: Handler,
+    K: Keep<State = H::State, Command = H::Command> + Drop,
+    G: Gate<R>,
+    R: Wait,
+{
+    pub rt: &'a R,
+    pub alloc: Global,
+    pub shared: &'a Shared<H, K>,
+    pub zero: &'a Mutex<Line<N, L, H, K>>,
+    pub one: &'a Mutex<Line<N, L, H, K>>,
+    pub signals: &'a Signals,
+    pub gate: &'a G,
+    pub stop: &'a Stop,
+}
