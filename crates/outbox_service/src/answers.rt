@@ -95,7 +95,7 @@ where
     H: Told,
     K: Keep<State = H::State, Command = H::Command> + Drop,
     requires seat { IsSeatOf shared.now seat.old }
-    ensures seat { IsSeatOf shared.now seat.new }
+    ensures seat { IsSeatOf shared.now seat.new × (seat_number seat.new ≡ seat_number seat.old) }
 {
     let Some(
         SeatCommand {
@@ -128,7 +128,7 @@ where
     H: Told,
     K: Keep<State = H::State, Command = H::Command> + Drop,
     requires seat { IsSeatOf shared.now seat.old }
-    ensures seat { IsSeatOf shared.now seat.new }
+    ensures seat { IsSeatOf shared.now seat.new × (seat_number seat.new ≡ seat_number seat.old) }
 {
     match shared.view(rt, desk.alloc, seat, entity) {
         Ok(row) => match show_row::<H>(desk.alloc, entity, &row) {
@@ -151,7 +151,7 @@ where
     H: Told,
     K: Keep<State = H::State, Command = H::Command> + Drop,
     requires seat { IsSeatOf shared.now seat.old }
-    ensures seat { IsSeatOf shared.now seat.new }
+    ensures seat { IsSeatOf shared.now seat.new × (seat_number seat.new ≡ seat_number seat.old) }
 {
     let mut length = shared.length(rt, seat);
     for _ in 0..TURNS {
@@ -182,7 +182,7 @@ where
     H: Told,
     K: Keep<State = H::State, Command = H::Command> + Drop,
     requires seat { IsSeatOf shared.now seat.old }
-    ensures seat { IsSeatOf shared.now seat.new }
+    ensures seat { IsSeatOf shared.now seat.new × (seat_number seat.new ≡ seat_number seat.old) }
 {
     match ask {
         Ask::Nothing => Ok(()),
@@ -209,6 +209,7 @@ where
     H: Told,
     K: Keep<State = H::State, Command = H::Command> + Drop,
     requires seat { IsSeatOf shared.now seat.old }
+    ensures seat { IsSeatOf shared.now seat.new × (seat_number seat.new ≡ seat_number seat.old) }
 {
     desk.tell_connected(rt, 1)?;
     desk.out.flush()?;
@@ -249,6 +250,7 @@ where
     K: Keep<State = H::State, Command = H::Command> + Drop,
     R: Wait,
     requires seat { IsSeatOf shared.now seat.old }
+    ensures seat { IsSeatOf shared.now seat.new × (seat_number seat.new ≡ seat_number seat.old) }
 {
     let alloc = host.alloc();
     // The runtime's own reader takes a pipe octet by octet, so that it never takes more than a line. Nobody else reads here.
@@ -262,21 +264,22 @@ where
     answer_all(rt, shared, seat, &mut desk)
 }
 
-/// Answers lines with the first of all seats, and then has all end.
+/// Answers lines with the first of all seats, which come back, and then has all end.
 pub fn answer_first<H, K, R>(
     rt: &R,
     host: &HostRuntime,
     shared: &Shared<H, K>,
-    seats: &mut [Seat<H, K>],
+    mut seats: [Seat<H, K>; 16],
     board: &Board,
-) -> io::Result<()>
+) -> (io::Result<()>, [Seat<H, K>; 16])
 where
     H: Told,
     K: Keep<State = H::State, Command = H::Command> + Drop,
     R: Wait,
-    requires seats { AreSeatsOf shared.now seats.old }
+    requires seats { AreSeatsOf shared.now seats }
+    ensures seats { AreSeatsOf shared.now result.1 }
 {
     let answered = answer_lines(rt, host, shared, &mut seats[0], board);
     board.end();
-    answered
+    (answered, seats)
 }

@@ -25,12 +25,11 @@
 //!   is awaited for a second at most, and the program ends with status 0. It may be killed at any time. The store's failure
 //!   ends it with status 1: started again, it opens its file anew.
 //! - Proved is that it's safe, and that each of its threads uses the service by a token of that service alone: so over
-//!   tables that were good when they were opened, in a store that gives back what was written, each answer is what a
+//!   tables that were good when they were opened, in a store that returns what was written, each answer is what a
 //!   single thread would get from a journal that begins with all that this thread has seen, and in which each letter is
-//!   handled once and in order (`shared_endpoint`); and what its threads write is true by that journal (`run_service` of
-//!   `service_workers`). That three of these programs agree is tried (`runs/killed-services`), not proved: the proof
-//!   over any broker (`laws_services`) also asks that they take in what they read and nothing else, and no contract says
-//!   that of the whole program.
+//!   handled once and in order (`shared_endpoint`). All that it writes in its life is true by the journal in the end
+//!   (`live`). That three of these programs agree is tried (`runs/killed-services`), not proved: the proof over any
+//!   broker (`laws_services`) also asks that they handle nothing but what they read, and no contract says that.
 //!
 //! Exit status: 0 at the end of the input; 1 where the file can't be opened, the store failed, or a stream or the system
 //! did; 2 where the words of the command line are at fault.

@@ -1,11 +1,14 @@
 //! Letters that aren't settled for long.
 
-ghost use Rattle.shared_endpoint.specs.Keys.{IsScoutOf};
+ghost use Rattle.shared_endpoint.specs.Keys.{IsScoutOf, told_scout};
+ghost use Rattle.shared_endpoint.specs.Token.{scout_number};
+ghost use Rattle.service_workers.specs.Tokens.{GoesOn};
 
 use crate::board::Board;
 use activities::Handler;
 use envelope::Letter;
 use keep::{Keep, Place};
+use service_workers::unsettled;
 use shared_endpoint::{Scout, Shared};
 use std::alloc::Global;
 use std::sync::Wait;
@@ -106,10 +109,11 @@ impl Overdue {
         K: Keep<State = H::State, Command = H::Command> + Drop,
         requires scout { IsScoutOf shared.now scout.old }
         ensures scout { IsScoutOf shared.now scout.new }
+        ensures goes_on { GoesOn K.seen H.service scout_number (told_scout scout.old) (told_scout scout.new) }
     {
         let now = board.now(rt);
         let is_time = now >= self.next;
-        let first = match shared.unsettled(rt, alloc, scout, &None, 1) {
+        let first = match unsettled(rt, alloc, shared, scout, &None, 1) {
             Ok(letters) => first_place(letters),
             Err(fault) => {
                 board.heed(fault);

@@ -1,6 +1,9 @@
 //! The thread that keeps the service connected.
 
-ghost use Rattle.shared_endpoint.specs.Keys.{IsHandOf, IsScoutOf};
+ghost use Rattle.std.specs.Prelude.{◌≡◌};
+ghost use Rattle.shared_endpoint.specs.Keys.{IsHandOf, name_of, told_hand};
+ghost use Rattle.service_workers.specs.Handed.{AreTokensOf, AreGoodWhile};
+ghost use Rattle.outbox_service.specs.Lives.{OfEach};
 
 use crate::board::Board;
 use crate::gate::Turn;
@@ -10,12 +13,13 @@ use crate::sockets::{Site, Socket, open};
 use activities::Handler;
 use keep::Keep;
 use log::{Log, info, warn};
-use service_workers::{Conn, End, Ended, Start, Stop, run_unnamed};
-use shared_endpoint::{Hand, Scout, Shared};
+use service_workers::{Held, Line, Naming, Past, Stop, Tokens, run_lines};
+use shared_endpoint::{Hand, Shared};
 use std::alloc::Global;
+use std::marker::PhantomData;
 use std::sync::Wait;
 use std::thread;
-use std::thread::Threads;
+use std::thread::{Promise, Threads};
 use std::time::{Clock, Duration};
 
 /// How long it is until the threads are started again after an allocation for them failed, in milliseconds.
@@ -24,47 +28,83 @@ const MOMENT: u64 = 100;
 /// How long it's waited at most until the broker has answered DISCONNECT, in milliseconds.
 const PARTING: u64 = 1_000;
 
-/// The place of one of the two connections.
-struct Slot {
+/// What is known of one of the two connections beside its place.
+#[derive(Drop)]
+struct Watched {
     number: u8,
-    conn: Option<Conn<Socket>>,
+    // Whether the connection is given up, though it's there.
+    is_over: bool,
     pulse: Pulse,
 }
 
-/// Written by hand, so that an owner doesn't prove at each of its exits how each part is dropped.
-impl Drop for Slot {
-    fn drop(self) {
-        let Slot {
-            number: _,
-            conn: _conn,
-            pulse: _,
-        } = self;
-    }
+/// One of the two connections.
+struct Slot<N, H, K>
+where
+    N: Naming<K, Socket>,
+    H: Handler,
+    K: Keep<State = H::State, Command = H::Command> + Drop,
+{
+    // Its place, where also is how the last one ended, until that's noted.
+    line: Line<N, Socket, H, K>,
+    watched: Watched,
 }
 
-impl Slot {
+impl<N, H, K> Slot<N, H, K>
+where
+    N: Naming<K, Socket>,
+    H: Handler,
+    K: Keep<State = H::State, Command = H::Command> + Drop,
+{
     /// It's empty.
-    fn new(number: u8) -> Slot {
-        Slot {
+    fn new(number: u8, shared: &Shared<H, K>, hand: &mut Hand<H, K>) -> Slot<N, H, K>
+        requires at { name_of shared.now ≡ N.lock }
+        requires hand { IsHandOf shared.now hand.old }
+        ensures hand { IsHandOf shared.now hand.new }
+        ensures knows { told_hand hand.new ≡ told_hand hand.old }
+    {
+        let watched = Watched {
             number,
-            conn: None,
+            is_over: false,
             pulse: Pulse::new(0),
+        };
+        Slot {
+            line: Line::none(shared, hand),
+            watched,
         }
     }
 
-    /// Opens the connection where it isn't open. Whether it is then.
-    fn open<R: Wait + Clock + Log>(&mut self, rt: &R, site: Site<'_>) -> bool {
-        if self.conn.is_some() {
+    /// Whether the connection is open.
+    fn is_open(&self) -> bool {
+        self.line.is_there() && !self.watched.is_over
+    }
+
+    /// Opens the connection where it isn't open, after how the last one ended is noted. Whether it is then.
+    fn open<R: Wait + Clock + Log>(
+        &mut self,
+        rt: &R,
+        site: Site<'_>,
+        shared: &Shared<H, K>,
+        hand: &Hand<H, K>,
+        past: &mut Past<N, Socket, H, K>,
+    ) -> bool
+        requires at { name_of shared.now ≡ N.lock }
+        requires any { OfEach N.given }
+        requires hand { IsHandOf shared.now hand.now }
+    {
+        if self.is_open() {
             return true;
         }
-        let number = self.number;
-        match open(site, number) {
-            Ok(opened) => {
+        if past.note(shared, hand, &mut self.line).is_err() {
+            return false;
+        }
+        let number = self.watched.number;
+        match open(site, number, &mut self.line) {
+            Ok(()) => {
                 info!(rt; "connection {number} is open");
                 let now = site.board.now(rt);
                 site.board.backoff.lock(rt).note_opened(now);
-                self.conn = Some(opened);
-                self.pulse = Pulse::new(now);
+                self.watched.is_over = false;
+                self.watched.pulse = Pulse::new(now);
                 true
             }
             Err(error) => {
@@ -74,16 +114,37 @@ impl Slot {
         }
     }
 
-    /// Puts a connection there, if it is one.
-    fn put(&mut self, conn: Option<Conn<Socket>>) {
-        self.conn = conn;
+    /// Notes how the connection ended, and is done with its place.
+    fn end<R: Wait + Clock>(
+        self,
+        rt: &R,
+        shared: &Shared<H, K>,
+        hand: &Hand<H, K>,
+        past: &mut Past<N, Socket, H, K>,
+    )
+        requires at { name_of shared.now ≡ N.lock }
+        requires hand { IsHandOf shared.now hand.now }
+    {
+        let Slot {
+            mut line,
+            watched: _watched,
+        } = self;
+        for _ in rt.forever() {
+            if past.note(shared, hand, &mut line).is_ok() {
+                line.close();
+                return;
+            }
+            thread::sleep(rt, Duration::from_millis(MOMENT));
+        }
+        unreachable!()
     }
 
     /// When it's to be looked at next.
     fn next(&self) -> u64 {
-        match &self.conn {
-            Some(conn) => self.pulse.last(conn.is_connected()),
-            None => u64::MAX,
+        if self.is_open() {
+            self.watched.pulse.last(self.line.is_connected())
+        } else {
+            u64::MAX
         }
     }
 
@@ -97,17 +158,17 @@ impl Slot {
         has_unsettled: bool,
     ) {
         let now = board.now(rt);
-        let Some(conn) = &mut self.conn else {
+        if !self.is_open() {
             return;
-        };
-        if conn.has_come() {
-            self.pulse.hear(now);
         }
-        match self.pulse.silence(conn.is_connected(), now) {
+        if self.line.has_come() {
+            self.watched.pulse.hear(now);
+        }
+        match self.watched.pulse.silence(self.line.is_connected(), now) {
             None => (),
-            Some(Silence::Quiet) if has_unsettled => self.pulse.hear(now),
+            Some(Silence::Quiet) if has_unsettled => self.watched.pulse.hear(now),
             Some(silence) => {
-                tell_silence(rt, self.number, silence);
+                tell_silence(rt, self.watched.number, silence);
                 self.leave(rt, alloc, board);
             }
         }
@@ -116,21 +177,19 @@ impl Slot {
     /// Takes leave of the broker, and waits until it has answered, for some time at most: a socket that is closed while
     /// octets wait in it unread is reset, and the broker may lose what was written last.
     fn leave<R: Wait + Clock>(&mut self, rt: &R, alloc: Global, board: &Board) {
-        let Some(mut conn) = self.conn.take() else {
-            return;
-        };
-        let Ok(receipt) = conn.leave() else {
+        self.watched.is_over = true;
+        let Some(receipt) = self.line.leave() else {
             return;
         };
         let last = board.now(rt).saturating_add(PARTING);
         for _ in rt.forever() {
-            if conn.has_left(alloc, receipt) || board.now(rt) >= last {
+            if self.line.has_left(alloc, receipt) || board.now(rt) >= last {
                 break;
             }
             // There may be more where something came.
-            if !conn.has_come() {
+            if !self.line.has_come() {
                 let moment = Duration::from_millis(MOMENT);
-                board.rests.reader(self.number).wait(rt, moment);
+                board.rests.reader(self.watched.number).wait(rt, moment);
             }
         }
     }
@@ -148,56 +207,69 @@ fn tell_silence<R: Log>(rt: &R, number: u8, silence: Silence) {
 }
 
 /// The two connections of the service.
-struct Conns {
-    zero: Slot,
-    one: Slot,
+struct Conns<N, H, K>
+where
+    N: Naming<K, Socket>,
+    H: Handler,
+    K: Keep<State = H::State, Command = H::Command> + Drop,
+{
+    zero: Slot<N, H, K>,
+    one: Slot<N, H, K>,
 }
 
-/// Written by hand, so that an owner doesn't prove at each of its exits how each part is dropped.
-impl Drop for Conns {
-    fn drop(self) {
-        let Conns {
-            zero: _zero,
-            one: _one,
-        } = self;
-    }
-}
-
-impl Conns {
+impl<N, H, K> Conns<N, H, K>
+where
+    N: Naming<K, Socket>,
+    H: Handler,
+    K: Keep<State = H::State, Command = H::Command> + Drop,
+{
     /// None is open.
-    fn none() -> Conns {
-        Conns {
-            zero: Slot::new(0),
-            one: Slot::new(1),
-        }
+    fn none(shared: &Shared<H, K>, hand: &mut Hand<H, K>) -> Conns<N, H, K>
+        requires at { name_of shared.now ≡ N.lock }
+        requires hand { IsHandOf shared.now hand.old }
+        ensures hand { IsHandOf shared.now hand.new }
+        ensures knows { told_hand hand.new ≡ told_hand hand.old }
+    {
+        let zero = Slot::new(0, shared, hand);
+        let one = Slot::new(1, shared, hand);
+        Conns { zero, one }
     }
 
-    /// Opens those that aren't open. Where all are, there is nothing to do before this time but to look at them.
-    fn open<R: Wait + Clock + Log>(&mut self, rt: &R, site: Site<'_>, due: u64) {
-        let board = site.board;
-        let asked = board.askings.asked();
-        let zero = self.zero.open(rt, site);
-        let one = self.one.open(rt, site);
-        if zero && one {
+    /// Opens those that aren't open.
+    fn open<R: Wait + Clock + Log>(
+        &mut self,
+        rt: &R,
+        site: Site<'_>,
+        shared: &Shared<H, K>,
+        hand: &Hand<H, K>,
+        past: &mut Past<N, Socket, H, K>,
+    )
+        requires at { name_of shared.now ≡ N.lock }
+        requires any { OfEach N.given }
+        requires hand { IsHandOf shared.now hand.now }
+    {
+        let asked = site.board.askings.asked();
+        let zero = self.zero.open(rt, site, shared, hand, past);
+        let one = self.one.open(rt, site, shared, hand, past);
+        site.board
+            .answer(asked, u64::from(zero).saturating_add(u64::from(one)));
+    }
+
+    /// Plans when they are opened or looked at next. Where all are open, there is nothing to do before this time but to look
+    /// at them.
+    fn plan<R: Wait + Clock>(&self, rt: &R, board: &Board, due: u64) {
+        if self.zero.is_open() && self.one.is_open() {
             let next = due.min(self.zero.next()).min(self.one.next());
             board.backoff.lock(rt).set_due(next);
         } else {
             board.backoff.lock(rt).put_off(board.now(rt));
         }
-        board.answer(asked, u64::from(zero).saturating_add(u64::from(one)));
     }
 
-    /// Those that are open, which leave their places.
-    fn take(&mut self) -> (Option<Conn<Socket>>, Option<Conn<Socket>>) {
-        let zero = self.zero.conn.take();
-        let one = self.one.conn.take();
-        (zero, one)
-    }
-
-    /// Puts what a run left of them in their places.
-    fn put(&mut self, zero: Ended<Socket>, one: Ended<Socket>) {
-        self.zero.put(zero.into_conn());
-        self.one.put(one.into_conn());
+    /// Gives all up.
+    fn give_up(&mut self) {
+        self.zero.watched.is_over = true;
+        self.one.watched.is_over = true;
     }
 
     /// Takes leave of those on which nothing comes.
@@ -217,88 +289,163 @@ impl Conns {
         self.zero.leave(rt, alloc, board);
         self.one.leave(rt, alloc, board);
     }
+
+    /// Notes how all ended.
+    fn end<R: Wait + Clock>(
+        self,
+        rt: &R,
+        shared: &Shared<H, K>,
+        hand: &Hand<H, K>,
+        past: &mut Past<N, Socket, H, K>,
+    )
+        requires at { name_of shared.now ≡ N.lock }
+        requires hand { IsHandOf shared.now hand.now }
+    {
+        let Conns { zero, one } = self;
+        zero.end(rt, shared, hand, past);
+        one.end(rt, shared, hand, past);
+    }
 }
 
-/// Runs the service's threads for a turn, which ends where the board says so.
-fn run_turn<H, K, R>(
+/// What is left once the service isn't kept connected any more: its tokens, and the connections that it had.
+#[derive(Drop)]
+pub struct Served<N, H, K>
+where
+    N: Naming<K, Socket>,
+    H: Handler,
+    K: Keep<State = H::State, Command = H::Command> + Drop,
+{
+    pub tokens: Tokens<H, K>,
+    pub past: Past<N, Socket, H, K>,
+}
+
+/// What the thread that keeps a service connected gives back: tokens of the same service, which are as sound.
+pub struct SameTokens<'a, N, H, K>
+where
+    N: Naming<K, Socket>,
+    H: Handler,
+    K: Keep<State = H::State, Command = H::Command> + Drop,
+{
+    pub shared: &'a Shared<H, K>,
+    pub of: PhantomData<N>,
+}
+
+impl<'a, N, H, K> Drop for SameTokens<'a, N, H, K>
+where
+    N: Naming<K, Socket>,
+    H: Handler,
+    K: Keep<State = H::State, Command = H::Command> + Drop,
+{
+    fn drop(self) {
+        let SameTokens { shared: _, of: _ } = self;
+    }
+}
+
+impl<'a, N, H, K> Promise<Served<N, H, K>> for SameTokens<'a, N, H, K>
+where
+    N: Naming<K, Socket>,
+    H: Handler,
+    K: Keep<State = H::State, Command = H::Command> + Drop,
+{
+    ghost kept_by = { λ p r. AreTokensOf p.shared.now r.tokens × AreGoodWhile K.seen H.service N.sound r.tokens };
+}
+
+/// Runs the service's threads for a turn, which ends where the board says so. The slots come back.
+fn run_turn<N, H, K, R>(
     rt: &R,
     site: Site<'_>,
     shared: &Shared<H, K>,
-    hand: Hand<H, K>,
-    scout: Scout<H, K>,
-    conns: &mut Conns,
-) -> (Hand<H, K>, Scout<H, K>)
+    tokens: Tokens<H, K>,
+    conns: Conns<N, H, K>,
+) -> (Tokens<H, K>, Conns<N, H, K>)
 where
+    N: Naming<K, Socket> + Send + Sync,
     H: Handler + Send + Sync,
     H::State: Send,
     H::Command: Send,
     K: Keep<State = H::State, Command = H::Command> + Drop + Send,
     R: Threads + Wait + Clock + Log + Sync,
-    requires hand { IsHandOf shared.now hand }
-    requires scout { IsScoutOf shared.now scout }
-    ensures hand { IsHandOf shared.now result.0 }
-    ensures scout { IsScoutOf shared.now result.1 }
+    requires at { name_of shared.now ≡ N.lock }
+    requires of { AreTokensOf shared.now tokens }
+    requires good { AreGoodWhile K.seen H.service N.sound tokens }
+    ensures of { AreTokensOf shared.now result.0 }
+    ensures good { AreGoodWhile K.seen H.service N.sound result.0 }
 {
     let stop = Stop::new();
     let turn = Turn::new(site.board, &stop);
-    let (zero, one) = conns.take();
     let alloc = site.host.alloc();
-    let start = Start {
-        hand,
-        scout,
-        zero,
-        one,
-    };
-    let (end, served) = run_unnamed(rt, alloc, shared, start, &turn, &stop);
-    let End {
-        hand,
-        scout,
-        zero,
-        one,
-    } = end;
-    conns.put(zero, one);
+    let Conns { zero, one } = conns;
+    let Slot {
+        line: zero,
+        watched: watched_zero,
+    } = zero;
+    let Slot {
+        line: one,
+        watched: watched_one,
+    } = one;
+    let held = Held { tokens, zero, one };
+    let (held, served) = run_lines(rt, alloc, shared, held, &turn, &stop);
     if served.is_err() {
         warn!(rt; "out of memory for the service's threads: they are started again in a moment");
         thread::sleep(rt, Duration::from_millis(MOMENT));
     }
-    (hand, scout)
+    let Held { tokens, zero, one } = held;
+    let zero = Slot {
+        line: zero,
+        watched: watched_zero,
+    };
+    let one = Slot {
+        line: one,
+        watched: watched_one,
+    };
+    (tokens, Conns { zero, one })
 }
 
 /// Keeps the service connected, until the program ends.
-pub fn keep_serving<H, K, R>(
+pub fn keep_serving<N, H, K, R>(
     rt: &R,
     site: Site<'_>,
     shared: &Shared<H, K>,
-    hand: Hand<H, K>,
-    scout: Scout<H, K>,
-)
+    tokens: Tokens<H, K>,
+    past: Past<N, Socket, H, K>,
+) -> Served<N, H, K>
 where
+    N: Naming<K, Socket> + Send + Sync,
     H: Handler + Send + Sync,
     H::State: Send,
     H::Command: Send,
     K: Keep<State = H::State, Command = H::Command> + Drop + Send,
     R: Threads + Wait + Clock + Log + Sync,
-    requires hand { IsHandOf shared.now hand }
-    requires scout { IsScoutOf shared.now scout }
+    requires at { name_of shared.now ≡ N.lock }
+    requires any { OfEach N.given }
+    requires of { AreTokensOf shared.now tokens }
+    requires good { AreGoodWhile K.seen H.service N.sound tokens }
+    ensures of { AreTokensOf shared.now result.tokens }
+    ensures good { AreGoodWhile K.seen H.service N.sound result.tokens }
 {
     let alloc = site.host.alloc();
     let board = site.board;
-    let mut conns = Conns::none();
+    let mut tokens = tokens;
+    let mut past = past;
+    let mut conns = Conns::none(shared, &mut tokens.hand);
     let mut overdue = Overdue::new();
-    let mut tokens = (hand, scout);
     for _ in rt.forever() {
         if board.life.has_ended() {
             break;
         }
-        let (hand, mut scout) = tokens;
-        if overdue.look(rt, alloc, shared, &mut scout, board) {
+        if overdue.look(rt, alloc, shared, &mut tokens.scout, board) {
             info!(rt; "letters aren't settled for long: they are sent again, on new connections");
-            conns = Conns::none();
+            conns.give_up();
         }
         conns.look(rt, alloc, board, overdue.has_unsettled());
-        conns.open(rt, site, overdue.next());
-        tokens = run_turn(rt, site, shared, hand, scout, &mut conns);
+        conns.open(rt, site, shared, &tokens.hand, &mut past);
+        conns.plan(rt, board, overdue.next());
+        let turned = run_turn(rt, site, shared, tokens, conns);
+        tokens = turned.0;
+        conns = turned.1;
     }
     conns.leave(rt, alloc, board);
     board.close();
+    conns.end(rt, shared, &tokens.hand, &mut past);
+    Served { tokens, past }
 }

@@ -1,14 +1,17 @@
 //! Connections to the broker.
 
-ghost use Rattle.std.specs.Prelude.{◌≡◌, IfOk};
+ghost use Rattle.std.specs.Prelude.{◌≡◌, None, IfOk};
 ghost use Rattle.std.specs.Option.{option_copied};
 ghost use Rattle.stomp_frame.specs.declared.command.Command.TheVariants.{Connect};
 ghost use Rattle.stomp_client.specs.Frames.{connect_frame_to, connect_refused, IsMadeUnless};
+ghost use Rattle.outbox_service.specs.Lives.{OfEach};
 
 use crate::board::Board;
+use activities::Handler;
 use base::limits::MAX_BODY;
+use keep::Keep;
 use mio::net::TcpStream;
-use service_workers::Conn;
+use service_workers::{Line, Naming};
 use std::alloc::Global;
 use std::io::ErrorKind;
 use std::net::{SocketAddr, ToSocketAddrs};
@@ -89,23 +92,30 @@ fn connect(host: &HostRuntime, address: SocketAddr) -> io::Result<net::TcpStream
 ///
 /// # Errors
 /// Where the broker isn't there, or the system or memory refused a socket.
-pub fn open(site: Site<'_>, number: u8) -> io::Result<Conn<Socket>> {
-    let Site {
-        host,
-        broker,
-        board,
-    } = site;
-    let alloc = host.alloc();
-    let Ok(connect) = broker.greet(alloc) else {
+pub fn open<N, H, K>(site: Site<'_>, number: u8, line: &mut Line<N, Socket, H, K>) -> io::Result<()>
+where
+    N: Naming<K, Socket>,
+    H: Handler,
+    K: Keep<State = H::State, Command = H::Command> + Drop,
+    requires any { OfEach N.given }
+    requires noted { line.old.link ≡ None }
+{
+    let alloc = site.host.alloc();
+    let Ok(connect) = site.broker.greet(alloc) else {
         return Err(io::Error::from(ErrorKind::OutOfMemory));
     };
-    let stream = reach(host, broker)?;
-    let writer = TcpStream::from_std(stream.try_clone()?);
-    let mut reader = TcpStream::from_std(stream);
-    board.rests.reader(number).watch(&mut reader)?;
-    let link = StreamLink::new(reader, writer);
-    match Conn::open_by(alloc, link, &connect, broker.prefetch) {
-        Ok(conn) => Ok(conn),
+    let link = link_to(site, number)?;
+    match line.open_by(alloc, link, &connect, site.broker.prefetch) {
+        Ok(()) => Ok(()),
         Err(_) => Err(io::Error::from(ErrorKind::OutOfMemory)),
     }
+}
+
+/// A socket to the broker that the reader of this number watches.
+fn link_to(site: Site<'_>, number: u8) -> io::Result<Socket> {
+    let stream = reach(site.host, site.broker)?;
+    let writer = TcpStream::from_std(stream.try_clone()?);
+    let mut reader = TcpStream::from_std(stream);
+    site.board.rests.reader(number).watch(&mut reader)?;
+    Ok(StreamLink::new(reader, writer))
 }

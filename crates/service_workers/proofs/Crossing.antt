@@ -23,6 +23,8 @@ use Rattle.service_workers.specs.contracts.arrival.Arrival as arrival
 use Rattle.service_workers.specs.contracts.conn.Conn as conn
 use Rattle.service_workers.specs.contracts.line.Line as line
 use Rattle.service_workers.specs.contracts.line.Line.TheInside as inside
+use Rattle.service_workers.specs.contracts.past.Past as past
+use Rattle.service_workers.specs.contracts.past.Past.TheInside as past_inside
 
 arrival_send : IsSend arrival.the_row
 arrival_send = declared_send arrival.the_type (
@@ -83,5 +85,14 @@ module _ (N L H K S C : RattleType) (n : naming.Ghosts N.Denot K.Denot L.Denot) 
         witness_laws.the_send H K S C h p k,
         (phantom_send sn, tt),
       ),
+    ),
+  ))
+
+  pub past_send : IsSend N → IsSend (past.the_row N L H K S C n l h p k)
+  past_send sn = view_send _ _ _ _ _ (declared_send (past_inside.the_type N L H K S C n l h p k) (
+    search (snapshot_send, std.crosses, sendable) depth 20,
+    (
+      witness_laws.the_send H K S C h p k,
+      (phantom_send sn, tt),
     ),
   ))

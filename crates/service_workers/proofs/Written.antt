@@ -22,7 +22,7 @@ use Rattle.told_lock.specs.declared.view.Told.{Told}
 use Rattle.told_lock.specs.Rule.{Every, seen_by}
 use Rattle.told_lock.proofs.Views.{every_map, every_both}
 use Rattle.shared_endpoint.proofs.Closing.{any_left, any_right}
-use Rattle.service_workers.specs.Conns.{link_of, client_of, start_of, IsGiven, or_was, values_of}
+use Rattle.service_workers.specs.Conns.{link_of, client_of, start_of, IsGiven, or_was, values_of, began_with, links_of}
 use Rattle.service_workers.specs.Truth.{Knows}
 use Rattle.service_workers.specs.Turns.{TakesOnce}
 use Rattle.service_workers.specs.Written.{Path, puts, fails, takes, frames_of, IsFree, MightSpeak, Speaks}
@@ -46,6 +46,19 @@ so_of_both P first second h = (subst P (sym first) h.0, (subst P (sym second) h.
 values_more : {A : Type 0} (xs : List (Snapshot A)) (s : Snapshot A) → values_of (xs ++ s ∷ []) ≡ values_of xs ++ s.value ∷ []
 values_more [] s = refl
 values_more (x ∷ xs) s = ap (λ l. x.value ∷ l) (values_more xs s)
+
+links_more : {L : Type 0} (xs : List (Snapshot (Option (Conn L)))) (s : Snapshot (Option (Conn L)))
+    → links_of (xs ++ s ∷ []) ≡ links_of xs ++ began_with s.value ∷ []
+links_more [] s = refl
+links_more (x ∷ xs) s = ap (λ l. began_with x.value ∷ l) (links_more xs s)
+
+-- one more is noted
+pub noted_links : {L : Type 0} (old mid new : List (Snapshot (Option (Conn L)))) (last : Snapshot (Option (Conn L)))
+    (link : Option L) → new ≡ mid ++ last ∷ [] → mid ≡ old → began_with last.value ≡ link
+    → links_of new ≡ links_of old ++ link ∷ []
+noted_links old mid new last link more same is =
+    ap links_of more ∙ links_more mid last ∙ ap (λ l. links_of l ++ began_with last.value ∷ []) same
+    ∙ ap (λ k. links_of old ++ k ∷ []) is
 
 -- ---- lists of blocks
 

@@ -54,8 +54,8 @@ module _ {E S C : Type 0} (seen : E → Seen (Tables S C)) (service : Service S 
   Knows sound P _ = ⊥
 
   -- it is good
-  abbrev pub IsSound : (sound : Type 0) → (ws : List (Told E)) → Type 0
-  IsSound sound = Knows sound (λ x. ⊤)
+  abbrev pub IsGoodWhile : (sound : Type 0) → (ws : List (Told E)) → Type 0
+  IsGoodWhile sound = Knows sound (λ x. ⊤)
 
 -- ---- what the Hand is told
 

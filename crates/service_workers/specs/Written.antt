@@ -24,12 +24,14 @@ use Rattle.told_lock.specs.Rule.{Every}
 use Rattle.told_lock.specs.declared.view.Told.{Told}
 use Rattle.shared_endpoint.specs.History.{EverSince, EndsAs}
 use Rattle.shared_endpoint.specs.Promises.{IsOneHistory}
-use Rattle.shared_endpoint.specs.Keys.{Any, Closes}
+use Rattle.shared_endpoint.specs.Keys.{Any, Closes, shown_hand}
 use Rattle.service_workers.specs.Conns.{link_of, client_of, or_was, IsGiven}
 use Rattle.service_workers.specs.Tokens.{Progress, progress_of, HasArrived}
-use Rattle.service_workers.specs.Truth.{IsForeign, IsNotSent, IsSound}
+use Rattle.service_workers.specs.Handed.{AreGoodWhile}
+use Rattle.service_workers.specs.Truth.{IsForeign, IsNotSent}
 use Rattle.service_workers.specs.declared.conn.Conn.{Conn}
 use Rattle.service_workers.specs.declared.ended.Ended.{Ended}
+use Rattle.service_workers.specs.declared.handed.Tokens.{Tokens}
 
 -- ---- links
 
@@ -175,16 +177,16 @@ module _ {L : Type 0} (put_gives : L → List ℕ → Result ℕ LinkFault → L
     abbrev pub HasSpokenIf : List E → Option (Conn L) → Type 0
     HasSpokenIf witnessed = HasWrittenIf (MightSpeak seen service witnessed)
 
-    -- How a run starts that is named so: while its name is sound the tokens are good, and these connections have spoken; and
-    -- what is asked of their links is so.
-    pub record Starts (sound : Type 0) (given : L → Type 0) (hand scout : List (Told E)) (shown : List E)
+    -- How a run starts that is named so: while its name is sound the tokens are good, and these connections have spoken by
+    -- what was shown to the Hand; and what is asked of their links is so.
+    pub record Starts {H : Type 0} (sound : Type 0) (given : L → Type 0) (tokens : Tokens H E S C)
         (conns : List (Option (Conn L))) : Type 0 where
-      pub hand_sound : IsSound seen service sound hand
-      pub scout_sound : IsSound seen service sound scout
+      pub tokens_good : AreGoodWhile seen service sound tokens
       pub conns_given : Every (IsGiven given) conns
-      pub conns_spoken : sound → Every (HasSpokenIf shown) conns
+      pub conns_spoken : sound → Every (HasSpokenIf (shown_hand tokens.hand)) conns
 
     -- and how it ends: the same of what is left of its connections
-    pub record Ends (sound : Type 0) (given : L → Type 0) (shown : List E) (ended : List (Ended L)) : Type 0 where
+    pub record Ends {H : Type 0} (sound : Type 0) (given : L → Type 0) (tokens : Tokens H E S C) (ended : List (Ended L))
+        : Type 0 where
       pub ended_given : Every (λ e. IsGiven given (or_was e.conn e.was.value)) ended
-      pub ended_spoken : sound → Every (λ e. HasSpokenIf shown (or_was e.conn e.was.value)) ended
+      pub ended_spoken : sound → Every (λ e. HasSpokenIf (shown_hand tokens.hand) (or_was e.conn e.was.value)) ended

@@ -13,7 +13,7 @@ pub struct Ended<L: Link + Drop> {
     pub(crate) was: Snapshot<Option<Conn<L>>>,
 }
 
-/// Written by hand, so that an owner doesn't prove anew how each of its parts is dropped.
+/// Written by hand, so that an owner doesn't prove again how each of its parts is dropped.
 impl<L: Link + Drop> Drop for Ended<L> {
     fn drop(self) {
         let Ended {

@@ -7,10 +7,10 @@ use keep::Keep;
 use shared_endpoint::{Hand, Scout};
 use stomp_wire::Link;
 
-/// What a run of a service is given: the tokens of two of its threads, and its two connections, where they are there.
-pub struct Start<L, H, K>
+/// The tokens by which two threads of a run use the service.
+#[derive(Drop)]
+pub struct Tokens<H, K>
 where
-    L: Link + Drop,
     H: Handler,
     K: Keep<State = H::State, Command = H::Command> + Drop,
 {
@@ -18,6 +18,17 @@ where
     pub hand: Hand<H, K>,
     /// By which it's looked what is to be sent.
     pub scout: Scout<H, K>,
+}
+
+/// What a run of a service is given: its tokens, and its two connections, where they are there.
+pub struct Start<L, H, K>
+where
+    L: Link + Drop,
+    H: Handler,
+    K: Keep<State = H::State, Command = H::Command> + Drop,
+{
+    /// The tokens.
+    pub tokens: Tokens<H, K>,
     /// The first connection.
     pub zero: Option<Conn<L>>,
     /// The second one.
@@ -31,10 +42,8 @@ where
     H: Handler,
     K: Keep<State = H::State, Command = H::Command> + Drop,
 {
-    /// By which what arrives is handled.
-    pub hand: Hand<H, K>,
-    /// By which it's looked what is to be sent.
-    pub scout: Scout<H, K>,
+    /// The tokens.
+    pub tokens: Tokens<H, K>,
     /// What is left of the first connection.
     pub zero: Ended<L>,
     /// And of the second one.
@@ -49,10 +58,8 @@ where
     H: Handler,
     K: Keep<State = H::State, Command = H::Command> + Drop,
 {
-    /// By which what arrives is handled.
-    pub hand: Hand<H, K>,
-    /// By which it's looked what is to be sent.
-    pub scout: Scout<H, K>,
+    /// The tokens.
+    pub tokens: Tokens<H, K>,
     /// The first connection.
     pub zero: Line<N, L, H, K>,
     /// The second one.

@@ -1,8 +1,8 @@
 //! The end of a service's life.
 
-ghost use Rattle.std.specs.Prelude.{◌≡◌, vec_len};
+ghost use Rattle.std.specs.Prelude.{◌≡◌};
 ghost use Rattle.shared_endpoint.specs.Keys.{AreSeatsOf, IsHandOf, IsScoutOf, name_of};
-ghost use Rattle.service_workers.specs.Conns.{values_of};
+ghost use Rattle.service_workers.specs.Conns.{links_of, values_of};
 ghost use Rattle.service_workers.specs.Written.{LifeStands};
 
 use crate::Conn;
@@ -28,7 +28,7 @@ where
     pub(crate) conns: Vec<Snapshot<Option<Conn<L>>>>,
 }
 
-/// Written by hand, so that an owner doesn't prove anew how each of its parts is dropped.
+/// Written by hand, so that an owner doesn't prove again how each of its parts is dropped.
 impl<L, H, K> Drop for Life<L, H, K>
 where
     L: Link + Drop,
@@ -63,7 +63,7 @@ where
     requires seats { AreSeatsOf shared seats }
     requires hand { IsHandOf shared hand }
     requires scout { IsScoutOf shared scout }
-    ensures count { vec_len result.conns ≡ past }
+    ensures noted { links_of result.conns.items ≡ past }
     ensures stands { N.sound → (K.seen result.endpoint).doubt ≡ 0
         → LifeStands L.put_gives L.take_gives K.seen H.service N.found result.endpoint (values_of result.conns.items) }
 {

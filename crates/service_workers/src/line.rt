@@ -1,12 +1,12 @@
 //! A connection under its lock, with a witness of what was written on it.
 
-ghost use Rattle.std.specs.Prelude.{◌≡◌, Bool, true, false, is_some, IfOk, IfErr, ⊤};
+ghost use Rattle.std.specs.Prelude.{◌≡◌, false, true, is_some, Option, None, Some, IfOk, IfErr, ⊤};
 ghost use Rattle.stomp_frame.specs.declared.command.Command.TheVariants.{Connect};
 ghost use Rattle.activities.specs.Numbered.{IsPrefixOf};
 ghost use Rattle.told_lock.specs.Keys.{LockName, no_name};
-ghost use Rattle.shared_endpoint.specs.Keys.{IsHandOf, IsScoutOf, IsWitnessAt, name_of, told_hand, told_scout};
+ghost use Rattle.shared_endpoint.specs.Keys.{IsHandOf, IsScoutOf, IsWitnessAt, IsWitnessOf, name_of, told_hand, told_scout};
 ghost use Rattle.shared_endpoint.specs.Keys.{shown_hand, shown_witness};
-ghost use Rattle.service_workers.specs.Conns.{or_was, IsGiven};
+ghost use Rattle.service_workers.specs.Conns.{began_with, or_was, IsGiven, Standing};
 ghost use Rattle.service_workers.specs.Truth.{Knows, AnsweredTo, AreSentIn};
 ghost use Rattle.service_workers.specs.Written.{HasSpokenIf};
 
@@ -23,6 +23,7 @@ use reception::ReceptionFault;
 use shared_endpoint::{Hand, Scout, Shared, Witness};
 use std::alloc::Global;
 use std::marker::{Brand, Model, PhantomData};
+use std::mem::replace;
 use std::snapshot::Snapshot;
 use stomp_frame::Frame;
 use stomp_wire::Link;
@@ -53,7 +54,8 @@ impl<T, L> Naming<T, L> for Brand {
 }
 
 /// The place of a connection, and a witness of what its frames were allowed by. Contracts see whether the connection is
-/// there.
+/// there, and the link that it began with, until it's noted (`Past::note`). A place can't be dropped: whoever is done with one
+/// closes it, where its connection was noted. So no connection is forgotten.
 pub struct Line<N, L, H, K>
 where
     N: Naming<K, L>,
@@ -68,24 +70,6 @@ where
     of: PhantomData<N>,
 }
 
-/// Written by hand, so that an owner doesn't prove anew how each of its parts is dropped.
-impl<N, L, H, K> Drop for Line<N, L, H, K>
-where
-    N: Naming<K, L>,
-    L: Link + Drop,
-    H: Handler,
-    K: Keep<State = H::State, Command = H::Command> + Drop,
-{
-    fn drop(self) {
-        let Line {
-            conn: _conn,
-            was: _,
-            witness: _witness,
-            of: _,
-        } = self;
-    }
-}
-
 impl<N, L, H, K> Model for Line<N, L, H, K>
 where
     N: Naming<K, L>,
@@ -93,9 +77,9 @@ where
     H: Handler,
     K: Keep<State = H::State, Command = H::Command> + Drop,
 {
-    ghost Value = { Bool };
+    ghost Value = { Standing L };
 
-    ghost view = { λ l. is_some l.conn };
+    ghost view = { λ l. record { is_there = is_some l.conn; link = began_with (or_was l.conn l.was.value) } };
 
     ghost invariant = { λ l. IsWitnessAt N.lock l.witness
         × IsGiven N.given (or_was l.conn l.was.value)
@@ -115,7 +99,8 @@ where
         requires at { IsWitnessAt N.lock witness }
         requires given { IsGiven N.given conn }
         requires spoken { N.sound → HasSpokenIf L.put_gives L.take_gives K.seen H.service (shown_witness witness) conn }
-        ensures { result ≡ is_some conn }
+        ensures there { result.is_there ≡ is_some conn }
+        ensures link { result.link ≡ began_with conn }
     {
         let was = Snapshot::of(&conn);
         Line {
@@ -132,35 +117,35 @@ where
         requires hand { IsHandOf shared.now hand.old }
         ensures hand { IsHandOf shared.now hand.new }
         ensures knows { told_hand hand.new ≡ told_hand hand.old }
-        ensures none { result ≡ false }
+        ensures there { result.is_there ≡ false }
+        ensures link { result.link ≡ None }
     {
         let witness = hand.witness(shared);
         Line::new(None, witness)
     }
 
-    /// A new connection over a link, on which this CONNECT waits to be written. Where a prefetch is given, the broker is
-    /// asked to hand out so many messages at most that aren't answered. If an allocation fails, the link is returned.
+    /// Puts a new connection over a link here, on which this CONNECT waits to be written. Where a prefetch is given, the
+    /// broker is asked to hand out so many messages at most that aren't answered. The last connection has to be noted.
+    ///
+    /// # Errors
+    /// If an allocation fails, the link is returned, and nothing has changed.
     pub fn open_by(
-        shared: &Shared<H, K>,
-        hand: &mut Hand<H, K>,
+        &mut self,
         alloc: Global,
         link: L,
         connect: &Frame<MAX_BODY>,
         prefetch: Option<u64>,
-    ) -> Result<Line<N, L, H, K>, L>
-        requires at { name_of shared.now ≡ N.lock }
-        requires hand { IsHandOf shared.now hand.old }
+    ) -> Result<(), L>
+        requires noted { self.old.link ≡ None }
         requires command { connect.now.command ≡ Connect }
         requires given { N.given link }
-        ensures hand { IsHandOf shared.now hand.new }
-        ensures knows { told_hand hand.new ≡ told_hand hand.old }
-        ensures ok { IfOk result (λ line. line ≡ true) }
-        ensures err { IfErr result (λ back. back ≡ link) }
+        ensures ok { IfOk result (λ _. self.new ≡ record { is_there = true; link = Some link }) }
+        ensures err { IfErr result (λ back. (back ≡ link) × (self.new ≡ self.old)) }
     {
         match Conn::open_by(alloc, link, connect, prefetch) {
             Ok(conn) => {
-                let witness = hand.witness(shared);
-                Ok(Line::new(Some(conn), witness))
+                self.conn = Some(conn);
+                Ok(())
             }
             Err(link) => Err(link),
         }
@@ -168,7 +153,7 @@ where
 
     /// Whether the connection is there.
     pub fn is_there(&self) -> bool
-        ensures { result ≡ self.now }
+        ensures { result ≡ self.now.is_there }
     {
         self.conn.is_some()
     }
@@ -272,8 +257,8 @@ where
         }
     }
 
-    /// Writes what is answered to a MESSAGE, and tells why it wasn't taken, where it's answered so. Where the connection is of
-    /// no more use, as behind a failure of the store, it's cut at once: nothing more is written on it.
+    /// Writes the answer to a MESSAGE, and returns why it wasn't taken, where that is the answer. If the connection is of no
+    /// more use, as after a failure of the store, it's cut at once: nothing more is written on it.
     pub(crate) fn reply(
         &mut self,
         alloc: Global,
@@ -287,7 +272,7 @@ where
         requires told { Knows K.seen H.service N.sound (AnsweredTo H.service message answer) (told_hand hand.old) }
         ensures hand { IsHandOf shared.now hand.new }
         ensures knows { told_hand hand.new ≡ told_hand hand.old }
-        ensures cut { IfErr result (λ _. self.new ≡ false) }
+        ensures cut { IfErr result (λ _. self.new.is_there ≡ false) }
     {
         let Some(conn) = &mut self.conn else {
             return Ok(None);
@@ -314,7 +299,8 @@ where
 
     /// The connection is no more.
     pub(crate) fn cut(&mut self)
-        ensures { self.new ≡ false }
+        ensures there { self.new.is_there ≡ false }
+        ensures link { self.new.link ≡ self.old.link }
     {
         if self.conn.is_some() {
             self.was = Snapshot::of(&self.conn);
@@ -322,23 +308,45 @@ where
         }
     }
 
-    /// The connection as it is, or as it was when it was cut, for contracts alone, with the witness; it's dropped.
-    pub(crate) fn into_last(self) -> (Snapshot<Option<Conn<L>>>, Witness<H, K>)
-        ensures at { IsWitnessAt N.lock result.1 }
+    /// The connection as it is, or as it was when it was cut, for contracts alone, with a witness. The connection is dropped,
+    /// and its place is as if there had been none.
+    pub(crate) fn take_last(
+        &mut self,
+        shared: &Shared<H, K>,
+        hand: &Hand<H, K>,
+    ) -> (Snapshot<Option<Conn<L>>>, Witness<H, K>)
+        requires at { name_of shared.now ≡ N.lock }
+        requires hand { IsHandOf shared.now hand.now }
+        ensures empty { self.new ≡ record { is_there = false; link = None } }
+        ensures at { IsWitnessOf shared.now result.1 }
+        ensures link { began_with result.0.value ≡ self.old.link }
         ensures spoken { N.sound → HasSpokenIf L.put_gives L.take_gives K.seen H.service (shown_witness result.1)
             result.0.value }
     {
+        let witness = self.witness.again(shared);
+        let is_there = self.conn.is_some();
+        if is_there {
+            let last = Snapshot::of(&self.conn);
+            self.conn = None;
+            let none = Snapshot::of(&self.conn);
+            self.was = none;
+            (last, witness)
+        } else {
+            let none = Snapshot::of(&self.conn);
+            (replace(&mut self.was, none), witness)
+        }
+    }
+
+    /// Is done with a place whose last connection was noted.
+    pub fn close(self)
+        requires { self.link ≡ None }
+    {
         let Line {
-            conn,
-            was,
-            witness,
+            conn: _conn,
+            was: _,
+            witness: _witness,
             of: _,
         } = self;
-        if conn.is_some() {
-            (Snapshot::of(&conn), witness)
-        } else {
-            (was, witness)
-        }
     }
 
     /// What is left of the connection. The Hand learns the witness.
@@ -347,7 +355,8 @@ where
         requires hand { IsHandOf shared.now hand.old }
         ensures hand { IsHandOf shared.now hand.new }
         ensures knows { told_hand hand.new ≡ told_hand hand.old }
-        ensures conn { is_some result.conn ≡ self }
+        ensures conn { is_some result.conn ≡ self.is_there }
+        ensures link { began_with (or_was result.conn result.was.value) ≡ self.link }
         ensures given { IsGiven N.given (or_was result.conn result.was.value) }
         ensures shown { IsPrefixOf (shown_hand hand.old) (shown_hand hand.new) }
         ensures spoken { N.sound → HasSpokenIf L.put_gives L.take_gives K.seen H.service (shown_hand hand.new)

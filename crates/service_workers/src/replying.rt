@@ -20,7 +20,7 @@ use stomp_wire::Link;
 /// What was prepared doesn't go with what the endpoint answered: the frame isn't the one that was asked for.
 const OTHER: ReceptionFault = ReceptionFault::Client(ClientFault::Unexpected);
 
-/// Writes what is answered to a MESSAGE: both halves of its reception, behind the endpoint's answer. Others use the
+/// Writes what is answered to a MESSAGE: both halves of its reception, after the endpoint's answer. Others use the
 /// connection while that is asked, and what was prepared before could be stale then.
 pub(crate) fn finish<L: Link + Drop>(
     alloc: Global,
@@ -52,7 +52,7 @@ pub(crate) fn finish<L: Link + Drop>(
     }
 }
 
-/// Whether a connection goes on after a fault: the frame was answered. Where it wasn't, for want of memory or because
+/// Whether a connection is used on after a fault: the frame was answered. Where it wasn't, as an allocation failed or because
 /// the store failed, a new connection gets it again.
 pub(crate) fn goes_on(fault: ReceptionFault) -> bool
     ensures { result ≡ is_answered fault }

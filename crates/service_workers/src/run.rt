@@ -6,13 +6,11 @@ use crate::{Gate, Stop};
 use activities::Handler;
 use keep::Keep;
 use shared_endpoint::Shared;
-use std::alloc::Global;
+use std::alloc::{AllocError, Global};
 use std::sync::{Mutex, Wait};
 use stomp_wire::Link;
 
-/// One run of a service: what its threads share. The connections' locks are borrowed one by one: that a thread may have one
-/// is found of each by itself.
-#[derive(Clone, Copy)]
+/// One run of a service: what its threads share. Each thread has a copy.
 pub(crate) struct Run<'a, N, L, H, K, G, R>
 where
     N: Naming<K, L>,
@@ -31,3 +29,28 @@ where
     pub gate: &'a G,
     pub stop: &'a Stop,
 }
+
+/// Written by hand: a derived one would ask that the types are `Copy` to which it has references.
+impl<'a, N, L, H, K, G, R> Clone for Run<'a, N, L, H, K, G, R>
+where
+    N: Naming<K, L>,
+    L: Link + Drop,
+    H: Handler,
+    K: Keep<State = H::State, Command = H::Command> + Drop,
+    G: Gate<R>,
+    R: Wait,
+{
+    fn clone(&self) -> Result<Run<'a, N, L, H, K, G, R>, AllocError> {
+        Ok(*self)
+    }
+}
+
+impl<'a, N, L, H, K, G, R> Copy for Run<'a, N, L, H, K, G, R>
+where
+    N: Naming<K, L>,
+    L: Link + Drop,
+    H: Handler,
+    K: Keep<State = H::State, Command = H::Command> + Drop,
+    G: Gate<R>,
+    R: Wait,
+{}

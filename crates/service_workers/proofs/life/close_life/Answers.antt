@@ -9,7 +9,7 @@ pub returns : goal.returns
 returns g c =
     let tokens = (told_scout c.args.scout ++ told_hand c.learn.new.self) ++ told_seats c.args.seats in
     record {
-      count = c.into_parts-conns.ensures.count;
+      noted = c.into_parts-conns.ensures.noted;
       stands = λ s z. life_stands g.L.Link.put_gives g.L.Link.take_gives g.K.Keep.seen g.H.Handler.service g.N.Naming.found
           tokens (shown_scout c.args.scout) (shown_hand c.args.hand) (shown_witness c.into_parts-conns.result.1)
           (shown_seats c.args.seats) c.close.result (values_of c.into_parts-conns.result.0.items)

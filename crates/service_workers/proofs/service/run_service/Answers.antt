@@ -19,7 +19,7 @@ returns-clause-ends g c = record {
 
 pub new-requires-clause-spoken : goal.new-requires-clause-spoken
 new-requires-clause-spoken g c = λ s.
-    let hand = c.args.start.hand in
+    let hand = c.args.start.tokens.hand in
     subst (λ es. HasSpokenIf g.L.Link.put_gives g.L.Link.take_gives g.K.Keep.seen g.H.Handler.service es c.args.start.zero)
     (sym c.witness-first.ensures.shown)
     (spoken_before g.L.Link.put_gives g.L.Link.take_gives g.K.Keep.seen g.H.Handler.service (seen_by (told_hand hand))

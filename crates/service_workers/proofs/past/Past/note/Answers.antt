@@ -9,11 +9,11 @@ pub invariant_of-self-2 : goal.invariant_of-self-2
 invariant_of-self-2 g c = (
   witness_at c.args.shared.now g.N.Naming.lock c.requires.at c.learn.new.self c.learn.ensures.witness,
   subst (Any g.N.Naming.found) (sym c.learn.ensures.shown)
-      (any_left g.N.Naming.found (shown_witness c.self.inside.witness) (shown_witness c.into_last-last.result.1)
+      (any_left g.N.Naming.found (shown_witness c.self.inside.witness) (shown_witness c.take_last-last.result.1)
       c.self.invariant.1),
   λ s. noted_more g.L.Link.put_gives g.L.Link.take_gives g.K.Keep.seen g.H.Handler.service
-      (shown_witness c.self.inside.witness) (shown_witness c.into_last-last.result.1) (shown_witness c.learn.new.self)
-      c.self.inside.was.items c.reserve.new.self.items c.push_reserved.new.self.items c.into_last-last.result.0
+      (shown_witness c.self.inside.witness) (shown_witness c.take_last-last.result.1) (shown_witness c.learn.new.self)
+      c.self.inside.was.items c.reserve.new.self.items c.push_reserved.new.self.items c.take_last-last.result.0
       c.learn.ensures.shown c.push_reserved.ensures.items c.reserve.ensures.items (c.self.invariant.2 s)
-      (c.into_last-last.ensures.spoken s),
+      (c.take_last-last.ensures.spoken s),
 )
