@@ -40,7 +40,7 @@ module _ {L : Type 0} (put_gives : L → List ℕ → Result ℕ LinkFault → L
     }
 
 module _ {E S C : Type 0} (seen : E → Seen (Tables S C)) (service : Service S C) where
-  no_doubt : (good e : E) → EndsAs seen service good e → (seen e).doubt ≡ 0 → (seen good).doubt ≡ 0
+  pub no_doubt : (good e : E) → EndsAs seen service good e → (seen e).doubt ≡ 0 → (seen good).doubt ≡ 0
   no_doubt good e (inl same) z = ap (λ (x : E). (seen x).doubt) (sym same) ∙ z
   no_doubt good e (inr broke) z = le-zero (subst (λ n. (seen good).doubt ≤ n) z broke.doubt)
 
@@ -71,7 +71,7 @@ every_right : {X : Type 0} (P : X → Type 0) (xs ys : List X) → Every P (xs +
 every_right P [] ys h = h
 every_right P (x ∷ xs) ys h = every_right P xs ys h.1
 
-one_of_these : {X : Type 0} (P Q : X → Type 0) (xs : List X) → Any P xs → Every Q xs → (x : X) × P x × Q x
+pub one_of_these : {X : Type 0} (P Q : X → Type 0) (xs : List X) → Any P xs → Every Q xs → (x : X) × P x × Q x
 one_of_these P Q [] a e = absurd a
 one_of_these P Q (x ∷ xs) (inl h) e = (x, h, e.0)
 one_of_these P Q (x ∷ xs) (inr h) e = one_of_these P Q xs h e.1

@@ -1,9 +1,11 @@
-//! What connections have written, from the first frame to the end: each law is the contract of a function with nothing to do.
+//! What connections have written and what was taken in, from the first frame to the end: each law is the contract of a function with
+//! nothing to do.
 
 ghost use Rattle.std.specs.Prelude.{◌≡◌, ℕ, List, Option};
 ghost use Rattle.stomp_frame.specs.Frames.{Content};
 ghost use Rattle.stomp_frame.specs.declared.command.Command.TheVariants.{Connect};
 ghost use Rattle.service_workers.specs.Conns.{IsNewConnBy};
+ghost use Rattle.service_workers.specs.Taking.{TakingStands};
 ghost use Rattle.service_workers.specs.Written.{ConnectionsStand, HasSpoken, WrittenStands, WritesOfSession};
 ghost use Rattle.service_workers.specs.declared.conn.Conn.{Conn};
 
@@ -41,4 +43,13 @@ where
     H: Handler,
     K: Keep<State = H::State, Command = H::Command> + Drop,
     ensures { ConnectionsStand L.put_gives L.take_gives K.seen H.service }
+{}
+
+/// What the workers of a life took in stands in the end: of all letters that were taken in since, of those that are held and of the marks,
+/// only the envelopes of the arrivals that they took out of the intake are the cause, or what was held or marked when it began.
+pub fn what_was_taken_in_stands<H, K>()
+where
+    H: Handler,
+    K: Keep<State = H::State, Command = H::Command> + Drop,
+    ensures { TakingStands K.seen H.service }
 {}

@@ -1,4 +1,7 @@
+use Rattle.std.proofs.Common.{refl}
+use Rattle.service_workers.specs.Taking.{NoEnvelope}
 use Rattle.service_workers.specs.Truth.{IngestedIn, OneGroupedIn}
+use Rattle.service_workers.proofs.Taking.{nothing_takes}
 use Rattle.service_workers.proofs.Truth.{as_handled, as_letter, as_settled, so_knows}
 use Rattle.service_workers.proofs.run.Run.answer_of.Goals as goal
 
@@ -19,3 +22,6 @@ returns-in-Settled-grouped-clause-told g c = so_knows g.K.Keep.seen g.H.Handler.
     (OneGroupedIn g.H.Handler.service c.args.envelope.now c.args.grouped) _
     (λ x h. as_settled g.H.Handler.service c.args.envelope.now c.args.grouped _ _ c.in-Settled-grouped.mark x c.in-Settle.is
     c.in-Settled-grouped.is h) _ c.requires.told
+
+pub returns-in-Settled-clause-took : goal.returns-in-Settled-clause-took
+returns-in-Settled-clause-took g c = nothing_takes g.K.Keep.seen g.H.Handler.service NoEnvelope _ _ _ c.requires.hand.0.own refl

@@ -1,10 +1,13 @@
-use Rattle.std.proofs.Common.{subst}
+use Rattle.std.proofs.Common.{subst, inl, inr}
+use Rattle.std.specs.Prelude.{Contains}
 use Rattle.std.specs.Vec.Iter.{into_iter_items, into_iter_len}
 use Rattle.shared_endpoint.specs.Token.{hand_number}
 use Rattle.service_workers.specs.Batches.{behind}
+use Rattle.service_workers.specs.Taking.{CarriedIn, CarriedOrIn, Only}
 use Rattle.service_workers.specs.Truth.{AnsweredIn, AnsweredTo, IsLeftIn, IsNextIn}
 use Rattle.service_workers.proofs.Batching.{carries_this}
 use Rattle.service_workers.proofs.Further.{on_join}
+use Rattle.service_workers.proofs.Taking.{both_take, first_contained, so_takes, then_nothing}
 use Rattle.service_workers.proofs.Truth.{answered_one, empty_is, first_of, head_is, knows_now, left_of, left_stays}
 use Rattle.service_workers.proofs.Truth.{none_left, nothing_behind, so_knows, so_tells, still_knows}
 use Rattle.service_workers.proofs.run.Run.ask_next.Goals as goal
@@ -93,3 +96,24 @@ returns-in-None-clause-left g c =
     (λ x h. none_left g.H.Handler.service c.args.envelopes.now (into_iter_len c.next_told.new.told) (into_iter_items c.next_told.new.told) x
     (subst (λ o. IsNextIn g.H.Handler.service c.args.envelopes.now o (into_iter_len c.next_told.new.told)
     (into_iter_items c.next_told.new.told) x) c.in-None.is h)) _ c.next_told.ensures.told)
+
+-- what was taken in
+pub returns-in_default-clause-took : goal.returns-in_default-clause-took
+returns-in_default-clause-took g c = so_takes g.K.Keep.seen g.H.Handler.service (CarriedIn c.args.message.now)
+    (CarriedOrIn c.args.message.now c.args.envelopes.now) (λ e is. inl is) _ _ c.ask_unread.ensures.took
+
+pub returns-in-Some-next_told-clause-took : goal.returns-in-Some-next_told-clause-took
+returns-in-Some-next_told-clause-took g c = so_takes g.K.Keep.seen g.H.Handler.service (Contains c.args.envelopes.now)
+    (CarriedOrIn c.args.message.now c.args.envelopes.now) (λ e at. inr at) _ _
+    (then_nothing g.K.Keep.seen g.H.Handler.service hand_number (Contains c.args.envelopes.now) _ _ _
+    c.next_told.ensures.goes_on c.answer_of.ensures.goes_on c.next_told.ensures.took c.answer_of.ensures.took)
+
+pub returns-in-None-clause-took : goal.returns-in-None-clause-took
+returns-in-None-clause-took g c =
+    let first = head_is c.args.envelopes.now c.in-Some.envelope.now c.in-Some.ensures.value in
+    so_takes g.K.Keep.seen g.H.Handler.service (Contains c.args.envelopes.now)
+    (CarriedOrIn c.args.message.now c.args.envelopes.now) (λ e at. inr at) _ _
+    (both_take g.K.Keep.seen g.H.Handler.service hand_number (Contains c.args.envelopes.now) _ _ _
+    c.next_told.ensures.goes_on c.ask.ensures.goes_on c.next_told.ensures.took
+    (so_takes g.K.Keep.seen g.H.Handler.service (Only c.in-Some.envelope.now) (Contains c.args.envelopes.now)
+    (first_contained c.args.envelopes.now c.in-Some.envelope.now first) _ _ c.ask.ensures.took))

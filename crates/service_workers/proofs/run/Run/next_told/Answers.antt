@@ -1,6 +1,9 @@
+use Rattle.std.proofs.Common.{refl}
+use Rattle.std.specs.Prelude.{Contains}
 use Rattle.std.specs.Vec.Iter.{into_iter_items, into_iter_len}
 use Rattle.shared_endpoint.specs.Token.{hand_number}
 use Rattle.service_workers.specs.Truth.{AreGroupedIn, IsLeftIn}
+use Rattle.service_workers.proofs.Taking.{nothing_takes}
 use Rattle.service_workers.proofs.Truth.{knows_now, next_is, next_left, so_knows}
 use Rattle.service_workers.proofs.run.Run.next_told.Goals as goal
 
@@ -18,3 +21,7 @@ returns-clause-told g c = so_knows g.K.Keep.seen g.H.Handler.service g.N.Naming.
     c.ask_together-more.ensures.goes_on (so_knows g.K.Keep.seen g.H.Handler.service g.N.Naming.sound
     (IsLeftIn g.H.Handler.service c.args.envelopes.now (into_iter_len c.args.told.now) (into_iter_items c.args.told.now)) _
     (λ x h. tt) _ c.requires.told) c.ask_together-more.ensures.told)
+
+pub returns-in-Some-clause-took : goal.returns-in-Some-clause-took
+returns-in-Some-clause-took g c = nothing_takes g.K.Keep.seen g.H.Handler.service (Contains c.args.envelopes.now) _ _ _
+    c.requires.hand.0.own refl

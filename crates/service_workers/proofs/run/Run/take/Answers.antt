@@ -1,12 +1,15 @@
-use Rattle.std.proofs.Common.{subst, sym}
+use Rattle.std.proofs.Common.{inl, inr, refl, subst, sym}
+use Rattle.std.specs.Prelude.{option_to_list}
 use Rattle.std.specs.Vec.Iter.{into_iter_items, into_iter_len}
-use Rattle.shared_endpoint.specs.Token.{hand_number}
 use Rattle.shared_endpoint.specs.Keys.{told_hand}
-use Rattle.service_workers.specs.Batches.{Carry}
+use Rattle.shared_endpoint.specs.Token.{hand_number}
+use Rattle.service_workers.specs.Batches.{arrivals_in, Carry}
+use Rattle.service_workers.specs.Taking.{CarriedAmong, CarriedIn, CarriedOrIn, Takes}
 use Rattle.service_workers.specs.Tokens.{GoesOn}
 use Rattle.service_workers.specs.Truth.{Knows, IsLeftIn}
 use Rattle.service_workers.proofs.Batching.{carry_first, carry_rest}
 use Rattle.service_workers.proofs.Further.{on_join, on_same}
+use Rattle.service_workers.proofs.Taking.{among_left, among_right, both_take, carried_here, nothing_takes, so_takes}
 use Rattle.service_workers.proofs.Truth.{any_tells, knows_now, none_left_yet, so_knows}
 use Rattle.service_workers.proofs.run.Run.take.Goals as goal
 
@@ -24,6 +27,10 @@ loop-arrival-init g c =
           (any_tells g.K.Keep.seen g.H.Handler.service hand_number
           (IsLeftIn g.H.Handler.service rest (into_iter_len c.nothing_told-told.result) (into_iter_items c.nothing_told-told.result))
           (λ x. none_left_yet g.H.Handler.service rest _ _ x c.nothing_told-told.ensures.len) _ _ same);
+      took = nothing_takes g.K.Keep.seen g.H.Handler.service (CarriedAmong (arrivals_in c.args.batch)) _ _ _
+          c.requires.hand.0.own refl;
+      among = λ e h. among_left c.args.batch.arrivals.items (option_to_list c.args.batch.last) e
+          (subst (λ xs. CarriedAmong xs e) c.into_iter-arrival-iterator.ensures.into_iter_gives.0 h);
     }
 
 pub ask_next-answer-requires-clause-carried : goal.ask_next-answer-requires-clause-carried
@@ -46,6 +53,17 @@ loop-arrival-preserved g c = record {
       (subst (λ es. Knows g.K.Keep.seen g.H.Handler.service g.N.Naming.sound
       (IsLeftIn g.H.Handler.service es (into_iter_len c.ask_next-answer.new.told) (into_iter_items c.ask_next-answer.new.told))
       (told_hand c.ask_next-answer.new.hand)) (sym c.behind-rest.ensures) c.ask_next-answer.ensures.left);
+  took = subst (Takes g.K.Keep.seen g.H.Handler.service (CarriedAmong (arrivals_in c.args.batch)) (told_hand c.args.hand.now))
+      (sym c.finish_taking-count.ensures.knows)
+      (both_take g.K.Keep.seen g.H.Handler.service hand_number (CarriedAmong (arrivals_in c.args.batch)) _ _ _
+      c.loop-arrival.invariant.goes_on c.ask_next-answer.ensures.goes_on c.loop-arrival.invariant.took
+      (so_takes g.K.Keep.seen g.H.Handler.service (CarriedOrIn c.in-Some.arrival.message c.loop-arrival.rest.now)
+      (CarriedAmong (arrivals_in c.args.batch))
+      (λ e at. c.loop-arrival.invariant.among e (subst (λ xs. CarriedAmong xs e) (sym c.in-Some.ensures.steps.0)
+      (carried_here c.in-Some.arrival (into_iter_items c.next.new.self) c.loop-arrival.rest.now
+      (subst (λ xs. Carry xs c.loop-arrival.rest.now) c.in-Some.ensures.steps.0 c.loop-arrival.invariant.carried) e at)))
+      _ _ c.ask_next-answer.ensures.took));
+  among = λ e h. c.loop-arrival.invariant.among e (subst (λ xs. CarriedAmong xs e) (sym c.in-Some.ensures.steps.0) (inr h));
 }
 
 pub take_last-requires-clause-sound : goal.take_last-requires-clause-sound
@@ -56,3 +74,10 @@ take_last-requires-clause-sound g c = so_knows g.K.Keep.seen g.H.Handler.service
 pub returns-clause-goes_on : goal.returns-clause-goes_on
 returns-clause-goes_on g c = on_join g.K.Keep.seen g.H.Handler.service hand_number _ _ _
     c.loop-arrival.invariant.goes_on c.take_last.ensures.goes_on
+
+pub returns-clause-took : goal.returns-clause-took
+returns-clause-took g c = both_take g.K.Keep.seen g.H.Handler.service hand_number (CarriedAmong (arrivals_in c.args.batch)) _ _ _
+    c.loop-arrival.invariant.goes_on c.take_last.ensures.goes_on c.loop-arrival.invariant.took
+    (so_takes g.K.Keep.seen g.H.Handler.service (CarriedIn c.in-Some-last.arrival.message) (CarriedAmong (arrivals_in c.args.batch))
+    (λ e is. among_right c.args.batch.arrivals.items (option_to_list c.args.batch.last) e
+    (subst (λ o. CarriedAmong (option_to_list o) e) (sym c.in-Some-last.is) (inl is))) _ _ c.take_last.ensures.took)

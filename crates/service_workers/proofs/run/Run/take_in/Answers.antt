@@ -1,7 +1,9 @@
-use Rattle.shared_endpoint.specs.Token.{hand_number}
 use Rattle.std.proofs.Common.{subst, sym, ◌∙◌, Some}
+use Rattle.shared_endpoint.specs.Token.{hand_number}
+use Rattle.service_workers.specs.Taking.{OnlyLetter}
 use Rattle.service_workers.specs.Truth.{IngestedIn, DrainedIn}
 use Rattle.service_workers.proofs.Further.{on_join}
+use Rattle.service_workers.proofs.Taking.{then_nothing}
 use Rattle.service_workers.proofs.Truth.{both_true, ingested_stays, so_tells, still_tells, then_tells, two_tell}
 use Rattle.service_workers.proofs.run.Run.take_in.Goals as goal
 
@@ -32,3 +34,11 @@ returns-in_default-clause-told g c =
     (ingested_stays g.H.Handler.service c.args.letter.now c.ingest-answer.result
     (sym c.is_handled.ensures ∙ c.if-is_handled.true)) _ _ _
     c.ingest-answer.ensures.goes_on c.drain.ensures.goes_on c.ingest-answer.ensures.told
+
+pub returns-in-Some-clause-took : goal.returns-in-Some-clause-took
+returns-in-Some-clause-took g c = then_nothing g.K.Keep.seen g.H.Handler.service hand_number (OnlyLetter c.args.letter.now) _ _ _
+    c.ingest-answer.ensures.goes_on c.drain.ensures.goes_on c.ingest-answer.ensures.took c.drain.ensures.took
+
+pub returns-in_default-clause-took : goal.returns-in_default-clause-took
+returns-in_default-clause-took g c = then_nothing g.K.Keep.seen g.H.Handler.service hand_number (OnlyLetter c.args.letter.now) _ _ _
+    c.ingest-answer.ensures.goes_on c.drain.ensures.goes_on c.ingest-answer.ensures.took c.drain.ensures.took

@@ -1,6 +1,7 @@
 use Rattle.std.proofs.Common.{sym, subst}
 use Rattle.shared_endpoint.specs.Keys.{told_hand}
 use Rattle.shared_endpoint.specs.Token.{hand_number}
+use Rattle.service_workers.specs.Taking.{CarriedIn, Takes}
 use Rattle.service_workers.specs.Tokens.{GoesOn}
 use Rattle.service_workers.specs.Truth.{AnsweredTo}
 use Rattle.service_workers.proofs.Truth.{knows_now}
@@ -14,3 +15,7 @@ finish_taking-requires-clause-told g c = knows_now g.K.Keep.seen g.H.Handler.ser
 pub returns-clause-goes_on : goal.returns-clause-goes_on
 returns-clause-goes_on g c = subst (GoesOn g.K.Keep.seen g.H.Handler.service hand_number (told_hand c.args.hand.now))
     (sym c.finish_taking.ensures.knows) c.ask_unread-answer.ensures.goes_on
+
+pub returns-clause-took : goal.returns-clause-took
+returns-clause-took g c = subst (Takes g.K.Keep.seen g.H.Handler.service (CarriedIn c.args.arrival.message)
+    (told_hand c.args.hand.now)) (sym c.finish_taking.ensures.knows) c.ask_unread-answer.ensures.took
