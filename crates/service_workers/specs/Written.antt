@@ -26,6 +26,7 @@ use Rattle.shared_endpoint.specs.History.{EverSince, EndsAs}
 use Rattle.shared_endpoint.specs.Promises.{IsOneHistory}
 use Rattle.shared_endpoint.specs.Keys.{Any, Closes, shown_hand}
 use Rattle.service_workers.specs.Conns.{link_of, client_of, or_was, IsGiven}
+use Rattle.service_workers.specs.Reads.{IsReadIf}
 use Rattle.service_workers.specs.Tokens.{Progress, progress_of, HasArrived}
 use Rattle.service_workers.specs.Handed.{AreGoodWhile}
 use Rattle.service_workers.specs.Truth.{IsForeign, IsNotSent}
@@ -184,6 +185,7 @@ module _ {L : Type 0} (put_gives : L → List ℕ → Result ℕ LinkFault → L
       pub tokens_good : AreGoodWhile seen service sound tokens
       pub conns_given : Every (IsGiven given) conns
       pub conns_spoken : sound → Every (HasSpokenIf (shown_hand tokens.hand)) conns
+      pub conns_read : sound → Every (IsReadIf put_gives take_gives given) conns
 
     -- and how it ends: the same of what is left of its connections
     pub record Ends {H : Type 0} (sound : Type 0) (given : L → Type 0) (tokens : Tokens H E S C) (ended : List (Ended L))

@@ -1,10 +1,12 @@
-//! What connections have written and what was taken in, from the first frame to the end: each law is the contract of a function with
-//! nothing to do.
+//! What connections have written and read, and what was taken in, from the first frame to the end: each law is the contract of a
+//! function with nothing to do.
 
-ghost use Rattle.std.specs.Prelude.{◌≡◌, ℕ, List, Option};
+ghost use Rattle.std.specs.Prelude.{◌≡◌, ◌++◌, [], ℕ, List, Option};
 ghost use Rattle.stomp_frame.specs.Frames.{Content};
 ghost use Rattle.stomp_frame.specs.declared.command.Command.TheVariants.{Connect};
+ghost use Rattle.told_lock.specs.Rule.{Every};
 ghost use Rattle.service_workers.specs.Conns.{IsNewConnBy};
+ghost use Rattle.service_workers.specs.Reads.{CameOn, HasGiven, IsUnread, ReadsLast, ReadsOnly};
 ghost use Rattle.service_workers.specs.Taking.{TakingStands};
 ghost use Rattle.service_workers.specs.Written.{ConnectionsStand, HasSpoken, WrittenStands, WritesOfSession};
 ghost use Rattle.service_workers.specs.declared.conn.Conn.{Conn};
@@ -52,4 +54,18 @@ where
     H: Handler,
     K: Keep<State = H::State, Command = H::Command> + Drop,
     ensures { TakingStands K.seen H.service }
+{}
+
+/// What a connection gives is what came on it, once each and in order. A new one has given nothing; where it goes on, and gives
+/// frames, it has given these behind those before; and each that was given came on it, also where it ends meanwhile.
+pub fn what_connections_give_came<L>()
+where
+    L: Link + Drop,
+    ensures new { (c : Conn L) → IsUnread c → HasGiven L.put_gives L.take_gives [] c }
+    ensures goes_on { (before given : List Content) (c d : Conn L) → HasGiven L.put_gives L.take_gives before c →
+        ReadsOnly L.put_gives L.take_gives given c d → HasGiven L.put_gives L.take_gives (before ++ given) d }
+    ensures came { (given : List Content) (c : Conn L) → HasGiven L.put_gives L.take_gives given c →
+        Every (CameOn L.put_gives L.take_gives c) given }
+    ensures ends { (given : List Content) (c d : Conn L) → HasGiven L.put_gives L.take_gives given c →
+        ReadsLast L.put_gives L.take_gives c d → Every (CameOn L.put_gives L.take_gives d) given }
 {}

@@ -7,6 +7,7 @@ ghost use Rattle.told_lock.specs.Keys.{LockName, no_name};
 ghost use Rattle.shared_endpoint.specs.Keys.{IsHandOf, IsScoutOf, IsWitnessAt, IsWitnessOf, name_of, told_hand, told_scout};
 ghost use Rattle.shared_endpoint.specs.Keys.{shown_hand, shown_witness};
 ghost use Rattle.service_workers.specs.Conns.{began_with, or_was, IsGiven, Standing};
+ghost use Rattle.service_workers.specs.Reads.{Came, FoundCame, IsReadIf};
 ghost use Rattle.service_workers.specs.Truth.{Knows, AnsweredTo, AreSentIn};
 ghost use Rattle.service_workers.specs.Written.{HasSpokenIf};
 
@@ -70,6 +71,15 @@ where
     of: PhantomData<N>,
 }
 
+/// Cuts a connection as it is, whatever is so of it.
+fn note_and_drop<L: Drop>(conn: &mut Option<Conn<L>>, was: &mut Snapshot<Option<Conn<L>>>)
+    ensures was { was.new.value ≡ conn.old }
+    ensures none { conn.new ≡ None }
+{
+    *was = Snapshot::of(conn);
+    *conn = None;
+}
+
 impl<N, L, H, K> Model for Line<N, L, H, K>
 where
     N: Naming<K, L>,
@@ -84,7 +94,8 @@ where
     ghost invariant = { λ l. IsWitnessAt N.lock l.witness
         × IsGiven N.given (or_was l.conn l.was.value)
         × (N.sound → HasSpokenIf L.put_gives L.take_gives K.seen H.service (shown_witness l.witness)
-        (or_was l.conn l.was.value)) };
+        (or_was l.conn l.was.value))
+        × (N.sound → IsReadIf L.put_gives L.take_gives N.given l.conn) };
 }
 
 impl<N, L, H, K> Line<N, L, H, K>
@@ -99,6 +110,7 @@ where
         requires at { IsWitnessAt N.lock witness }
         requires given { IsGiven N.given conn }
         requires spoken { N.sound → HasSpokenIf L.put_gives L.take_gives K.seen H.service (shown_witness witness) conn }
+        requires read { N.sound → IsReadIf L.put_gives L.take_gives N.given conn }
         ensures there { result.is_there ≡ is_some conn }
         ensures link { result.link ≡ began_with conn }
     {
@@ -174,12 +186,16 @@ where
         conn.leave().ok()
     }
 
-    /// Writes what waits, reads what came, and throws it away. Whether there is nothing more to wait for.
+    /// Writes what waits, reads what came, and throws it away. Whether there is nothing more to wait for: then it's cut.
     pub fn has_left(&mut self, alloc: Global, receipt: u64) -> bool {
         let Some(conn) = &mut self.conn else {
             return true;
         };
-        conn.has_left(alloc, receipt)
+        if conn.has_left(alloc, receipt) {
+            note_and_drop(&mut self.conn, &mut self.was);
+            return true;
+        }
+        false
     }
 
     /// Whether letters can be sent on it.
@@ -198,19 +214,25 @@ where
         conn.write()
     }
 
-    /// Reads what came: whether something did. An error without a cause where the connection isn't there.
+    /// Reads what came: whether something did. An error without a cause where the connection isn't there. At any other it's
+    /// cut at once: octets may be lost, and what is read behind them isn't what was sent.
     pub(crate) fn read(&mut self, alloc: Global) -> Result<bool, Option<Cut>> {
         let Some(conn) = &mut self.conn else {
             return Err(None);
         };
         match conn.read(alloc) {
             Ok(count) => Ok(count > 0),
-            Err(cut) => Err(Some(cut)),
+            Err(cut) => {
+                note_and_drop(&mut self.conn, &mut self.was);
+                Err(Some(cut))
+            }
         }
     }
 
     /// The next frame that came, if the connection is there.
-    pub(crate) fn next(&mut self, alloc: Global, kind: Kind) -> Found {
+    pub(crate) fn next(&mut self, alloc: Global, kind: Kind) -> Found
+        ensures came { N.sound → FoundCame L.put_gives L.take_gives N.given result }
+    {
         let Some(conn) = &mut self.conn else {
             return Found::Nothing;
         };
@@ -218,7 +240,9 @@ where
     }
 
     /// Keeps a frame that `next` gave, if the connection is there.
-    pub(crate) fn keep(&mut self, frame: Frame<MAX_BODY>) {
+    pub(crate) fn keep(&mut self, frame: Frame<MAX_BODY>)
+        requires came { N.sound → Came L.put_gives L.take_gives N.given frame }
+    {
         let Some(conn) = &mut self.conn else {
             return;
         };
@@ -227,9 +251,10 @@ where
 
     /// So many of its letters aren't settled.
     pub(crate) fn counted(&mut self, on_way: usize) {
-        if let Some(conn) = &mut self.conn {
-            conn.counted(on_way);
-        }
+        let Some(conn) = &mut self.conn else {
+            return;
+        };
+        conn.counted(on_way);
     }
 
     /// Sends of these letters what wasn't sent on the connection, and answers how many of all were, now or before. None

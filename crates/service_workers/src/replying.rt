@@ -1,7 +1,8 @@
 //! What is written where a MESSAGE was taken.
 
-ghost use Rattle.std.specs.Prelude.{◌≡◌, ◌⊎◌};
+ghost use Rattle.std.specs.Prelude.{◌≡◌, ◌⊎◌, []};
 ghost use Rattle.service_workers.specs.Conns.{client_of, link_of, start_of};
+ghost use Rattle.service_workers.specs.Reads.{ReadsOnly};
 ghost use Rattle.service_workers.specs.Tokens.{Progress};
 ghost use Rattle.service_workers.specs.Truth.{CarriedBy, RepliedBy, Finishes, NeedsNoAnswer, IsItsAnswer, is_answered};
 
@@ -30,6 +31,7 @@ pub(crate) fn finish<L: Link + Drop>(
     answer: Answer,
 ) -> Result<Taken, ReceptionFault>
     ensures link { (link_of conn.new ≡ link_of conn.old) × (start_of conn.new ≡ start_of conn.old) }
+    ensures reads { ReadsOnly L.put_gives L.take_gives [] conn.old conn.new }
     ensures answers { Finishes kind message (client_of conn.old) (client_of conn.new) result }
     ensures told { NeedsNoAnswer result ⊎ IsItsAnswer message answer result }
     ensures replied { (x : Progress) → CarriedBy message answer x → RepliedBy message result x }

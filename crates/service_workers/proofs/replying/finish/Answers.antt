@@ -1,6 +1,7 @@
-use Rattle.std.proofs.Common.{inr, ap, sym, ◌∙◌, subst, Ok, Err}
+use Rattle.std.proofs.Common.{inr, ap, refl, sym, ◌∙◌, subst, Ok, Err}
 use Rattle.envelope.specs.Reading.{read_frame}
 use Rattle.reception.specs.Prepared.{PreparesFrame}
+use Rattle.service_workers.proofs.Reading.{reads_nothing}
 use Rattle.service_workers.proofs.Truth.{answers_at, carried_at, its_letter, its_settle, letter_replied, settle_replied}
 use Rattle.service_workers.proofs.replying.finish.Goals as goal
 
@@ -68,3 +69,31 @@ returns-in-Err-finish-clause-replied g c = λ x h.
     letter_replied c.args.message c.in-Ok-Letter.letter.letter c.in-Letter.answer (Err c.in-Err-finish.untaken.fault)
     (ap read_frame (sym e.0) ∙ e.2.carries.1) c.in-Err-finish.ensures.told x
     (carried_at c.args.message c.args.answer _ x c.in-Letter.is h)
+
+pub returns-in-Ok-clause-reads : goal.returns-in-Ok-clause-reads
+returns-in-Ok-clause-reads g c =
+    reads_nothing g.L.Link.put_gives g.L.Link.take_gives c.args.conn.now _ refl refl refl refl
+
+pub returns-in-Err-finish-clause-reads : goal.returns-in-Err-finish-clause-reads
+returns-in-Err-finish-clause-reads g c =
+    reads_nothing g.L.Link.put_gives g.L.Link.take_gives c.args.conn.now _ refl refl refl refl
+
+pub returns-in_default-clause-reads : goal.returns-in_default-clause-reads
+returns-in_default-clause-reads g c =
+    reads_nothing g.L.Link.put_gives g.L.Link.take_gives c.args.conn.now _ refl refl refl refl
+
+pub returns-in-Settle-clause-reads : goal.returns-in-Settle-clause-reads
+returns-in-Settle-clause-reads g c =
+    reads_nothing g.L.Link.put_gives g.L.Link.take_gives c.args.conn.now _ refl refl refl refl
+
+pub returns-in_default-answer-clause-reads : goal.returns-in_default-answer-clause-reads
+returns-in_default-answer-clause-reads g c =
+    reads_nothing g.L.Link.put_gives g.L.Link.take_gives c.args.conn.now _ refl refl refl refl
+
+pub returns-in-Ok-Done-clause-reads : goal.returns-in-Ok-Done-clause-reads
+returns-in-Ok-Done-clause-reads g c =
+    reads_nothing g.L.Link.put_gives g.L.Link.take_gives c.args.conn.now _ refl refl refl refl
+
+pub returns-in-Err-clause-reads : goal.returns-in-Err-clause-reads
+returns-in-Err-clause-reads g c =
+    reads_nothing g.L.Link.put_gives g.L.Link.take_gives c.args.conn.now _ refl refl refl refl

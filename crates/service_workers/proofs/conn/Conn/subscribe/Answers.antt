@@ -1,5 +1,6 @@
 use Rattle.std.proofs.Common.{refl}
 use Rattle.service_workers.specs.Written.{IsFree}
+use Rattle.service_workers.proofs.Reading.{reads_nothing}
 use Rattle.service_workers.proofs.Speaking.{subscribes_say}
 use Rattle.service_workers.proofs.Written.{conn_says}
 use Rattle.service_workers.proofs.conn.Conn.subscribe.Goals as goal
@@ -9,6 +10,7 @@ returns-in-Ok g c = record {
   writes = conn_says g.L.Link.put_gives g.L.Link.take_gives IsFree c.args.self.now _ refl refl
       (subscribes_say _ _ c.args.self.now.channel.client.client c.subscribe_with.new.self.client c.subscribe_with.result
       c.subscribe_with.ensures.does);
+  finds = reads_nothing g.L.Link.put_gives g.L.Link.take_gives c.args.self.now _ refl refl refl refl;
 }
 
 pub returns-in-Err-Memory : goal.returns-in-Err-Memory
@@ -16,6 +18,7 @@ returns-in-Err-Memory g c = record {
   writes = conn_says g.L.Link.put_gives g.L.Link.take_gives IsFree c.args.self.now _ refl refl
       (subscribes_say _ _ c.args.self.now.channel.client.client c.subscribe_with.new.self.client c.subscribe_with.result
       c.subscribe_with.ensures.does);
+  finds = reads_nothing g.L.Link.put_gives g.L.Link.take_gives c.args.self.now _ refl refl refl refl;
 }
 
 pub returns-in-Err : goal.returns-in-Err
@@ -23,4 +26,5 @@ returns-in-Err g c = record {
   writes = conn_says g.L.Link.put_gives g.L.Link.take_gives IsFree c.args.self.now _ refl refl
       (subscribes_say _ _ c.args.self.now.channel.client.client c.subscribe_with.new.self.client c.subscribe_with.result
       c.subscribe_with.ensures.does);
+  finds = reads_nothing g.L.Link.put_gives g.L.Link.take_gives c.args.self.now _ refl refl refl refl;
 }

@@ -1,4 +1,6 @@
+use Rattle.std.specs.Prelude.{[]}
 use Rattle.shared_endpoint.specs.Keys.{shown_witness}
+use Rattle.service_workers.proofs.Coming.{line_reads}
 use Rattle.service_workers.proofs.Written.{line_goes}
 use Rattle.service_workers.proofs.line.Line.leave.Goals as goal
 
@@ -10,4 +12,7 @@ invariant_of-self-2 g c =
       c.self.invariant.0,
       known.0,
       known.1,
+      line_reads g.L.Link.put_gives g.L.Link.take_gives g.N.Naming.given g.N.Naming.sound c.self.inside.conn c.self.inside.was.value
+          c.in-Some.conn
+          c.leave.new.self c.in-Some.is c.self.invariant.1 c.self.invariant.3 ([], c.leave.ensures.reads),
     )

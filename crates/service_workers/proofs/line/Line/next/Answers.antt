@@ -1,4 +1,5 @@
 use Rattle.shared_endpoint.specs.Keys.{shown_witness}
+use Rattle.service_workers.proofs.Coming.{line_finds}
 use Rattle.service_workers.proofs.Written.{line_goes}
 use Rattle.service_workers.proofs.line.Line.next.Goals as goal
 
@@ -10,4 +11,14 @@ invariant_of-self-2 g c =
       c.self.invariant.0,
       known.0,
       known.1,
+      λ s. (line_finds g.L.Link.put_gives g.L.Link.take_gives g.N.Naming.given g.N.Naming.sound c.self.inside.conn
+          c.self.inside.was.value c.in-Some.conn
+          c.next.new.self c.next.result c.in-Some.is c.self.invariant.1 c.self.invariant.3 c.next.ensures.finds s).1,
     )
+
+pub returns : goal.returns
+returns g c = record {
+  came = λ s. (line_finds g.L.Link.put_gives g.L.Link.take_gives g.N.Naming.given g.N.Naming.sound c.self.inside.conn
+      c.self.inside.was.value c.in-Some.conn
+      c.next.new.self c.next.result c.in-Some.is c.self.invariant.1 c.self.invariant.3 c.next.ensures.finds s).0;
+}

@@ -1,5 +1,7 @@
+use Rattle.std.specs.Prelude.{[]}
 use Rattle.shared_endpoint.specs.Keys.{told_hand, shown_hand, shown_witness}
 use Rattle.shared_endpoint.proofs.Witnessing.{witness_at}
+use Rattle.service_workers.proofs.Coming.{line_reads}
 use Rattle.service_workers.proofs.Knowing.{line_replies}
 use Rattle.service_workers.proofs.line.Line.reply.Goals as goal
 
@@ -14,6 +16,9 @@ invariant_of-self-in-Ok g c =
       witness_at c.args.shared.now g.N.Naming.lock c.requires.at c.learn.new.self c.learn.ensures.witness,
       known.0,
       known.1,
+      line_reads g.L.Link.put_gives g.L.Link.take_gives g.N.Naming.given g.N.Naming.sound c.self.inside.conn c.self.inside.was.value
+          c.in-Some.conn
+          c.finish.new.conn c.in-Some.is c.self.invariant.1 c.self.invariant.3 ([], c.finish.ensures.reads),
     )
 
 pub invariant_of-self-then-goes_on : goal.invariant_of-self-then-goes_on
@@ -27,6 +32,9 @@ invariant_of-self-then-goes_on g c =
       witness_at c.args.shared.now g.N.Naming.lock c.requires.at c.learn.new.self c.learn.ensures.witness,
       known.0,
       known.1,
+      line_reads g.L.Link.put_gives g.L.Link.take_gives g.N.Naming.given g.N.Naming.sound c.self.inside.conn c.self.inside.was.value
+          c.in-Some.conn
+          c.finish.new.conn c.in-Some.is c.self.invariant.1 c.self.invariant.3 ([], c.finish.ensures.reads),
     )
 
 pub invariant_of-self-in-Err-2 : goal.invariant_of-self-in-Err-2
@@ -40,4 +48,7 @@ invariant_of-self-in-Err-2 g c =
       witness_at c.args.shared.now g.N.Naming.lock c.requires.at c.learn.new.self c.learn.ensures.witness,
       known.0,
       known.1,
+      line_reads g.L.Link.put_gives g.L.Link.take_gives g.N.Naming.given g.N.Naming.sound c.self.inside.conn c.self.inside.was.value
+          c.in-Some.conn
+          c.finish.new.conn c.in-Some.is c.self.invariant.1 c.self.invariant.3 ([], c.finish.ensures.reads),
     )

@@ -1,5 +1,7 @@
+use Rattle.std.specs.Prelude.{[]}
 use Rattle.shared_endpoint.specs.Keys.{told_scout, shown_scout, shown_witness}
 use Rattle.shared_endpoint.proofs.Witnessing.{witness_at}
+use Rattle.service_workers.proofs.Coming.{line_reads}
 use Rattle.service_workers.proofs.Knowing.{line_sends}
 use Rattle.service_workers.proofs.line.Line.send.Goals as goal
 
@@ -13,4 +15,7 @@ invariant_of-self-2 g c =
       witness_at c.args.shared.now g.N.Naming.lock c.requires.at c.learn.new.self c.learn.ensures.witness,
       known.0,
       known.1,
+      line_reads g.L.Link.put_gives g.L.Link.take_gives g.N.Naming.given g.N.Naming.sound c.self.inside.conn c.self.inside.was.value
+          c.in-Some.conn
+          c.send.new.self c.in-Some.is c.self.invariant.1 c.self.invariant.3 ([], c.send.ensures.reads),
     )

@@ -1,0 +1,23 @@
+use Rattle.std.proofs.Common.{ℕ, ap}
+use Rattle.shared_endpoint.specs.Keys.{shown_witness}
+use Rattle.stomp_client.specs.Clients.{Client}
+use Rattle.service_workers.specs.Conns.{link_of, start_of}
+use Rattle.service_workers.proofs.Coming.{line_keeps}
+use Rattle.service_workers.proofs.Knowing.{line_stays}
+use Rattle.service_workers.proofs.Written.{writes_nothing}
+use Rattle.service_workers.proofs.line.Line.keep.Goals as goal
+
+pub invariant_of-self-2 : goal.invariant_of-self-2
+invariant_of-self-2 g c =
+    let known = line_stays g.L.Link.put_gives g.L.Link.take_gives g.K.Keep.seen g.H.Handler.service g.N.Naming.given g.N.Naming.sound
+    (shown_witness c.self.inside.witness) c.self.inside.conn c.self.inside.was.value c.in-Some.conn c.keep.new.self
+    c.in-Some.is (c.self.invariant.1, c.self.invariant.2) (writes_nothing g.L.Link.put_gives g.L.Link.take_gives c.in-Some.conn
+    c.keep.new.self
+    (ap start_of c.keep.ensures.rest) (ap link_of c.keep.ensures.rest) (ap (λ (k : Client ℕ). k.out) c.keep.ensures.client)) in (
+      c.self.invariant.0,
+      known.0,
+      known.1,
+      line_keeps g.L.Link.put_gives g.L.Link.take_gives g.N.Naming.given g.N.Naming.sound c.self.inside.conn c.self.inside.was.value
+          c.in-Some.conn
+          c.keep.new.self c.args.frame c.in-Some.is c.self.invariant.3 c.requires.came c.keep.ensures.back,
+    )
