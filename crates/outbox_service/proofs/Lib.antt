@@ -1,3 +1,2 @@
-mod Crossing
 mod Lives
 mod Seats

@@ -6,7 +6,7 @@ use Rattle.std.specs.List.{All}
 abbrev pub HasNoEnd : List ℕ → Type 0
 HasNoEnd octets = All (λ octet. octet ≢ 10) octets
 
--- What is taken of a text: its first line, and the LF behind it goes too; all of it, where there is no LF and no more comes; or
+-- What is taken of a text: its first line, and the LF after it goes too; all of it, where there is no LF and no more comes; or
 -- nothing, where there is no whole line, and then the text stays.
 abbrev pub IsTaken : Bool → List ℕ → List ℕ → Option (List ℕ) → Type 0
 IsTaken has_ended old new (Some line) =

@@ -1,19 +1,18 @@
 //! The service, with all its threads, over tables in memory or in a file.
 
-ghost use Rattle.std.specs.Prelude.{◌≡◌};
+ghost use Rattle.std.specs.Prelude.{◌≡◌, Some};
 ghost use Rattle.std.specs.Thread.{IsSend, IsSync};
-ghost use Rattle.shared_endpoint.specs.Keys.{AreSeatsOf, IsHandOf, IsNewHand, IsNewScout, IsScoutOf, name_of};
+ghost use Rattle.shared_endpoint.specs.Keys.{AreSeatsOf, IsHandOf, IsNewHand, IsNewScout, IsScoutOf};
 ghost use Rattle.service_workers.specs.Conns.{values_of};
-ghost use Rattle.service_workers.specs.Handed.{AreTokensOf, AreGoodWhile};
-ghost use Rattle.service_workers.specs.Written.{LifeStands};
-ghost use Rattle.outbox_service.specs.Lives.{IsWhole, OfEach};
+ghost use Rattle.service_workers.specs.Lives.{LifeStands};
+ghost use Rattle.outbox_service.specs.Lives.{AreItsTokens, HaveServed, IsNamed, IsWhole};
 
 use crate::answers::answer_first;
 use crate::board::Board;
 use crate::fault::RunFault;
 use crate::migration::take_over;
-use crate::serving::{SameTokens, Served, keep_serving};
-use crate::sockets::{Broker, Site, Socket};
+use crate::serving::{Served, keep_serving};
+use crate::sockets::{Broker, Reach, Site, Socket};
 use crate::told::Told;
 use crate::words::Settings;
 use activities::Handler;
@@ -32,11 +31,10 @@ use sqlite::{FileFrom, FileStore, Start, Unknown};
 use sqlite_disk::Disk;
 use std::marker::{Brand, PhantomData};
 use std::snapshot::Snapshot;
-use std::sync::Wait;
+use std::sync::{Mutex, Wait};
 use std::thread::Threads;
 use std::time::Clock;
 use std::{io, thread};
-use stomp_wire::Link;
 use warehouse::Stocks;
 
 /// How the service ended, whose lines were answered so.
@@ -48,93 +46,69 @@ fn end_of(answered: io::Result<()>, board: &Board) -> Result<(), RunFault> {
     }
 }
 
-/// What is left once all threads of the service have ended: how lines were answered, the seats, and what the thread that
-/// kept it connected gave back.
-struct Done<N, H, K>
-where
-    N: Naming<K, Socket>,
-    H: Handler,
-    K: Keep<State = H::State, Command = H::Command> + Drop,
-{
-    ended: Result<(), RunFault>,
-    seats: [Seat<H, K>; 16],
-    served: Served<N, H, K>,
-}
+/// What is left once all threads of the service have ended: how it ended, the seats and the tokens.
+type Done<H, K> = (Result<(), RunFault>, [Seat<H, K>; 16], Tokens<H, K>);
 
 /// Runs all threads of the service: one answers lines, and the others keep it connected until the lines end. Where none
 /// can be made for these, no line is answered.
-fn run_threads<N, H, K, R>(
+fn run_threads<N, L, H, K, R>(
     rt: &R,
     site: Site<'_>,
     shared: &Shared<H, K>,
     seats: [Seat<H, K>; 16],
     tokens: Tokens<H, K>,
-    past: Past<N, Socket, H, K>,
-) -> Done<N, H, K>
+    past: &Mutex<Past<N, L, H, K>>,
+) -> Done<H, K>
 where
-    N: Naming<K, Socket> + Send + Sync,
+    N: Naming<K, L> + Send + Sync,
+    L: Reach,
     H: Told + Send + Sync,
     H::State: Send,
     H::Command: Send,
     K: Keep<State = H::State, Command = H::Command> + Drop + Send,
     R: Threads + Wait + Clock + Log + Sync,
-    requires at { name_of shared.now ≡ N.lock }
-    requires any { OfEach N.given }
+    requires named { IsNamed N.lock L.reached N.given shared.now }
     requires seats { AreSeatsOf shared.now seats }
-    requires of { AreTokensOf shared.now tokens }
-    requires good { AreGoodWhile K.seen H.service N.sound tokens }
-    ensures seats { AreSeatsOf shared.now result.seats }
-    ensures of { AreTokensOf shared.now result.served.tokens }
-    ensures good { AreGoodWhile K.seen H.service N.sound result.served.tokens }
+    requires tokens { AreItsTokens K.seen H.service N.sound shared.now tokens }
+    ensures seats { AreSeatsOf shared.now result.1 }
+    ensures served { HaveServed L.put_gives L.take_gives K.seen H.service N.sound N.given shared.now tokens result.2 }
 {
     thread::scope(
         thread::scope_env(),
         rt,
-        move |scope| -> Done<N, H, K>
-            requires at { name_of shared.now ≡ N.lock }
-            requires any { OfEach N.given }
+        move |scope| -> Done<H, K>
+            requires named { IsNamed N.lock L.reached N.given shared.now }
             requires seats { AreSeatsOf shared.now seats }
-            requires of { AreTokensOf shared.now tokens }
-            requires good { AreGoodWhile K.seen H.service N.sound tokens }
-            requires handler { IsSend H.row × IsSend H.State.row × IsSend H.Command.row }
-            requires store { IsSend K.row × IsSend N.row }
+            requires tokens { AreItsTokens K.seen H.service N.sound shared.now tokens }
+            requires sent { IsSend H.row × IsSend H.State.row × IsSend H.Command.row × IsSend K.row × IsSend L.row }
             requires shared { IsSync R.row }
-            ensures seats { AreSeatsOf shared.entry.now result.seats }
-            ensures of { AreTokensOf shared.entry.now result.served.tokens }
-            ensures good { AreGoodWhile K.seen H.service N.sound result.served.tokens }
+            ensures seats { AreSeatsOf shared.entry.now result.1 }
+            ensures served { HaveServed L.put_gives L.take_gives K.seen H.service N.sound N.given shared.entry.now tokens result.2 }
         {
+            let promise = Served {
+                shared,
+                given: Snapshot::of(&tokens),
+                of: PhantomData::<(N, L)>,
+            };
             let begun = scope.spawn_with(
-                SameTokens {
-                    shared,
-                    of: PhantomData,
-                },
-                move || -> Served<N, H, K>
-                    requires at { name_of shared.now ≡ N.lock }
-                    requires any { OfEach N.given }
-                    requires of { AreTokensOf shared.now tokens }
-                    requires good { AreGoodWhile K.seen H.service N.sound tokens }
-                    ensures of { AreTokensOf shared.entry.now result.tokens }
-                    ensures good { AreGoodWhile K.seen H.service N.sound result.tokens }
+                promise,
+                move || -> Tokens<H, K>
+                    requires named { IsNamed N.lock L.reached N.given shared.now }
+                    requires tokens { AreItsTokens K.seen H.service N.sound shared.now tokens }
+                    ensures served { HaveServed L.put_gives L.take_gives K.seen H.service N.sound N.given shared.entry.now tokens result }
                 { keep_serving(rt, site, shared, tokens, past) },
             );
             match begun {
                 Ok(serving) => {
                     let (answered, seats) = answer_first(rt, site.host, shared, seats, site.board);
-                    let served = serving.join(rt);
-                    Done {
-                        ended: end_of(answered, site.board),
-                        seats,
-                        served,
-                    }
+                    let tokens = serving.join(rt);
+                    let ended = end_of(answered, site.board);
+                    (ended, seats, tokens)
                 }
                 // It ends at once, and gives back what it has.
                 Err(refused) => {
                     site.board.end();
-                    Done {
-                        ended: Err(RunFault::Memory),
-                        seats,
-                        served: (refused.value)(),
-                    }
+                    (Err(RunFault::Memory), seats, (refused.value)())
                 }
             }
         },
@@ -143,46 +117,44 @@ where
 
 /// One life of a service: its threads run until the input ends or its store fails. Where this is so (`N.sound`: what was
 /// found matched its journal) and its file isn't in doubt, all that was put on the links of its connections stands by the
-/// journal in the end, which begins with the one that was found.
-fn live<N, H, K, R>(
+/// journal in the end, which begins with the one that was found; and what was taken in since came in MESSAGEs on
+/// connections, or was held when it began. So it is over whatever links.
+fn live<N, L, H, K, R>(
     rt: &R,
     site: Site<'_>,
     shared: Shared<H, K>,
     found: Snapshot<Endpoint<H, K>>,
     seats: [Seat<H, K>; 16],
     tokens: Tokens<H, K>,
-) -> (Life<Socket, H, K>, Result<(), RunFault>)
+) -> (Life<L, H, K>, Result<(), RunFault>)
 where
-    N: Naming<K, Socket> + Send + Sync,
+    N: Naming<K, L> + Send + Sync,
+    L: Reach,
     H: Told + Send + Sync,
     H::State: Send,
     H::Command: Send,
     K: Keep<State = H::State, Command = H::Command> + Drop + Send,
     R: Threads + Wait + Clock + Log + Sync,
-    requires at { name_of shared ≡ N.lock }
-    requires any { OfEach N.given }
+    requires named { IsNamed N.lock L.reached N.given shared }
     requires seats { AreSeatsOf shared seats }
     requires hand { IsHandOf shared tokens.hand × IsNewHand found.value tokens.hand }
     requires scout { IsScoutOf shared tokens.scout × IsNewScout found.value tokens.scout }
     requires sound { N.sound → IsWhole K.seen H.service found.value }
-    requires found { N.found found.value }
+    requires found { N.found ≡ Some found.value }
     ensures stands { N.sound → (K.seen result.0.endpoint).doubt ≡ 0
-        → LifeStands (⟦<Socket as Link>⟧.put_gives) (⟦<Socket as Link>⟧.take_gives) K.seen H.service N.found
-        result.0.endpoint (values_of result.0.conns.items) }
+        → LifeStands L.put_gives L.take_gives K.seen H.service N.given N.found result.0.endpoint
+        (values_of result.0.conns.items) }
 {
     let Tokens { mut hand, scout } = tokens;
-    let past = Past::<N, Socket, H, K>::new(site.host.alloc(), &shared, &mut hand);
+    let past = Past::<N, L, H, K>::new(site.host.alloc(), &shared, &mut hand);
     let tokens = Tokens { hand, scout };
-    let Done {
+    let past = Mutex::new(past);
+    let (ended, seats, tokens) = run_threads(rt, site, &shared, seats, tokens, &past);
+    let Tokens { hand, scout } = tokens;
+    (
+        close_life(rt, shared, seats, hand, scout, past.into_inner()),
         ended,
-        seats,
-        served,
-    } = run_threads(rt, site, &shared, seats, tokens, past);
-    let Served {
-        tokens: Tokens { hand, scout },
-        past,
-    } = served;
-    (close_life(rt, shared, seats, hand, scout, past), ended)
+    )
 }
 
 /// Runs the service over its store.
@@ -216,7 +188,7 @@ where
                 hand: opened.2,
                 scout: opened.3,
             };
-            let (_life, ended) = live::<Brand, H, K, R>(
+            let (_life, ended) = live::<Brand, Socket, H, K, R>(
                 rt, site, opened.0, found, opened.1, tokens,
             );
             ended

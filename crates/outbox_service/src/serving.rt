@@ -2,14 +2,13 @@
 
 ghost use Rattle.std.specs.Prelude.{◌≡◌};
 ghost use Rattle.shared_endpoint.specs.Keys.{IsHandOf, name_of, told_hand};
-ghost use Rattle.service_workers.specs.Handed.{AreTokensOf, AreGoodWhile};
-ghost use Rattle.outbox_service.specs.Lives.{OfEach};
+ghost use Rattle.outbox_service.specs.Lives.{AreItsTokens, HaveServed, IsNamed};
 
 use crate::board::Board;
 use crate::gate::Turn;
 use crate::overdue::Overdue;
 use crate::pulse::{Pulse, Silence};
-use crate::sockets::{Site, Socket, open};
+use crate::sockets::{Reach, Site, open};
 use activities::Handler;
 use keep::Keep;
 use log::{Log, info, warn};
@@ -17,7 +16,8 @@ use service_workers::{Held, Line, Naming, Past, Stop, Tokens, run_lines};
 use shared_endpoint::{Hand, Shared};
 use std::alloc::Global;
 use std::marker::PhantomData;
-use std::sync::Wait;
+use std::snapshot::Snapshot;
+use std::sync::{Mutex, Wait};
 use std::thread;
 use std::thread::{Promise, Threads};
 use std::time::{Clock, Duration};
@@ -38,25 +38,27 @@ struct Watched {
 }
 
 /// One of the two connections.
-struct Slot<N, H, K>
+struct Slot<N, L, H, K>
 where
-    N: Naming<K, Socket>,
+    N: Naming<K, L>,
+    L: Reach,
     H: Handler,
     K: Keep<State = H::State, Command = H::Command> + Drop,
 {
     // Its place, where also is how the last one ended, until that's noted.
-    line: Line<N, Socket, H, K>,
+    line: Line<N, L, H, K>,
     watched: Watched,
 }
 
-impl<N, H, K> Slot<N, H, K>
+impl<N, L, H, K> Slot<N, L, H, K>
 where
-    N: Naming<K, Socket>,
+    N: Naming<K, L>,
+    L: Reach,
     H: Handler,
     K: Keep<State = H::State, Command = H::Command> + Drop,
 {
     /// It's empty.
-    fn new(number: u8, shared: &Shared<H, K>, hand: &mut Hand<H, K>) -> Slot<N, H, K>
+    fn new(number: u8, shared: &Shared<H, K>, hand: &mut Hand<H, K>) -> Slot<N, L, H, K>
         requires at { name_of shared.now ≡ N.lock }
         requires hand { IsHandOf shared.now hand.old }
         ensures hand { IsHandOf shared.now hand.new }
@@ -85,10 +87,9 @@ where
         site: Site<'_>,
         shared: &Shared<H, K>,
         hand: &Hand<H, K>,
-        past: &mut Past<N, Socket, H, K>,
+        past: &mut Past<N, L, H, K>,
     ) -> bool
-        requires at { name_of shared.now ≡ N.lock }
-        requires any { OfEach N.given }
+        requires named { IsNamed N.lock L.reached N.given shared.now }
         requires hand { IsHandOf shared.now hand.now }
     {
         if self.is_open() {
@@ -120,7 +121,7 @@ where
         rt: &R,
         shared: &Shared<H, K>,
         hand: &Hand<H, K>,
-        past: &mut Past<N, Socket, H, K>,
+        past: &mut Past<N, L, H, K>,
     )
         requires at { name_of shared.now ≡ N.lock }
         requires hand { IsHandOf shared.now hand.now }
@@ -207,24 +208,26 @@ fn tell_silence<R: Log>(rt: &R, number: u8, silence: Silence) {
 }
 
 /// The two connections of the service.
-struct Conns<N, H, K>
+struct Conns<N, L, H, K>
 where
-    N: Naming<K, Socket>,
+    N: Naming<K, L>,
+    L: Reach,
     H: Handler,
     K: Keep<State = H::State, Command = H::Command> + Drop,
 {
-    zero: Slot<N, H, K>,
-    one: Slot<N, H, K>,
+    zero: Slot<N, L, H, K>,
+    one: Slot<N, L, H, K>,
 }
 
-impl<N, H, K> Conns<N, H, K>
+impl<N, L, H, K> Conns<N, L, H, K>
 where
-    N: Naming<K, Socket>,
+    N: Naming<K, L>,
+    L: Reach,
     H: Handler,
     K: Keep<State = H::State, Command = H::Command> + Drop,
 {
     /// None is open.
-    fn none(shared: &Shared<H, K>, hand: &mut Hand<H, K>) -> Conns<N, H, K>
+    fn none(shared: &Shared<H, K>, hand: &mut Hand<H, K>) -> Conns<N, L, H, K>
         requires at { name_of shared.now ≡ N.lock }
         requires hand { IsHandOf shared.now hand.old }
         ensures hand { IsHandOf shared.now hand.new }
@@ -242,10 +245,9 @@ where
         site: Site<'_>,
         shared: &Shared<H, K>,
         hand: &Hand<H, K>,
-        past: &mut Past<N, Socket, H, K>,
+        past: &mut Past<N, L, H, K>,
     )
-        requires at { name_of shared.now ≡ N.lock }
-        requires any { OfEach N.given }
+        requires named { IsNamed N.lock L.reached N.given shared.now }
         requires hand { IsHandOf shared.now hand.now }
     {
         let asked = site.board.askings.asked();
@@ -296,7 +298,7 @@ where
         rt: &R,
         shared: &Shared<H, K>,
         hand: &Hand<H, K>,
-        past: &mut Past<N, Socket, H, K>,
+        past: &mut Past<N, L, H, K>,
     )
         requires at { name_of shared.now ≡ N.lock }
         requires hand { IsHandOf shared.now hand.now }
@@ -307,69 +309,65 @@ where
     }
 }
 
-/// What is left once the service isn't kept connected any more: its tokens, and the connections that it had.
-#[derive(Drop)]
-pub struct Served<N, H, K>
+/// What is promised of the tokens that the thread gives back which keeps the service connected: they are tokens of this
+/// service, which are as sound, and what was taken in by them since `given` came.
+pub struct Served<'a, N, L, H, K>
 where
-    N: Naming<K, Socket>,
-    H: Handler,
-    K: Keep<State = H::State, Command = H::Command> + Drop,
-{
-    pub tokens: Tokens<H, K>,
-    pub past: Past<N, Socket, H, K>,
-}
-
-/// What the thread that keeps a service connected gives back: tokens of the same service, which are as sound.
-pub struct SameTokens<'a, N, H, K>
-where
-    N: Naming<K, Socket>,
+    N: Naming<K, L>,
+    L: Reach,
     H: Handler,
     K: Keep<State = H::State, Command = H::Command> + Drop,
 {
     pub shared: &'a Shared<H, K>,
-    pub of: PhantomData<N>,
+    pub given: Snapshot<Tokens<H, K>>,
+    pub of: PhantomData<(N, L)>,
 }
 
-impl<'a, N, H, K> Drop for SameTokens<'a, N, H, K>
+impl<'a, N, L, H, K> Drop for Served<'a, N, L, H, K>
 where
-    N: Naming<K, Socket>,
+    N: Naming<K, L>,
+    L: Reach,
     H: Handler,
     K: Keep<State = H::State, Command = H::Command> + Drop,
 {
     fn drop(self) {
-        let SameTokens { shared: _, of: _ } = self;
+        let Served {
+            shared: _,
+            given: _given,
+            of: _,
+        } = self;
     }
 }
 
-impl<'a, N, H, K> Promise<Served<N, H, K>> for SameTokens<'a, N, H, K>
+impl<'a, N, L, H, K> Promise<Tokens<H, K>> for Served<'a, N, L, H, K>
 where
-    N: Naming<K, Socket>,
+    N: Naming<K, L>,
+    L: Reach,
     H: Handler,
     K: Keep<State = H::State, Command = H::Command> + Drop,
 {
-    ghost kept_by = { λ p r. AreTokensOf p.shared.now r.tokens × AreGoodWhile K.seen H.service N.sound r.tokens };
+    ghost kept_by = { λ p r. HaveServed L.put_gives L.take_gives K.seen H.service N.sound N.given p.shared.now p.given.value r };
 }
 
 /// Runs the service's threads for a turn, which ends where the board says so. The slots come back.
-fn run_turn<N, H, K, R>(
+fn run_turn<N, L, H, K, R>(
     rt: &R,
     site: Site<'_>,
     shared: &Shared<H, K>,
     tokens: Tokens<H, K>,
-    conns: Conns<N, H, K>,
-) -> (Tokens<H, K>, Conns<N, H, K>)
+    conns: Conns<N, L, H, K>,
+) -> (Tokens<H, K>, Conns<N, L, H, K>)
 where
-    N: Naming<K, Socket> + Send + Sync,
+    N: Naming<K, L> + Send + Sync,
+    L: Reach,
     H: Handler + Send + Sync,
     H::State: Send,
     H::Command: Send,
     K: Keep<State = H::State, Command = H::Command> + Drop + Send,
     R: Threads + Wait + Clock + Log + Sync,
     requires at { name_of shared.now ≡ N.lock }
-    requires of { AreTokensOf shared.now tokens }
-    requires good { AreGoodWhile K.seen H.service N.sound tokens }
-    ensures of { AreTokensOf shared.now result.0 }
-    ensures good { AreGoodWhile K.seen H.service N.sound result.0 }
+    requires tokens { AreItsTokens K.seen H.service N.sound shared.now tokens }
+    ensures served { HaveServed L.put_gives L.take_gives K.seen H.service N.sound N.given shared.now tokens result.0 }
 {
     let stop = Stop::new();
     let turn = Turn::new(site.board, &stop);
@@ -401,32 +399,31 @@ where
     (tokens, Conns { zero, one })
 }
 
-/// Keeps the service connected, until the program ends.
-pub fn keep_serving<N, H, K, R>(
+/// Keeps the service connected, until the program ends. No other thread uses the list of what its connections were: it's
+/// under a lock so that this one can be given it.
+pub fn keep_serving<N, L, H, K, R>(
     rt: &R,
     site: Site<'_>,
     shared: &Shared<H, K>,
     tokens: Tokens<H, K>,
-    past: Past<N, Socket, H, K>,
-) -> Served<N, H, K>
+    past: &Mutex<Past<N, L, H, K>>,
+) -> Tokens<H, K>
 where
-    N: Naming<K, Socket> + Send + Sync,
+    N: Naming<K, L> + Send + Sync,
+    L: Reach,
     H: Handler + Send + Sync,
     H::State: Send,
     H::Command: Send,
     K: Keep<State = H::State, Command = H::Command> + Drop + Send,
     R: Threads + Wait + Clock + Log + Sync,
-    requires at { name_of shared.now ≡ N.lock }
-    requires any { OfEach N.given }
-    requires of { AreTokensOf shared.now tokens }
-    requires good { AreGoodWhile K.seen H.service N.sound tokens }
-    ensures of { AreTokensOf shared.now result.tokens }
-    ensures good { AreGoodWhile K.seen H.service N.sound result.tokens }
+    requires named { IsNamed N.lock L.reached N.given shared.now }
+    requires tokens { AreItsTokens K.seen H.service N.sound shared.now tokens }
+    ensures served { HaveServed L.put_gives L.take_gives K.seen H.service N.sound N.given shared.now tokens result }
 {
+    let mut past = past.lock(rt);
     let alloc = site.host.alloc();
     let board = site.board;
     let mut tokens = tokens;
-    let mut past = past;
     let mut conns = Conns::none(shared, &mut tokens.hand);
     let mut overdue = Overdue::new();
     for _ in rt.forever() {
@@ -438,7 +435,7 @@ where
             conns.give_up();
         }
         conns.look(rt, alloc, board, overdue.has_unsettled());
-        conns.open(rt, site, shared, &tokens.hand, &mut past);
+        conns.open(rt, site, shared, &tokens.hand, &mut *past);
         conns.plan(rt, board, overdue.next());
         let turned = run_turn(rt, site, shared, tokens, conns);
         tokens = turned.0;
@@ -446,6 +443,6 @@ where
     }
     conns.leave(rt, alloc, board);
     board.close();
-    conns.end(rt, shared, &tokens.hand, &mut past);
-    Served { tokens, past }
+    conns.end(rt, shared, &tokens.hand, &mut *past);
+    tokens
 }

@@ -4,7 +4,6 @@ ghost use Rattle.std.specs.Prelude.{◌≡◌, None, IfOk};
 ghost use Rattle.std.specs.Option.{option_copied};
 ghost use Rattle.stomp_frame.specs.declared.command.Command.TheVariants.{Connect};
 ghost use Rattle.stomp_client.specs.Frames.{connect_frame_to, connect_refused, IsMadeUnless};
-ghost use Rattle.outbox_service.specs.Lives.{OfEach};
 
 use crate::board::Board;
 use activities::Handler;
@@ -19,7 +18,7 @@ use std::time::Duration;
 use std::{io, net};
 use stomp_client::connect_frame_to;
 use stomp_frame::{Frame, FrameFault};
-use stomp_wire::StreamLink;
+use stomp_wire::{Link, StreamLink};
 
 /// How long it may take to connect, in milliseconds.
 const PATIENCE: u64 = 2_000;
@@ -66,8 +65,39 @@ pub struct Site<'a> {
     pub board: &'a Board,
 }
 
+/// Links by which a service reaches its broker. The service is generic over them, so that nothing that is promised of what it
+/// writes and takes in rests on what a socket is.
+pub trait Reach: Link + Drop + Send {
+    ghost use Rattle.std.specs.Prelude.{IfOk};
+
+    // What is so of each link that is reached, as it is then.
+    ghost reached: { Self → Type 0 };
+
+    /// A link to the broker that the reader of this number watches.
+    ///
+    /// # Errors
+    /// Where the broker isn't there, the system refused a link, or an allocation failed.
+    fn reach(site: Site<'_>, number: u8) -> io::Result<Self>
+        ensures { IfOk result reached };
+}
+
+/// Of a socket nothing is known: what comes on it is whatever its other end puts.
+impl Reach for Socket {
+    ghost use Rattle.std.specs.Prelude.{⊤};
+
+    ghost reached = { λ link. ⊤ };
+
+    fn reach(site: Site<'_>, number: u8) -> io::Result<Socket> {
+        let stream = connect_first(site.host, site.broker)?;
+        let writer = TcpStream::from_std(stream.try_clone()?);
+        let mut reader = TcpStream::from_std(stream);
+        site.board.rests.reader(number).watch(&mut reader)?;
+        Ok(StreamLink::new(reader, writer))
+    }
+}
+
 /// A socket to the first address of the host that accepts.
-fn reach(host: &HostRuntime, broker: Broker<'_>) -> io::Result<net::TcpStream> {
+fn connect_first(host: &HostRuntime, broker: Broker<'_>) -> io::Result<net::TcpStream> {
     let mut last = io::Error::from(ErrorKind::AddrNotAvailable);
     let found = (broker.address, broker.port).to_socket_addrs(host)?;
     for one in found {
@@ -91,31 +121,23 @@ fn connect(host: &HostRuntime, address: SocketAddr) -> io::Result<net::TcpStream
 /// Opens the connection of a number, on which CONNECT waits to be written then.
 ///
 /// # Errors
-/// Where the broker isn't there, or the system or memory refused a socket.
-pub fn open<N, H, K>(site: Site<'_>, number: u8, line: &mut Line<N, Socket, H, K>) -> io::Result<()>
+/// Where the broker isn't there, the system refused a link, or an allocation failed.
+pub fn open<N, L, H, K>(site: Site<'_>, number: u8, line: &mut Line<N, L, H, K>) -> io::Result<()>
 where
-    N: Naming<K, Socket>,
+    N: Naming<K, L>,
+    L: Reach,
     H: Handler,
     K: Keep<State = H::State, Command = H::Command> + Drop,
-    requires any { OfEach N.given }
+    requires given { (link : L) → L.reached link → N.given link }
     requires noted { line.old.link ≡ None }
 {
     let alloc = site.host.alloc();
     let Ok(connect) = site.broker.greet(alloc) else {
         return Err(io::Error::from(ErrorKind::OutOfMemory));
     };
-    let link = link_to(site, number)?;
+    let link = L::reach(site, number)?;
     match line.open_by(alloc, link, &connect, site.broker.prefetch) {
         Ok(()) => Ok(()),
         Err(_) => Err(io::Error::from(ErrorKind::OutOfMemory)),
     }
-}
-
-/// A socket to the broker that the reader of this number watches.
-fn link_to(site: Site<'_>, number: u8) -> io::Result<Socket> {
-    let stream = reach(site.host, site.broker)?;
-    let writer = TcpStream::from_std(stream.try_clone()?);
-    let mut reader = TcpStream::from_std(stream);
-    site.board.rests.reader(number).watch(&mut reader)?;
-    Ok(StreamLink::new(reader, writer))
 }

@@ -10,7 +10,7 @@ use std::convert::AsStr;
 pub const USAGE: &str =
     "outbox-service --service purchasing|warehouse|billing --port <PORT> [--file <PATH>] [OPTIONS]";
 
-/// What may stand behind `--service`.
+/// What may stand after `--service`.
 const SERVICES: &[&str] = &["purchasing", "warehouse", "billing"];
 
 /// Where the broker is, where nothing else is said.
@@ -19,7 +19,7 @@ const ADDRESS: &str = "127.0.0.1";
 /// Which of its hosts is meant, where nothing else is said.
 const HOST: &str = "outbox";
 
-/// What `--version` tells behind the program's name.
+/// What `--version` tells after the program's name.
 const VERSION: &str = "0.1.0";
 
 /// What lines may be told and what is answered, for `--help`.

@@ -1,5 +1,7 @@
 -- What threads of a run take with them, or share, may cross threads. The prover finds that by itself of types without snapshots.
+use mathlib.Core.List.{◌∷◌, []}
 use denote.RattleType.{RattleType}
+use denote.Struct.Tuple.{Tuple}
 use denote.Struct.Field.{row_field}
 use denote.Param.{number}
 use denote.Param.Send.{IsSend, sendable, view_send}
@@ -20,23 +22,12 @@ use Rattle.intake.proofs.intake.IntakeReader.TheSendSync as reader_laws
 use Rattle.shared_endpoint.proofs.tokens.Witness.TheSendSync as witness_laws
 use Rattle.service_workers.specs.declared.line.Naming as naming
 use Rattle.service_workers.specs.contracts.arrival.Arrival as arrival
+use Rattle.service_workers.specs.contracts.arrival.Arrival.TheInside as arrival_inside
 use Rattle.service_workers.specs.contracts.conn.Conn as conn
 use Rattle.service_workers.specs.contracts.line.Line as line
 use Rattle.service_workers.specs.contracts.line.Line.TheInside as inside
 use Rattle.service_workers.specs.contracts.past.Past as past
 use Rattle.service_workers.specs.contracts.past.Past.TheInside as past_inside
-
-arrival_send : IsSend arrival.the_row
-arrival_send = declared_send arrival.the_type (
-  search (std.crosses, sendable) depth 20,
-  (
-    frame_laws.the_send (number 1048576),
-    tt,
-  ),
-)
-
-pub reader_send : IsSend (reader.the_row arrival.the_row)
-reader_send = reader_laws.the_send arrival.the_row arrival_send
 
 snapshot_send : (L : RattleType) → IsSend (snapshot.the_row L)
 snapshot_send L = search (std.crosses) depth 20
@@ -68,31 +59,45 @@ conn_send L l = declared_send (conn.the_type L) (
   ),
 )
 
+module _ (N L K : RattleType) (n : naming.Ghosts N.Denot K.Denot L.Denot) (l : link.Ghosts L.Denot) where
+  arrival_send : IsSend (arrival.the_row N L K n l)
+  arrival_send = view_send _ _ _ _ _ (declared_send (arrival_inside.the_type N L K n l) (
+    search (std.crosses, sendable) depth 20,
+    (
+      frame_laws.the_send (number 1048576),
+      (declared_send (phantom.the_type (Tuple (N ∷ (L ∷ (K ∷ []))))) tt, tt),
+    ),
+  ))
+
+  pub reader_send : IsSend (reader.the_row (arrival.the_row N L K n l))
+  reader_send = reader_laws.the_send (arrival.the_row N L K n l) arrival_send
+
 module _ (N L H K S C : RattleType) (n : naming.Ghosts N.Denot K.Denot L.Denot) (l : link.Ghosts L.Denot)
     (h : handler.Ghosts H.Denot S.Denot C.Denot) (p : parts.Ghosts S.Denot) (k : keep.Ghosts K.Denot S.Denot C.Denot) where
   conn_if : IsSend (conn.the_row L) → IsSend (option.the_row (conn.the_row L))
   conn_if c = search (std.crosses, sendable) depth 60 fits 20000
 
-  phantom_send : IsSend N → IsSend (phantom.the_row N)
-  phantom_send sn = search (std.crosses, sendable) depth 60 fits 20000
+  -- it has no parts, whatever it's of
+  phantom_send : IsSend (phantom.the_row N)
+  phantom_send = declared_send (phantom.the_type N) tt
 
-  pub line_send : IsSend N → IsSend L → IsSend (line.the_row N L H K S C n l h p k)
-  line_send sn sl = view_send _ _ _ _ _ (declared_send (inside.the_type N L H K S C n l h p k) (
+  pub line_send : IsSend L → IsSend (line.the_row N L H K S C n l h p k)
+  line_send sl = view_send _ _ _ _ _ (declared_send (inside.the_type N L H K S C n l h p k) (
     conn_if (conn_send L sl),
     (
       snapshot_send (option.the_row (conn.the_row L)),
       (
         witness_laws.the_send H K S C h p k,
-        (phantom_send sn, tt),
+        (phantom_send, tt),
       ),
     ),
   ))
 
-  pub past_send : IsSend N → IsSend (past.the_row N L H K S C n l h p k)
-  past_send sn = view_send _ _ _ _ _ (declared_send (past_inside.the_type N L H K S C n l h p k) (
+  pub past_send : IsSend (past.the_row N L H K S C n l h p k)
+  past_send = view_send _ _ _ _ _ (declared_send (past_inside.the_type N L H K S C n l h p k) (
     search (snapshot_send, std.crosses, sendable) depth 20,
     (
       witness_laws.the_send H K S C h p k,
-      (phantom_send sn, tt),
+      (phantom_send, tt),
     ),
   ))

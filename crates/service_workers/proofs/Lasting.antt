@@ -11,15 +11,14 @@ use Rattle.keep.specs.Seen.{Seen}
 use Rattle.keep.specs.Tables.{Tables}
 use Rattle.endpoint.specs.Deeds.{kept}
 use Rattle.endpoint.specs.Matches.{AllMatch}
-use Rattle.told_lock.specs.declared.view.Told.{Told}
 use Rattle.told_lock.specs.Rule.{Every}
 use Rattle.told_lock.proofs.Views.{every_map}
 use Rattle.shared_endpoint.specs.History.{EverSince, EndsAs, Grows}
-use Rattle.shared_endpoint.specs.Keys.{Any, Closes}
+use Rattle.shared_endpoint.specs.Keys.{Any}
 use Rattle.shared_endpoint.specs.Promises.{AreBorneOut}
 use Rattle.service_workers.specs.Conns.{IsNewConnBy, start_of}
 use Rattle.service_workers.specs.Written.{Path, stays, of_session, WasTrue, Speaks, MightSpeak, StandsBy, WrittenStands}
-use Rattle.service_workers.specs.Written.{HasSpoken, HasSpokenIf, HasWritten, HasWrittenIf, ConnectionsStand, LifeStands}
+use Rattle.service_workers.specs.Written.{HasSpoken, HasWritten, HasWrittenIf, ConnectionsStand}
 use Rattle.service_workers.specs.declared.conn.Conn.{Conn}
 
 module _ {L : Type 0} (put_gives : L → List ℕ → Result ℕ LinkFault → L → Type 0)
@@ -61,13 +60,13 @@ module _ {E S C : Type 0} (seen : E → Seen (Tables S C)) (service : Service S 
       stands_among closes.good history.tables block witnessed (no_doubt closes.good e closes.ends z) closes.borne_out
       history.borne_out was
 
--- ---- whole connections, and whole lives
+-- ---- whole connections
 
-every_left : {X : Type 0} (P : X → Type 0) (xs ys : List X) → Every P (xs ++ ys) → Every P xs
+pub every_left : {X : Type 0} (P : X → Type 0) (xs ys : List X) → Every P (xs ++ ys) → Every P xs
 every_left P [] ys h = tt
 every_left P (x ∷ xs) ys h = (h.0, every_left P xs ys h.1)
 
-every_right : {X : Type 0} (P : X → Type 0) (xs ys : List X) → Every P (xs ++ ys) → Every P ys
+pub every_right : {X : Type 0} (P : X → Type 0) (xs ys : List X) → Every P (xs ++ ys) → Every P ys
 every_right P [] ys h = h
 every_right P (x ∷ xs) ys h = every_right P xs ys h.1
 
@@ -88,7 +87,7 @@ module _ {L : Type 0} (put_gives : L → List ℕ → Result ℕ LinkFault → L
     allowed = every_map P Q h.blocks so h.allowed;
   }
 
-  written_as_if : (P Q : List Content → Type 0) → ((block : List Content) → P block → Q block) → (o : Option (Conn L))
+  pub written_as_if : (P Q : List Content → Type 0) → ((block : List Content) → P block → Q block) → (o : Option (Conn L))
       → HasWrittenIf put_gives take_gives P o → HasWrittenIf put_gives take_gives Q o
   written_as_if P Q so None h = tt
   written_as_if P Q so (Some c) h = written_as P Q so c h
@@ -99,7 +98,7 @@ module _ {L : Type 0} (put_gives : L → List ℕ → Result ℕ LinkFault → L
         written_as (MightSpeak seen service witnessed) (StandsBy service history.tables)
         (written_stands seen service tokens witnessed e closes z history)
 
-    stands_in : (good : E) (known : List E) (block : List Content) → (seen good).doubt ≡ 0
+    pub stands_in : (good : E) (known : List E) (block : List Content) → (seen good).doubt ≡ 0
         → Every (λ y. EverSince seen service y good) known
         → MightSpeak seen service known block → StandsBy service (seen good).tables block
     stands_in good known block z since (inl free) = inl free
@@ -108,29 +107,3 @@ module _ {L : Type 0} (put_gives : L → List ℕ → Result ℕ LinkFault → L
         (λ y. AllMatch service (seen y).may_leave → Grows (seen y).tables (seen good).tables) known
         (λ y s matches. (s.clean z matches).1) since)
         was
-
-    -- what the Hand has learned of a life's connections
-    pub life_stands : (Found : E → Type 0) (tokens : List (Told E)) (scout hand known seats : List E) (e : E)
-        (conns : List (Option (Conn L)))
-        → Closes seen service tokens ((scout ++ (hand ++ known)) ++ seats) e → (seen e).doubt ≡ 0 → Any Found known
-        → Every (HasSpokenIf put_gives take_gives seen service known) conns
-        → LifeStands put_gives take_gives seen service Found e conns
-    life_stands Found tokens scout hand known seats e conns closes z found spoken =
-        let z' = no_doubt seen service closes.good e closes.ends z in
-        let all = closes.borne_out in
-        let since = every_right (λ y. EverSince seen service y closes.good) hand known
-        (every_right (λ y. EverSince seen service y closes.good) scout (hand ++ known)
-        (every_left (λ y. EverSince seen service y closes.good) (scout ++ (hand ++ known)) seats all)) in
-        let first = one_of_these Found (λ y. EverSince seen service y closes.good) known found since in
-        record {
-          good = closes.good;
-          ends = closes.ends;
-          found = first.0;
-          was_found = first.1;
-          since = first.2;
-          stand = every_map (HasSpokenIf put_gives take_gives seen service known)
-              (HasWrittenIf put_gives take_gives (StandsBy service (seen closes.good).tables)) conns
-              (written_as_if (MightSpeak seen service known) (StandsBy service (seen closes.good).tables)
-              (λ block. stands_in closes.good known block z' since))
-              spoken;
-        }

@@ -1,6 +1,6 @@
 -- What calls of the Hand take in.
 use Rattle.std.proofs.Common.{◌≡◌, ◌⊎◌, inl, inr, ℕ, zero, suc, ◌≤◌, ◌<◌, ◌==◌, max, Bool, true, false, List, [], ◌∷◌}
-use Rattle.std.proofs.Common.{◌++◌, length, map, refl, sym, ap, ◌∙◌, subst, arith, append-nil, append_assoc, Option, Some}
+use Rattle.std.proofs.Common.{◌++◌, length, refl, sym, ap, ◌∙◌, subst, arith, append-nil, append_assoc, Option, Some}
 use Rattle.std.proofs.Common.{Result, Ok, Err}
 use Rattle.std.proofs.Math.Arith.{le-zero}
 use Rattle.std.proofs.lemmas.Bool.Decides.{nat_tests}
@@ -10,6 +10,7 @@ use Rattle.std.specs.Prelude.{if◌then◌else◌, Contains, nat_lt, option_to_l
 use Rattle.base.specs.Entity.{Entity}
 use Rattle.base.specs.declared.limits.TheConstants.{HELD_WINDOW}
 use Rattle.base.specs.declared.pair.Pair.{Pair}
+use Rattle.stomp_frame.specs.Frames.{Content}
 use Rattle.envelope.specs.Reading.{read_frame}
 use Rattle.envelope.specs.declared.message.Letter.{Letter}
 use Rattle.envelope.specs.declared.message.Envelope.{Envelope}
@@ -32,7 +33,6 @@ use Rattle.endpoint.specs.Matches.{AllMatch}
 use Rattle.group_commit.specs.Group.{Groups, GroupedMay, TakesEach}
 use Rattle.group_commit.specs.declared.grouped.Grouped.{Grouped}
 use Rattle.group_commit.specs.declared.grouped.Grouped.TheVariants as grouped
-use Rattle.intake.specs.declared.slip.Slip.{Slip}
 use Rattle.laws_journals.specs.Growth.{IsFrom}
 use Rattle.laws_stores.specs.Deeds.{DeedIs}
 use Rattle.laws_stores.specs.Good.{IsHeldIn}
@@ -48,7 +48,6 @@ use Rattle.service_workers.specs.Taking.{Only, OnlyLetter, OnlySettle, NoEnvelop
 use Rattle.service_workers.specs.Taking.{WasThere, IsSettledBy, TakesFrom, TokenTakes, Takes, TokenLeaves, Leaves}
 use Rattle.service_workers.specs.Taking.{envelopes_in, TakingStands}
 use Rattle.service_workers.specs.Tokens.{GoesOn}
-use Rattle.service_workers.specs.declared.arrival.Arrival.{Arrival}
 use Rattle.service_workers.proofs.Lasting.{no_doubt, one_of_these}
 
 -- ---- what rows take in
@@ -145,7 +144,7 @@ module _ {C : Type 0} (known : Envelope → Type 0) where
       so e h = either h (λ k. inl (all e k)) inr
 
   -- what others do between two calls of the Hand
-  by_standing : (x y : Kept C) → Stands hand_number x y → TakesFrom known x y
+  pub by_standing : (x y : Kept C) → Stands hand_number x y → TakesFrom known x y
   by_standing x y s = record {
     rows = s.begins.0;
     goes_on = sym s.begins.1;
@@ -222,13 +221,13 @@ module _ {S C : Type 0} (service : Service S C) where
         (one_is (WasThere known (kept t)) e g (kept t) h.1.deed (inl (all e (0, omega arith, refl))) h.1.may))
         (by_each es gs h.0 u (λ f at. let less = at.1 in all f (suc at.0, omega (arith, less), at.2)) h.2)
 
--- what arrivals carry is among their envelopes
-among_contained : (arrivals : List Arrival) (e : Envelope) → CarriedAmong arrivals e → Contains (envelopes_in arrivals) e
+-- what MESSAGEs carry is among their envelopes
+pub among_contained : (messages : List Content) (e : Envelope) → CarriedAmong messages e → Contains (envelopes_in messages) e
 among_contained [] e h = absurd h
-among_contained (a ∷ arrivals) e (inl is) =
-    subst (λ o. Contains (option_to_list o ++ envelopes_in arrivals) e) (sym is) (0, omega arith, refl)
-among_contained (a ∷ arrivals) e (inr h) = Contains-append_right (option_to_list (read_frame a.message))
-    (envelopes_in arrivals) e (among_contained arrivals e h)
+among_contained (a ∷ messages) e (inl is) =
+    subst (λ o. Contains (option_to_list o ++ envelopes_in messages) e) (sym is) (0, omega arith, refl)
+among_contained (a ∷ messages) e (inr h) = Contains-append_right (option_to_list (read_frame a))
+    (envelopes_in messages) e (among_contained messages e h)
 
 -- ---- one call
 
@@ -433,10 +432,10 @@ module _ {E S C : Type 0} (seen : E → Seen (Tables S C)) (service : Service S 
       (subst (λ m. Stands m (kept (seen w.seen).tables) (kept t)) is c.stands))
 
   pub taking_stands : TakingStands seen service
-  taking_stands arrivals v w tokens witnessed e h good is among closes z history = (
+  taking_stands messages v w tokens witnessed e h good is among closes z history = (
     all,
     λ up t may. let left = history.left t may in
-        subst (TakesFrom (Contains (envelopes_in arrivals)) (kept (seen v.seen).tables))
+        subst (TakesFrom (Contains (envelopes_in messages)) (kept (seen v.seen).tables))
         (sym (subst (λ ds. DidAll service (kept history.tables) ds (kept t)) (left.none up) left.did)) all,
   )
     where
@@ -448,73 +447,38 @@ module _ {E S C : Type 0} (seen : E → Seen (Tables S C)) (service : Service S 
           = subst (λ (k : Told E). (seen k.seen).doubt ≤ (seen closes.good).doubt) one.1 one.2.since.doubt in
           le-zero (subst (λ n. (seen w.seen).doubt ≤ n) (no_doubt seen service closes.good e closes.ends z) least)
 
-      all : TakesFrom (Contains (envelopes_in arrivals)) (kept (seen v.seen).tables) (kept history.tables)
+      all : TakesFrom (Contains (envelopes_in messages)) (kept (seen v.seen).tables) (kept history.tables)
       all =
           let one = one_of_these (λ k. k ≡ w) (λ k. Continues seen service k.number k history.tables) tokens among
           history.continues in
-          takes_more (CarriedAmong arrivals) (Contains (envelopes_in arrivals)) (kept (seen v.seen).tables)
-          (kept history.tables) (among_contained arrivals)
-          (takes_till (CarriedAmong arrivals) w.number v w history.tables h clean good is
+          takes_more (CarriedAmong messages) (Contains (envelopes_in messages)) (kept (seen v.seen).tables)
+          (kept history.tables) (among_contained messages)
+          (takes_till (CarriedAmong messages) w.number v w history.tables h clean good is
           (subst (λ (k : Told E). Continues seen service k.number k history.tables) one.1 one.2))
 
--- ---- what arrivals carry
+-- ---- what MESSAGEs carry
 
 pub first_contained : (es : List Envelope) (e : Envelope) → es ≡ e ∷ behind es → (f : Envelope) → Only e f → Contains es f
 first_contained es e is f same = subst (λ xs. Contains xs f) (sym is) (0, omega arith, sym same)
 
-contained_at : (arrivals : List Arrival) (es : List Envelope) → Carry arrivals es → (e : Envelope) (k : ℕ) → k < length es
-    → slice_index_or es k e ≡ e → CarriedAmong arrivals e
-contained_at arrivals [] h e k less at = absurd (omega (arith, less))
+contained_at : (messages : List Content) (es : List Envelope) → Carry messages es → (e : Envelope) (k : ℕ) → k < length es
+    → slice_index_or es k e ≡ e → CarriedAmong messages e
+contained_at messages [] h e k less at = absurd (omega (arith, less))
 contained_at [] (f ∷ es) h e k less at = absurd h
-contained_at (a ∷ arrivals) (f ∷ es) h e zero less at = inl (h.0 ∙ ap Some at)
-contained_at (a ∷ arrivals) (f ∷ es) h e (suc k) less at = inr (contained_at arrivals es h.1 e k (omega (arith, less)) at)
+contained_at (a ∷ messages) (f ∷ es) h e zero less at = inl (h.0 ∙ ap Some at)
+contained_at (a ∷ messages) (f ∷ es) h e (suc k) less at = inr (contained_at messages es h.1 e k (omega (arith, less)) at)
 
--- of the first of these arrivals, or of others
-pub carried_here : (a : Arrival) (arrivals : List Arrival) (es : List Envelope) → Carry (a ∷ arrivals) es → (e : Envelope)
-    → CarriedOrIn a.message es e → CarriedAmong (a ∷ arrivals) e
-carried_here a arrivals es h e (inl is) = inl is
-carried_here a arrivals es h e (inr at) = contained_at (a ∷ arrivals) es h e at.0 at.1 at.2
+-- of the first of these MESSAGEs, or of others
+pub carried_here : (a : Content) (messages : List Content) (es : List Envelope) → Carry (a ∷ messages) es → (e : Envelope)
+    → CarriedOrIn a es e → CarriedAmong (a ∷ messages) e
+carried_here a messages es h e (inl is) = inl is
+carried_here a messages es h e (inr at) = contained_at (a ∷ messages) es h e at.0 at.1 at.2
 
-pub among_left : (xs ys : List Arrival) (e : Envelope) → CarriedAmong xs e → CarriedAmong (xs ++ ys) e
+pub among_left : (xs ys : List Content) (e : Envelope) → CarriedAmong xs e → CarriedAmong (xs ++ ys) e
 among_left [] ys e h = absurd h
 among_left (x ∷ xs) ys e (inl h) = inl h
 among_left (x ∷ xs) ys e (inr h) = inr (among_left xs ys e h)
 
-pub among_right : (xs ys : List Arrival) (e : Envelope) → CarriedAmong ys e → CarriedAmong (xs ++ ys) e
+pub among_right : (xs ys : List Content) (e : Envelope) → CarriedAmong ys e → CarriedAmong (xs ++ ys) e
 among_right [] ys e h = h
 among_right (x ∷ xs) ys e h = inr (among_right xs ys e h)
-
--- of those that were taken out of the intake before, or behind them
-slips_before : (xs ys : List (Slip Arrival)) (e : Envelope) → CarriedAmong (map (λ s. s.arrival) xs) e
-    → CarriedAmong (map (λ s. s.arrival) (xs ++ ys)) e
-slips_before [] ys e h = absurd h
-slips_before (x ∷ xs) ys e (inl h) = inl h
-slips_before (x ∷ xs) ys e (inr h) = inr (slips_before xs ys e h)
-
-slips_behind : (xs ys : List (Slip Arrival)) (e : Envelope) → CarriedAmong (map (λ s. s.arrival) ys) e
-    → CarriedAmong (map (λ s. s.arrival) (xs ++ ys)) e
-slips_behind [] ys e h = h
-slips_behind (x ∷ xs) ys e h = inr (slips_behind xs ys e h)
-
-behind_both : {X : Type 0} (first now next last xs ys : List X) (x : X) → now ≡ first ++ xs → next ≡ now ++ x ∷ []
-    → last ≡ next ++ ys → last ≡ first ++ (xs ++ x ∷ ys)
-behind_both first now next last xs ys x a b c = c ∙ (ap (λ w. w ++ ys) (b ∙ ap (λ w. w ++ x ∷ []) a)
-    ∙ (append_assoc (first ++ xs) (x ∷ []) ys ∙ append_assoc first xs (x ∷ ys)))
-
--- one more is taken out of the intake, and others behind it; and then all that these carry is taken in
-pub more_slips : {E S C : Type 0} (seen : E → Seen (Tables S C)) (service : Service S C) (n : ℕ) (us vs ws : List (Told E))
-    (first now next last xs ys : List (Slip Arrival)) (x : Slip Arrival) (batch : List Arrival)
-    → now ≡ first ++ xs → next ≡ now ++ x ∷ [] → last ≡ next ++ ys → batch ≡ x.arrival ∷ map (λ s. s.arrival) ys
-    → GoesOn seen service n us vs → GoesOn seen service n vs ws
-    → Takes seen service (CarriedAmong (map (λ s. s.arrival) xs)) us vs → Takes seen service (CarriedAmong batch) vs ws
-    → (slips : List (Slip Arrival)) × (last ≡ first ++ slips)
-    × Takes seen service (CarriedAmong (map (λ s. s.arrival) slips)) us ws
-more_slips seen service n us vs ws first now next last xs ys x batch a b c is goes later h k = (
-  xs ++ x ∷ ys,
-  behind_both first now next last xs ys x a b c,
-  both_take seen service n (CarriedAmong (map (λ s. s.arrival) (xs ++ x ∷ ys))) us vs ws goes later
-      (so_takes seen service (CarriedAmong (map (λ s. s.arrival) xs))
-      (CarriedAmong (map (λ s. s.arrival) (xs ++ x ∷ ys))) (slips_before xs (x ∷ ys)) us vs h)
-      (so_takes seen service (CarriedAmong batch) (CarriedAmong (map (λ s. s.arrival) (xs ++ x ∷ ys)))
-      (λ e at. slips_behind xs (x ∷ ys) e (subst (λ l. CarriedAmong l e) is at)) vs ws k),
-)

@@ -1,5 +1,6 @@
 -- Which frames were read off a connection's link, and which of these it has given.
-use Rattle.std.specs.Prelude.{◌≡◌, ◌≢◌, ℕ, false, List, [], ◌∷◌, ◌++◌, option_to_list, unwrap_or, Option, Some, None, Result, Ok, Err, ⊤}
+use Rattle.std.specs.Prelude.{◌≡◌, ◌≢◌, ℕ, false, List, [], ◌∷◌, ◌++◌, option_to_list, unwrap_or, Option, Some, None, ⊤}
+use Rattle.std.specs.Prelude.{Result, Ok, Err}
 use Rattle.base.specs.declared.limits.TheConstants.{MAX_BODY}
 use Rattle.stomp_wire.specs.declared.fault.LinkFault.{LinkFault}
 use Rattle.stomp_frame.specs.Frames.{Content}
@@ -7,11 +8,8 @@ use Rattle.stomp_frame.specs.Calls.{nothing_held}
 use Rattle.stomp_frame.specs.Streams.{Follows}
 use Rattle.stomp_frame.specs.declared.command.Command.TheVariants as command
 use Rattle.told_lock.specs.Rule.{Every}
-use Rattle.intake.specs.Ends.{put_by}
-use Rattle.intake.specs.declared.intake.IntakeReader.{IntakeReader}
 use Rattle.shared_endpoint.specs.Keys.{Any}
 use Rattle.service_workers.specs.Conns.{link_of, start_of}
-use Rattle.service_workers.specs.declared.arrival.Arrival.{Arrival}
 use Rattle.service_workers.specs.declared.conn.Conn.{Conn}
 use Rattle.service_workers.specs.declared.conn.Found.{Found}
 use Rattle.service_workers.specs.declared.conn.Found.TheVariants.{Message, Over}
@@ -53,7 +51,7 @@ pub record IsUnread {L : Type 0} (c : Conn L) : Type 0 where
 
 module _ {L : Type 0} (put_gives : L → List ℕ → Result ℕ LinkFault → L → Type 0)
     (take_gives : L → ℕ → Result (List ℕ) LinkFault → L → Type 0) where
-  -- Since a connection was opened, octets were taken off its link that begin with texts of these frames, one behind the
+  -- Since a connection was opened, octets were taken off its link that begin with texts of these frames, one after the
   -- other. A rest follows.
   pub record HasRead (frames : List Content) (c : Conn L) : Type 0 where
     pub taken : List ℕ
@@ -70,7 +68,7 @@ module _ {L : Type 0} (put_gives : L → List ℕ → Result ℕ LinkFault → L
   abbrev pub HasGiven : List Content → Conn L → Type 0
   HasGiven given c = IsReading (given ++ waiting_of c) c
 
-  -- A connection goes on, and gives these frames: first that which waited, and then what was read behind it.
+  -- A connection goes on, and gives these frames: first that which waited, and then what was read after it.
   pub record ReadsOnly (given : List Content) (c d : Conn L) : Type 0 where
     pub starts : start_of d ≡ start_of c
     pub more : List Content
@@ -125,7 +123,3 @@ module _ {L : Type 0} (put_gives : L → List ℕ → Result ℕ LinkFault → L
   abbrev pub FoundCame : (L → Type 0) → Found → Type 0
   FoundCame given (Message f) = Came given f
   FoundCame given _ = ⊤
-
-  -- all that a reader has put into the intake came
-  abbrev pub HasPutCame : (L → Type 0) → IntakeReader Arrival → Type 0
-  HasPutCame given reader = Every (λ a. Came given a.message) (put_by reader)

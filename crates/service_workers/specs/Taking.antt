@@ -1,4 +1,4 @@
--- What calls of the Hand take in: of all that is kept behind them, known envelopes are the cause, or what was held before.
+-- What calls of the Hand take in: of all that is kept after them, known envelopes are the cause, or what was held before.
 use Rattle.std.specs.Prelude.{◌≡◌, ◌⊎◌, ℕ, ◌≤◌, List, [], ◌∷◌, ◌++◌, Some, Contains, option_to_list, true}
 use Rattle.std.specs.List.{AllByRecursion}
 use Rattle.base.specs.declared.pair.Pair.{Pair}
@@ -18,7 +18,6 @@ use Rattle.told_lock.specs.declared.view.Told.{Told}
 use Rattle.shared_endpoint.specs.Keys.{Any, Closes}
 use Rattle.shared_endpoint.specs.Promises.{IsGood, IsOneHistory}
 use Rattle.shared_endpoint.specs.Token.{hand_number}
-use Rattle.service_workers.specs.declared.arrival.Arrival.{Arrival}
 
 -- ---- what is known
 
@@ -36,20 +35,20 @@ OnlySettle p n = Only (envelope.Settle p n)
 abbrev pub NoEnvelope : Envelope → Type 0
 NoEnvelope e = ⊥
 
--- what a MESSAGE carries; that or one of these envelopes; and what one of these arrivals carries
+-- what a MESSAGE carries; that or one of these envelopes; and what one of these MESSAGEs carries
 abbrev pub CarriedIn : Content → Envelope → Type 0
 CarriedIn message e = read_frame message ≡ Some e
 
 abbrev pub CarriedOrIn : Content → List Envelope → Envelope → Type 0
 CarriedOrIn message es e = CarriedIn message e ⊎ Contains es e
 
-abbrev pub CarriedAmong : List Arrival → Envelope → Type 0
-CarriedAmong arrivals e = Any (λ a. CarriedIn a.message e) arrivals
+abbrev pub CarriedAmong : List Content → Envelope → Type 0
+CarriedAmong messages e = Any (λ m. CarriedIn m e) messages
 
 -- the envelopes that these carry, in order
-abbrev pub envelopes_in : List Arrival → List Envelope
+abbrev pub envelopes_in : List Content → List Envelope
 envelopes_in [] = []
-envelopes_in (arrival ∷ arrivals) = option_to_list (read_frame arrival.message) ++ envelopes_in arrivals
+envelopes_in (message ∷ messages) = option_to_list (read_frame message) ++ envelopes_in messages
 
 -- ---- what is taken in
 
@@ -94,13 +93,13 @@ module _ {E S C : Type 0} (seen : E → Seen (Tables S C)) (service : Service S 
   Leaves known (v ∷ []) (w ∷ []) = TokenLeaves known v w
   Leaves known _ _ = ⊥
 
-  -- In the end, of one history of all tokens: since the Hand had seen so much the tables have taken in only what these arrivals
+  -- In the end, of one history of all tokens: since the Hand had seen so much the tables have taken in only what these MESSAGEs
   -- carried, or what was held; and so has each content that a stop may leave of an endpoint that is still usable.
   abbrev pub TakingStands : Type 0
-  TakingStands = (arrivals : List Arrival) (v w : Told E) (tokens : List (Told E)) (witnessed : List E) (e : E)
-      → TokenTakes (CarriedAmong arrivals) v w → IsGood seen service v → w.number ≡ hand_number
+  TakingStands = (messages : List Content) (v w : Told E) (tokens : List (Told E)) (witnessed : List E) (e : E)
+      → TokenTakes (CarriedAmong messages) v w → IsGood seen service v → w.number ≡ hand_number
       → Any (λ k. k ≡ w) tokens → Closes seen service tokens witnessed e → (seen e).doubt ≡ 0
       → (history : IsOneHistory seen service tokens witnessed e)
-      → TakesFrom (Contains (envelopes_in arrivals)) (kept (seen v.seen).tables) (kept history.tables)
+      → TakesFrom (Contains (envelopes_in messages)) (kept (seen v.seen).tables) (kept history.tables)
       × ((seen e).usable ≡ true → (t : Tables S C) → (seen e).may_leave t
-      → TakesFrom (Contains (envelopes_in arrivals)) (kept (seen v.seen).tables) (kept t))
+      → TakesFrom (Contains (envelopes_in messages)) (kept (seen v.seen).tables) (kept t))

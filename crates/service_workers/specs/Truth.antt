@@ -128,7 +128,7 @@ AreGroupedIn service es gs x = AreGroupedBy es gs (progress_of service x)
 abbrev pub IsLeftIn : {S C : Type 0} → Service S C → List Envelope → (count : ℕ) → List Grouped → Kept C → Type 0
 IsLeftIn service es count gs x = 0 < count → AreGroupedIn service es gs x
 
--- it is told of the first of these envelopes, and what is left of those behind it; or nothing is left
+-- it is told of the first of these envelopes, and what is left of those after it; or nothing is left
 abbrev pub IsNextIn : {S C : Type 0} → Service S C → List Envelope → Option Grouped → (count : ℕ) → List Grouped → Kept C → Type 0
 IsNextIn service es (Some g) count gs x = AreGroupedIn service es (g ∷ gs) x
 IsNextIn service es None count gs x = count ≡ 0
@@ -203,7 +203,7 @@ IsItsAnswer f (answer.Settle r) told =
     (p : Pair) × (n : ℕ) × (read_frame f ≡ Some (envelope.Settle p n)) × ToldOfSettle r told
 IsItsAnswer f answer.Unasked told = ⊥
 
--- behind these faults the frame was answered
+-- after these faults the frame was answered
 abbrev pub is_answered : ReceptionFault → Bool
 is_answered (fault.End end.StoreFailed) = false
 is_answered (fault.End end.Unusable) = false

@@ -22,7 +22,6 @@ use Rattle.reception.specs.Replies.{answer, settling}
 use Rattle.laws_stores.specs.Writing.{IsTrueIn}
 use Rattle.told_lock.specs.Rule.{Every}
 use Rattle.told_lock.specs.declared.view.Told.{Told}
-use Rattle.shared_endpoint.specs.History.{EverSince, EndsAs}
 use Rattle.shared_endpoint.specs.Promises.{IsOneHistory}
 use Rattle.shared_endpoint.specs.Keys.{Any, Closes, shown_hand}
 use Rattle.service_workers.specs.Conns.{link_of, client_of, or_was, IsGiven}
@@ -63,7 +62,7 @@ IsSendOf block l = (receipt : ℕ) × (block ≡ with_receipt receipt (send_of (
 abbrev pub IsOfSession : Content → Type 0
 IsOfSession f = (f.command ≡ Connect) ⊎ (f.command ≡ Subscribe) ⊎ (f.command ≡ Disconnect)
 
--- What may be written at any time: a frame of the session; that a MESSAGE is to come again; or that one is done with
+-- What may be written at any time: a frame of the session; that a MESSAGE is to be redelivered; or that one is done with
 -- which carries nothing that anybody could take.
 pub data IsFree : List Content → Type 0 where
   of_session : (f : Content) → IsOfSession f → IsFree (f ∷ [])
@@ -137,7 +136,7 @@ module _ {L : Type 0} (put_gives : L → List ℕ → Result ℕ LinkFault → L
   abbrev pub WritesLetters : List TheLetter → (c d : Conn L) → Type 0
   WritesLetters letters = Writes (λ block. Any (IsSendOf block) letters)
 
-  -- All that was put on a connection's link since it was opened is a beginning of these frames, one behind the other, and
+  -- All that was put on a connection's link since it was opened is a beginning of these frames, one after the other, and
   -- the rest waits. Of each block of them this is so.
   pub record HasWritten (P : List Content → Type 0) (c : Conn L) : Type 0 where
     pub blocks : List (List Content)
@@ -162,17 +161,6 @@ module _ {L : Type 0} (put_gives : L → List ℕ → Result ℕ LinkFault → L
     ConnectionsStand = (tokens : List (Told E)) (witnessed : List E) (e : E) → Closes seen service tokens witnessed e
         → (seen e).doubt ≡ 0 → (history : IsOneHistory seen service tokens witnessed e)
         → (c : Conn L) → HasSpoken witnessed c → HasWritten (StandsBy service history.tables) c
-
-    -- How a service's life ends that found such an endpoint, and whose connections were these at their ends. There is an
-    -- endpoint that was good to the end, and what is left is that, or what became of it where its store failed. Its journal
-    -- begins with that which was found; and by its tables stands all that the connections have written.
-    pub record LifeStands (Found : E → Type 0) (left : E) (conns : List (Option (Conn L))) : Type 0 where
-      pub good : E
-      pub ends : EndsAs seen service good left
-      pub found : E
-      pub was_found : Found found
-      pub since : EverSince seen service found good
-      pub stand : Every (HasWrittenIf (StandsBy service (seen good).tables)) conns
 
     -- the same where there is one
     abbrev pub HasSpokenIf : List E → Option (Conn L) → Type 0

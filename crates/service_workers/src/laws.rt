@@ -47,8 +47,9 @@ where
     ensures { ConnectionsStand L.put_gives L.take_gives K.seen H.service }
 {}
 
-/// What the workers of a life took in stands in the end: of all letters that were taken in since, of those that are held and of the marks,
-/// only the envelopes of the arrivals that they took out of the intake are the cause, or what was held or marked when it began.
+/// What a service took in stands in the end: of all letters that were taken in since the Hand had seen so much, of those
+/// that are held and of the marks, only the envelopes of the MESSAGEs that it handled are the cause, or what was held or
+/// marked before.
 pub fn what_was_taken_in_stands<H, K>()
 where
     H: Handler,
@@ -57,7 +58,7 @@ where
 {}
 
 /// What a connection gives is what came on it, once each and in order. A new one has given nothing; where it goes on, and gives
-/// frames, it has given these behind those before; and each that was given came on it, also where it ends meanwhile.
+/// frames, it has given these after those before; and each that was given came on it, also where it ends meanwhile.
 pub fn what_connections_give_came<L>()
 where
     L: Link + Drop,

@@ -1,9 +1,9 @@
 //! The end of a service's life.
 
 ghost use Rattle.std.specs.Prelude.{◌≡◌};
-ghost use Rattle.shared_endpoint.specs.Keys.{AreSeatsOf, IsHandOf, IsScoutOf, name_of};
+ghost use Rattle.shared_endpoint.specs.Keys.{AreSeatsOf, IsHandOf, IsScoutOf, name_of, told_hand};
 ghost use Rattle.service_workers.specs.Conns.{links_of, values_of};
-ghost use Rattle.service_workers.specs.Written.{LifeStands};
+ghost use Rattle.service_workers.specs.Lives.{HasTakenWhatCame, LifeStands};
 
 use crate::Conn;
 use crate::line::Naming;
@@ -44,8 +44,8 @@ where
 }
 
 /// Ends a service's life: its tokens come back, and its endpoint is what is left. By the tables in the end stands all that
-/// was put on the links of the life's connections, from the first frame of each to its last; and their journal begins with
-/// the one that was found.
+/// was put on the links of the life's connections, from the first frame of each to its last; their journal begins with the
+/// one that was found; and what they have taken in since came in MESSAGEs on connections, or was held when the life began.
 pub fn close_life<N, L, H, K, R: Wait>(
     rt: &R,
     shared: Shared<H, K>,
@@ -63,9 +63,10 @@ where
     requires seats { AreSeatsOf shared seats }
     requires hand { IsHandOf shared hand }
     requires scout { IsScoutOf shared scout }
+    requires took { HasTakenWhatCame L.put_gives L.take_gives K.seen H.service N.sound N.given N.found (told_hand hand) }
     ensures noted { links_of result.conns.items ≡ past }
     ensures stands { N.sound → (K.seen result.endpoint).doubt ≡ 0
-        → LifeStands L.put_gives L.take_gives K.seen H.service N.found result.endpoint (values_of result.conns.items) }
+        → LifeStands L.put_gives L.take_gives K.seen H.service N.given N.found result.endpoint (values_of result.conns.items) }
 {
     let (conns, witness) = past.into_parts();
     let mut hand = hand;

@@ -32,6 +32,8 @@ use stomp_wire::Link;
 /// Names one run of a service, for what lies under a connection's lock and can't hold the service: its lock, and what has
 /// to be so that what is written is true. Each call of `run_service` picks it.
 pub trait Naming<T, L> {
+    ghost use Rattle.std.specs.Prelude.{Option};
+
     ghost lock: { LockName T };
 
     // What has to be so.
@@ -40,8 +42,8 @@ pub trait Naming<T, L> {
     // What is so of the links of the connections that were given, each as it was when its connection was opened.
     ghost given: { L → Type 0 };
 
-    // What is so of the endpoint that was found when the service's life began.
-    ghost found: { T → Type 0 };
+    // The endpoint that was found when the service's life began, where that is said.
+    ghost found: { Option T };
 }
 
 impl<T, L> Naming<T, L> for Brand {
@@ -51,7 +53,7 @@ impl<T, L> Naming<T, L> for Brand {
 
     ghost given = { λ link. ⊤ };
 
-    ghost found = { λ e. ⊤ };
+    ghost found = { None };
 }
 
 /// The place of a connection, and a witness of what its frames were allowed by. Contracts see whether the connection is
@@ -215,7 +217,7 @@ where
     }
 
     /// Reads what came: whether something did. An error without a cause where the connection isn't there. At any other it's
-    /// cut at once: octets may be lost, and what is read behind them isn't what was sent.
+    /// cut at once: octets may be lost, and what is read after them isn't what was sent.
     pub(crate) fn read(&mut self, alloc: Global) -> Result<bool, Option<Cut>> {
         let Some(conn) = &mut self.conn else {
             return Err(None);

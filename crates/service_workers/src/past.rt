@@ -1,6 +1,6 @@
 //! Connections of a service's life that are no more.
 
-ghost use Rattle.std.specs.Prelude.{◌≡◌, false, List, [], ◌∷◌, ◌++◌, Option, None, IfOk, IfErr};
+ghost use Rattle.std.specs.Prelude.{◌≡◌, false, List, [], ◌∷◌, ◌++◌, Option, None, Some, IfOk, IfErr};
 ghost use Rattle.told_lock.specs.Rule.{Every, seen_by};
 ghost use Rattle.shared_endpoint.specs.Keys.{Any, IsHandOf, IsWitnessAt, name_of, told_hand, shown_hand, shown_witness};
 ghost use Rattle.service_workers.specs.Conns.{links_of, values_of};
@@ -17,7 +17,8 @@ use std::snapshot::Snapshot;
 use stomp_wire::Link;
 
 /// The connections of a service's life that are no more, each as it was at its end, and a witness of what was written on
-/// them. It's for contracts: it has no octets of the connections. Contracts see the links that they began with.
+/// them. It's for contracts: it has no octets of the connections. Contracts see the links that they began with. A list can't
+/// be dropped, and only `close_life` takes one, with the service itself: so a life has one list.
 pub struct Past<N, L, H, K>
 where
     N: Naming<K, L>,
@@ -28,23 +29,6 @@ where
     was: Vec<Snapshot<Option<Conn<L>>>>,
     witness: Witness<H, K>,
     of: PhantomData<N>,
-}
-
-/// Written by hand, so that an owner doesn't prove again how each of its parts is dropped.
-impl<N, L, H, K> Drop for Past<N, L, H, K>
-where
-    N: Naming<K, L>,
-    L: Link + Drop,
-    H: Handler,
-    K: Keep<State = H::State, Command = H::Command> + Drop,
-{
-    fn drop(self) {
-        let Past {
-            was: _was,
-            witness: _witness,
-            of: _,
-        } = self;
-    }
 }
 
 impl<N, L, H, K> Model for Past<N, L, H, K>
@@ -59,7 +43,7 @@ where
     ghost view = { λ p. links_of p.was.items };
 
     ghost invariant = { λ p. IsWitnessAt N.lock p.witness
-        × Any N.found (shown_witness p.witness)
+        × Any (λ e. N.found ≡ Some e) (shown_witness p.witness)
         × (N.sound → Every (HasSpokenIf L.put_gives L.take_gives K.seen H.service (shown_witness p.witness))
         (values_of p.was.items)) };
 }
@@ -75,7 +59,7 @@ where
     pub fn new(alloc: Global, shared: &Shared<H, K>, hand: &mut Hand<H, K>) -> Past<N, L, H, K>
         requires at { name_of shared.now ≡ N.lock }
         requires hand { IsHandOf shared.now hand.old }
-        requires found { Any N.found (seen_by (told_hand hand.old) ++ shown_hand hand.old) }
+        requires found { Any (λ e. N.found ≡ Some e) (seen_by (told_hand hand.old) ++ shown_hand hand.old) }
         ensures hand { IsHandOf shared.now hand.new }
         ensures knows { told_hand hand.new ≡ told_hand hand.old }
         ensures none { result ≡ [] }
@@ -116,7 +100,7 @@ where
     /// The list, and the witness.
     pub(crate) fn into_parts(self) -> (Vec<Snapshot<Option<Conn<L>>>>, Witness<H, K>)
         ensures noted { links_of result.0.items ≡ self }
-        ensures witness { IsWitnessAt N.lock result.1 × Any N.found (shown_witness result.1) }
+        ensures witness { IsWitnessAt N.lock result.1 × Any (λ e. N.found ≡ Some e) (shown_witness result.1) }
         ensures spoken { N.sound → Every (HasSpokenIf L.put_gives L.take_gives K.seen H.service (shown_witness result.1))
             (values_of result.0.items) }
     {

@@ -1,4 +1,4 @@
-use Rattle.std.specs.Prelude.{◌≡◌, ⊤}
+use Rattle.std.specs.Prelude.{Some, ⊤}
 use Rattle.shared_endpoint.specs.Keys.{name_of}
 use Rattle.outbox_service.specs.Lives.{IsWhole}
 use Rattle.outbox_service.proofs.running.run_over.Given as goal
@@ -8,5 +8,5 @@ ghosts-live g a = record {
   lock = name_of a.shared;
   sound = IsWhole g.K.Keep.seen g.H.Handler.service a.found.value;
   given = λ link. ⊤;
-  found = λ e. e ≡ a.found.value;
+  found = Some a.found.value;
 }

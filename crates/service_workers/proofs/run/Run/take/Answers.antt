@@ -3,7 +3,7 @@ use Rattle.std.specs.Prelude.{option_to_list}
 use Rattle.std.specs.Vec.Iter.{into_iter_items, into_iter_len}
 use Rattle.shared_endpoint.specs.Keys.{told_hand}
 use Rattle.shared_endpoint.specs.Token.{hand_number}
-use Rattle.service_workers.specs.Batches.{arrivals_in, Carry}
+use Rattle.service_workers.specs.Batches.{all_of, Carry, CarriesFirst}
 use Rattle.service_workers.specs.Taking.{CarriedAmong, CarriedIn, CarriedOrIn, Takes}
 use Rattle.service_workers.specs.Tokens.{GoesOn}
 use Rattle.service_workers.specs.Truth.{Knows, IsLeftIn}
@@ -27,15 +27,16 @@ loop-arrival-init g c =
           (any_tells g.K.Keep.seen g.H.Handler.service hand_number
           (IsLeftIn g.H.Handler.service rest (into_iter_len c.nothing_told-told.result) (into_iter_items c.nothing_told-told.result))
           (λ x. none_left_yet g.H.Handler.service rest _ _ x c.nothing_told-told.ensures.len) _ _ same);
-      took = nothing_takes g.K.Keep.seen g.H.Handler.service (CarriedAmong (arrivals_in c.args.batch)) _ _ _
+      took = nothing_takes g.K.Keep.seen g.H.Handler.service (CarriedAmong (all_of c.args.batch.arrivals.items c.args.batch.last)) _ _ _
           c.requires.hand.0.own refl;
       among = λ e h. among_left c.args.batch.arrivals.items (option_to_list c.args.batch.last) e
           (subst (λ xs. CarriedAmong xs e) c.into_iter-arrival-iterator.ensures.into_iter_gives.0 h);
     }
 
 pub ask_next-answer-requires-clause-carried : goal.ask_next-answer-requires-clause-carried
-ask_next-answer-requires-clause-carried g c = carry_first c.in-Some.arrival (into_iter_items c.next.new.self) c.loop-arrival.rest.now
-    (subst (λ xs. Carry xs c.loop-arrival.rest.now) c.in-Some.ensures.steps.0 c.loop-arrival.invariant.carried)
+ask_next-answer-requires-clause-carried g c =
+    subst (λ m. CarriesFirst m c.loop-arrival.rest.now) (sym c.message.ensures.is) (carry_first c.in-Some.arrival (into_iter_items c.next.new.self) c.loop-arrival.rest.now
+    (subst (λ xs. Carry xs c.loop-arrival.rest.now) c.in-Some.ensures.steps.0 c.loop-arrival.invariant.carried))
 
 pub loop-arrival-preserved : goal.loop-arrival-preserved
 loop-arrival-preserved g c = record {
@@ -53,16 +54,18 @@ loop-arrival-preserved g c = record {
       (subst (λ es. Knows g.K.Keep.seen g.H.Handler.service g.N.Naming.sound
       (IsLeftIn g.H.Handler.service es (into_iter_len c.ask_next-answer.new.told) (into_iter_items c.ask_next-answer.new.told))
       (told_hand c.ask_next-answer.new.hand)) (sym c.behind-rest.ensures) c.ask_next-answer.ensures.left);
-  took = subst (Takes g.K.Keep.seen g.H.Handler.service (CarriedAmong (arrivals_in c.args.batch)) (told_hand c.args.hand.now))
+  took = subst (Takes g.K.Keep.seen g.H.Handler.service (CarriedAmong (all_of c.args.batch.arrivals.items c.args.batch.last)) (told_hand c.args.hand.now))
       (sym c.finish_taking-count.ensures.knows)
-      (both_take g.K.Keep.seen g.H.Handler.service hand_number (CarriedAmong (arrivals_in c.args.batch)) _ _ _
+      (both_take g.K.Keep.seen g.H.Handler.service hand_number (CarriedAmong (all_of c.args.batch.arrivals.items c.args.batch.last)) _ _ _
       c.loop-arrival.invariant.goes_on c.ask_next-answer.ensures.goes_on c.loop-arrival.invariant.took
-      (so_takes g.K.Keep.seen g.H.Handler.service (CarriedOrIn c.in-Some.arrival.message c.loop-arrival.rest.now)
-      (CarriedAmong (arrivals_in c.args.batch))
+      (so_takes g.K.Keep.seen g.H.Handler.service (CarriedOrIn c.in-Some.arrival c.loop-arrival.rest.now)
+      (CarriedAmong (all_of c.args.batch.arrivals.items c.args.batch.last))
       (λ e at. c.loop-arrival.invariant.among e (subst (λ xs. CarriedAmong xs e) (sym c.in-Some.ensures.steps.0)
       (carried_here c.in-Some.arrival (into_iter_items c.next.new.self) c.loop-arrival.rest.now
       (subst (λ xs. Carry xs c.loop-arrival.rest.now) c.in-Some.ensures.steps.0 c.loop-arrival.invariant.carried) e at)))
-      _ _ c.ask_next-answer.ensures.took));
+      _ _ (subst (λ m. Takes g.K.Keep.seen g.H.Handler.service (CarriedOrIn m c.loop-arrival.rest.now)
+      (told_hand c.loop-arrival.hand) (told_hand c.ask_next-answer.new.hand)) c.message.ensures.is
+      c.ask_next-answer.ensures.took)));
   among = λ e h. c.loop-arrival.invariant.among e (subst (λ xs. CarriedAmong xs e) (sym c.in-Some.ensures.steps.0) (inr h));
 }
 
@@ -76,8 +79,8 @@ returns-clause-goes_on g c = on_join g.K.Keep.seen g.H.Handler.service hand_numb
     c.loop-arrival.invariant.goes_on c.take_last.ensures.goes_on
 
 pub returns-clause-took : goal.returns-clause-took
-returns-clause-took g c = both_take g.K.Keep.seen g.H.Handler.service hand_number (CarriedAmong (arrivals_in c.args.batch)) _ _ _
+returns-clause-took g c = both_take g.K.Keep.seen g.H.Handler.service hand_number (CarriedAmong (all_of c.args.batch.arrivals.items c.args.batch.last)) _ _ _
     c.loop-arrival.invariant.goes_on c.take_last.ensures.goes_on c.loop-arrival.invariant.took
-    (so_takes g.K.Keep.seen g.H.Handler.service (CarriedIn c.in-Some-last.arrival.message) (CarriedAmong (arrivals_in c.args.batch))
+    (so_takes g.K.Keep.seen g.H.Handler.service (CarriedIn c.in-Some-last.arrival) (CarriedAmong (all_of c.args.batch.arrivals.items c.args.batch.last))
     (λ e is. among_right c.args.batch.arrivals.items (option_to_list c.args.batch.last) e
     (subst (λ o. CarriedAmong (option_to_list o) e) (sym c.in-Some-last.is) (inl is))) _ _ c.take_last.ensures.took)
