@@ -1,10 +1,13 @@
 //! One example for the page of each library that needs neither a schedule nor SQL.
 
-ghost use Rattle.std.specs.Prelude.{◌≤◌, List};
+ghost use Rattle.std.specs.Prelude.{◌≡◌, ◌≤◌, true, List, Option};
 ghost use Rattle.laws_broker.specs.Runs.{NoLifeLosesAny};
 ghost use Rattle.laws_broker.specs.Carried.{ReadMessagesWereSent};
 ghost use Rattle.envelope.specs.declared.message.Envelope.{Envelope};
+ghost use Rattle.keep.specs.Tables.{Tables};
+ghost use Rattle.laws_lives.specs.Posts.{post_of};
 ghost use Rattle.laws_services.specs.Frames.{CarriesWritten};
+ghost use Rattle.laws_services.specs.Lives.{Post, both_lives, HasLived};
 ghost use Rattle.laws_services.specs.Steps.{IsFounded, Does};
 ghost use Rattle.laws_stores.specs.Deeds.{DeedOfOne};
 ghost use Rattle.laws_stores.specs.Good.{HoldsAuthentic, journals_of};
@@ -12,6 +15,8 @@ ghost use Rattle.laws_stores.specs.Sight.{AllTables};
 ghost use Rattle.laws_journals.specs.Envelopes.{IsAuthentic};
 ghost use Rattle.laws_journals.specs.Journals.{AreLawful};
 ghost use Rattle.laws_journals.specs.Steps.{Configuration, Reaches};
+ghost use Rattle.service_workers.specs.Lives.{LifeStands};
+ghost use Rattle.service_workers.specs.declared.conn.Conn.{Conn};
 ghost use Rattle.base.specs.declared.pair.Pair.{Pair};
 
 use activities::{Handler, HandlerFault, Input, Outs};
@@ -35,8 +40,9 @@ use keep_plain::PlainKeep;
 use last_states::LastStates;
 use laws_broker::{each_message_was_sent, no_message_is_lost};
 use laws_journals::stays_authentic;
+use laws_lives::closed_lives_are_lives;
 use laws_network::{Delivery, Event, Network, Outcome, exchange};
-use laws_services::frames_are_steps;
+use laws_services::{frames_are_steps, lives_go_on};
 use laws_stores::a_deed_keeps_the_laws;
 use library::{TitleCommand, Titles};
 use marks::Marks;
@@ -46,6 +52,7 @@ use receipts::{ReceiptFault, Receipts};
 use reception::{ReceptionFault, Taken, Untaken, take_frame};
 use relay::{Relay, RelayFault};
 use resequencer::next_held;
+use service_workers::Naming;
 use std::alloc::{AllocError, Global};
 use std::io;
 use stomp_client::{ClientFault, ClientSession};
@@ -312,6 +319,21 @@ where
 {
     frames_are_steps::<H, K>();
     take_frame(alloc, own, client, frame)
+}
+
+pub fn one_more_life_was_lived<N, L, H, K>()
+where
+    N: Naming<K, L>,
+    L: Link + Drop,
+    H: Handler,
+    K: Keep<State = H::State, Command = H::Command> + Drop,
+    ensures { (earlier : Post) (left : K) (conns : List (Option (Conn L)))
+        (life : LifeStands L.put_gives L.take_gives K.seen H.service N.given N.found left conns) →
+        (K.seen left).usable ≡ true → (t : Tables H.State H.Command) → (K.seen left).may_leave t →
+        HasLived H.service earlier (K.seen life.first).tables → HasLived H.service (both_lives earlier (post_of life)) t }
+{
+    lives_go_on::<H>();
+    closed_lives_are_lives::<N, L, H, K>();
 }
 
 pub fn a_mark_is_read<K: Keep>(keep: &mut K, alloc: Global, pair: &Pair) -> Result<u64, KeepFault> {

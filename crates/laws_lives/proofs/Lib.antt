@@ -1,0 +1,5 @@
+pub mod Numerals
+pub mod Sending
+pub mod Writing
+pub mod Living
+mod Examples
