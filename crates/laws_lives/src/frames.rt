@@ -9,12 +9,13 @@ ghost use Rattle.stomp_client.specs.Frames.{in_transaction, with_receipt};
 ghost use Rattle.stomp_frame.specs.Frames.{Content};
 ghost use Rattle.stomp_frame.specs.declared.command.Command.TheVariants.{Message, Send};
 
-/// A SEND carries the envelope that it was written for, with a receipt as in a transaction, and no other. A MESSAGE with the
-/// same values and the same body carries that too: so a broker that copies these hands on what was written.
+/// A SEND carries the envelope that it was written for, with a receipt or in a transaction; with a receipt it carries no other
+/// in any case. A MESSAGE with the same values and the same body carries that too: so a broker that copies these hands on what
+/// was written.
 pub fn sends_carry_their_envelopes()
-    ensures letter { (receipt : ℕ) (e : Envelope) → IsEnvelope e →
+    ensures by_itself { (receipt : ℕ) (e : Envelope) → IsEnvelope e →
         sent_in (with_receipt receipt (send_of e)) ≡ Some e }
-    ensures settle { (transaction : ℕ) (e : Envelope) → IsEnvelope e →
+    ensures in_a_transaction { (transaction : ℕ) (e : Envelope) → IsEnvelope e →
         sent_in (in_transaction (Some transaction) (send_of e)) ≡ Some e }
     ensures no_other { (receipt : ℕ) (d e : Envelope) → sent_in (with_receipt receipt (send_of d)) ≡ Some e → e ≡ d }
     ensures handed_on { (send message : Content) → send.command ≡ Send → message.command ≡ Message →

@@ -1,11 +1,12 @@
 //! The life of a program, once it is closed, meets what the laws of whole lives ask for.
 //!
 //! `service_workers` promises of a closed life (`LifeStands`) that its tables match their journal, that all frames of its
-//! connections are true by it, and that only MESSAGEs that came on a connection are the cause of what it has processed. The
+//! connections are true by it, and that each letter that it has processed since came in a MESSAGE, or was held before. The
 //! laws of `laws_services` ask for the envelopes that a life read and wrote (`Lives`). [`closed_lives_are_lives`] leads from
 //! the first to the second: the life read what its MESSAGEs carry, and wrote what the SENDs among its frames carry
-//! ([`sends_carry_their_envelopes`]). So `overlapping_lives_agree` holds of three programs whose lives were closed: if they
-//! read nothing but what one of them wrote, their journals are lawful, whatever the broker loses, repeats or reorders.
+//! ([`sends_carry_their_envelopes`]). That is what `overlapping_lives_agree` asks of each life of three programs: if each life
+//! found what the one before had left, and they read nothing but what one of them wrote, their journals are lawful, whatever
+//! the broker loses, repeats or reorders.
 //!
 //! If the store failed, the life leads to the tables before the call that failed. What this call may have left matches its
 //! journal, and all that was written is true by it; more is not said. A program that is killed closes no life, so nothing is

@@ -23,8 +23,8 @@ use Rattle.service_workers.specs.declared.handed.Tokens.{Tokens}
 module _ {L : Type 0} (put_gives : L → List ℕ → Result ℕ LinkFault → L → Type 0)
     (take_gives : L → ℕ → Result (List ℕ) LinkFault → L → Type 0) {E S C : Type 0} (seen : E → Seen (Tables S C))
     (service : Service S C) where
-  -- The Hand, earlier and later: it has gone on; and of all that was taken in meanwhile MESSAGEs are the cause, each of which
-  -- came on a connection that was given, while the service is sound.
+  -- The Hand, earlier and later: it has gone on; and of each letter and settle that was taken in meanwhile a MESSAGE is the
+  -- cause, which came on a connection that was given while the service is sound, or the letter was held before.
   pub record TakesWhatCame (sound : Type 0) (given : L → Type 0) (vs ws : List (Told E)) : Type 0 where
     pub goes_on : GoesOn seen service hand_number vs ws
     pub messages : List Content
@@ -45,8 +45,8 @@ module _ {L : Type 0} (put_gives : L → List ℕ → Result ℕ LinkFault → L
   -- How a service's life ends that found this endpoint, which was usable, and whose connections were these at their ends. No
   -- file is in doubt. There is an endpoint that was good to the end, and what is left is that, or what became of it where its
   -- store failed. Its tables match their journal, which begins with that which was found; by them stands all that the
-  -- connections have written; and of all that they have more than those that were found, MESSAGEs are the cause, each of
-  -- which came on a connection that was given.
+  -- connections have written; and of each letter and settle that they have more than those that were found a MESSAGE is the
+  -- cause, which came on a connection that was given, or the letter was held.
   pub record LifeStands (given : L → Type 0) (found : Option E) (left : E) (conns : List (Option (Conn L))) : Type 0 where
     pub first : E
     pub is_found : found ≡ Some first

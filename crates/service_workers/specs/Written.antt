@@ -166,8 +166,8 @@ module _ {L : Type 0} (put_gives : L → List ℕ → Result ℕ LinkFault → L
     abbrev pub HasSpokenIf : List E → Option (Conn L) → Type 0
     HasSpokenIf witnessed = HasWrittenIf (MightSpeak seen service witnessed)
 
-    -- How a run starts that is named so: while its name is sound the tokens are good, and these connections have spoken by
-    -- what was shown to the Hand; and what is asked of their links is so.
+    -- How a run starts that is named so: while its name is sound the tokens are good, these connections have spoken by what
+    -- was shown to the Hand, and what was read off them is held; and what is asked of their links is so.
     pub record Starts {H : Type 0} (sound : Type 0) (given : L → Type 0) (tokens : Tokens H E S C)
         (conns : List (Option (Conn L))) : Type 0 where
       pub tokens_good : AreGoodWhile seen service sound tokens
@@ -175,8 +175,9 @@ module _ {L : Type 0} (put_gives : L → List ℕ → Result ℕ LinkFault → L
       pub conns_spoken : sound → Every (HasSpokenIf (shown_hand tokens.hand)) conns
       pub conns_read : sound → Every (IsReadIf put_gives take_gives given) conns
 
-    -- and how it ends: the same of what is left of its connections
+    -- and how it ends: what is left of its connections has spoken so, and what was read off those that are left is held
     pub record Ends {H : Type 0} (sound : Type 0) (given : L → Type 0) (tokens : Tokens H E S C) (ended : List (Ended L))
         : Type 0 where
       pub ended_given : Every (λ e. IsGiven given (or_was e.conn e.was.value)) ended
       pub ended_spoken : sound → Every (λ e. HasSpokenIf (shown_hand tokens.hand) (or_was e.conn e.was.value)) ended
+      pub ended_read : sound → Every (λ e. IsReadIf put_gives take_gives given e.conn) ended

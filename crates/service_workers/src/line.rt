@@ -57,8 +57,8 @@ impl<T, L> Naming<T, L> for Brand {
 }
 
 /// The place of a connection, and a witness of what its frames were allowed by. Contracts see whether the connection is
-/// there, and the link that it began with, until it's noted (`Past::note`). A place can't be dropped: whoever is done with one
-/// closes it, where its connection was noted. So no connection is forgotten.
+/// there, and the link that it began with, until it's noted (`Past::note`): no other call changes that link. A place can't be
+/// dropped: whoever is done with one closes it, where its connection was noted. So no connection of a place is forgotten.
 pub struct Line<N, L, H, K>
 where
     N: Naming<K, L>,
@@ -173,7 +173,9 @@ where
     }
 
     /// Whether octets came since this was asked last. None where the connection isn't there.
-    pub fn has_come(&mut self) -> bool {
+    pub fn has_come(&mut self) -> bool
+        ensures link { self.new.link ≡ self.old.link }
+    {
         let Some(conn) = &mut self.conn else {
             return false;
         };
@@ -181,7 +183,9 @@ where
     }
 
     /// Takes leave of the broker, as `Conn::leave`. None where the connection isn't there, or can't.
-    pub fn leave(&mut self) -> Option<u64> {
+    pub fn leave(&mut self) -> Option<u64>
+        ensures link { self.new.link ≡ self.old.link }
+    {
         let Some(conn) = &mut self.conn else {
             return None;
         };
@@ -189,7 +193,9 @@ where
     }
 
     /// Writes what waits, reads what came, and throws it away. Whether there is nothing more to wait for: then it's cut.
-    pub fn has_left(&mut self, alloc: Global, receipt: u64) -> bool {
+    pub fn has_left(&mut self, alloc: Global, receipt: u64) -> bool
+        ensures link { self.new.link ≡ self.old.link }
+    {
         let Some(conn) = &mut self.conn else {
             return true;
         };
@@ -209,7 +215,9 @@ where
     }
 
     /// Writes what waits, if the connection is there.
-    pub(crate) fn write(&mut self) -> Result<(), Cut> {
+    pub(crate) fn write(&mut self) -> Result<(), Cut>
+        ensures link { self.new.link ≡ self.old.link }
+    {
         let Some(conn) = &mut self.conn else {
             return Ok(());
         };
@@ -218,7 +226,9 @@ where
 
     /// Reads what came: whether something did. An error without a cause where the connection isn't there. At any other it's
     /// cut at once: octets may be lost, and what is read after them isn't what was sent.
-    pub(crate) fn read(&mut self, alloc: Global) -> Result<bool, Option<Cut>> {
+    pub(crate) fn read(&mut self, alloc: Global) -> Result<bool, Option<Cut>>
+        ensures link { self.new.link ≡ self.old.link }
+    {
         let Some(conn) = &mut self.conn else {
             return Err(None);
         };
@@ -234,6 +244,7 @@ where
     /// The next frame that came, if the connection is there.
     pub(crate) fn next(&mut self, alloc: Global, kind: Kind) -> Found
         ensures came { N.sound → FoundCame L.put_gives L.take_gives N.given result }
+        ensures link { self.new.link ≡ self.old.link }
     {
         let Some(conn) = &mut self.conn else {
             return Found::Nothing;
@@ -244,6 +255,7 @@ where
     /// Keeps a frame that `next` gave, if the connection is there.
     pub(crate) fn keep(&mut self, frame: Frame<MAX_BODY>)
         requires came { N.sound → Came L.put_gives L.take_gives N.given frame }
+        ensures link { self.new.link ≡ self.old.link }
     {
         let Some(conn) = &mut self.conn else {
             return;
@@ -252,7 +264,9 @@ where
     }
 
     /// So many of its letters aren't settled.
-    pub(crate) fn counted(&mut self, on_way: usize) {
+    pub(crate) fn counted(&mut self, on_way: usize)
+        ensures link { self.new.link ≡ self.old.link }
+    {
         let Some(conn) = &mut self.conn else {
             return;
         };
@@ -272,6 +286,7 @@ where
         requires told { Knows K.seen H.service N.sound (AreSentIn H.service.reactions letters.now) (told_scout scout.old) }
         ensures scout { IsScoutOf shared.now scout.new }
         ensures knows { told_scout scout.new ≡ told_scout scout.old }
+        ensures link { self.new.link ≡ self.old.link }
     {
         let Some(conn) = &mut self.conn else {
             return Ok(None);
@@ -300,6 +315,7 @@ where
         ensures hand { IsHandOf shared.now hand.new }
         ensures knows { told_hand hand.new ≡ told_hand hand.old }
         ensures cut { IfErr result (λ _. self.new.is_there ≡ false) }
+        ensures link { self.new.link ≡ self.old.link }
     {
         let Some(conn) = &mut self.conn else {
             return Ok(None);
@@ -317,7 +333,9 @@ where
     }
 
     /// Writes what waits where that is much, if the connection is there.
-    pub(crate) fn write_much(&mut self) -> Result<(), Cut> {
+    pub(crate) fn write_much(&mut self) -> Result<(), Cut>
+        ensures link { self.new.link ≡ self.old.link }
+    {
         let Some(conn) = &mut self.conn else {
             return Ok(());
         };
@@ -388,6 +406,7 @@ where
         ensures shown { IsPrefixOf (shown_hand hand.old) (shown_hand hand.new) }
         ensures spoken { N.sound → HasSpokenIf L.put_gives L.take_gives K.seen H.service (shown_hand hand.new)
             (or_was result.conn result.was.value) }
+        ensures read { N.sound → IsReadIf L.put_gives L.take_gives N.given result.conn }
     {
         let Line {
             conn,

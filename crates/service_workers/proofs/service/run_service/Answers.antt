@@ -15,6 +15,7 @@ returns-clause-ends g c = record {
         (c.end-zero.ensures.spoken s),
     (c.end-one.ensures.spoken s, tt),
   );
+  ended_read = λ s. (c.end-zero.ensures.read s, (c.end-one.ensures.read s, tt));
 }
 
 pub new-requires-clause-spoken : goal.new-requires-clause-spoken

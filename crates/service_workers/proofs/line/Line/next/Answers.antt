@@ -16,9 +16,7 @@ invariant_of-self-2 g c =
           c.next.new.self c.next.result c.in-Some.is c.self.invariant.1 c.self.invariant.3 c.next.ensures.finds s).1,
     )
 
-pub returns : goal.returns
-returns g c = record {
-  came = λ s. (line_finds g.L.Link.put_gives g.L.Link.take_gives g.N.Naming.given g.N.Naming.sound c.self.inside.conn
-      c.self.inside.was.value c.in-Some.conn
-      c.next.new.self c.next.result c.in-Some.is c.self.invariant.1 c.self.invariant.3 c.next.ensures.finds s).0;
-}
+pub returns-clause-came : goal.returns-clause-came
+returns-clause-came g c = λ s. (line_finds g.L.Link.put_gives g.L.Link.take_gives g.N.Naming.given g.N.Naming.sound
+    c.self.inside.conn c.self.inside.was.value c.in-Some.conn
+    c.next.new.self c.next.result c.in-Some.is c.self.invariant.1 c.self.invariant.3 c.next.ensures.finds s).0
