@@ -30,7 +30,7 @@ module _ {H E S C : Type 0} (seen : E → Seen (Tables S C)) (service : Service 
 module _ {L : Type 0} (put_gives : L → List ℕ → Result ℕ LinkFault → L → Type 0)
     (take_gives : L → ℕ → Result (List ℕ) LinkFault → L → Type 0) {H E S C : Type 0} (seen : E → Seen (Tables S C))
     (service : Service S C) where
-  -- The service was served with these tokens: they are its tokens still, and all that was taken in by them since came.
+  -- The service was served with these tokens: they are its tokens still, and all that they have processed since came.
   abbrev pub HaveServed : (sound : Type 0) → (given : L → Type 0) → Shared H E S C → (before after : Tokens H E S C) → Type 0
   HaveServed sound given shared before after = AreItsTokens seen service sound shared after
       × HandTakes put_gives take_gives seen service sound given before after

@@ -27,9 +27,10 @@
 //! - Proved is that it's safe, and that each of its threads uses the service by a token of that service alone: so over
 //!   tables that were good when they were opened, in a store that returns what was written, each answer is what a
 //!   single thread would get from a journal that begins with all that this thread has seen, and in which each letter is
-//!   handled once and in order (`shared_endpoint`). All that it writes in its life is true by the journal in the end
-//!   (`live`). That three of these programs agree is tried (`runs/killed-services`), not proved: the proof over any
-//!   broker (`laws_services`) also asks that they handle nothing but what they read, and no contract says that.
+//!   handled once and in order (`shared_endpoint`). All that it writes in its life is true by the journal in the end, and of
+//!   all that it processes MESSAGEs are the cause that came on its connections (`live`): where three lives end so, the
+//!   law over any broker holds of them (`laws_lives`). Of a life that is killed no contract speaks: that the three agree
+//!   then too is tried (`runs/killed-services`).
 //!
 //! Exit status: 0 at the end of the input; 1 where the file can't be opened, the store failed, or a stream or the system
 //! did; 2 where the words of the command line are at fault.

@@ -105,7 +105,7 @@ where
                     let ended = end_of(answered, site.board);
                     (ended, seats, tokens)
                 }
-                // It ends at once, and gives back what it has.
+                // The service ends at once, and its tokens are returned.
                 Err(refused) => {
                     site.board.end();
                     (Err(RunFault::Memory), seats, (refused.value)())
@@ -115,10 +115,10 @@ where
     )
 }
 
-/// One life of a service: its threads run until the input ends or its store fails. Where this is so (`N.sound`: what was
-/// found matched its journal) and its file isn't in doubt, all that was put on the links of its connections stands by the
-/// journal in the end, which begins with the one that was found; and what was taken in since came in MESSAGEs on
-/// connections, or was held when it began. So it is over whatever links.
+/// One life of a service: its threads run until the input ends or its store fails. If what was found matched its journal
+/// (`N.sound`) and its file isn't in doubt, all that was put on the links of its connections stands by the journal in the end.
+/// That journal begins with the one that was found; and what was processed since came in MESSAGEs on connections, or was held
+/// when the life began. So it is over whatever links.
 fn live<N, L, H, K, R>(
     rt: &R,
     site: Site<'_>,
@@ -197,7 +197,7 @@ where
     }
 }
 
-/// Tells where a file has no rows: its letters are numbered from 1 on, which partners that know others take for repeats.
+/// Warns if a file has no rows: its letters are numbered from 1 on, which partners that know others take for duplicates.
 fn tell_new<K: Keep, R: Log>(rt: &R, path: &str, keep: &K) {
     if keep.usable() && keep.length() == 0 {
         warn!(rt; "{path} has no rows: if this isn't a new service, it's the wrong file");
@@ -263,7 +263,7 @@ where
     run_on_disk::<H, FileFrom<D>, R>(rt, host, path, keep, broker)
 }
 
-/// Opens a file, and tells why it can't be opened.
+/// Opens a file, or returns why it can't be opened.
 fn open_file<H: Filed, D: Start>(
     host: &HostRuntime,
     path: &str,
@@ -319,7 +319,7 @@ where
 /// given twice: files and sockets need the system's own.
 ///
 /// # Errors
-/// Where the file can't be opened, the store failed, or a stream or the system did, or memory was refused at the start.
+/// Where the file can't be opened, the store failed, or a stream or the system did, or an allocation failed at the start.
 pub fn run<R>(rt: &R, host: &HostRuntime, settings: Settings<'_>) -> Result<(), RunFault>
 where
     R: Threads + Wait + Clock + Log + Sync,

@@ -149,8 +149,8 @@ where
         }
     }
 
-    /// Takes leave of a connection on which nothing comes; but not while letters aren't settled, which would be sent again
-    /// each time: `Overdue` says when they are.
+    /// Takes leave of a connection on which nothing comes; but not while letters aren't settled, which would be resent each
+    /// time: `Overdue` says when they are.
     fn look<R: Wait + Clock + Log>(
         &mut self,
         rt: &R,
@@ -196,7 +196,7 @@ where
     }
 }
 
-/// Tells why a connection is opened anew.
+/// Logs why a connection is reopened.
 fn tell_silence<R: Log>(rt: &R, number: u8, silence: Silence) {
     match silence {
         Silence::Unanswered => {
@@ -309,8 +309,8 @@ where
     }
 }
 
-/// What is promised of the tokens that the thread gives back which keeps the service connected: they are tokens of this
-/// service, which are as sound, and what was taken in by them since `given` came.
+/// What the thread that keeps the service connected promises of the tokens that it returns: they are tokens of this service,
+/// good while it's sound, and what was processed by them since they were `given` came on connections, or was held before.
 pub struct Served<'a, N, L, H, K>
 where
     N: Naming<K, L>,

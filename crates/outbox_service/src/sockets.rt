@@ -38,7 +38,7 @@ pub struct Broker<'a> {
     /// The headers `login` and `passcode`, where they are given.
     pub login: Option<&'a str>,
     pub passcode: Option<&'a str>,
-    /// How many messages it's asked to hand out at most that aren't acknowledged, where it's asked for that.
+    /// How many messages it's asked to deliver at most that aren't acknowledged, where it's asked for that.
     pub prefetch: Option<u64>,
 }
 
@@ -46,7 +46,7 @@ impl Broker<'_> {
     /// The CONNECT for it.
     ///
     /// # Errors
-    /// Where one of the values can't stand in a frame, or memory was refused.
+    /// Where one of the values can't be in a frame, or an allocation failed.
     pub fn greet(&self, alloc: Global) -> Result<Frame<MAX_BODY>, FrameFault>
         ensures made { IsMadeUnless
             (connect_refused self.now.host.now (option_copied self.now.login) (option_copied self.now.passcode))
@@ -66,7 +66,7 @@ pub struct Site<'a> {
 }
 
 /// Links by which a service reaches its broker. The service is generic over them, so that nothing that is promised of what it
-/// writes and takes in rests on what a socket is.
+/// writes and processes rests on what a socket is.
 pub trait Reach: Link + Drop + Send {
     ghost use Rattle.std.specs.Prelude.{IfOk};
 

@@ -10,7 +10,7 @@ use std::convert::AsStr;
 pub const USAGE: &str =
     "outbox-service --service purchasing|warehouse|billing --port <PORT> [--file <PATH>] [OPTIONS]";
 
-/// What may stand after `--service`.
+/// What may follow `--service`.
 const SERVICES: &[&str] = &["purchasing", "warehouse", "billing"];
 
 /// Where the broker is, where nothing else is said.
@@ -19,10 +19,10 @@ const ADDRESS: &str = "127.0.0.1";
 /// Which of its hosts is meant, where nothing else is said.
 const HOST: &str = "outbox";
 
-/// What `--version` tells after the program's name.
+/// What `--version` prints after the program's name.
 const VERSION: &str = "0.1.0";
 
-/// What lines may be told and what is answered, for `--help`.
+/// Which lines there are and what is answered to them, for `--help`.
 const LINES: &str = "\
 It opens two connections to the broker, prints `connected N`, how many are open then, and answers
 the lines of its standard input, each by a line on standard output. A connection that ends is
@@ -224,7 +224,7 @@ fn settings_of<'a>(matches: &ArgMatches<'a>) -> Settings<'a> {
     }
 }
 
-/// The broker that the words tell of. A prefetch of 0 is the same as none.
+/// The broker that the words name. A prefetch of 0 is the same as none.
 fn broker_of<'a>(matches: &ArgMatches<'a>) -> Broker<'a> {
     let prefetch = matches.get_one::<u16>("prefetch").unwrap_or(0);
     Broker {

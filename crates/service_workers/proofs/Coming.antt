@@ -18,7 +18,7 @@ module _ {L : Type 0} (put_gives : L → List ℕ → Result ℕ LinkFault → L
     its_start : now ≡ Some c → IsGiven given (or_was now was) → given (start_of c)
     its_start is known = subst (λ o. IsGiven given (or_was o was)) is known
 
-    -- it goes on
+    -- the connection continues
     pub line_reads : now ≡ Some c → IsGiven given (or_was now was) → (sound → IsReadIf put_gives take_gives given now)
         → ReadsSome put_gives take_gives c d → sound
         → IsReadIf put_gives take_gives given (Some d)
@@ -43,7 +43,7 @@ module _ {L : Type 0} (put_gives : L → List ℕ → Result ℕ LinkFault → L
   pub none_is_read : (given : L → Type 0) (o : Option (Conn L)) → o ≡ None → IsReadIf put_gives take_gives given o
   none_is_read given o none = subst (IsReadIf put_gives take_gives given) (sym none) tt
 
-  -- it is cut, whatever was read off it
+  -- the connection is cut, whatever was read off it
   module _ {E S C : Type 0} (seen : E → Seen (Tables S C)) (service : Service S C) where
     pub dropped : (given : L → Type 0) (sound : Type 0) (xs : List E) (now was : Option (Conn L)) (d : Conn L)
         → now ≡ None → was ≡ Some d → IsKnown put_gives take_gives seen service given sound xs (Some d)

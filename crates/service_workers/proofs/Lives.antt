@@ -1,4 +1,4 @@
--- What a service takes in while it lives, and how its life ends.
+-- What a service processes while it lives, and how its life ends.
 use Rattle.std.proofs.Common.{◌≡◌, ℕ, ◌≤◌, List, [], ◌∷◌, ◌++◌, Option, Some, refl, sym, ap, ◌∙◌, subst, inl}
 use Rattle.std.proofs.Math.Arith.{le-zero}
 use Rattle.std.specs.Prelude.{Result, unwrap_or}
@@ -42,7 +42,7 @@ module _ {L : Type 0} (put_gives : L → List ℕ → Result ℕ LinkFault → L
     took = nothing_takes seen service (CarriedAmong []) vs vs v is refl;
   }
 
-  -- one after another
+  -- two calls, one after the other
   pub both_came : (us vs ws : List (Told E)) → TakesWhatCame put_gives take_gives seen service sound given us vs
       → TakesWhatCame put_gives take_gives seen service sound given vs ws
       → TakesWhatCame put_gives take_gives seen service sound given us ws
@@ -57,7 +57,7 @@ module _ {L : Type 0} (put_gives : L → List ℕ → Result ℕ LinkFault → L
         (among_right a.messages b.messages) vs ws b.took);
   }
 
-  -- what the Hand has taken in since the life began, where the endpoint was good to the end
+  -- what the Hand has processed since the life began, where the endpoint was good to the end
   taken_till : (found good : E) (w : Told E) → IsGood seen service (new_told hand_number found)
       → w.number ≡ hand_number → (seen good).doubt ≡ 0 → Since seen service w.number w.seen good
       → (t : TakesWhatCame put_gives take_gives seen service sound given (new_told hand_number found ∷ []) (w ∷ []))
@@ -70,7 +70,7 @@ module _ {L : Type 0} (put_gives : L → List ℕ → Result ℕ LinkFault → L
       (subst (λ m. Stands m (kept (seen w.seen).tables) (kept (seen good).tables)) is
       (since.clean z (t.goes_on.good clean whole).matches).1))
 
-  -- how a life ends, by what the Hand has learned of its connections and has taken in
+  -- how a life ends, by what the Hand has learned of its connections and has processed
   pub life_stands : (found : Option E) (e : E) (tokens : List (Told E)) (scout hand known seats : List E) (w : Told E)
       (conns : List (Option (Conn L))) → sound
       → Closes seen service tokens ((scout ++ (hand ++ known)) ++ seats) e → (seen e).doubt ≡ 0

@@ -46,7 +46,7 @@ use Rattle.service_workers.specs.declared.turns.ReadFault.TheVariants as read_fa
 abbrev Holds : List ℕ → Held → Type 0
 Holds rest held = held.failed ≡ false → rest ≡ held.octets
 
--- the same after a piece
+-- after a piece of octets
 fed_follows : (frames : List Content) (rest taken piece : List ℕ) → Follows MAX_BODY frames rest taken
     → Follows MAX_BODY frames (rest ++ piece) (taken ++ piece)
 fed_follows frames rest taken piece (front, all, is) =
@@ -108,7 +108,7 @@ done_other kind f old new (taken.Repeated number) none h = absurd none
 done_other kind f old new taken.Held none h = absurd none
 done_other kind f old new (taken.Settled mark) none h = absurd none
 
--- what waits behind a fault is that frame
+-- what waits after a fault is that frame
 still_it : (b : Bool) (f g : Content) → (if b then Some f else None) ≡ Some g → g ≡ f
 still_it true f g is = sym (ap (λ o. unwrap_or o f) is)
 still_it false f g is = absurd (let k : false ≡ true = ap is_some is in cc)
@@ -140,7 +140,7 @@ module _ {L : Type 0} (put_gives : L → List ℕ → Result ℕ LinkFault → L
 
   -- ---- one call
 
-  -- a link goes on, on which nothing more was taken
+  -- a link, earlier and later: no more octets were taken off it
   abbrev NoneTaken : (first old new : L) → Type 0
   NoneTaken first old new = (taken : List ℕ) → Took put_gives take_gives first taken old
       → Took put_gives take_gives first taken new
@@ -205,7 +205,7 @@ module _ {L : Type 0} (put_gives : L → List ℕ → Result ℕ LinkFault → L
   reads_fault c d most fault starts took same = reads_none c d starts (λ taken path. failed path took)
       (ap (λ (ch : Channel). ch.decoder) same) (ap (λ (ch : Channel). ch.waiting) same)
 
-  -- it gave octets, and these are held
+  -- a take gave octets, and these are held
   one_piece : (frames : List Content) (c d : Conn L) (most : ℕ) (piece : List ℕ) → start_of d ≡ start_of c
       → take_gives (link_of c) most (Ok piece) (link_of d)
       → HasRead put_gives take_gives frames c
@@ -288,7 +288,7 @@ module _ {L : Type 0} (put_gives : L → List ℕ → Result ℕ LinkFault → L
     gives = append-nil (waiting_of c) ∙ ap option_to_list (sym waits);
   }
 
-  -- the text is at fault, or memory is wanting
+  -- the text is at fault, or an allocation failed
   reads_bad : (c d : Conn L) (fault : FrameFault) → start_of d ≡ start_of c → link_of d ≡ link_of c
       → d.channel.waiting ≡ c.channel.waiting
       → Nexts MAX_BODY c.channel.decoder d.channel.decoder (Err fault)
@@ -390,7 +390,7 @@ module _ {L : Type 0} (put_gives : L → List ℕ → Result ℕ LinkFault → L
       → ReadsSome put_gives take_gives b d
   some_both b c d h k = (h.0 ++ k.0, reads_both h.0 k.0 b c d h.1 k.1)
 
-  -- what goes on may end
+  -- a connection that continues may be at its end
   pub some_last : (c d : Conn L) → ReadsSome put_gives take_gives c d → ReadsLast put_gives take_gives c d
   some_last c d h = record { starts = h.1.starts; reads = λ frames r. (h.1.more, (h.1.reads frames r).read) }
 
@@ -485,7 +485,7 @@ module _ {L : Type 0} (put_gives : L → List ℕ → Result ℕ LinkFault → L
   none_after (found.Message m) b c d h k = absurd k
   none_after (found.Over cut) b c d h k = reads_both [] [] b c d h k
 
-  -- it was put back
+  -- the frame was put back
   pub puts_it_back : (f g : Content) (cause : ReceptionFault) (o : Option Content) (c d : Conn L)
       → o ≡ waiting_after cause f → o ≡ Some g
       → start_of d ≡ start_of c → link_of d ≡ link_of c
@@ -525,7 +525,7 @@ module _ {L : Type 0} (put_gives : L → List ℕ → Result ℕ LinkFault → L
     held = λ _. sym (ap (λ (h : Held). h.octets) new.decoder);
   }
 
-  -- it goes on, and these are given behind those before
+  -- a connection continues, and gives these frames after those before
   pub given_more : (before given : List Content) (c d : Conn L) → ReadsOnly put_gives take_gives given c d
       → HasGiven put_gives take_gives before c
       → HasGiven put_gives take_gives (before ++ given) d
@@ -534,7 +534,7 @@ module _ {L : Type 0} (put_gives : L → List ℕ → Result ℕ LinkFault → L
       ∙ sym (append_assoc before given (waiting_of d)))
       (h.reads (before ++ waiting_of c) k)
 
-  -- one is taken back
+  -- a frame is taken back
   pub taken_back : (f : Content) (c d : Conn L) → start_of d ≡ start_of c → link_of d ≡ link_of c
       → d.channel.decoder ≡ c.channel.decoder
       → d.channel.waiting ≡ Some (unwrap_or c.channel.waiting f)
@@ -545,7 +545,7 @@ module _ {L : Type 0} (put_gives : L → List ℕ → Result ℕ LinkFault → L
     waits = waits;
   }
 
-  -- where it was given last, and none waits, it is as if it hadn't been given yet
+  -- where the frame was given last, and none waits, it is as if it hadn't been given yet
   pub given_back : (f : Content) (before : List Content) (c d : Conn L) → c.channel.waiting ≡ None
       → TakesBack put_gives take_gives f c d → HasGiven put_gives take_gives (before ++ f ∷ []) c
       → HasGiven put_gives take_gives before d

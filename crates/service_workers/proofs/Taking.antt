@@ -1,4 +1,4 @@
--- What calls of the Hand take in.
+-- What calls of the Hand process.
 use Rattle.std.proofs.Common.{◌≡◌, ◌⊎◌, inl, inr, ℕ, zero, suc, ◌≤◌, ◌<◌, ◌==◌, max, Bool, true, false, List, [], ◌∷◌}
 use Rattle.std.proofs.Common.{◌++◌, length, refl, sym, ap, ◌∙◌, subst, arith, append-nil, append_assoc, Option, Some}
 use Rattle.std.proofs.Common.{Result, Ok, Err}
@@ -50,7 +50,7 @@ use Rattle.service_workers.specs.Taking.{envelopes_in, TakingStands}
 use Rattle.service_workers.specs.Tokens.{GoesOn}
 use Rattle.service_workers.proofs.Lasting.{no_doubt, one_of_these}
 
--- ---- what rows take in
+-- ---- what rows handle
 
 from_more : {C : Type 0} (known more : Envelope → Type 0) (e : Entity) (input : Input C)
     → ((f : Envelope) → known f → more f) → IsFrom known e input → IsFrom more e input
@@ -78,7 +78,7 @@ are_same : {A : Type 0} (b : Bool) (x : A) (xs ys : List A)
 are_same true x xs ys h = cc
 are_same false x xs ys h = h
 
--- rows that aren't the Hand's take in no letter
+-- rows that aren't the Hand's handle no letter
 from_other : {C : Type 0} (known : Envelope → Type 0) (e : Entity) (input : Input C) → is_of hand_number input ≡ false
     → IsFrom known e input
 from_other known e (FromSeat seat c) other = tt
@@ -154,7 +154,7 @@ module _ {C : Type 0} (known : Envelope → Type 0) where
     marks = λ p. inl (ap (λ (marks : Pair → ℕ). marks p) (s.held refl).0);
   }
 
--- the rows that a deed takes in
+-- the rows that a deed adds to the journal
 abbrev rows_by : {C : Type 0} → Deed C → List (JournalRow C)
 rows_by Nothing = []
 rows_by (TakesIn row) = row ∷ []
@@ -232,8 +232,8 @@ among_contained (a ∷ messages) e (inr h) = Contains-append_right (option_to_li
 -- ---- one call
 
 module _ {E S C : Type 0} (seen : E → Seen (Tables S C)) (service : Service S C) where
-  -- Where the answer tells of the journal it's as one thread's, at tables that others left; else what the token has seen
-  -- stays.
+  -- Where the answer says something of the journal (`tells`) it's as one thread's, at tables that others left; else what the
+  -- token has seen stays.
   by_answer : {R : Type 0} (known : Envelope → Type 0) (Call : E → E → Type 0) (result : Result R EndFault)
       (At : Tables S C → Tables S C → Type 0) → ((t u : Tables S C) → At t u → TakesFrom known (kept t) (kept u))
       → IsOneThreads seen service hand_number Call result At → (v w : Told E)
@@ -380,7 +380,7 @@ module _ {E S C : Type 0} (seen : E → Seen (Tables S C)) (service : Service S 
 
   -- ---- several calls
 
-  -- one after another
+  -- two calls, one after the other
   pub both_take : (n : ℕ) (known : Envelope → Type 0) (us vs ws : List (Told E))
       → GoesOn seen service n us vs → GoesOn seen service n vs ws → Takes seen service known us vs
       → Takes seen service known vs ws
@@ -412,7 +412,7 @@ module _ {E S C : Type 0} (seen : E → Seen (Tables S C)) (service : Service S 
   nothing_takes known vs ws v is same = subst (λ xs. Takes seen service known vs xs) (sym same)
       (subst (λ xs. Takes seen service known xs xs) (sym is) (λ z good. takes_same known (kept (seen v.seen).tables)))
 
-  -- behind them calls to which nothing was given
+  -- calls, and after them calls to which nothing was given
   pub then_nothing : (n : ℕ) (known : Envelope → Type 0) (us vs ws : List (Told E))
       → GoesOn seen service n us vs → GoesOn seen service n vs ws → Takes seen service known us vs
       → Takes seen service NoEnvelope vs ws

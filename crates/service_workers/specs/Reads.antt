@@ -35,7 +35,7 @@ pub data Took {L : Type 0} (put_gives : L → List ℕ → Result ℕ LinkFault 
 abbrev pub waiting_of : {L : Type 0} → Conn L → List Content
 waiting_of c = option_to_list c.channel.waiting
 
--- the same connection where this frame waits
+-- this connection, where this frame waits
 abbrev pub with_next : {L : Type 0} → Content → Conn L → Conn L
 with_next f c = record c { channel = record c.channel { waiting = Some f } }
 
@@ -43,7 +43,7 @@ with_next f c = record c { channel = record c.channel { waiting = Some f } }
 abbrev pub AreOthers : List Content → Type 0
 AreOthers frames = Every (λ f. f.command ≢ command.Message) frames
 
--- nothing came on it yet
+-- nothing came on the connection yet
 pub record IsUnread {L : Type 0} (c : Conn L) : Type 0 where
   pub starts : start_of c ≡ link_of c
   pub decoder : c.channel.decoder ≡ nothing_held
@@ -59,7 +59,7 @@ module _ {L : Type 0} (put_gives : L → List ℕ → Result ℕ LinkFault → L
     pub rest : List ℕ
     pub spelled : Follows MAX_BODY frames rest taken
 
-  -- The same, and the decoder holds that rest, unless it has failed: what is given next is what comes next.
+  -- These frames were read, and the decoder holds that rest, unless it has failed: what is given next is what comes next.
   pub record IsReading (frames : List Content) (c : Conn L) : Type 0 where
     pub read : HasRead frames c
     pub held : c.channel.decoder.failed ≡ false → read.rest ≡ c.channel.decoder.octets
@@ -68,18 +68,18 @@ module _ {L : Type 0} (put_gives : L → List ℕ → Result ℕ LinkFault → L
   abbrev pub HasGiven : List Content → Conn L → Type 0
   HasGiven given c = IsReading (given ++ waiting_of c) c
 
-  -- A connection goes on, and gives these frames: first that which waited, and then what was read after it.
+  -- A connection continues, and gives these frames: first that which waited, and then what was read after it.
   pub record ReadsOnly (given : List Content) (c d : Conn L) : Type 0 where
     pub starts : start_of d ≡ start_of c
     pub more : List Content
     pub reads : (frames : List Content) → IsReading frames c → IsReading (frames ++ more) d
     pub gives : waiting_of c ++ more ≡ given ++ waiting_of d
 
-  -- It goes on, whatever it gives.
+  -- A connection continues, whatever it gives.
   abbrev pub ReadsSome : (c d : Conn L) → Type 0
   ReadsSome c d = (given : List Content) × ReadsOnly given c d
 
-  -- It ends: octets may have been taken off its link that aren't held.
+  -- A connection ends: octets may have been taken off its link that aren't held.
   pub record ReadsLast (c d : Conn L) : Type 0 where
     pub starts : start_of d ≡ start_of c
     pub reads : (frames : List Content) → IsReading frames c → (more : List Content) × HasRead (frames ++ more) d
@@ -110,11 +110,11 @@ module _ {L : Type 0} (put_gives : L → List ℕ → Result ℕ LinkFault → L
   abbrev pub CameOn : Conn L → Content → Type 0
   CameOn c message = (frames : List Content) × HasRead frames c × Any (λ f. f ≡ message) frames
 
-  -- It came on a connection that began with a link of which that is so.
+  -- This frame came on a connection that began with a link of which that is so.
   abbrev pub Came : (L → Type 0) → Content → Type 0
   Came given message = (c : Conn L) × given (start_of c) × CameOn c message
 
-  -- Where there is a connection, what was read off it is held; and a frame that waits on it came on one of these.
+  -- Where there is a connection, what was read off it is held; and a frame that waits on it came on such a connection.
   abbrev pub IsReadIf : (L → Type 0) → Option (Conn L) → Type 0
   IsReadIf given None = ⊤
   IsReadIf given (Some c) = ((frames : List Content) × IsReading frames c) × Every (Came given) (waiting_of c)

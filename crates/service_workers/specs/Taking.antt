@@ -1,4 +1,4 @@
--- What calls of the Hand take in: of all that is kept after them, known envelopes are the cause, or what was held before.
+-- What calls of the Hand process: of all that is kept after them, known envelopes are the cause, or what was held before.
 use Rattle.std.specs.Prelude.{◌≡◌, ◌⊎◌, ℕ, ◌≤◌, List, [], ◌∷◌, ◌++◌, Some, Contains, option_to_list, true}
 use Rattle.std.specs.List.{AllByRecursion}
 use Rattle.base.specs.declared.pair.Pair.{Pair}
@@ -50,9 +50,9 @@ abbrev pub envelopes_in : List Content → List Envelope
 envelopes_in [] = []
 envelopes_in (message ∷ messages) = option_to_list (read_frame message) ++ envelopes_in messages
 
--- ---- what is taken in
+-- ---- what is processed
 
--- each letter that these rows take in is one of these envelopes
+-- each letter that these rows handle is one of these envelopes
 abbrev pub TakeIn : {C : Type 0} → (Envelope → Type 0) → List (JournalRow C) → Type 0
 TakeIn known rows = AllByRecursion (λ row. IsFrom known row.entity row.input) rows
 
@@ -64,8 +64,8 @@ WasThere known x e = known e ⊎ IsHeldIn x.held e
 abbrev pub IsSettledBy : (Envelope → Type 0) → Pair → ℕ → Type 0
 IsSettledBy known p mark = (n : ℕ) × known (envelope.Settle p n) × (mark ≤ n)
 
--- What was kept, earlier and later. The journal goes on; each letter that it then takes in is known or was held, and so is
--- each that is held then; and each settled mark is the earlier one, or a settle so far is known.
+-- What was kept, earlier and later. The journal continues with these rows: each letter that they handle is known or was held,
+-- and so is each that is held then; and each settled mark is the earlier one, or a settle so far is known.
 pub record TakesFrom {C : Type 0} (known : Envelope → Type 0) (x y : Kept C) : Type 0 where
   pub rows : List (JournalRow C)
   pub goes_on : y.journal ≡ x.journal ++ rows
@@ -79,12 +79,12 @@ module _ {E S C : Type 0} (seen : E → Seen (Tables S C)) (service : Service S 
   TokenTakes known v w = (seen w.seen).doubt ≡ 0 → IsGood seen service v
       → TakesFrom known (kept (seen v.seen).tables) (kept (seen w.seen).tables)
 
-  -- the same of what two keys know: each stands for this one token
+  -- so it is of what two keys know, each of which stands for this one token
   abbrev pub Takes : (Envelope → Type 0) → (vs ws : List (Told E)) → Type 0
   Takes known (v ∷ []) (w ∷ []) = TokenTakes known v w
   Takes known _ _ = ⊥
 
-  -- so it is of each content that a stop may leave of the endpoint that the token gave back
+  -- so it is of each content that a stop may leave of the endpoint that the token returned
   abbrev pub TokenLeaves : (Envelope → Type 0) → (v w : Told E) → Type 0
   TokenLeaves known v w = (seen w.last).doubt ≡ 0 → IsGood seen service v → (t : Tables S C)
       → (seen w.last).may_leave t → TakesFrom known (kept (seen v.seen).tables) (kept t)
@@ -93,8 +93,8 @@ module _ {E S C : Type 0} (seen : E → Seen (Tables S C)) (service : Service S 
   Leaves known (v ∷ []) (w ∷ []) = TokenLeaves known v w
   Leaves known _ _ = ⊥
 
-  -- In the end, of one history of all tokens: since the Hand had seen so much the tables have taken in only what these MESSAGEs
-  -- carried, or what was held; and so has each content that a stop may leave of an endpoint that is still usable.
+  -- In the end, of one history of all tokens: since the Hand had seen so much, only what these MESSAGEs carried, or what was held,
+  -- has come into the tables; and so it is of each content that a stop may leave of an endpoint that is still usable.
   abbrev pub TakingStands : Type 0
   TakingStands = (messages : List Content) (v w : Told E) (tokens : List (Told E)) (witnessed : List E) (e : E)
       → TokenTakes (CarriedAmong messages) v w → IsGood seen service v → w.number ≡ hand_number

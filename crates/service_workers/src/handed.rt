@@ -1,4 +1,4 @@
-//! What a run of a service is given, and what it gives back.
+//! What a run of a service is given, and what it returns.
 
 use crate::line::{Line, Naming};
 use crate::{Conn, Ended};
@@ -35,7 +35,7 @@ where
     pub one: Option<Conn<L>>,
 }
 
-/// What a run of a service gives back: the same tokens, and what is left of its connections.
+/// What a run of a service returns: the same tokens, and what is left of its connections.
 pub struct End<L, H, K>
 where
     L: Link + Drop,

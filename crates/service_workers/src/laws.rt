@@ -1,4 +1,4 @@
-//! What connections have written and read, and what was taken in, from the first frame to the end: each law is the contract of a
+//! What connections have written and read, and what was processed, from the first frame to the end: each law is the contract of a
 //! function with nothing to do.
 
 ghost use Rattle.std.specs.Prelude.{◌≡◌, ◌++◌, [], ℕ, List, Option};
@@ -47,7 +47,7 @@ where
     ensures { ConnectionsStand L.put_gives L.take_gives K.seen H.service }
 {}
 
-/// What a service took in stands in the end: of all letters that were taken in since the Hand had seen so much, of those
+/// What a service processed stands in the end: of all letters that were handled since the Hand had seen so much, of those
 /// that are held and of the marks, only the envelopes of the MESSAGEs that it handled are the cause, or what was held or
 /// marked before.
 pub fn what_was_taken_in_stands<H, K>()
@@ -57,8 +57,8 @@ where
     ensures { TakingStands K.seen H.service }
 {}
 
-/// What a connection gives is what came on it, once each and in order. A new one has given nothing; where it goes on, and gives
-/// frames, it has given these after those before; and each that was given came on it, also where it ends meanwhile.
+/// What a connection gives is what came on it, once each and in order. A new connection has given nothing. Where one continues,
+/// and gives frames, it has given these after those before. Each frame that was given came on it, also where it ends meanwhile.
 pub fn what_connections_give_came<L>()
 where
     L: Link + Drop,

@@ -46,7 +46,7 @@ where
 /// Ends a service's life: its tokens come back, and its endpoint is what is left. While the life's name is sound, and where no
 /// file is in doubt at the end, there is an endpoint that was good to the end: what is left, or what this was before its store
 /// failed. By its tables stands all that was put on the links of the life's connections; their journal begins with the one
-/// that was found; and each letter that they have taken in since came in a MESSAGE on a connection, or was held before.
+/// that was found; and each letter that was handled since, or is held, came in a MESSAGE on a connection, or was held before.
 pub fn close_life<N, L, H, K, R: Wait>(
     rt: &R,
     shared: Shared<H, K>,

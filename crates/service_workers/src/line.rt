@@ -139,7 +139,7 @@ where
     }
 
     /// Puts a new connection over a link here, on which this CONNECT waits to be written. Where a prefetch is given, the
-    /// broker is asked to hand out so many messages at most that aren't answered. The last connection has to be noted.
+    /// broker is asked to deliver so many messages at most that aren't answered. The last connection has to be noted.
     ///
     /// # Errors
     /// If an allocation fails, the link is returned, and nothing has changed.

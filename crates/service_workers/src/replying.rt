@@ -54,8 +54,8 @@ pub(crate) fn finish<L: Link + Drop>(
     }
 }
 
-/// Whether a connection is used on after a fault: the frame was answered. Where it wasn't, as an allocation failed or because
-/// the store failed, a new connection gets it again.
+/// Whether a connection stays in use after a fault: the frame was answered. Where it wasn't, as an allocation failed or because
+/// the store failed, it's redelivered on a new connection.
 pub(crate) fn goes_on(fault: ReceptionFault) -> bool
     ensures { result ≡ is_answered fault }
 {
