@@ -66,7 +66,7 @@ IsUnaskedFor (Receipt number) = ⊤
 IsUnaskedFor (Error text) = ⊤
 IsUnaskedFor _ = ⊥
 
--- why the endpoint isn't asked
+-- why the endpoint isn't asked, or its answer isn't told
 abbrev pub IsUnasked : ReceptionFault → Type 0
 IsUnasked (End _) = ⊥
 IsUnasked _ = ⊤
@@ -95,3 +95,8 @@ ToldOfLetter l (Err fault) r = r ≡ Err (End fault)
 abbrev pub ToldOfSettle : Result ℕ EndFault → Result Taken ReceptionFault → Type 0
 ToldOfSettle (Ok mark) r = r ≡ Ok (Settled mark)
 ToldOfSettle (Err fault) r = r ≡ Err (End fault)
+
+-- nothing of the endpoint's answer is told: why it isn't
+abbrev pub IsUntold : Result Taken ReceptionFault → Type 0
+IsUntold (Ok taken) = ⊥
+IsUntold (Err cause) = IsUnasked cause

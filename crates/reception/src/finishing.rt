@@ -1,22 +1,25 @@
 //! The second half of taking a frame: what the endpoint's answer says.
 
-ghost use Rattle.std.specs.Prelude.{◌≡◌, List, ◌≤◌, ◌<◌, ◌-◌, ◌^◌, length, Ok, IfErr};
+ghost use Rattle.std.specs.Prelude.{◌≡◌, List, ◌≤◌, ◌<◌, ◌+◌, ◌-◌, ◌^◌, length, Ok, OnOk, OnErr, IfErr};
 ghost use Rattle.base.specs.declared.entity.Kind.{Kind};
 ghost use Rattle.stomp_frame.specs.Frames.{Content};
 ghost use Rattle.stomp_client.specs.Clients.{counting};
+ghost use Rattle.stomp_client.specs.Delivered.{IsDelivered};
 ghost use Rattle.stomp_client.specs.Written.{AreWhole};
 ghost use Rattle.reception.specs.Answers.{Answers};
-ghost use Rattle.reception.specs.Faults.{taken_or, waiting_after};
+ghost use Rattle.reception.specs.Faults.{IsWant, taken_or, waiting_after};
 ghost use Rattle.reception.specs.Prepared.{IsReadyLetter, IsReadySettle, ToldOfLetter, ToldOfSettle};
-ghost use Rattle.reception.specs.Replies.{settled_again, IsTextOf, Writes};
+ghost use Rattle.reception.specs.Replies.{settled_again, settling, IsTextOf, Writes};
 ghost use Rattle.endpoint.specs.declared.answer.Ingested.TheVariants as ingested;
 
 use crate::texts::{settling_text, write};
 use crate::{PreparedLetter, PreparedSettle, ReceptionFault, Taken, Untaken};
-use base::Number;
+use base::limits::MAX_BODY;
+use base::{Number, Pair};
 use endpoint::{EndFault, Ingested};
 use std::alloc::Global;
 use stomp_client::ClientSession;
+use stomp_frame::Frame;
 
 /// Writes a transaction for which room was found, and counts it.
 fn write_transaction(client: &mut ClientSession<u64>, text: &[u8])
@@ -30,8 +33,30 @@ fn write_transaction(client: &mut ClientSession<u64>, text: &[u8])
     write(client, text);
 }
 
+/// Acknowledges a MESSAGE and settles its pair up to a number, in the next transaction.
+pub(crate) fn settle_up_to(
+    alloc: Global,
+    client: &mut ClientSession<u64>,
+    message: &Frame<MAX_BODY>,
+    pair: &Pair,
+    number: Number,
+) -> Result<(), ReceptionFault>
+    requires message { IsDelivered message.now }
+    requires numbers { client.old.client.transactions < 2 ^ 64 - 1 }
+    ensures ok { OnOk result (Writes (settling message.now (client.old.client.transactions + 1) pair.now number)
+        (counting client.old.client) client.new.client) }
+    ensures err { OnErr result (client.new.client ≡ client.old.client) }
+    ensures fault { IfErr result IsWant }
+{
+    let transaction = client.transactions() + 1;
+    let text = settling_text(alloc, message, transaction, pair, number)?;
+    client.room(text.len())?;
+    write_transaction(client, &text);
+    Ok(())
+}
+
 /// How far a pair is settled when one of its letters comes again.
-fn settled_again(number: Number, handled: u64) -> Number
+pub(crate) fn settled_again(number: Number, handled: u64) -> Number
     ensures { result ≡ settled_again number handled }
 {
     match Number::new(handled) {
@@ -52,11 +77,8 @@ impl PreparedLetter {
         ensures told { ToldOfLetter self.now.letter (Ok (ingested.Repeated handled)) result }
         ensures answers { (kind : Kind) → Answers kind self.now.message client.old.client client.new.client result }
     {
-        let transaction = client.transactions() + 1;
         let mark = settled_again(self.letter.number, handled);
-        let text = settling_text(alloc, &self.message, transaction, &self.letter.pair, mark)?;
-        client.room(text.len())?;
-        write_transaction(client, &text);
+        settle_up_to(alloc, client, &self.message, &self.letter.pair, mark)?;
         Ok(Taken::Repeated(mark.get()))
     }
 

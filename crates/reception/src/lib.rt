@@ -28,6 +28,7 @@
 //! The answer is true.
 #![tactic(auto)]
 
+mod answering;
 mod draining;
 mod fault;
 mod finishing;
@@ -38,6 +39,7 @@ mod replies;
 mod taken;
 mod texts;
 
+pub use answering::{answer_letter, answer_settle};
 pub use draining::{drain, drain_unconnected};
 pub use fault::{ReceptionFault, Untaken};
 pub use frames::take_frame;

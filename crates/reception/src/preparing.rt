@@ -71,8 +71,8 @@ fn take_connected(
     }
 }
 
-/// Acknowledges a MESSAGE that carries nothing for a service.
-fn take_none(
+/// Acknowledges a MESSAGE, in no transaction.
+pub(crate) fn acknowledge(
     alloc: Global,
     client: &mut ClientSession<u64>,
     message: &Frame<MAX_BODY>,
@@ -102,7 +102,7 @@ fn unread(
     ensures answers { (kind : Kind) → Answers kind message.now client.old.client client.new.client (Err result) }
 {
     match fault {
-        EnvelopeFault::BadEnvelope => match take_none(alloc, client, message) {
+        EnvelopeFault::BadEnvelope => match acknowledge(alloc, client, message) {
             Ok(()) => ReceptionFault::Envelope(fault),
             Err(fault) => ReceptionFault::Client(fault),
         },

@@ -1,7 +1,7 @@
 use Rattle.stomp_frame.specs.declared.command.Command.TheVariants.{Ack}
 use Rattle.reception.specs.Replies.{answer}
 use Rattle.reception.proofs.Spelling.{whole_at, writes_at}
-use Rattle.reception.proofs.preparing.take_none.Goals as goal
+use Rattle.reception.proofs.preparing.acknowledge.Goals as goal
 
 pub write-requires-clause-text : goal.write-requires-clause-text
 write-requires-clause-text c =
