@@ -1,6 +1,6 @@
 //! A connection under its lock, with a witness of what was written on it.
 
-ghost use Rattle.std.specs.Prelude.{◌≡◌, false, true, is_some, Option, None, Some, IfOk, IfErr, ⊤};
+ghost use Rattle.std.specs.Prelude.{◌≡◌, false, true, is_some, Option, None, Some, IfOk, IfErr, IfSome, ⊤};
 ghost use Rattle.stomp_frame.specs.declared.command.Command.TheVariants.{Connect};
 ghost use Rattle.activities.specs.Numbered.{IsPrefixOf};
 ghost use Rattle.told_lock.specs.Keys.{LockName, no_name};
@@ -8,11 +8,12 @@ ghost use Rattle.shared_endpoint.specs.Keys.{IsHandOf, IsScoutOf, IsWitnessAt, I
 ghost use Rattle.shared_endpoint.specs.Keys.{shown_hand, shown_witness};
 ghost use Rattle.service_workers.specs.Conns.{began_with, or_was, IsGiven, Standing};
 ghost use Rattle.service_workers.specs.Reads.{Came, FoundCame, IsReadIf};
+ghost use Rattle.service_workers.specs.Taking.{CarriedIn};
 ghost use Rattle.service_workers.specs.Truth.{Knows, AnsweredTo, AreSentIn};
 ghost use Rattle.service_workers.specs.Written.{HasSpokenIf};
 
 use crate::conn::Found;
-use crate::replying::{finish, goes_on};
+use crate::replying::{Read, finish, goes_on};
 use crate::worker::Answer;
 use crate::{Conn, Cut, Ended};
 use activities::Handler;
@@ -263,22 +264,23 @@ where
         conn.keep(frame);
     }
 
-    /// So many of its letters aren't settled.
-    pub(crate) fn counted(&mut self, on_way: usize)
+    /// So many of its letters to receivers of a kind aren't settled.
+    pub(crate) fn counted(&mut self, kind: Kind, on_way: usize)
         ensures link { self.new.link ≡ self.old.link }
     {
         let Some(conn) = &mut self.conn else {
             return;
         };
-        conn.counted(on_way);
+        conn.counted(kind, on_way);
     }
 
-    /// Sends of these letters what wasn't sent on the connection, and answers how many of all were, now or before. None
-    /// where the connection isn't there.
+    /// Sends of these letters to receivers of a kind what wasn't sent on the connection, and answers how many of all were, now
+    /// or before. None where the connection isn't there.
     pub(crate) fn send(
         &mut self,
         shared: &Shared<H, K>,
         scout: &mut Scout<H, K>,
+        kind: Kind,
         letters: &[Letter],
     ) -> Result<Option<usize>, Cut>
         requires at { name_of shared.now ≡ N.lock }
@@ -293,7 +295,7 @@ where
         };
         let witness = scout.witness(shared);
         self.witness.learn(shared, witness);
-        match conn.send(letters) {
+        match conn.send(kind, letters) {
             Ok(sent) => Ok(Some(sent)),
             Err(cut) => Err(cut),
         }
@@ -306,12 +308,13 @@ where
         alloc: Global,
         shared: &Shared<H, K>,
         hand: &mut Hand<H, K>,
-        message: Frame<MAX_BODY>,
+        read: Read<'_>,
         answer: Answer,
     ) -> Result<Option<ReceptionFault>, Cut>
         requires at { name_of shared.now ≡ N.lock }
         requires hand { IsHandOf shared.now hand.old }
-        requires told { Knows K.seen H.service N.sound (AnsweredTo H.service message answer) (told_hand hand.old) }
+        requires carries { IfSome read.envelope (λ e. CarriedIn read.message e.now) }
+        requires told { Knows K.seen H.service N.sound (AnsweredTo H.service read.message answer) (told_hand hand.old) }
         ensures hand { IsHandOf shared.now hand.new }
         ensures knows { told_hand hand.new ≡ told_hand hand.old }
         ensures cut { IfErr result (λ _. self.new.is_there ≡ false) }
@@ -322,7 +325,7 @@ where
         };
         let witness = hand.witness(shared);
         self.witness.learn(shared, witness);
-        match finish(alloc, conn, H::kind(), message, answer) {
+        match finish(alloc, conn, H::kind(), read, answer) {
             Ok(_) => Ok(None),
             Err(fault) if goes_on(fault) => Ok(Some(fault)),
             Err(fault) => {

@@ -10,7 +10,7 @@ invariant_of-self-in-Ok g c =
     let known = line_replies g.L.Link.put_gives g.L.Link.take_gives g.K.Keep.seen g.H.Handler.service g.N.Naming.given g.N.Naming.sound
     (shown_witness c.self.inside.witness) (shown_witness c.witness-witness.result) (shown_witness c.learn.new.self)
     (told_hand c.args.hand.now) (shown_hand c.args.hand.now) c.self.inside.conn c.self.inside.was.value c.in-Some.conn
-    c.finish.new.conn c.kind.result c.args.message c.args.answer c.finish.result c.in-Some.is
+    c.finish.new.conn c.kind.result c.args.read.message c.args.answer c.finish.result c.in-Some.is
     (c.self.invariant.1, c.self.invariant.2) c.witness-witness.ensures.shown c.learn.ensures.shown c.requires.told
     c.finish.ensures.answers c.finish.ensures.replied c.finish.ensures.link in (
       witness_at c.args.shared.now g.N.Naming.lock c.requires.at c.learn.new.self c.learn.ensures.witness,
@@ -26,7 +26,7 @@ invariant_of-self-then-goes_on g c =
     let known = line_replies g.L.Link.put_gives g.L.Link.take_gives g.K.Keep.seen g.H.Handler.service g.N.Naming.given g.N.Naming.sound
     (shown_witness c.self.inside.witness) (shown_witness c.witness-witness.result) (shown_witness c.learn.new.self)
     (told_hand c.args.hand.now) (shown_hand c.args.hand.now) c.self.inside.conn c.self.inside.was.value c.in-Some.conn
-    c.finish.new.conn c.kind.result c.args.message c.args.answer c.finish.result c.in-Some.is
+    c.finish.new.conn c.kind.result c.args.read.message c.args.answer c.finish.result c.in-Some.is
     (c.self.invariant.1, c.self.invariant.2) c.witness-witness.ensures.shown c.learn.ensures.shown c.requires.told
     c.finish.ensures.answers c.finish.ensures.replied c.finish.ensures.link in (
       witness_at c.args.shared.now g.N.Naming.lock c.requires.at c.learn.new.self c.learn.ensures.witness,
@@ -42,7 +42,7 @@ invariant_of-self-in-Err-2 g c =
     let known = line_replies g.L.Link.put_gives g.L.Link.take_gives g.K.Keep.seen g.H.Handler.service g.N.Naming.given g.N.Naming.sound
     (shown_witness c.self.inside.witness) (shown_witness c.witness-witness.result) (shown_witness c.learn.new.self)
     (told_hand c.args.hand.now) (shown_hand c.args.hand.now) c.self.inside.conn c.self.inside.was.value c.in-Some.conn
-    c.finish.new.conn c.kind.result c.args.message c.args.answer c.finish.result c.in-Some.is
+    c.finish.new.conn c.kind.result c.args.read.message c.args.answer c.finish.result c.in-Some.is
     (c.self.invariant.1, c.self.invariant.2) c.witness-witness.ensures.shown c.learn.ensures.shown c.requires.told
     c.finish.ensures.answers c.finish.ensures.replied c.finish.ensures.link in (
       witness_at c.args.shared.now g.N.Naming.lock c.requires.at c.learn.new.self c.learn.ensures.witness,
