@@ -1,11 +1,12 @@
 -- What frames write is true, where the tables stand by their block.
-use Rattle.std.proofs.Common.{◌≡◌, ◌⊎◌, inl, inr, ℕ, List, [], ◌∷◌, ◌++◌, Option, Some, None, sym, ap, ◌∙◌, subst, arith}
+use Rattle.std.proofs.Common.{◌≡◌, inl, inr, ℕ, List, [], ◌∷◌, ◌++◌, Option, Some, None, sym, ap, ◌∙◌, subst, arith}
 use Rattle.std.specs.Prelude.{Contains, option_to_list, Result}
 use Rattle.std.proofs.lemmas.List.Elements.{Contains-push_cases, Contains-append_cases}
 use Rattle.stomp_wire.specs.declared.fault.LinkFault.{LinkFault}
 use Rattle.stomp_frame.specs.Frames.{Content}
 use Rattle.stomp_frame.specs.declared.command.Command.{Command}
-use Rattle.stomp_frame.specs.declared.command.Command.TheVariants.{Connect, Subscribe, Disconnect}
+use Rattle.stomp_frame.specs.declared.command.Command.TheVariants.{Connect}
+use Rattle.base.specs.declared.entity.Kind.{Kind}
 use Rattle.envelope.specs.Reading.{read_envelope}
 use Rattle.envelope.specs.declared.message.Envelope.{Envelope}
 use Rattle.envelope.specs.declared.message.Envelope.TheVariants.{Letter, Settle}
@@ -24,8 +25,9 @@ use Rattle.laws_stores.proofs.Doing.{did_sent, did_handled}
 use Rattle.shared_endpoint.specs.History.{DidAll}
 use Rattle.told_lock.specs.Rule.{Every}
 use Rattle.told_lock.proofs.Views.{every_both, every_map}
-use Rattle.service_workers.specs.Written.{HasWrittenIf, IsFree, IsOfSession, Speaks, StandsBy, frames_of}
-use Rattle.service_workers.specs.Written.{of_session, refuses, unread, sends, is_done, settles}
+use Rattle.service_workers.specs.Written.{HasWrittenIf, IsFree, IsOfSession, Speaks, StandsBy, came_of, frames_of}
+use Rattle.service_workers.specs.Written.{connects, subscribes, subscribes_with, disconnects, of_session, refuses, unread}
+use Rattle.service_workers.specs.Written.{sends, is_done, settles}
 use Rattle.service_workers.specs.declared.conn.Conn.{Conn}
 use Rattle.laws_services.proofs.Living.{none_is_there}
 use Rattle.laws_lives.specs.Posts.{if_send, sent_in, envelopes_sent, frames_on, frames_on_all}
@@ -79,30 +81,31 @@ none_is_sent : (P : Envelope → Type 0) (c : Command) (found : Option Envelope)
     → if_send c found ≡ Some e → P e
 none_is_sent P c found none e some = absurd (let no : None ≡ Some e = sym none ∙ some in cc)
 
-of_session_none : (f : Content) → IsOfSession f → sent_in f ≡ None
-of_session_none f is = by f.command (read_envelope f.headers f.body) is
-  where
-    by : (c : Command) (found : Option Envelope) → (c ≡ Connect) ⊎ (c ≡ Subscribe) ⊎ (c ≡ Disconnect)
-        → if_send c found ≡ None
-    by c found (inl same) = ap (λ x. if_send x found) same
-    by c found (inr (inl same)) = ap (λ x. if_send x found) same
-    by c found (inr (inr same)) = ap (λ x. if_send x found) same
+connect_none : (f : Content) → f.command ≡ Connect → sent_in f ≡ None
+connect_none f is = ap (λ x. if_send x (read_envelope f.headers f.body)) is
+
+session_says : (mine : Kind) (P : Envelope → Type 0) (block : List Content) → IsOfSession mine block → Every (Says P) block
+session_says mine P _ (connects f is) =
+    (none_is_sent P f.command (read_envelope f.headers f.body) (connect_none f is), tt)
+session_says mine P _ subscribes = (λ e sent. absurd cc, tt)
+session_says mine P _ (subscribes_with prefetch) = (λ e sent. absurd cc, tt)
+session_says mine P _ (disconnects receipt) = (λ e sent. absurd cc, tt)
+
+free_says : (mine : Kind) (came : Content → Type 0) (P : Envelope → Type 0) (block : List Content) → IsFree mine came block
+    → Every (Says P) block
+free_says mine came P _ (of_session block is) = session_says mine P block is
+free_says mine came P _ (refuses message whole at) = (λ e sent. absurd cc, tt)
+free_says mine came P _ (unread message whole at none) = (λ e sent. absurd cc, tt)
 
 module _ {S C : Type 0} (service : Service S C) where
-  free_says : (P : Envelope → Type 0) (block : List Content) → IsFree block → Every (Says P) block
-  free_says P _ (of_session f is) =
-      (none_is_sent P f.command (read_envelope f.headers f.body) (of_session_none f is), tt)
-  free_says P _ (refuses message) = (λ e sent. absurd cc, tt)
-  free_says P _ (unread message none) = (λ e sent. absurd cc, tt)
-
-  spoken_says : (x : Kept C) (block : List Content) → Speaks service x block
+  spoken_says : (came : Content → Type 0) (x : Kept C) (block : List Content) → Speaks service came x block
       → Every (Says (IsTrueIn service.reactions x.journal)) block
-  spoken_says x _ (sends l receipt so) = (
+  spoken_says came x _ (sends l receipt so) = (
     λ e sent. subst (IsTrueIn service.reactions x.journal) (sym (only_that (Letter l) e _ sent)) so,
     tt,
   )
-  spoken_says x _ (is_done message e carried done) = (λ d sent. absurd cc, tt)
-  spoken_says x _ (settles message transaction l n carried handled upto) = (
+  spoken_says came x _ (is_done message e at carried done) = (λ d sent. absurd cc, tt)
+  spoken_says came x _ (settles message transaction l n at carried handled upto) = (
     λ e sent. absurd cc,
     (
       λ e sent. absurd cc,
@@ -114,19 +117,19 @@ module _ {S C : Type 0} (service : Service S C) where
   )
 
   -- what a block writes by which the tables stand is true by their journal
-  pub stood_says : (t : Tables S C) (block : List Content) → StandsBy service t block
+  pub stood_says : (t : Tables S C) (came : Content → Type 0) (block : List Content) → StandsBy service t came block
       → Every (Says (IsTrueIn service.reactions t.journal)) block
-  stood_says t block (inl free) = free_says (IsTrueIn service.reactions t.journal) block free
-  stood_says t block (inr by) = every_map (Says (IsTrueIn service.reactions by.0.journal))
+  stood_says t came block (inl free) = free_says service.kind came (IsTrueIn service.reactions t.journal) block free
+  stood_says t came block (inr by) = every_map (Says (IsTrueIn service.reactions by.0.journal))
       (Says (IsTrueIn service.reactions t.journal)) block
       (λ f says e sent. true_later service.reactions by.0.journal t.journal e by.1 (says e sent))
-      (spoken_says by.0 block by.3)
+      (spoken_says came by.0 block by.3)
 
-  blocks_say : (t : Tables S C) (blocks : List (List Content)) → Every (StandsBy service t) blocks
+  blocks_say : (t : Tables S C) (came : Content → Type 0) (blocks : List (List Content)) → Every (StandsBy service t came) blocks
       → Every (Says (IsTrueIn service.reactions t.journal)) (frames_of blocks)
-  blocks_say t [] all = tt
-  blocks_say t (block ∷ blocks) all = every_both (Says (IsTrueIn service.reactions t.journal)) block (frames_of blocks)
-      (stood_says t block all.0) (blocks_say t blocks all.1)
+  blocks_say t came [] all = tt
+  blocks_say t came (block ∷ blocks) all = every_both (Says (IsTrueIn service.reactions t.journal)) block (frames_of blocks)
+      (stood_says t came block all.0) (blocks_say t came blocks all.1)
 
   -- ---- connections
 
@@ -135,7 +138,7 @@ module _ {S C : Type 0} (service : Service S C) where
     one_says : (c : Option (Conn L)) (written : HasWrittenIf put_gives take_gives (StandsBy service t) c)
         → Every (Says (IsTrueIn service.reactions t.journal)) (frames_on put_gives take_gives (StandsBy service t) c written)
     one_says None written = tt
-    one_says (Some c) written = blocks_say t written.blocks written.allowed
+    one_says (Some c) written = blocks_say t (came_of put_gives take_gives c) written.blocks written.allowed
 
     all_say : (conns : List (Option (Conn L)))
         (written : Every (HasWrittenIf put_gives take_gives (StandsBy service t)) conns)

@@ -38,7 +38,7 @@ envelopes_sent (f ∷ frames) = option_to_list (sent_in f) ++ envelopes_sent fra
 -- ---- lives
 
 module _ {L : Type 0} (put_gives : L → List ℕ → Result ℕ LinkFault → L → Type 0)
-    (take_gives : L → ℕ → Result (List ℕ) LinkFault → L → Type 0) (P : List Content → Type 0) where
+    (take_gives : L → ℕ → Result (List ℕ) LinkFault → L → Type 0) (P : (Content → Type 0) → List Content → Type 0) where
   -- all frames that were written on a connection, where there is one; and on several connections
   abbrev pub frames_on : (c : Option (Conn L)) → HasWrittenIf put_gives take_gives P c → List Content
   frames_on None written = []

@@ -21,11 +21,14 @@ use Rattle.intake.specs.contracts.intake.IntakeReader as reader
 use Rattle.intake.proofs.intake.IntakeReader.TheSendSync as reader_laws
 use Rattle.shared_endpoint.proofs.tokens.Witness.TheSendSync as witness_laws
 use Rattle.service_workers.specs.declared.line.Naming as naming
+use Rattle.service_workers.specs.declared.line.RunNaming as run_naming
 use Rattle.service_workers.specs.contracts.arrival.Arrival as arrival
 use Rattle.service_workers.specs.contracts.arrival.Arrival.TheInside as arrival_inside
 use Rattle.service_workers.specs.contracts.conn.Conn as conn
 use Rattle.service_workers.specs.contracts.line.Line as line
 use Rattle.service_workers.specs.contracts.line.Line.TheInside as inside
+use Rattle.service_workers.specs.contracts.line.RunLine as run_line
+use Rattle.service_workers.specs.contracts.line.RunLine.TheInside as run_inside
 use Rattle.service_workers.specs.contracts.past.Past as past
 use Rattle.service_workers.specs.contracts.past.Past.TheInside as past_inside
 
@@ -59,18 +62,19 @@ conn_send L l = declared_send (conn.the_type L) (
   ),
 )
 
-module _ (N L K : RattleType) (n : naming.Ghosts N.Denot K.Denot L.Denot) (l : link.Ghosts L.Denot) where
-  arrival_send : IsSend (arrival.the_row N L K n l)
-  arrival_send = view_send _ _ _ _ _ (declared_send (arrival_inside.the_type N L K n l) (
+module _ (N M L K : RattleType) (n : naming.Ghosts N.Denot K.Denot L.Denot) (m : run_naming.Ghosts M.Denot L.Denot)
+    (l : link.Ghosts L.Denot) where
+  arrival_send : IsSend (arrival.the_row N M L K n m l)
+  arrival_send = view_send _ _ _ _ _ (declared_send (arrival_inside.the_type N M L K n m l) (
     search (std.crosses, sendable) depth 20,
     (
       frame_laws.the_send (number 1048576),
-      (declared_send (phantom.the_type (Tuple (N ∷ (L ∷ (K ∷ []))))) tt, tt),
+      (declared_send (phantom.the_type (Tuple (N ∷ (M ∷ (L ∷ (K ∷ [])))))) tt, tt),
     ),
   ))
 
-  pub reader_send : IsSend (reader.the_row (arrival.the_row N L K n l))
-  reader_send = reader_laws.the_send (arrival.the_row N L K n l) arrival_send
+  pub reader_send : IsSend (reader.the_row (arrival.the_row N M L K n m l))
+  reader_send = reader_laws.the_send (arrival.the_row N M L K n m l) arrival_send
 
 module _ (N L H K S C : RattleType) (n : naming.Ghosts N.Denot K.Denot L.Denot) (l : link.Ghosts L.Denot)
     (h : handler.Ghosts H.Denot S.Denot C.Denot) (p : parts.Ghosts S.Denot) (k : keep.Ghosts K.Denot S.Denot C.Denot) where
@@ -89,6 +93,22 @@ module _ (N L H K S C : RattleType) (n : naming.Ghosts N.Denot K.Denot L.Denot) 
       (
         witness_laws.the_send H K S C h p k,
         (phantom_send, tt),
+      ),
+    ),
+  ))
+
+  pub run_line_send : (M : RattleType) (m : run_naming.Ghosts M.Denot L.Denot) → IsSend L
+      → IsSend (run_line.the_row N M L H K S C n m l h p k)
+  run_line_send M m sl = view_send _ _ _ _ _ (declared_send (run_inside.the_type N M L H K S C n m l h p k) (
+    conn_if (conn_send L sl),
+    (
+      snapshot_send (option.the_row (conn.the_row L)),
+      (
+        witness_laws.the_send H K S C h p k,
+        (
+          search (std.crosses, sendable) depth 20,
+          (declared_send (phantom.the_type (Tuple (N ∷ (M ∷ [])))) tt, tt),
+        ),
       ),
     ),
   ))

@@ -17,8 +17,8 @@ use Rattle.shared_endpoint.specs.History.{EverSince, EndsAs, Grows}
 use Rattle.shared_endpoint.specs.Keys.{Any}
 use Rattle.shared_endpoint.specs.Promises.{AreBorneOut}
 use Rattle.service_workers.specs.Conns.{IsNewConnBy, start_of}
-use Rattle.service_workers.specs.Written.{Path, stays, of_session, WasTrue, Speaks, MightSpeak, StandsBy, WrittenStands}
-use Rattle.service_workers.specs.Written.{HasSpoken, HasWritten, HasWrittenIf, ConnectionsStand}
+use Rattle.service_workers.specs.Written.{Path, stays, connects, of_session, WasTrue, Speaks, MightSpeak, StandsBy, WrittenStands}
+use Rattle.service_workers.specs.Written.{came_of, HasSpoken, HasWritten, HasWrittenIf, ConnectionsStand}
 use Rattle.service_workers.specs.declared.conn.Conn.{Conn}
 
 module _ {L : Type 0} (put_gives : L → List ℕ → Result ℕ LinkFault → L → Type 0)
@@ -35,7 +35,7 @@ module _ {L : Type 0} (put_gives : L → List ℕ → Result ℕ LinkFault → L
         each = (new.client.1, tt);
         whole = ap (λ (k : Client ℕ). k.out) new.client.2 ∙ sym (append-nil (canonical connect));
       };
-      allowed = (inl (of_session connect (inl is)), tt);
+      allowed = (inl (of_session (connect ∷ []) (connects connect is)), tt);
     }
 
 module _ {E S C : Type 0} (seen : E → Seen (Tables S C)) (service : Service S C) where
@@ -43,21 +43,21 @@ module _ {E S C : Type 0} (seen : E → Seen (Tables S C)) (service : Service S 
   no_doubt good e (inl same) z = ap (λ (x : E). (seen x).doubt) (sym same) ∙ z
   no_doubt good e (inr broke) z = le-zero (subst (λ n. (seen good).doubt ≤ n) z broke.doubt)
 
-  stands_among : (good : E) (t : Tables S C) (block : List Content) (ys : List E) → (seen good).doubt ≡ 0
-      → Every (λ y. EverSince seen service y good) ys → AreBorneOut seen service ys t
-      → WasTrue seen service (λ x. Speaks service x block) ys
-      → StandsBy service t block
-  stands_among good t block [] z since borne was = absurd was
-  stands_among good t block (y ∷ ys) z since borne (inl h) =
+  stands_among : (came : Content → Type 0) (good : E) (t : Tables S C) (block : List Content) (ys : List E)
+      → (seen good).doubt ≡ 0 → Every (λ y. EverSince seen service y good) ys → AreBorneOut seen service ys t
+      → WasTrue seen service (λ x. Speaks service came x block) ys
+      → StandsBy service t came block
+  stands_among came good t block [] z since borne was = absurd was
+  stands_among came good t block (y ∷ ys) z since borne (inl h) =
       let told = h (le-zero (subst (λ n. (seen y).doubt ≤ n) z since.0.doubt)) in
       let grown = borne.0 told.0 in
       inr (kept (seen y).tables, grown.0, grown.1, told.1)
-  stands_among good t block (y ∷ ys) z since borne (inr h) = stands_among good t block ys z since.1 borne.1 h
+  stands_among came good t block (y ∷ ys) z since borne (inr h) = stands_among came good t block ys z since.1 borne.1 h
 
-  pub written_stands : WrittenStands seen service
-  written_stands tokens witnessed e closes z history block (inl free) = inl free
-  written_stands tokens witnessed e closes z history block (inr was) =
-      stands_among closes.good history.tables block witnessed (no_doubt closes.good e closes.ends z) closes.borne_out
+  pub written_stands : (came : Content → Type 0) → WrittenStands seen service came
+  written_stands came tokens witnessed e closes z history block (inl free) = inl free
+  written_stands came tokens witnessed e closes z history block (inr was) =
+      stands_among came closes.good history.tables block witnessed (no_doubt closes.good e closes.ends z) closes.borne_out
       history.borne_out was
 
 -- ---- whole connections
@@ -87,22 +87,26 @@ module _ {L : Type 0} (put_gives : L → List ℕ → Result ℕ LinkFault → L
     allowed = every_map P Q h.blocks so h.allowed;
   }
 
-  pub written_as_if : (P Q : List Content → Type 0) → ((block : List Content) → P block → Q block) → (o : Option (Conn L))
+  pub written_as_if : (P Q : (came : Content → Type 0) → List Content → Type 0)
+      → ((came : Content → Type 0) (block : List Content) → P came block → Q came block) → (o : Option (Conn L))
       → HasWrittenIf put_gives take_gives P o → HasWrittenIf put_gives take_gives Q o
   written_as_if P Q so None h = tt
-  written_as_if P Q so (Some c) h = written_as P Q so c h
+  written_as_if P Q so (Some c) h =
+      let came = came_of put_gives take_gives c in
+      written_as (P came) (Q came) (so came) c h
 
   module _ {E S C : Type 0} (seen : E → Seen (Tables S C)) (service : Service S C) where
     pub connections_stand : ConnectionsStand put_gives take_gives seen service
-    connections_stand tokens witnessed e closes z history =
-        written_as (MightSpeak seen service witnessed) (StandsBy service history.tables)
-        (written_stands seen service tokens witnessed e closes z history)
+    connections_stand tokens witnessed e closes z history c =
+        let came = came_of put_gives take_gives c in
+        written_as (MightSpeak seen service witnessed came) (StandsBy service history.tables came)
+        (written_stands seen service came tokens witnessed e closes z history) c
 
-    pub stands_in : (good : E) (known : List E) (block : List Content) → (seen good).doubt ≡ 0
-        → Every (λ y. EverSince seen service y good) known
-        → MightSpeak seen service known block → StandsBy service (seen good).tables block
-    stands_in good known block z since (inl free) = inl free
-    stands_in good known block z since (inr was) = stands_among seen service good (seen good).tables block known z since
+    pub stands_in : (good : E) (known : List E) → (seen good).doubt ≡ 0
+        → Every (λ y. EverSince seen service y good) known → (came : Content → Type 0) (block : List Content)
+        → MightSpeak seen service known came block → StandsBy service (seen good).tables came block
+    stands_in good known z since came block (inl free) = inl free
+    stands_in good known z since came block (inr was) = stands_among seen service came good (seen good).tables block known z since
         (every_map (λ y. EverSince seen service y good)
         (λ y. AllMatch service (seen y).may_leave → Grows (seen y).tables (seen good).tables) known
         (λ y s matches. (s.clean z matches).1) since)

@@ -101,8 +101,9 @@ module _ {L : Type 0} (put_gives : L → List ℕ → Result ℕ LinkFault → L
         matches = (ever.clean z' (taken.good s).matches).0;
         stand = every_map (HasSpokenIf put_gives take_gives seen service known)
             (HasWrittenIf put_gives take_gives (StandsBy service (seen closes.good).tables)) conns
-            (written_as_if put_gives take_gives (MightSpeak seen service known) (StandsBy service (seen closes.good).tables)
-            (λ block. stands_in put_gives take_gives seen service closes.good known block z' since))
+            (written_as_if put_gives take_gives (MightSpeak seen service known)
+            (StandsBy service (seen closes.good).tables)
+            (stands_in put_gives take_gives seen service closes.good known z' since))
             spoken;
         messages = taken.since.messages;
         came = taken.since.came s;

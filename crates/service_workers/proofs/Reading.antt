@@ -31,7 +31,7 @@ use Rattle.shared_endpoint.proofs.Closing.{any_left, any_right}
 use Rattle.service_workers.specs.Conns.{link_of, start_of}
 use Rattle.service_workers.specs.Reads.{Took, begins, put, gave, failed, waiting_of, with_next, AreOthers, IsUnread}
 use Rattle.service_workers.specs.Reads.{HasRead, IsReading, HasGiven, ReadsOnly, ReadsSome, ReadsLast, ReadsTurn}
-use Rattle.service_workers.specs.Reads.{Finds, FindsNone, TakesBack, CameOn, Came, IsReadIf, FoundCame}
+use Rattle.service_workers.specs.Reads.{Finds, FindsNone, TakesBack, CameOn, Came, CameFrom, CameOver, IsReadIf, IfFound}
 use Rattle.service_workers.specs.Turns.{TakesIn}
 use Rattle.service_workers.specs.declared.conn.Conn.{Conn}
 use Rattle.service_workers.specs.declared.conn.Found.{Found}
@@ -578,6 +578,11 @@ module _ {L : Type 0} (put_gives : L → List ℕ → Result ℕ LinkFault → L
   -- ---- a place of a connection
 
   module _ (given : L → Type 0) where
+    -- what was read off a connection is held, and a frame that waits on it came on one of which that is so
+    abbrev pub IsReadBy : Conn L → Type 0
+    IsReadBy c = ((frames : List Content) × IsReading put_gives take_gives frames c)
+        × Every (Came put_gives take_gives given) (waiting_of c)
+
     every_after : (xs ys : List Content) → Every (Came put_gives take_gives given) (xs ++ ys)
         → Every (Came put_gives take_gives given) xs × Every (Came put_gives take_gives given) ys
     every_after [] ys h = (tt, h)
@@ -585,8 +590,8 @@ module _ {L : Type 0} (put_gives : L → List ℕ → Result ℕ LinkFault → L
 
     -- what is given came, and what waits then
     reads_come : (xs : List Content) (c d : Conn L) → given (start_of c) → ReadsOnly put_gives take_gives xs c d
-        → IsReadIf put_gives take_gives given (Some c)
-        → Every (Came put_gives take_gives given) xs × IsReadIf put_gives take_gives given (Some d)
+        → IsReadBy c
+        → Every (Came put_gives take_gives given) xs × IsReadBy d
     reads_come xs c d is h k =
         let reading = h.reads k.0.0 k.0.1 in
         let more = each_came d (k.0.0 ++ h.more) h.more reading.read (λ f at. any_right (λ g. g ≡ f) k.0.0 h.more at) in
@@ -597,13 +602,13 @@ module _ {L : Type 0} (put_gives : L → List ℕ → Result ℕ LinkFault → L
         (parts.0, ((k.0.0 ++ h.more, reading), parts.1))
 
     pub some_come : (c d : Conn L) → given (start_of c) → ReadsSome put_gives take_gives c d
-        → IsReadIf put_gives take_gives given (Some c)
-        → IsReadIf put_gives take_gives given (Some d)
+        → IsReadBy c
+        → IsReadBy d
     some_come c d is h k = (reads_come h.0 c d is h.1 k).1
 
     pub finds_come : (r : Found) (c d : Conn L) → given (start_of c) → Finds put_gives take_gives r c d
-        → IsReadIf put_gives take_gives given (Some c)
-        → FoundCame put_gives take_gives given r × IsReadIf put_gives take_gives given (Some d)
+        → IsReadBy c
+        → IfFound (Came put_gives take_gives given) r × IsReadBy d
     finds_come found.Nothing c d is h k = (tt, some_come c d is (h.0, h.2) k)
     finds_come found.Answered c d is h k = (tt, some_come c d is (h.0, h.2) k)
     finds_come found.Connected c d is h k = (tt, some_come c d is (h.0, h.2) k)
@@ -618,17 +623,69 @@ module _ {L : Type 0} (put_gives : L → List ℕ → Result ℕ LinkFault → L
     or_it f (Some g) waits came = waits.0
 
     pub back_comes : (f : Content) (c d : Conn L) → Came put_gives take_gives given f → TakesBack put_gives take_gives f c d
-        → IsReadIf put_gives take_gives given (Some c)
-        → IsReadIf put_gives take_gives given (Some d)
+        → IsReadBy c
+        → IsReadBy d
     back_comes f c d came h k = (
       (k.0.0, h.reads k.0.0 k.0.1),
       subst (λ o. Every (Came put_gives take_gives given) (option_to_list o)) (sym h.waits)
           (or_it f c.channel.waiting k.1 came, tt),
     )
 
-    -- a new connection
-    pub unread_is_read : (c : Conn L) → IsUnread c → IsReadIf put_gives take_gives given (Some c)
-    unread_is_read c new = (
-      (waiting_of c, unread_given c new),
-      subst (λ o. Every (Came put_gives take_gives given) (option_to_list o)) (sym new.waiting) tt,
-    )
+  -- ---- by the link that the connection began with
+
+  reads_from : (c : Conn L) → IsReadIf put_gives take_gives (Some c) → IsReadBy (λ l. Some (start_of c) ≡ Some l) c
+  reads_from c h = h
+
+  reads_again : (c d : Conn L) → start_of d ≡ start_of c → IsReadBy (λ l. Some (start_of c) ≡ Some l) d
+      → IsReadIf put_gives take_gives (Some d)
+  reads_again c d starts h = (
+    h.0,
+    subst (λ (l : L). Every (CameFrom put_gives take_gives (Some l)) (waiting_of d)) (sym starts) h.1,
+  )
+
+  pub goes_on_read : (c d : Conn L) → ReadsSome put_gives take_gives c d → IsReadIf put_gives take_gives (Some c)
+      → IsReadIf put_gives take_gives (Some d)
+  goes_on_read c d h k =
+      reads_again c d h.1.starts (some_come (λ l. Some (start_of c) ≡ Some l) c d refl h (reads_from c k))
+
+  finds_starts : (r : Found) (c d : Conn L) → Finds put_gives take_gives r c d → start_of d ≡ start_of c
+  finds_starts found.Nothing c d h = h.2.starts
+  finds_starts found.Answered c d h = h.2.starts
+  finds_starts found.Connected c d h = h.2.starts
+  finds_starts (found.Message m) c d h = h.starts
+  finds_starts (found.Over cut) c d h = h.1.starts
+
+  -- what came on a connection that began with this link came on one of which that is so, where it's so of the link
+  came_given : (given : L → Type 0) (link : L) (f : Content) → given link → CameFrom put_gives take_gives (Some link) f
+      → Came put_gives take_gives given f
+  came_given given link f is (c, same, on) = (c, subst given (ap (λ o. unwrap_or o link) same) is, on)
+
+  found_over : (given : L → Type 0) (link : L) (r : Found) → given link → IfFound (CameFrom put_gives take_gives (Some link)) r
+      → IfFound (CameOver put_gives take_gives given (Some link)) r
+  found_over given link found.Nothing is h = tt
+  found_over given link found.Answered is h = tt
+  found_over given link found.Connected is h = tt
+  found_over given link (found.Message m) is h = (h, came_given given link m is h)
+  found_over given link (found.Over cut) is h = tt
+
+  pub finds_over : (given : L → Type 0) (r : Found) (c d : Conn L) → given (start_of c) → Finds put_gives take_gives r c d
+      → IsReadIf put_gives take_gives (Some c)
+      → IfFound (CameOver put_gives take_gives given (Some (start_of c))) r × IsReadIf put_gives take_gives (Some d)
+  finds_over given r c d is h k =
+      let come = finds_come (λ l. Some (start_of c) ≡ Some l) r c d refl h (reads_from c k) in (
+        found_over given (start_of c) r is come.0,
+        reads_again c d (finds_starts r c d h) come.1,
+      )
+
+  pub goes_on_kept : (f : Content) (c d : Conn L) → CameFrom put_gives take_gives (Some (start_of c)) f
+      → TakesBack put_gives take_gives f c d → IsReadIf put_gives take_gives (Some c)
+      → IsReadIf put_gives take_gives (Some d)
+  goes_on_kept f c d came h k =
+      reads_again c d h.starts (back_comes (λ l. Some (start_of c) ≡ Some l) f c d came h (reads_from c k))
+
+  -- a new connection
+  pub unread_is_read : (c : Conn L) → IsUnread c → IsReadIf put_gives take_gives (Some c)
+  unread_is_read c new = (
+    (waiting_of c, unread_given c new),
+    subst (λ o. Every (CameFrom put_gives take_gives (Some (start_of c))) (option_to_list o)) (sym new.waiting) tt,
+  )

@@ -1,5 +1,5 @@
 -- What is written on a connection, and what stays so of it.
-use Rattle.std.proofs.Common.{◌≡◌, ℕ, ◌+◌, List, [], ◌∷◌, ◌++◌, take, drop}
+use Rattle.std.proofs.Common.{◌≡◌, ℕ, List, [], ◌∷◌, ◌++◌, take, drop}
 use Rattle.std.proofs.Common.{refl, sym, ap, ◌∙◌, subst, inl, inr, append-nil, append_assoc, take-add}
 use Rattle.std.proofs.Common.{Option, Some, None, Result}
 use Rattle.std.proofs.lemmas.List.{take-append-drop}
@@ -25,8 +25,9 @@ use Rattle.shared_endpoint.proofs.Closing.{any_left, any_right}
 use Rattle.service_workers.specs.Conns.{link_of, client_of, start_of, IsGiven, or_was, values_of, began_with, links_of}
 use Rattle.service_workers.specs.Truth.{Knows}
 use Rattle.service_workers.specs.Turns.{TakesOnce}
-use Rattle.service_workers.specs.Written.{Path, puts, fails, takes, frames_of, IsFree, MightSpeak, Speaks}
-use Rattle.service_workers.specs.Written.{WritesOnly, Writes, HasSpoken, HasSpokenIf}
+use Rattle.service_workers.specs.Reads.{CameFrom}
+use Rattle.service_workers.specs.Written.{Path, puts, fails, takes, frames_of, IsOfSession, of_session, MightSpeak, Speaks}
+use Rattle.service_workers.specs.Written.{WritesOnly, Writes, WritesOfSession, came_of, HasSpoken, HasSpokenIf}
 use Rattle.service_workers.specs.declared.conn.Conn.{Conn}
 
 -- ---- several connections
@@ -225,65 +226,72 @@ module _ {L : Type 0} (put_gives : L → List ℕ → Result ℕ LinkFault → L
   module _ {E S C : Type 0} (seen : E → Seen (Tables S C)) (service : Service S C) where
     -- ---- what is witnessed
 
-    pub more_shown : (xs ys : List E) (block : List Content) → MightSpeak seen service xs block
-        → MightSpeak seen service (xs ++ ys) block
-    more_shown xs ys block (inl free) = inl free
-    more_shown xs ys block (inr was) = inr (any_left (λ y. (seen y).doubt ≡ 0 → AllMatch service (seen y).may_leave
-        × Speaks service (kept (seen y).tables) block) xs ys was)
+    module _ (came : Content → Type 0) where
+      pub more_shown : (xs ys : List E) (block : List Content) → MightSpeak seen service xs came block
+          → MightSpeak seen service (xs ++ ys) came block
+      more_shown xs ys block (inl free) = inl free
+      more_shown xs ys block (inr was) = inr (any_left (λ y. (seen y).doubt ≡ 0 → AllMatch service (seen y).may_leave
+          × Speaks service came (kept (seen y).tables) block) xs ys was)
 
-    pub now_shown : (xs ys : List E) (block : List Content) → MightSpeak seen service ys block
-        → MightSpeak seen service (xs ++ ys) block
-    now_shown xs ys block (inl free) = inl free
-    now_shown xs ys block (inr was) = inr (any_right (λ y. (seen y).doubt ≡ 0 → AllMatch service (seen y).may_leave
-        × Speaks service (kept (seen y).tables) block) xs ys was)
+      pub now_shown : (xs ys : List E) (block : List Content) → MightSpeak seen service ys came block
+          → MightSpeak seen service (xs ++ ys) came block
+      now_shown xs ys block (inl free) = inl free
+      now_shown xs ys block (inr was) = inr (any_right (λ y. (seen y).doubt ≡ 0 → AllMatch service (seen y).may_leave
+          × Speaks service came (kept (seen y).tables) block) xs ys was)
 
-    -- what a good token has seen
-    pub known_shown : (sound : Type 0) (P : Kept C → Type 0) (block : List Content) (own : List (Told E)) (others : List E)
-        → ((x : Kept C) → P x → Speaks service x block) → Knows seen service sound P own → sound
-        → MightSpeak seen service (seen_by own ++ others) block
-    known_shown sound P block (w ∷ []) others so knows is =
-        inr (inl (λ z. let h = knows is z in (h.0.matches, so (kept (seen w.seen).tables) h.1)))
-    known_shown sound P block [] others so knows is = absurd knows
-    known_shown sound P block (w ∷ v ∷ ws) others so knows is = absurd knows
+      -- what a good token has seen
+      pub known_shown : (sound : Type 0) (P : Kept C → Type 0) (block : List Content) (own : List (Told E)) (others : List E)
+          → ((x : Kept C) → P x → Speaks service came x block) → Knows seen service sound P own → sound
+          → MightSpeak seen service (seen_by own ++ others) came block
+      known_shown sound P block (w ∷ []) others so knows is =
+          inr (inl (λ z. let h = knows is z in (h.0.matches, so (kept (seen w.seen).tables) h.1)))
+      known_shown sound P block [] others so knows is = absurd knows
+      known_shown sound P block (w ∷ v ∷ ws) others so knows is = absurd knows
 
     -- ---- what was written
 
     -- a connection goes on, and more may be shown
     pub has_spoken_on : (xs ys : List E) (c d : Conn L) → HasSpoken put_gives take_gives seen service xs c
-        → Writes put_gives take_gives (MightSpeak seen service (xs ++ ys)) c d
+        → Writes put_gives take_gives (MightSpeak seen service (xs ++ ys) (came_of put_gives take_gives c)) c d
         → HasSpoken put_gives take_gives seen service (xs ++ ys) d
     has_spoken_on xs ys c d h k =
         let m = k.2.sends (start_of c) (frames_of h.blocks) h.gone h.path h.wrote in
+        let came = came_of put_gives take_gives c in
         record {
           blocks = h.blocks ++ k.0;
           gone = h.gone ++ m.0;
           path = subst (λ (l : L). Path put_gives take_gives l (h.gone ++ m.0) (link_of d)) (sym k.2.starts) m.1;
           wrote = subst (λ fs. Wrote fs (h.gone ++ m.0) (client_of d).out) (sym (blocks_more h.blocks k.0)) m.2;
-          allowed = every_both (MightSpeak seen service (xs ++ ys)) h.blocks k.0
-              (every_map (MightSpeak seen service xs) (MightSpeak seen service (xs ++ ys)) h.blocks (more_shown xs ys) h.allowed)
-              k.1;
+          allowed = subst (λ (l : L). Every (MightSpeak seen service (xs ++ ys) (CameFrom put_gives take_gives (Some l)))
+              (h.blocks ++ k.0)) (sym k.2.starts)
+              (every_both (MightSpeak seen service (xs ++ ys) came) h.blocks k.0
+              (every_map (MightSpeak seen service xs came) (MightSpeak seen service (xs ++ ys) came) h.blocks
+              (more_shown came xs ys) h.allowed)
+              k.1);
         }
 
     -- the same where no more is shown
     pub has_spoken_more : (xs : List E) (c d : Conn L) → HasSpoken put_gives take_gives seen service xs c
-        → Writes put_gives take_gives (MightSpeak seen service xs) c d
+        → Writes put_gives take_gives (MightSpeak seen service xs (came_of put_gives take_gives c)) c d
         → HasSpoken put_gives take_gives seen service xs d
-    has_spoken_more xs c d h k = subst (λ es. HasSpoken put_gives take_gives seen service es d) (append-nil xs)
-        (has_spoken_on xs [] c d h (as_others (MightSpeak seen service xs) (MightSpeak seen service (xs ++ []))
-        (more_shown xs []) c d k))
+    has_spoken_more xs c d h k =
+        let came = came_of put_gives take_gives c in
+        subst (λ es. HasSpoken put_gives take_gives seen service es d) (append-nil xs)
+        (has_spoken_on xs [] c d h (as_others (MightSpeak seen service xs came) (MightSpeak seen service (xs ++ []) came)
+        (more_shown came xs []) c d k))
 
-    -- or nothing is written that needs a witness
-    pub has_spoken_free : (xs : List E) (c d : Conn L) → HasSpoken put_gives take_gives seen service xs c
-        → Writes put_gives take_gives IsFree c d
+    -- or nothing is written but frames of the session, which need no witness
+    pub has_spoken_session : (xs : List E) (c d : Conn L) → HasSpoken put_gives take_gives seen service xs c
+        → WritesOfSession put_gives take_gives service.kind c d
         → HasSpoken put_gives take_gives seen service xs d
-    has_spoken_free xs c d h k =
-        has_spoken_more xs c d h (as_others IsFree (MightSpeak seen service xs) (λ block free. inl free) c d k)
+    has_spoken_session xs c d h k = has_spoken_more xs c d h (as_others (IsOfSession service.kind)
+        (MightSpeak seen service xs (came_of put_gives take_gives c)) (λ block is. inl (of_session block is)) c d k)
 
     -- and where more is shown, and nothing is written
     pub shown_more : (xs ys : List E) (c : Conn L) → HasSpoken put_gives take_gives seen service xs c
         → HasSpoken put_gives take_gives seen service (xs ++ ys) c
-    shown_more xs ys c h = has_spoken_on xs ys c c h (none_of (MightSpeak seen service (xs ++ ys)) c c
-        (writes_nothing c c refl refl refl))
+    shown_more xs ys c h = has_spoken_on xs ys c c h
+        (none_of (MightSpeak seen service (xs ++ ys) (came_of put_gives take_gives c)) c c (writes_nothing c c refl refl refl))
 
     pub shown_before : (xs ys : List E) (c : Conn L) → HasSpoken put_gives take_gives seen service ys c
         → HasSpoken put_gives take_gives seen service (xs ++ ys) c
@@ -292,7 +300,9 @@ module _ {L : Type 0} (put_gives : L → List ℕ → Result ℕ LinkFault → L
       gone = h.gone;
       path = h.path;
       wrote = h.wrote;
-      allowed = every_map (MightSpeak seen service ys) (MightSpeak seen service (xs ++ ys)) h.blocks (now_shown xs ys) h.allowed;
+      allowed = every_map (MightSpeak seen service ys (came_of put_gives take_gives c))
+          (MightSpeak seen service (xs ++ ys) (came_of put_gives take_gives c)) h.blocks
+          (now_shown (came_of put_gives take_gives c) xs ys) h.allowed;
     }
 
     -- ---- a line
@@ -306,28 +316,36 @@ module _ {L : Type 0} (put_gives : L → List ℕ → Result ℕ LinkFault → L
         → IsGiven given (Some d)
     known_start given c d same h = subst given (sym same) h
 
-    -- it goes on, and more is shown
+    -- it goes on, and more is shown, by which it has spoken while the service is sound
+    pub line_spoke : (given : L → Type 0) (sound : Type 0) (xs ys : List E) (now was : Option (Conn L)) (c d : Conn L)
+        → now ≡ Some c → IsKnown given sound xs (or_was now was) → start_of d ≡ start_of c
+        → (sound → Writes put_gives take_gives (MightSpeak seen service (xs ++ ys) (came_of put_gives take_gives c)) c d)
+        → IsKnown given sound (xs ++ ys) (Some d)
+    line_spoke given sound xs ys now was c d is known starts h =
+        let old : IsKnown given sound xs (Some c) = subst (λ o. IsKnown given sound xs (or_was o was)) is known in (
+          known_start given c d starts old.0,
+          λ s. has_spoken_on xs ys c d (old.1 s) (h s),
+        )
+
+    -- the same of blocks of another kind
     pub line_says : (P : List Content → Type 0) (given : L → Type 0) (sound : Type 0) (xs ys : List E)
         (now was : Option (Conn L)) (c d : Conn L)
         → now ≡ Some c → IsKnown given sound xs (or_was now was)
-        → (sound → (block : List Content) → P block → MightSpeak seen service (xs ++ ys) block)
+        → (sound → (block : List Content) → P block → MightSpeak seen service (xs ++ ys) (came_of put_gives take_gives c) block)
         → Writes put_gives take_gives P c d
         → IsKnown given sound (xs ++ ys) (Some d)
-    line_says P given sound xs ys now was c d is known so h =
-        let old : IsKnown given sound xs (Some c) = subst (λ o. IsKnown given sound xs (or_was o was)) is known in (
-          known_start given c d h.2.starts old.0,
-          λ s. has_spoken_on xs ys c d (old.1 s) (as_others P (MightSpeak seen service (xs ++ ys)) (so s) c d h),
-        )
+    line_says P given sound xs ys now was c d is known so h = line_spoke given sound xs ys now was c d is known h.2.starts
+        (λ s. as_others P (MightSpeak seen service (xs ++ ys) (came_of put_gives take_gives c)) (so s) c d h)
 
-    -- it goes on, and nothing is written that needs a witness
+    -- it goes on, and nothing is written but frames of the session
     pub line_goes : (given : L → Type 0) (sound : Type 0) (xs : List E) (now was : Option (Conn L)) (c d : Conn L)
         → now ≡ Some c → IsKnown given sound xs (or_was now was)
-        → Writes put_gives take_gives IsFree c d
+        → WritesOfSession put_gives take_gives service.kind c d
         → IsKnown given sound xs (Some d)
     line_goes given sound xs now was c d is known h =
         let old : IsKnown given sound xs (Some c) = subst (λ o. IsKnown given sound xs (or_was o was)) is known in (
           known_start given c d h.2.starts old.0,
-          λ s. has_spoken_free xs c d (old.1 s) h,
+          λ s. has_spoken_session xs c d (old.1 s) h,
         )
 
     -- it was cut

@@ -43,6 +43,11 @@ with_next f c = record c { channel = record c.channel { waiting = Some f } }
 abbrev pub AreOthers : List Content → Type 0
 AreOthers frames = Every (λ f. f.command ≢ command.Message) frames
 
+-- this is so of a MESSAGE that is found
+abbrev pub IfFound : (Content → Type 0) → Found → Type 0
+IfFound P (Message f) = P f
+IfFound P _ = ⊤
+
 -- nothing came on the connection yet
 pub record IsUnread {L : Type 0} (c : Conn L) : Type 0 where
   pub starts : start_of c ≡ link_of c
@@ -114,12 +119,15 @@ module _ {L : Type 0} (put_gives : L → List ℕ → Result ℕ LinkFault → L
   abbrev pub Came : (L → Type 0) → Content → Type 0
   Came given message = (c : Conn L) × given (start_of c) × CameOn c message
 
-  -- Where there is a connection, what was read off it is held; and a frame that waits on it came on such a connection.
-  abbrev pub IsReadIf : (L → Type 0) → Option (Conn L) → Type 0
-  IsReadIf given None = ⊤
-  IsReadIf given (Some c) = ((frames : List Content) × IsReading frames c) × Every (Came given) (waiting_of c)
+  -- This frame came on a connection that began with this link.
+  abbrev pub CameFrom : Option L → Content → Type 0
+  CameFrom link message = Came (λ l. link ≡ Some l) message
 
-  -- a MESSAGE that is found came
-  abbrev pub FoundCame : (L → Type 0) → Found → Type 0
-  FoundCame given (Message f) = Came given f
-  FoundCame given _ = ⊤
+  -- It came on a connection that began with this link, and on one of which that is so.
+  abbrev pub CameOver : (L → Type 0) → Option L → Content → Type 0
+  CameOver given link message = CameFrom link message × Came given message
+
+  -- Where there is a connection, what was read off it is held; and a frame that waits on it came on a connection with its link.
+  abbrev pub IsReadIf : Option (Conn L) → Type 0
+  IsReadIf None = ⊤
+  IsReadIf (Some c) = ((frames : List Content) × IsReading frames c) × Every (CameFrom (Some (start_of c))) (waiting_of c)

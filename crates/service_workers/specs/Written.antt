@@ -1,11 +1,14 @@
 -- What a service may write on a connection, and what was written on one.
 use Rattle.std.specs.Prelude.{◌≡◌, ◌⊎◌, ℕ, ◌≤◌, List, [], ◌∷◌, ◌++◌, take, Option, Some, None, Result, Ok, Err, ⊤}
 use Rattle.std.specs.List.{flat_map}
+use Rattle.base.specs.Entity.{queue_of}
+use Rattle.base.specs.declared.entity.Kind.{Kind}
 use Rattle.base.specs.declared.pair.Pair.{Pair}
 use Rattle.stomp_wire.specs.declared.fault.LinkFault.{LinkFault}
 use Rattle.stomp_frame.specs.Frames.{Content}
-use Rattle.stomp_frame.specs.declared.command.Command.TheVariants.{Connect, Subscribe, Disconnect, Ack, Nack}
-use Rattle.stomp_client.specs.Frames.{with_receipt}
+use Rattle.stomp_frame.specs.declared.command.Command.TheVariants.{Connect, Ack, Nack}
+use Rattle.stomp_client.specs.Delivered.{IsDelivered}
+use Rattle.stomp_client.specs.Frames.{disconnect_frame, subscribe_frame, subscribe_frame_with, with_receipt}
 use Rattle.stomp_client.specs.Written.{Wrote}
 use Rattle.envelope.specs.Reading.{read_frame}
 use Rattle.envelope.specs.Written.{send_of}
@@ -24,8 +27,8 @@ use Rattle.told_lock.specs.Rule.{Every}
 use Rattle.told_lock.specs.declared.view.Told.{Told}
 use Rattle.shared_endpoint.specs.Promises.{IsOneHistory}
 use Rattle.shared_endpoint.specs.Keys.{Any, Closes, shown_hand}
-use Rattle.service_workers.specs.Conns.{link_of, client_of, or_was, IsGiven}
-use Rattle.service_workers.specs.Reads.{IsReadIf}
+use Rattle.service_workers.specs.Conns.{link_of, client_of, start_of, or_was, IsGiven}
+use Rattle.service_workers.specs.Reads.{CameFrom, IsReadIf}
 use Rattle.service_workers.specs.Tokens.{Progress, progress_of, HasArrived}
 use Rattle.service_workers.specs.Handed.{AreGoodWhile}
 use Rattle.service_workers.specs.Truth.{IsForeign, IsNotSent}
@@ -58,16 +61,20 @@ frames_of blocks = flat_map (λ block. block) blocks
 abbrev pub IsSendOf : List Content → TheLetter → Type 0
 IsSendOf block l = (receipt : ℕ) × (block ≡ with_receipt receipt (send_of (Letter l)) ∷ [])
 
--- CONNECT, SUBSCRIBE or DISCONNECT
-abbrev pub IsOfSession : Content → Type 0
-IsOfSession f = (f.command ≡ Connect) ⊎ (f.command ≡ Subscribe) ⊎ (f.command ≡ Disconnect)
+-- a frame of the session of a service of this kind: CONNECT, SUBSCRIBE to its queue, or DISCONNECT
+pub data IsOfSession (mine : Kind) : List Content → Type 0 where
+  connects : (f : Content) → f.command ≡ Connect → IsOfSession mine (f ∷ [])
+  subscribes : IsOfSession mine (subscribe_frame (queue_of mine) ∷ [])
+  subscribes_with : (prefetch : ℕ) → IsOfSession mine (subscribe_frame_with (queue_of mine) prefetch ∷ [])
+  disconnects : (receipt : ℕ) → IsOfSession mine (with_receipt receipt disconnect_frame ∷ [])
 
--- What may be written at any time: a frame of the session; that a MESSAGE is to be redelivered; or that one is done with
--- which carries nothing that anybody could take.
-pub data IsFree : List Content → Type 0 where
-  of_session : (f : Content) → IsOfSession f → IsFree (f ∷ [])
-  refuses : (message : Content) → IsFree (answer Nack message)
-  unread : (message : Content) → read_frame message ≡ None → IsFree (answer Ack message)
+-- What may be written at any time: a frame of the session; that a MESSAGE that came is to be redelivered; or that one that came
+-- is done with, which carries nothing that anybody could take.
+pub data IsFree (mine : Kind) (came : Content → Type 0) : List Content → Type 0 where
+  of_session : (block : List Content) → IsOfSession mine block → IsFree mine came block
+  refuses : (message : Content) → IsDelivered message → came message → IsFree mine came (answer Nack message)
+  unread : (message : Content) → IsDelivered message → came message → read_frame message ≡ None
+      → IsFree mine came (answer Ack message)
 
 -- Why a MESSAGE may be done with that settles nothing: the letter is held until it's handled; the settle was noted; or the
 -- service can take neither, since it's another's, or what it settles was never sent.
@@ -75,24 +82,27 @@ abbrev pub IsDoneWith : Envelope → Progress → Type 0
 IsDoneWith (Letter l) x = HasArrived x l.pair l.number ⊎ IsForeign (Letter l) x
 IsDoneWith (Settle p n) x = (n ≤ x.settled p) ⊎ IsForeign (Settle p n) x ⊎ IsNotSent (Settle p n) x
 
-module _ {S C : Type 0} (service : Service S C) where
-  -- What may be written by what the service has kept: a letter that it sends under this number; that a MESSAGE is done
-  -- with; or the same in one transaction with a settle of its pair, where the letter is handled, and the pair so far.
+module _ {S C : Type 0} (service : Service S C) (came : Content → Type 0) where
+  -- What may be written by what the service has kept: a letter that it sends under this number; that a MESSAGE that came is
+  -- done with; or the same in one transaction with a settle of its pair, where the letter is handled, and the pair so far.
   pub data Speaks (x : Kept C) : List Content → Type 0 where
     sends : (l : TheLetter) (receipt : ℕ) → IsTrueIn service.reactions x.journal (Letter l)
         → Speaks x (with_receipt receipt (send_of (Letter l)) ∷ [])
-    is_done : (message : Content) (e : Envelope) → read_frame message ≡ Some e → IsDoneWith e (progress_of service x)
+    is_done : (message : Content) (e : Envelope) → came message → read_frame message ≡ Some e
+        → IsDoneWith e (progress_of service x)
         → Speaks x (answer Ack message)
-    settles : (message : Content) (transaction : ℕ) (l : TheLetter) (n : ℕ) → read_frame message ≡ Some (Letter l)
+    settles : (message : Content) (transaction : ℕ) (l : TheLetter) (n : ℕ) → came message
+        → read_frame message ≡ Some (Letter l)
         → IsTrueIn service.reactions x.journal (Settle l.pair l.number)
         → IsTrueIn service.reactions x.journal (Settle l.pair n)
         → Speaks x (settling message transaction l.pair n)
 
-  -- A block by which these tables stand: it might be written at any time, or by a beginning of their journal, whose marks
-  -- were no higher.
-  abbrev pub StandsBy : Tables S C → List Content → Type 0
-  StandsBy t block = IsFree block
-      ⊎ ((x : Kept C) × IsPrefixOf x.journal t.journal × ((p : Pair) → x.settled p ≤ t.settled p) × Speaks x block)
+module _ {S C : Type 0} (service : Service S C) where
+  -- A block by which these tables stand: it might be written at any time, or by a beginning of their journal, whose marks were
+  -- no higher.
+  abbrev pub StandsBy : Tables S C → (came : Content → Type 0) → List Content → Type 0
+  StandsBy t came block = IsFree service.kind came block
+      ⊎ ((x : Kept C) × IsPrefixOf x.journal t.journal × ((p : Pair) → x.settled p ≤ t.settled p) × Speaks service came x block)
 
 module _ {E S C : Type 0} (seen : E → Seen (Tables S C)) (service : Service S C) where
   -- This was so of what one of these endpoints kept, which matched its journal; where that file is in doubt, nothing is
@@ -100,16 +110,16 @@ module _ {E S C : Type 0} (seen : E → Seen (Tables S C)) (service : Service S 
   abbrev pub WasTrue : (Kept C → Type 0) → List E → Type 0
   WasTrue P witnessed = Any (λ y. (seen y).doubt ≡ 0 → AllMatch service (seen y).may_leave × P (kept (seen y).tables)) witnessed
 
-  -- it might be written at any time, or by what one of these endpoints kept
-  abbrev pub MightSpeak : List E → List Content → Type 0
-  MightSpeak witnessed block = IsFree block ⊎ WasTrue (λ x. Speaks service x block) witnessed
+  -- it might be written at any time, or by what one of these endpoints kept, where these MESSAGEs came
+  abbrev pub MightSpeak : List E → (came : Content → Type 0) → List Content → Type 0
+  MightSpeak witnessed came block = IsFree service.kind came block ⊎ WasTrue (λ x. Speaks service came x block) witnessed
 
   -- In the end the tables stand by each block that might be written, by the endpoints that were shown to a token.
-  abbrev pub WrittenStands : Type 0
-  WrittenStands = (tokens : List (Told E)) (witnessed : List E) (e : E) → Closes seen service tokens witnessed e
+  abbrev pub WrittenStands : (came : Content → Type 0) → Type 0
+  WrittenStands came = (tokens : List (Told E)) (witnessed : List E) (e : E) → Closes seen service tokens witnessed e
       → (seen e).doubt ≡ 0 → (history : IsOneHistory seen service tokens witnessed e)
-      → (block : List Content) → MightSpeak witnessed block
-      → StandsBy service history.tables block
+      → (block : List Content) → MightSpeak witnessed came block
+      → StandsBy service history.tables came block
 
 -- ---- connections
 
@@ -128,9 +138,9 @@ module _ {L : Type 0} (put_gives : L → List ℕ → Result ℕ LinkFault → L
   abbrev pub Writes : (List Content → Type 0) → (c d : Conn L) → Type 0
   Writes P c d = (blocks : List (List Content)) × Every P blocks × WritesOnly blocks c d
 
-  -- frames that may be written at any time
-  abbrev pub WritesOfSession : (c d : Conn L) → Type 0
-  WritesOfSession = Writes IsFree
+  -- frames of the session of a service of this kind
+  abbrev pub WritesOfSession : Kind → (c d : Conn L) → Type 0
+  WritesOfSession mine = Writes (IsOfSession mine)
 
   -- some of these letters, each in a frame of its own
   abbrev pub WritesLetters : List TheLetter → (c d : Conn L) → Type 0
@@ -145,22 +155,26 @@ module _ {L : Type 0} (put_gives : L → List ℕ → Result ℕ LinkFault → L
     pub wrote : Wrote (frames_of blocks) gone (client_of c).out
     pub allowed : Every P blocks
 
-  -- the same where there is one
-  abbrev pub HasWrittenIf : (List Content → Type 0) → Option (Conn L) → Type 0
+  -- what came on a connection that began with the same link as this one
+  abbrev pub came_of : Conn L → Content → Type 0
+  came_of c = CameFrom put_gives take_gives (Some (start_of c))
+
+  -- The same where there is one: what its blocks answer came on a connection that began with its link.
+  abbrev pub HasWrittenIf : ((came : Content → Type 0) → List Content → Type 0) → Option (Conn L) → Type 0
   HasWrittenIf P None = ⊤
-  HasWrittenIf P (Some c) = HasWritten P c
+  HasWrittenIf P (Some c) = HasWritten (P (came_of c)) c
 
   module _ {E S C : Type 0} (seen : E → Seen (Tables S C)) (service : Service S C) where
-    -- each block might be written at any time, or by what one of these endpoints kept
+    -- Each block might be written at any time, or by what one of these endpoints kept; and what it answers came so.
     abbrev pub HasSpoken : List E → Conn L → Type 0
-    HasSpoken witnessed = HasWritten (MightSpeak seen service witnessed)
+    HasSpoken witnessed c = HasWritten (MightSpeak seen service witnessed (came_of c)) c
 
     -- In the end the tables stand by all that a connection has written, whose blocks might be written by the endpoints that
     -- were shown to a token.
     abbrev pub ConnectionsStand : Type 0
     ConnectionsStand = (tokens : List (Told E)) (witnessed : List E) (e : E) → Closes seen service tokens witnessed e
         → (seen e).doubt ≡ 0 → (history : IsOneHistory seen service tokens witnessed e)
-        → (c : Conn L) → HasSpoken witnessed c → HasWritten (StandsBy service history.tables) c
+        → (c : Conn L) → HasSpoken witnessed c → HasWritten (StandsBy service history.tables (came_of c)) c
 
     -- the same where there is one
     abbrev pub HasSpokenIf : List E → Option (Conn L) → Type 0
@@ -173,11 +187,11 @@ module _ {L : Type 0} (put_gives : L → List ℕ → Result ℕ LinkFault → L
       pub tokens_good : AreGoodWhile seen service sound tokens
       pub conns_given : Every (IsGiven given) conns
       pub conns_spoken : sound → Every (HasSpokenIf (shown_hand tokens.hand)) conns
-      pub conns_read : sound → Every (IsReadIf put_gives take_gives given) conns
+      pub conns_read : sound → Every (IsReadIf put_gives take_gives) conns
 
     -- and how it ends: what is left of its connections has spoken so, and what was read off those that are left is held
     pub record Ends {H : Type 0} (sound : Type 0) (given : L → Type 0) (tokens : Tokens H E S C) (ended : List (Ended L))
         : Type 0 where
       pub ended_given : Every (λ e. IsGiven given (or_was e.conn e.was.value)) ended
       pub ended_spoken : sound → Every (λ e. HasSpokenIf (shown_hand tokens.hand) (or_was e.conn e.was.value)) ended
-      pub ended_read : sound → Every (λ e. IsReadIf put_gives take_gives given e.conn) ended
+      pub ended_read : sound → Every (λ e. IsReadIf put_gives take_gives e.conn) ended

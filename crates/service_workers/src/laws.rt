@@ -5,6 +5,7 @@ ghost use Rattle.std.specs.Prelude.{◌≡◌, ◌++◌, [], ℕ, List, Option};
 ghost use Rattle.stomp_frame.specs.Frames.{Content};
 ghost use Rattle.stomp_frame.specs.declared.command.Command.TheVariants.{Connect};
 ghost use Rattle.told_lock.specs.Rule.{Every};
+ghost use Rattle.shared_endpoint.specs.Keys.{Any};
 ghost use Rattle.service_workers.specs.Conns.{IsNewConnBy};
 ghost use Rattle.service_workers.specs.Reads.{CameOn, HasGiven, IsUnread, ReadsLast, ReadsOnly};
 ghost use Rattle.service_workers.specs.Taking.{TakingStands};
@@ -25,17 +26,18 @@ where
     ensures new { (shown : List K) (connect : Content) (prefetch : Option ℕ) (link : L) (c : Conn L) → connect.command ≡ Connect →
         IsNewConnBy connect prefetch link c → HasSpoken L.put_gives L.take_gives K.seen H.service shown c }
     ensures goes_on { (shown : List K) (c d : Conn L) → HasSpoken L.put_gives L.take_gives K.seen H.service shown c →
-        WritesOfSession L.put_gives L.take_gives c d → HasSpoken L.put_gives L.take_gives K.seen H.service shown d }
+        WritesOfSession L.put_gives L.take_gives H.service.kind c d →
+        HasSpoken L.put_gives L.take_gives K.seen H.service shown d }
 {}
 
-/// What was written stands by the journal in the end, whatever was written meanwhile: each letter is what the journal sends
-/// under its number, no settle is ahead of what it has handled, and what was acknowledged else was held, noted or not for
-/// this service, at a beginning of that journal.
+/// What was written stands by the journal in the end, whatever was written meanwhile, and whatever MESSAGEs came: each letter is
+/// what the journal sends under its number, no settle is ahead of what it has handled, and what was acknowledged else was held,
+/// noted or not for this service, at a beginning of that journal. Only what came was answered.
 pub fn what_was_written_stands<H, K>()
 where
     H: Handler,
     K: Keep<State = H::State, Command = H::Command> + Drop,
-    ensures { WrittenStands K.seen H.service }
+    ensures { (came : List Content) → WrittenStands K.seen H.service (λ message. Any (λ m. m ≡ message) came) }
 {}
 
 /// So all stands that was put on a connection's link, from its first frame to its last.

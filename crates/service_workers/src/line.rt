@@ -6,8 +6,8 @@ ghost use Rattle.activities.specs.Numbered.{IsPrefixOf};
 ghost use Rattle.told_lock.specs.Keys.{LockName, no_name};
 ghost use Rattle.shared_endpoint.specs.Keys.{IsHandOf, IsScoutOf, IsWitnessAt, IsWitnessOf, name_of, told_hand, told_scout};
 ghost use Rattle.shared_endpoint.specs.Keys.{shown_hand, shown_witness};
-ghost use Rattle.service_workers.specs.Conns.{began_with, or_was, IsGiven, Standing};
-ghost use Rattle.service_workers.specs.Reads.{Came, FoundCame, IsReadIf};
+ghost use Rattle.service_workers.specs.Conns.{began_with, or_was, IsGiven, RunStanding, Standing};
+ghost use Rattle.service_workers.specs.Reads.{CameFrom, CameOver, IfFound, IsReadIf};
 ghost use Rattle.service_workers.specs.Taking.{CarriedIn};
 ghost use Rattle.service_workers.specs.Truth.{Knows, AnsweredTo, AreSentIn};
 ghost use Rattle.service_workers.specs.Written.{HasSpokenIf};
@@ -57,6 +57,20 @@ impl<T, L> Naming<T, L> for Brand {
     ghost found = { None };
 }
 
+/// Names the connections of one run, for what comes on them. Each run picks it.
+pub(crate) trait RunNaming<L> {
+    ghost use Rattle.std.specs.Prelude.{ℕ, Option};
+
+    // The link that a connection began with, by its number, where there was one when the run began.
+    ghost begun: { ℕ → Option L };
+}
+
+impl<L> RunNaming<L> for Brand {
+    ghost use Rattle.std.specs.Prelude.{None};
+
+    ghost begun = { λ number. None };
+}
+
 /// The place of a connection, and a witness of what its frames were allowed by. Contracts see whether the connection is
 /// there, and the link that it began with, until it's noted (`Past::note`): no other call changes that link. A place can't be
 /// dropped: whoever is done with one closes it, where its connection was noted. So no connection of a place is forgotten.
@@ -98,7 +112,7 @@ where
         × IsGiven N.given (or_was l.conn l.was.value)
         × (N.sound → HasSpokenIf L.put_gives L.take_gives K.seen H.service (shown_witness l.witness)
         (or_was l.conn l.was.value))
-        × (N.sound → IsReadIf L.put_gives L.take_gives N.given l.conn) };
+        × (N.sound → IsReadIf L.put_gives L.take_gives l.conn) };
 }
 
 impl<N, L, H, K> Line<N, L, H, K>
@@ -113,7 +127,7 @@ where
         requires at { IsWitnessAt N.lock witness }
         requires given { IsGiven N.given conn }
         requires spoken { N.sound → HasSpokenIf L.put_gives L.take_gives K.seen H.service (shown_witness witness) conn }
-        requires read { N.sound → IsReadIf L.put_gives L.take_gives N.given conn }
+        requires read { N.sound → IsReadIf L.put_gives L.take_gives conn }
         ensures there { result.is_there ≡ is_some conn }
         ensures link { result.link ≡ began_with conn }
     {
@@ -215,147 +229,6 @@ where
         }
     }
 
-    /// Writes what waits, if the connection is there.
-    pub(crate) fn write(&mut self) -> Result<(), Cut>
-        ensures link { self.new.link ≡ self.old.link }
-    {
-        let Some(conn) = &mut self.conn else {
-            return Ok(());
-        };
-        conn.write()
-    }
-
-    /// Reads what came: whether something did. An error without a cause where the connection isn't there. At any other it's
-    /// cut at once: octets may be lost, and what is read after them isn't what was sent.
-    pub(crate) fn read(&mut self, alloc: Global) -> Result<bool, Option<Cut>>
-        ensures link { self.new.link ≡ self.old.link }
-    {
-        let Some(conn) = &mut self.conn else {
-            return Err(None);
-        };
-        match conn.read(alloc) {
-            Ok(count) => Ok(count > 0),
-            Err(cut) => {
-                note_and_drop(&mut self.conn, &mut self.was);
-                Err(Some(cut))
-            }
-        }
-    }
-
-    /// The next frame that came, if the connection is there.
-    pub(crate) fn next(&mut self, alloc: Global, kind: Kind) -> Found
-        ensures came { N.sound → FoundCame L.put_gives L.take_gives N.given result }
-        ensures link { self.new.link ≡ self.old.link }
-    {
-        let Some(conn) = &mut self.conn else {
-            return Found::Nothing;
-        };
-        conn.next(alloc, kind)
-    }
-
-    /// Keeps a frame that `next` gave, if the connection is there.
-    pub(crate) fn keep(&mut self, frame: Frame<MAX_BODY>)
-        requires came { N.sound → Came L.put_gives L.take_gives N.given frame }
-        ensures link { self.new.link ≡ self.old.link }
-    {
-        let Some(conn) = &mut self.conn else {
-            return;
-        };
-        conn.keep(frame);
-    }
-
-    /// So many of its letters to receivers of a kind aren't settled.
-    pub(crate) fn counted(&mut self, kind: Kind, on_way: usize)
-        ensures link { self.new.link ≡ self.old.link }
-    {
-        let Some(conn) = &mut self.conn else {
-            return;
-        };
-        conn.counted(kind, on_way);
-    }
-
-    /// Sends of these letters to receivers of a kind what wasn't sent on the connection, and answers how many of all were, now
-    /// or before. None where the connection isn't there.
-    pub(crate) fn send(
-        &mut self,
-        shared: &Shared<H, K>,
-        scout: &mut Scout<H, K>,
-        kind: Kind,
-        letters: &[Letter],
-    ) -> Result<Option<usize>, Cut>
-        requires at { name_of shared.now ≡ N.lock }
-        requires scout { IsScoutOf shared.now scout.old }
-        requires told { Knows K.seen H.service N.sound (AreSentIn H.service.reactions letters.now) (told_scout scout.old) }
-        ensures scout { IsScoutOf shared.now scout.new }
-        ensures knows { told_scout scout.new ≡ told_scout scout.old }
-        ensures link { self.new.link ≡ self.old.link }
-    {
-        let Some(conn) = &mut self.conn else {
-            return Ok(None);
-        };
-        let witness = scout.witness(shared);
-        self.witness.learn(shared, witness);
-        match conn.send(kind, letters) {
-            Ok(sent) => Ok(Some(sent)),
-            Err(cut) => Err(cut),
-        }
-    }
-
-    /// Writes the answer to a MESSAGE, and returns why it wasn't taken, where that is the answer. If the connection is of no
-    /// more use, as after a failure of the store, it's cut at once: nothing more is written on it.
-    pub(crate) fn reply(
-        &mut self,
-        alloc: Global,
-        shared: &Shared<H, K>,
-        hand: &mut Hand<H, K>,
-        read: Read<'_>,
-        answer: Answer,
-    ) -> Result<Option<ReceptionFault>, Cut>
-        requires at { name_of shared.now ≡ N.lock }
-        requires hand { IsHandOf shared.now hand.old }
-        requires carries { IfSome read.envelope (λ e. CarriedIn read.message e.now) }
-        requires told { Knows K.seen H.service N.sound (AnsweredTo H.service read.message answer) (told_hand hand.old) }
-        ensures hand { IsHandOf shared.now hand.new }
-        ensures knows { told_hand hand.new ≡ told_hand hand.old }
-        ensures cut { IfErr result (λ _. self.new.is_there ≡ false) }
-        ensures link { self.new.link ≡ self.old.link }
-    {
-        let Some(conn) = &mut self.conn else {
-            return Ok(None);
-        };
-        let witness = hand.witness(shared);
-        self.witness.learn(shared, witness);
-        match finish(alloc, conn, H::kind(), read, answer) {
-            Ok(_) => Ok(None),
-            Err(fault) if goes_on(fault) => Ok(Some(fault)),
-            Err(fault) => {
-                self.cut();
-                Err(Cut::Reception(fault))
-            }
-        }
-    }
-
-    /// Writes what waits where that is much, if the connection is there.
-    pub(crate) fn write_much(&mut self) -> Result<(), Cut>
-        ensures link { self.new.link ≡ self.old.link }
-    {
-        let Some(conn) = &mut self.conn else {
-            return Ok(());
-        };
-        conn.write_much()
-    }
-
-    /// The connection is no more.
-    pub(crate) fn cut(&mut self)
-        ensures there { self.new.is_there ≡ false }
-        ensures link { self.new.link ≡ self.old.link }
-    {
-        if self.conn.is_some() {
-            self.was = Snapshot::of(&self.conn);
-            self.conn = None;
-        }
-    }
-
     /// The connection as it is, or as it was when it was cut, for contracts alone, with a witness. The connection is dropped,
     /// and its place is as if there had been none.
     pub(crate) fn take_last(
@@ -409,7 +282,7 @@ where
         ensures shown { IsPrefixOf (shown_hand hand.old) (shown_hand hand.new) }
         ensures spoken { N.sound → HasSpokenIf L.put_gives L.take_gives K.seen H.service (shown_hand hand.new)
             (or_was result.conn result.was.value) }
-        ensures read { N.sound → IsReadIf L.put_gives L.take_gives N.given result.conn }
+        ensures read { N.sound → IsReadIf L.put_gives L.take_gives result.conn }
     {
         let Line {
             conn,
@@ -419,5 +292,257 @@ where
         } = self;
         hand.learn(shared, witness);
         Ended { conn, was }
+    }
+}
+
+/// The place of a connection during a run, with the number of the connection, 0 or 1: by that what came on it is answered on it.
+/// Contracts see the number, and whether the connection is there.
+pub(crate) struct RunLine<N, M, L, H, K>
+where
+    N: Naming<K, L>,
+    M: RunNaming<L>,
+    L: Link + Drop,
+    H: Handler,
+    K: Keep<State = H::State, Command = H::Command> + Drop,
+{
+    conn: Option<Conn<L>>,
+    // The connection as it was when it was cut, for contracts alone.
+    was: Snapshot<Option<Conn<L>>>,
+    witness: Witness<H, K>,
+    number: u8,
+    of: PhantomData<(N, M)>,
+}
+
+impl<N, M, L, H, K> Model for RunLine<N, M, L, H, K>
+where
+    N: Naming<K, L>,
+    M: RunNaming<L>,
+    L: Link + Drop,
+    H: Handler,
+    K: Keep<State = H::State, Command = H::Command> + Drop,
+{
+    ghost Value = { RunStanding };
+
+    ghost view = { λ l. record { number = l.number; is_there = is_some l.conn } };
+
+    ghost invariant = { λ l. IsWitnessAt N.lock l.witness
+        × IsGiven N.given (or_was l.conn l.was.value)
+        × (N.sound → HasSpokenIf L.put_gives L.take_gives K.seen H.service (shown_witness l.witness)
+        (or_was l.conn l.was.value))
+        × (N.sound → IsReadIf L.put_gives L.take_gives l.conn)
+        × (M.begun l.number ≡ began_with (or_was l.conn l.was.value)) };
+}
+
+impl<N, M, L, H, K> RunLine<N, M, L, H, K>
+where
+    N: Naming<K, L>,
+    M: RunNaming<L>,
+    L: Link + Drop,
+    H: Handler,
+    K: Keep<State = H::State, Command = H::Command> + Drop,
+{
+    /// The place of a connection, which has this number in the run.
+    pub(crate) fn of_line(number: u8, line: Line<N, L, H, K>) -> RunLine<N, M, L, H, K>
+        requires begun { M.begun number ≡ line.link }
+        ensures is { result ≡ record { number = number; is_there = line.is_there } }
+    {
+        let Line {
+            conn,
+            was,
+            witness,
+            of: _,
+        } = line;
+        RunLine {
+            conn,
+            was,
+            witness,
+            number,
+            of: PhantomData,
+        }
+    }
+
+    /// The place, once the run is over.
+    pub(crate) fn into_line(self) -> Line<N, L, H, K>
+        ensures there { result.is_there ≡ self.is_there }
+        ensures link { result.link ≡ M.begun self.number }
+    {
+        let RunLine {
+            conn,
+            was,
+            witness,
+            number: _,
+            of: _,
+        } = self;
+        Line {
+            conn,
+            was,
+            witness,
+            of: PhantomData,
+        }
+    }
+
+    /// The number of the connection.
+    pub(crate) fn number(&self) -> u8
+        ensures { result ≡ self.now.number }
+    {
+        self.number
+    }
+
+    /// Whether letters can be sent on it.
+    pub(crate) fn is_connected(&self) -> bool {
+        match &self.conn {
+            Some(conn) => conn.is_connected(),
+            None => false,
+        }
+    }
+
+    /// Writes what waits, if the connection is there.
+    pub(crate) fn write(&mut self) -> Result<(), Cut>
+        ensures number { self.new.number ≡ self.old.number }
+    {
+        let Some(conn) = &mut self.conn else {
+            return Ok(());
+        };
+        conn.write()
+    }
+
+    /// Reads what came: whether something did. An error without a cause where the connection isn't there. At any other it's
+    /// cut at once: octets may be lost, and what is read after them isn't what was sent.
+    pub(crate) fn read(&mut self, alloc: Global) -> Result<bool, Option<Cut>>
+        ensures number { self.new.number ≡ self.old.number }
+    {
+        let Some(conn) = &mut self.conn else {
+            return Err(None);
+        };
+        match conn.read(alloc) {
+            Ok(count) => Ok(count > 0),
+            Err(cut) => {
+                note_and_drop(&mut self.conn, &mut self.was);
+                Err(Some(cut))
+            }
+        }
+    }
+
+    /// The next frame that came, if the connection is there.
+    pub(crate) fn next(&mut self, alloc: Global) -> Found
+        ensures came { N.sound → IfFound (CameOver L.put_gives L.take_gives N.given (M.begun self.old.number)) result }
+        ensures number { self.new.number ≡ self.old.number }
+    {
+        let Some(conn) = &mut self.conn else {
+            return Found::Nothing;
+        };
+        conn.next(alloc, H::kind())
+    }
+
+    /// Keeps a frame that `next` gave, if the connection is there. The number is that of the frame's connection: at another
+    /// one's frame, which never comes here, the connection would be cut.
+    pub(crate) fn keep(&mut self, number: u8, frame: Frame<MAX_BODY>)
+        requires came { N.sound → CameFrom L.put_gives L.take_gives (M.begun number) frame }
+        ensures number { self.new.number ≡ self.old.number }
+    {
+        if number != self.number {
+            self.cut();
+            return;
+        }
+        let Some(conn) = &mut self.conn else {
+            return;
+        };
+        conn.keep(frame);
+    }
+
+    /// So many of its letters to receivers of a kind aren't settled.
+    pub(crate) fn counted(&mut self, kind: Kind, on_way: usize)
+        ensures number { self.new.number ≡ self.old.number }
+    {
+        let Some(conn) = &mut self.conn else {
+            return;
+        };
+        conn.counted(kind, on_way);
+    }
+
+    /// Sends of these letters to receivers of a kind what wasn't sent on the connection, and answers how many of all were, now
+    /// or before. None where the connection isn't there.
+    pub(crate) fn send(
+        &mut self,
+        shared: &Shared<H, K>,
+        scout: &mut Scout<H, K>,
+        kind: Kind,
+        letters: &[Letter],
+    ) -> Result<Option<usize>, Cut>
+        requires at { name_of shared.now ≡ N.lock }
+        requires scout { IsScoutOf shared.now scout.old }
+        requires told { Knows K.seen H.service N.sound (AreSentIn H.service.reactions letters.now) (told_scout scout.old) }
+        ensures scout { IsScoutOf shared.now scout.new }
+        ensures knows { told_scout scout.new ≡ told_scout scout.old }
+        ensures number { self.new.number ≡ self.old.number }
+    {
+        let Some(conn) = &mut self.conn else {
+            return Ok(None);
+        };
+        let witness = scout.witness(shared);
+        self.witness.learn(shared, witness);
+        match conn.send(kind, letters) {
+            Ok(sent) => Ok(Some(sent)),
+            Err(cut) => Err(cut),
+        }
+    }
+
+    /// Writes the answer to a MESSAGE that came on the connection, and returns why it wasn't taken, where that is the answer.
+    /// One that came on another connection isn't answered here, as where its own isn't there any more. If the connection is of
+    /// no more use, as after a failure of the store, it's cut at once: nothing more is written on it.
+    pub(crate) fn reply(
+        &mut self,
+        alloc: Global,
+        shared: &Shared<H, K>,
+        hand: &mut Hand<H, K>,
+        read: Read<'_>,
+        answer: Answer,
+    ) -> Result<Option<ReceptionFault>, Cut>
+        requires at { name_of shared.now ≡ N.lock }
+        requires hand { IsHandOf shared.now hand.old }
+        requires came { N.sound → CameFrom L.put_gives L.take_gives (M.begun read.number) read.message }
+        requires carries { IfSome read.envelope (λ e. CarriedIn read.message e.now) }
+        requires told { Knows K.seen H.service N.sound (AnsweredTo H.service read.message answer) (told_hand hand.old) }
+        ensures hand { IsHandOf shared.now hand.new }
+        ensures knows { told_hand hand.new ≡ told_hand hand.old }
+        ensures cut { IfErr result (λ _. self.new.is_there ≡ false) }
+        ensures number { self.new.number ≡ self.old.number }
+    {
+        if read.number != self.number {
+            return Ok(None);
+        }
+        let Some(conn) = &mut self.conn else {
+            return Ok(None);
+        };
+        let witness = hand.witness(shared);
+        self.witness.learn(shared, witness);
+        match finish(alloc, conn, H::kind(), read, answer) {
+            Ok(_) => Ok(None),
+            Err(fault) if goes_on(fault) => Ok(Some(fault)),
+            Err(fault) => {
+                self.cut();
+                Err(Cut::Reception(fault))
+            }
+        }
+    }
+
+    /// Writes what waits where that is much, if the connection is there.
+    pub(crate) fn write_much(&mut self) -> Result<(), Cut>
+        ensures number { self.new.number ≡ self.old.number }
+    {
+        let Some(conn) = &mut self.conn else {
+            return Ok(());
+        };
+        conn.write_much()
+    }
+
+    /// The connection is no more.
+    pub(crate) fn cut(&mut self)
+        ensures { self.new ≡ record { number = self.old.number; is_there = false } }
+    {
+        if self.conn.is_some() {
+            self.was = Snapshot::of(&self.conn);
+            self.conn = None;
+        }
     }
 }

@@ -23,9 +23,10 @@ use stomp_wire::Link;
 /// What was prepared doesn't go with what the endpoint answered: the frame isn't the one that was asked for.
 const OTHER: ReceptionFault = ReceptionFault::Client(ClientFault::Unexpected);
 
-/// A MESSAGE, and the envelope that was read of it, where one was.
+/// A MESSAGE, the number of the connection on which it came, and the envelope that was read of it, where one was.
 #[derive(Drop)]
 pub(crate) struct Read<'e> {
+    pub number: u8,
     pub message: Frame<MAX_BODY>,
     pub envelope: Option<&'e Envelope>,
 }
@@ -117,7 +118,11 @@ pub(crate) fn finish<L: Link + Drop>(
     ensures replied { (x : Progress) → CarriedBy read.entry.message answer x → RepliedBy read.entry.message result x }
 {
     let client = &mut conn.channel.client;
-    let Read { message, envelope } = read;
+    let Read {
+        number: _,
+        message,
+        envelope,
+    } = read;
     match envelope {
         Some(envelope) => finish_read(alloc, client, message, envelope, answer),
         None => finish_unread(alloc, client, kind, message, answer),

@@ -1,6 +1,6 @@
 //! One run of a service: what its threads share.
 
-use crate::line::{Line, Naming};
+use crate::line::{Naming, RunLine, RunNaming};
 use crate::lines::Signals;
 use crate::{Gate, Stop};
 use activities::Handler;
@@ -11,9 +11,10 @@ use std::sync::{Mutex, Wait};
 use stomp_wire::Link;
 
 /// One run of a service: what its threads share. Each thread has a copy.
-pub(crate) struct Run<'a, N, L, H, K, G, R>
+pub(crate) struct Run<'a, N, M, L, H, K, G, R>
 where
     N: Naming<K, L>,
+    M: RunNaming<L>,
     L: Link + Drop,
     H: Handler,
     K: Keep<State = H::State, Command = H::Command> + Drop,
@@ -23,31 +24,33 @@ where
     pub rt: &'a R,
     pub alloc: Global,
     pub shared: &'a Shared<H, K>,
-    pub zero: &'a Mutex<Line<N, L, H, K>>,
-    pub one: &'a Mutex<Line<N, L, H, K>>,
+    pub zero: &'a Mutex<RunLine<N, M, L, H, K>>,
+    pub one: &'a Mutex<RunLine<N, M, L, H, K>>,
     pub signals: &'a Signals,
     pub gate: &'a G,
     pub stop: &'a Stop,
 }
 
 /// Written by hand: a derived one would ask that the types are `Copy` to which it has references.
-impl<'a, N, L, H, K, G, R> Clone for Run<'a, N, L, H, K, G, R>
+impl<'a, N, M, L, H, K, G, R> Clone for Run<'a, N, M, L, H, K, G, R>
 where
     N: Naming<K, L>,
+    M: RunNaming<L>,
     L: Link + Drop,
     H: Handler,
     K: Keep<State = H::State, Command = H::Command> + Drop,
     G: Gate<R>,
     R: Wait,
 {
-    fn clone(&self) -> Result<Run<'a, N, L, H, K, G, R>, AllocError> {
+    fn clone(&self) -> Result<Run<'a, N, M, L, H, K, G, R>, AllocError> {
         Ok(*self)
     }
 }
 
-impl<'a, N, L, H, K, G, R> Copy for Run<'a, N, L, H, K, G, R>
+impl<'a, N, M, L, H, K, G, R> Copy for Run<'a, N, M, L, H, K, G, R>
 where
     N: Naming<K, L>,
+    M: RunNaming<L>,
     L: Link + Drop,
     H: Handler,
     K: Keep<State = H::State, Command = H::Command> + Drop,

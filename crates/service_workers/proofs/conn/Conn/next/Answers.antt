@@ -1,5 +1,5 @@
 use Rattle.std.proofs.Common.{[], ap, refl, ◌∙◌, Ok}
-use Rattle.service_workers.specs.Written.{IsFree}
+use Rattle.service_workers.specs.Written.{IsOfSession}
 use Rattle.service_workers.proofs.Reading.{finds_after, finds_none, is_frame, next_gives, next_waits}
 use Rattle.service_workers.proofs.Speaking.{next_says_nothing}
 use Rattle.service_workers.proofs.Written.{none_of, writes_nothing}
@@ -7,7 +7,8 @@ use Rattle.service_workers.proofs.conn.Conn.next.Goals as goal
 
 pub returns-in-Err : goal.returns-in-Err
 returns-in-Err g c = record {
-  writes = none_of g.L.Link.put_gives g.L.Link.take_gives IsFree c.args.self.now _ (writes_nothing g.L.Link.put_gives g.L.Link.take_gives c.args.self.now _ refl refl
+  writes = none_of g.L.Link.put_gives g.L.Link.take_gives (IsOfSession c.args.kind) c.args.self.now _
+      (writes_nothing g.L.Link.put_gives g.L.Link.take_gives c.args.self.now _ refl refl
       (next_says_nothing c.args.self.now.channel c.next.new.self c.next.result c.next.ensures.gives));
   finds = (
     [],
@@ -18,7 +19,8 @@ returns-in-Err g c = record {
 
 pub returns-in-Ok-None : goal.returns-in-Ok-None
 returns-in-Ok-None g c = record {
-  writes = none_of g.L.Link.put_gives g.L.Link.take_gives IsFree c.args.self.now _ (writes_nothing g.L.Link.put_gives g.L.Link.take_gives c.args.self.now _ refl refl
+  writes = none_of g.L.Link.put_gives g.L.Link.take_gives (IsOfSession c.args.kind) c.args.self.now _
+      (writes_nothing g.L.Link.put_gives g.L.Link.take_gives c.args.self.now _ refl refl
       (next_says_nothing c.args.self.now.channel c.next.new.self c.next.result c.next.ensures.gives));
   finds = (
     [],
@@ -30,7 +32,8 @@ returns-in-Ok-None g c = record {
 
 pub returns-in-Err-Memory : goal.returns-in-Err-Memory
 returns-in-Err-Memory g c = record {
-  writes = none_of g.L.Link.put_gives g.L.Link.take_gives IsFree c.args.self.now _ (writes_nothing g.L.Link.put_gives g.L.Link.take_gives c.args.self.now _ refl refl
+  writes = none_of g.L.Link.put_gives g.L.Link.take_gives (IsOfSession c.args.kind) c.args.self.now _
+      (writes_nothing g.L.Link.put_gives g.L.Link.take_gives c.args.self.now _ refl refl
       (next_says_nothing c.args.self.now.channel c.next.new.self c.next.result c.next.ensures.gives));
   finds = (
     [],

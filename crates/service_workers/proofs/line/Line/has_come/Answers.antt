@@ -18,9 +18,8 @@ invariant_of-self-2 g c =
       c.self.invariant.0,
       known.0,
       known.1,
-      line_reads g.L.Link.put_gives g.L.Link.take_gives g.N.Naming.given g.N.Naming.sound c.self.inside.conn c.self.inside.was.value
-          c.in-Some.conn
-          c.has_come.new.self c.in-Some.is c.self.invariant.1 c.self.invariant.3 (
+      line_reads g.L.Link.put_gives g.L.Link.take_gives g.N.Naming.sound c.self.inside.conn c.in-Some.conn c.has_come.new.self c.in-Some.is
+          c.self.invariant.3 (
             [],
             subst (ReadsOnly g.L.Link.put_gives g.L.Link.take_gives [] c.in-Some.conn) (sym c.has_come.ensures.asked)
                 (reads_nothing g.L.Link.put_gives g.L.Link.take_gives c.in-Some.conn _ refl refl refl refl),

@@ -11,9 +11,8 @@ invariant_of-self-else-has_left g c =
       c.self.invariant.0,
       known.0,
       known.1,
-      line_reads g.L.Link.put_gives g.L.Link.take_gives g.N.Naming.given g.N.Naming.sound c.self.inside.conn c.self.inside.was.value
-          c.in-Some.conn
-          c.has_left.new.self c.in-Some.is c.self.invariant.1 c.self.invariant.3 (c.has_left.ensures.reads c.if-has_left.false),
+      line_reads g.L.Link.put_gives g.L.Link.take_gives g.N.Naming.sound c.self.inside.conn c.in-Some.conn c.has_left.new.self c.in-Some.is
+          c.self.invariant.3 (c.has_left.ensures.reads c.if-has_left.false),
     )
 
 pub invariant_of-self-then-has_left : goal.invariant_of-self-then-has_left
@@ -27,5 +26,5 @@ invariant_of-self-then-has_left g c =
       c.self.invariant.0,
       last.0,
       last.1,
-      λ s. none_is_read g.L.Link.put_gives g.L.Link.take_gives g.N.Naming.given c.note_and_drop.new.conn c.note_and_drop.ensures.none,
+      λ s. none_is_read g.L.Link.put_gives g.L.Link.take_gives c.note_and_drop.new.conn c.note_and_drop.ensures.none,
     )

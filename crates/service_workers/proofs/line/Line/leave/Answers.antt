@@ -8,11 +8,11 @@ pub invariant_of-self-2 : goal.invariant_of-self-2
 invariant_of-self-2 g c =
     let known = line_goes g.L.Link.put_gives g.L.Link.take_gives g.K.Keep.seen g.H.Handler.service g.N.Naming.given g.N.Naming.sound
     (shown_witness c.self.inside.witness) c.self.inside.conn c.self.inside.was.value c.in-Some.conn c.leave.new.self
-    c.in-Some.is (c.self.invariant.1, c.self.invariant.2) c.leave.ensures.writes in (
+    c.in-Some.is (c.self.invariant.1, c.self.invariant.2) (c.leave.ensures.writes
+    g.H.Handler.service.kind) in (
       c.self.invariant.0,
       known.0,
       known.1,
-      line_reads g.L.Link.put_gives g.L.Link.take_gives g.N.Naming.given g.N.Naming.sound c.self.inside.conn c.self.inside.was.value
-          c.in-Some.conn
-          c.leave.new.self c.in-Some.is c.self.invariant.1 c.self.invariant.3 ([], c.leave.ensures.reads),
+      line_reads g.L.Link.put_gives g.L.Link.take_gives g.N.Naming.sound c.self.inside.conn c.in-Some.conn c.leave.new.self c.in-Some.is
+          c.self.invariant.3 ([], c.leave.ensures.reads),
     )

@@ -13,6 +13,6 @@ invariant_of-self g c =
       subst g.N.Naming.given (sym new.starts) c.requires.given,
       λ s. new_has_spoken g.L.Link.put_gives g.L.Link.take_gives g.K.Keep.seen g.H.Handler.service
           (shown_witness c.self.inside.witness) c.args.connect.now c.args.prefetch c.args.link c.in-Ok.conn c.requires.command new,
-      λ s. unread_is_read g.L.Link.put_gives g.L.Link.take_gives g.N.Naming.given c.in-Ok.conn
+      λ s. unread_is_read g.L.Link.put_gives g.L.Link.take_gives c.in-Ok.conn
           (subst (λ r. IfOk r IsUnread) c.in-Ok.is c.open_by.ensures.unread),
     )

@@ -1,12 +1,13 @@
-use Rattle.std.proofs.Common.{[], refl, subst, sym}
+use Rattle.std.proofs.Common.{[], ap, refl, subst, sym}
 use Rattle.shared_endpoint.specs.Keys.{shown_witness}
+use Rattle.service_workers.specs.Conns.{start_of}
 use Rattle.service_workers.specs.Reads.{ReadsOnly}
 use Rattle.service_workers.specs.Written.{WritesOnly}
-use Rattle.service_workers.proofs.Coming.{line_reads}
+use Rattle.service_workers.proofs.Coming.{line_reads, link_stays}
 use Rattle.service_workers.proofs.Knowing.{line_stays}
 use Rattle.service_workers.proofs.Reading.{reads_nothing}
 use Rattle.service_workers.proofs.Written.{writes_nothing}
-use Rattle.service_workers.proofs.line.Line.counted.Goals as goal
+use Rattle.service_workers.proofs.line.RunLine.counted.Goals as goal
 
 pub invariant_of-self-2 : goal.invariant_of-self-2
 invariant_of-self-2 g c =
@@ -18,11 +19,12 @@ invariant_of-self-2 g c =
       c.self.invariant.0,
       known.0,
       known.1,
-      line_reads g.L.Link.put_gives g.L.Link.take_gives g.N.Naming.given g.N.Naming.sound c.self.inside.conn c.self.inside.was.value
-          c.in-Some.conn
-          c.counted.new.self c.in-Some.is c.self.invariant.1 c.self.invariant.3 (
+      line_reads g.L.Link.put_gives g.L.Link.take_gives g.N.Naming.sound c.self.inside.conn c.in-Some.conn c.counted.new.self c.in-Some.is
+          c.self.invariant.3 (
             [],
             subst (ReadsOnly g.L.Link.put_gives g.L.Link.take_gives [] c.in-Some.conn) (sym c.counted.ensures)
                 (reads_nothing g.L.Link.put_gives g.L.Link.take_gives c.in-Some.conn _ refl refl refl refl),
           ),
+      link_stays (g.M.RunNaming.begun c.self.inside.number) c.self.inside.conn c.self.inside.was.value c.in-Some.conn
+          c.counted.new.self c.in-Some.is (ap start_of c.counted.ensures) c.self.invariant.4,
     )

@@ -1,9 +1,9 @@
 use Rattle.std.specs.Prelude.{[]}
 use Rattle.shared_endpoint.specs.Keys.{told_scout, shown_scout, shown_witness}
 use Rattle.shared_endpoint.proofs.Witnessing.{witness_at}
-use Rattle.service_workers.proofs.Coming.{line_reads}
+use Rattle.service_workers.proofs.Coming.{line_reads, link_stays}
 use Rattle.service_workers.proofs.Knowing.{line_sends}
-use Rattle.service_workers.proofs.line.Line.send.Goals as goal
+use Rattle.service_workers.proofs.line.RunLine.send.Goals as goal
 
 pub invariant_of-self-2 : goal.invariant_of-self-2
 invariant_of-self-2 g c =
@@ -15,7 +15,8 @@ invariant_of-self-2 g c =
       witness_at c.args.shared.now g.N.Naming.lock c.requires.at c.learn.new.self c.learn.ensures.witness,
       known.0,
       known.1,
-      line_reads g.L.Link.put_gives g.L.Link.take_gives g.N.Naming.given g.N.Naming.sound c.self.inside.conn c.self.inside.was.value
-          c.in-Some.conn
-          c.send.new.self c.in-Some.is c.self.invariant.1 c.self.invariant.3 ([], c.send.ensures.reads),
+      line_reads g.L.Link.put_gives g.L.Link.take_gives g.N.Naming.sound c.self.inside.conn c.in-Some.conn c.send.new.self c.in-Some.is
+          c.self.invariant.3 ([], c.send.ensures.reads),
+      link_stays (g.M.RunNaming.begun c.self.inside.number) c.self.inside.conn c.self.inside.was.value c.in-Some.conn
+          c.send.new.self c.in-Some.is c.send.ensures.writes.2.starts c.self.invariant.4,
     )

@@ -1,8 +1,8 @@
 use Rattle.std.specs.Prelude.{[]}
 use Rattle.shared_endpoint.specs.Keys.{shown_witness}
-use Rattle.service_workers.proofs.Coming.{line_reads}
+use Rattle.service_workers.proofs.Coming.{line_reads, link_stays}
 use Rattle.service_workers.proofs.Knowing.{line_stays}
-use Rattle.service_workers.proofs.line.Line.write_much.Goals as goal
+use Rattle.service_workers.proofs.line.RunLine.write_much.Goals as goal
 
 pub invariant_of-self-2 : goal.invariant_of-self-2
 invariant_of-self-2 g c =
@@ -12,7 +12,8 @@ invariant_of-self-2 g c =
       c.self.invariant.0,
       known.0,
       known.1,
-      line_reads g.L.Link.put_gives g.L.Link.take_gives g.N.Naming.given g.N.Naming.sound c.self.inside.conn c.self.inside.was.value
-          c.in-Some.conn
-          c.write_much.new.self c.in-Some.is c.self.invariant.1 c.self.invariant.3 ([], c.write_much.ensures.reads),
+      line_reads g.L.Link.put_gives g.L.Link.take_gives g.N.Naming.sound c.self.inside.conn c.in-Some.conn c.write_much.new.self c.in-Some.is
+          c.self.invariant.3 ([], c.write_much.ensures.reads),
+      link_stays (g.M.RunNaming.begun c.self.inside.number) c.self.inside.conn c.self.inside.was.value c.in-Some.conn
+          c.write_much.new.self c.in-Some.is c.write_much.ensures.writes.starts c.self.invariant.4,
     )

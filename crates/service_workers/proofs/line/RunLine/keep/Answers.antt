@@ -1,11 +1,12 @@
-use Rattle.std.proofs.Common.{ℕ, ap}
+use Rattle.std.proofs.Common.{ℕ, ap, subst}
 use Rattle.shared_endpoint.specs.Keys.{shown_witness}
 use Rattle.stomp_client.specs.Clients.{Client}
 use Rattle.service_workers.specs.Conns.{link_of, start_of}
-use Rattle.service_workers.proofs.Coming.{line_keeps}
+use Rattle.service_workers.specs.Reads.{CameFrom}
+use Rattle.service_workers.proofs.Coming.{line_keeps, link_stays}
 use Rattle.service_workers.proofs.Knowing.{line_stays}
 use Rattle.service_workers.proofs.Written.{writes_nothing}
-use Rattle.service_workers.proofs.line.Line.keep.Goals as goal
+use Rattle.service_workers.proofs.line.RunLine.keep.Goals as goal
 
 pub invariant_of-self-2 : goal.invariant_of-self-2
 invariant_of-self-2 g c =
@@ -17,7 +18,10 @@ invariant_of-self-2 g c =
       c.self.invariant.0,
       known.0,
       known.1,
-      line_keeps g.L.Link.put_gives g.L.Link.take_gives g.N.Naming.given g.N.Naming.sound c.self.inside.conn c.self.inside.was.value
-          c.in-Some.conn
-          c.keep.new.self c.args.frame c.in-Some.is c.self.invariant.3 c.requires.came c.keep.ensures.back,
+      line_keeps g.L.Link.put_gives g.L.Link.take_gives g.N.Naming.sound c.self.inside.conn c.in-Some.conn c.keep.new.self
+          (g.M.RunNaming.begun c.self.inside.number) c.self.inside.was.value c.args.frame c.in-Some.is c.self.invariant.4
+          c.self.invariant.3 (λ s. subst (λ k. CameFrom g.L.Link.put_gives g.L.Link.take_gives k c.args.frame)
+          (ap g.M.RunNaming.begun c.if-number-self.false) (c.requires.came s)) c.keep.ensures.back,
+      link_stays (g.M.RunNaming.begun c.self.inside.number) c.self.inside.conn c.self.inside.was.value c.in-Some.conn
+          c.keep.new.self c.in-Some.is (ap start_of c.keep.ensures.rest) c.self.invariant.4,
     )

@@ -1,8 +1,8 @@
 use Rattle.std.proofs.Common.{[]}
 use Rattle.shared_endpoint.specs.Keys.{shown_witness}
-use Rattle.service_workers.proofs.Coming.{dropped, line_reads, none_is_read}
+use Rattle.service_workers.proofs.Coming.{dropped, line_reads, link_noted, link_stays, none_is_read}
 use Rattle.service_workers.proofs.Knowing.{line_stays}
-use Rattle.service_workers.proofs.line.Line.read.Goals as goal
+use Rattle.service_workers.proofs.line.RunLine.read.Goals as goal
 
 pub invariant_of-self-in-Ok : goal.invariant_of-self-in-Ok
 invariant_of-self-in-Ok g c =
@@ -12,9 +12,10 @@ invariant_of-self-in-Ok g c =
       c.self.invariant.0,
       known.0,
       known.1,
-      line_reads g.L.Link.put_gives g.L.Link.take_gives g.N.Naming.given g.N.Naming.sound c.self.inside.conn c.self.inside.was.value
-          c.in-Some.conn
-          c.read.new.self c.in-Some.is c.self.invariant.1 c.self.invariant.3 ([], c.in-Ok.ensures.reads),
+      line_reads g.L.Link.put_gives g.L.Link.take_gives g.N.Naming.sound c.self.inside.conn c.in-Some.conn c.read.new.self c.in-Some.is
+          c.self.invariant.3 ([], c.in-Ok.ensures.reads),
+      link_stays (g.M.RunNaming.begun c.self.inside.number) c.self.inside.conn c.self.inside.was.value c.in-Some.conn
+          c.read.new.self c.in-Some.is c.read.ensures.writes.starts c.self.invariant.4,
     )
 
 pub invariant_of-self-in-Err : goal.invariant_of-self-in-Err
@@ -28,5 +29,9 @@ invariant_of-self-in-Err g c =
       c.self.invariant.0,
       last.0,
       last.1,
-      λ s. none_is_read g.L.Link.put_gives g.L.Link.take_gives g.N.Naming.given c.note_and_drop.new.conn c.note_and_drop.ensures.none,
+      λ s. none_is_read g.L.Link.put_gives g.L.Link.take_gives c.note_and_drop.new.conn c.note_and_drop.ensures.none,
+      link_noted (g.M.RunNaming.begun c.self.inside.number) c.self.inside.conn c.self.inside.was.value c.read.new.self
+          c.note_and_drop.new.conn c.note_and_drop.new.was.value c.note_and_drop.ensures.none c.note_and_drop.ensures.was
+          (link_stays (g.M.RunNaming.begun c.self.inside.number) c.self.inside.conn c.self.inside.was.value c.in-Some.conn
+          c.read.new.self c.in-Some.is c.read.ensures.writes.starts c.self.invariant.4),
     )
