@@ -6,6 +6,7 @@ this body. Besides it names
   program: NAME     the program of tests/ that is run
   shown: LINE       a line of the program's stdin whose answer has to be another by the wrong body: one or more
   same: LINE        a line whose answer stays the same: none or more
+  octets: NUMBER    how much the program may have allocated at once; a run that exceeds it answers nothing. Without it there is no bound
 All bodies of a program are built into one program, since that costs as much as one of them. The environment's WRONG_BODY chooses one for
 a run; where none is chosen, the answer to each line has to be that of stdout.
 """
@@ -25,7 +26,9 @@ SECONDS = 3
 WAITED = 120  # the wall-clock time, where all threads sleep or the machine is busy
 RUNS = 5  # threads may come in an order in which a wrong body isn't seen: so often it is tried
 FAULT = "it ended with status"
+EXCEEDED = 4  # the status with which most.c ends a program
 CHOSEN = TOP / "bin/wrong_bodies/chosen.c"
+MOST = TOP / "bin/wrong_bodies/most.c"  # a program is built with it where a body of its has a bound
 # The end of the root file of a crate that has bodies. It is in a copy alone: a crate of the repository declares no function of C.
 DECLARED = """
 unsafe extern "C" {
@@ -45,7 +48,7 @@ class ByRun:
         self.name, self.crate, self.pairs = path.stem, path.parts[-4], [it for body in bodies_of(path) for it in body.pairs]
         words = [line.partition(": ")[::2] for line in path.read_text("utf-8").splitlines()]
         self.shown, self.same = ([rest for word, rest in words if word == it] for it in ("shown", "same"))
-        self.program = next((rest.strip() for word, rest in words if word == "program"), None)
+        self.program, self.octets = (next((rest.strip() for word, rest in words if word == it), None) for it in ("program", "octets"))
 
     def answers(self):
         """The answers of its lines, as the program's stdout has them."""
@@ -105,24 +108,28 @@ def limit():
     signal.alarm(WAITED)
 
 
-def answer_of(program, line, number):
-    """What a program with the body of a number answers to a line, how it ended where it didn't answer, and the CPU seconds that it took."""
+def answer_of(program, line, number, octets):
+    """What a program with the body of a number answers to a line, how it ended where it didn't answer, and the CPU seconds that it took.
+    `octets` is its bound, or None."""
     with tempfile.NamedTemporaryFile() as given:
         pathlib.Path(given.name).write_text(f"{line}\n", "utf-8")
         with open(given.name, "rb") as stdin:
-            ran = kit.Run([program], stdin=stdin, env={**os.environ, "WRONG_BODY": str(number)}, preexec_fn=limit)
+            chosen = {"WRONG_BODY": str(number), "MOST_OCTETS": octets or "0"}
+            ran = kit.Run([program], stdin=stdin, env={**os.environ, **chosen}, preexec_fn=limit)
     told = "no answer" if ran.status in (-signal.SIGXCPU, -signal.SIGALRM) else f"{FAULT} {ran.status}"
+    if octets and ran.status == EXCEEDED:
+        told = f"no answer within {octets} octets"
     return told if ran.status else ran.out.decode(errors="replace").strip("\n"), ran.seconds
 
 
 def runs_of(body, line, number, program):
     """What a program answers to a line without the body, what it answers with it, and the CPU seconds that these runs took."""
-    right, seconds = answer_of(program, line, 0)
-    found, used = answer_of(program, line, number)
+    right, seconds = answer_of(program, line, 0, body.octets)
+    found, used = answer_of(program, line, number, body.octets)
     for _ in range(RUNS - 1 if line in body.shown else 0):
         if found != right:
             break
-        found, more = answer_of(program, line, number)
+        found, more = answer_of(program, line, number, body.octets)
         used += more
     return right, found, seconds + used
 
@@ -150,7 +157,7 @@ def show_all(bodies):
         room = pathlib.Path(room)
         wrong, program = put_together(bodies, room / "copy"), room / bodies[0].program
         why, seconds, _ = (wrong[0], 0, 0) if wrong else kit.Builder(room / "tools").build(
-            room / "copy/crates" / bodies[0].program, program, c_files=[CHOSEN])
+            room / "copy/crates" / bodies[0].program, program, c_files=[CHOSEN, *[MOST] * any(it.octets for it in bodies)])
         if why:
             print(f"{bodies[0].program} NOT BUILT with its wrong bodies: {' '.join(why.split())[-1000:]}", flush=True)
             return 0
