@@ -4,6 +4,6 @@ use Rattle.service_workers.proofs.run.Run.take_frame.Goals as goal
 
 pub new-arrival-requires : goal.new-arrival-requires
 new-arrival-requires g c = record {
-  came = λ s. subst (IfFound (CameOver g.L.Link.put_gives g.L.Link.take_gives g.N.Naming.given
-      (g.M.RunNaming.begun c.find-number.result.0))) c.in-Message.is (c.find-number.ensures.came s);
+  came = λ s. subst (IfFound (CameOver g.L.Link.put_gives g.L.Link.take_gives
+      g.N.Naming.given (g.M.RunNaming.begun c.find-number.result.0))) c.in-Message.is (c.find-number.ensures.came s);
 }
