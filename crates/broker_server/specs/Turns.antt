@@ -10,8 +10,8 @@ use Rattle.broker_server.specs.declared.fault.ReadFault.TheVariants as read
 use Rattle.broker_server.specs.declared.fault.TurnFault.{TurnFault}
 use Rattle.broker_server.specs.declared.fault.TurnFault.TheVariants.{Stream, Memory}
 use Rattle.broker_server.specs.declared.turn.Brought.{Brought}
-use Rattle.broker_server.specs.declared.turn.Turn.{Turn}
-use Rattle.broker_server.specs.declared.turn.Turn.TheVariants as turn
+use Rattle.broker_server.specs.declared.turn.ReadTurn.{ReadTurn}
+use Rattle.broker_server.specs.declared.turn.ReadTurn.TheVariants as turn
 use Rattle.broker_server.specs.declared.turn.Written.{Written}
 use Rattle.broker_server.specs.declared.turn.Written.TheVariants as written
 
@@ -57,7 +57,7 @@ pub record ReadsUntaken (n : ℕ) (old new : Server) (before after : Option (Lis
 -- What a turn of reading answers: what was read is what the session was fed, and how many octets and frames that was. At
 -- `Ended` the stream gave nothing and has no more.
 abbrev pub ReadAnswer : ℕ → ℕ → Server → Server → Option (List ℕ) → Option (List ℕ) → List ℕ
-    → Result (Turn × Brought) ReadFault → Type 0
+    → Result (ReadTurn × Brought) ReadFault → Type 0
 ReadAnswer full n old new before after buffer (Ok (turn.Ended, brought)) =
     ReadsNone old new before after × IsAtEnd after × (brought.octets ≡ 0) × (brought.frames ≡ 0)
 ReadAnswer full n old new before after buffer (Ok (turn.Blocked, brought)) = ReadsIn full n old new before after brought
@@ -73,7 +73,7 @@ pub record Discards (before after : Option (List ℕ)) (count : ℕ) : Type 0 wh
   pub gone : Consumes before after octets
 
 -- What throwing octets away answers.
-abbrev pub DiscardAnswer : Option (List ℕ) → Option (List ℕ) → Result (ℕ × Turn) TurnFault → Type 0
+abbrev pub DiscardAnswer : Option (List ℕ) → Option (List ℕ) → Result (ℕ × ReadTurn) TurnFault → Type 0
 DiscardAnswer before after (Ok (count, turn.Ended)) = (count ≡ 0) × Consumes before after [] × IsAtEnd after
 DiscardAnswer before after (Ok (count, turn.Blocked)) = Discards before after count
 DiscardAnswer before after (Ok (count, turn.More)) = Discards before after count

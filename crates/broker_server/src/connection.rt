@@ -5,11 +5,11 @@ ghost use Rattle.broker_core.specs.Calls.{closed_in};
 ghost use Rattle.broker_core.specs.Serving.{session_of};
 
 use crate::buffers::Buffers;
-use crate::places::Place;
+use crate::places::ConnectionPlace;
 use crate::refusals::refusal_in;
 use crate::rest::Rest;
 use crate::room::{Holding, is_held_back};
-use crate::turn::{Brought, Turn, Written, discard, feed_in, read_in, write_out};
+use crate::turn::{Brought, ReadTurn, Written, discard, feed_in, read_in, write_out};
 use crate::work::{FIRST, Work, next_share};
 use crate::{Ending, ReadFault, TurnFault};
 use base::limits::{MAX_BODY, MAX_LINE, MAX_UNANSWERED};
@@ -58,7 +58,7 @@ enum Due {
 
 /// What came of a step.
 #[derive(Clone, Copy)]
-pub(crate) enum Step {
+pub(crate) enum ConnectionStep {
     /// The connection stays as far as it was.
     Stays,
     /// So it does, and something of it waits for memory.
@@ -76,7 +76,7 @@ pub(crate) enum Step {
 pub(crate) struct Connection {
     stream: TcpStream,
     session: SessionId,
-    place: Place,
+    place: ConnectionPlace,
     stage: Stage,
     due: Due,
     /// The socket takes no more, and tells when it does.
@@ -107,7 +107,7 @@ impl Connection {
     pub(crate) fn new(
         stream: TcpStream,
         session: SessionId,
-        place: Place,
+        place: ConnectionPlace,
         now: Instant,
     ) -> Connection {
         Connection {
@@ -128,12 +128,12 @@ impl Connection {
     }
 
     /// Where it stands.
-    pub(crate) fn place(&self) -> Place {
+    pub(crate) fn place(&self) -> ConnectionPlace {
         self.place
     }
 
     /// Whether it is the one that stood at a place.
-    pub(crate) fn is_at(&self, place: Place) -> bool {
+    pub(crate) fn is_at(&self, place: ConnectionPlace) -> bool {
         self.place.number == place.number
     }
 
@@ -146,22 +146,22 @@ impl Connection {
         broker: &mut Broker<FULL>,
         event: &Event,
         work: &mut Work,
-    ) -> Step {
+    ) -> ConnectionStep {
         let was_blocked = self.is_blocked;
         if event.is_writable() {
             self.is_blocked = false;
         }
         let has_more = event.is_readable() || event.is_read_closed() || event.is_error();
         let step = match self.stage {
-            _ if !has_more => Step::Stays,
+            _ if !has_more => ConnectionStep::Stays,
             _ if self.is_waiting() => self.end_if_failed(broker, event, work),
             Stage::Serving => self.read_if_room(alloc, registry, broker, event, work),
             Stage::Leaving(_) | Stage::Draining => self.throw_away(registry, work),
         };
-        let stays = matches!(step, Step::Stays | Step::Waits);
+        let stays = matches!(step, ConnectionStep::Stays | ConnectionStep::Waits);
         if stays && was_blocked && !self.is_blocked {
             return match self.write(registry, broker, work) {
-                Step::Stays => step,
+                ConnectionStep::Stays => step,
                 ends => ends,
             };
         }
@@ -174,9 +174,9 @@ impl Connection {
         broker: &mut Broker<FULL>,
         event: &Event,
         work: &mut Work,
-    ) -> Step {
+    ) -> ConnectionStep {
         if !event.is_error() {
-            return Step::Stays;
+            return ConnectionStep::Stays;
         }
         give_back(replace(&mut self.due, Due::Nothing), &mut work.buffers);
         self.end(broker, Ending::Stream)
@@ -192,7 +192,7 @@ impl Connection {
         broker: &mut Broker<FULL>,
         event: &Event,
         work: &mut Work,
-    ) -> Step {
+    ) -> ConnectionStep {
         let is_to_wait = self.is_to_wait(broker, work);
         // What it has sent behind a failure would get no answer.
         if is_to_wait && event.is_error() {
@@ -201,7 +201,7 @@ impl Connection {
         self.is_held_back = is_to_wait && !event.is_read_closed();
         if self.is_held_back {
             work.room.holds_back = true;
-            return Step::Stays;
+            return ConnectionStep::Stays;
         }
         if is_to_wait && self.is_short(broker, work) {
             return self.wait(alloc, registry, broker, work, Due::Frames);
@@ -262,16 +262,16 @@ impl Connection {
         registry: &Registry,
         broker: &mut Broker<FULL>,
         work: &mut Work,
-    ) -> Step {
+    ) -> ConnectionStep {
         if !self.is_held_back || self.is_to_wait(broker, work) {
-            return Step::Stays;
+            return ConnectionStep::Stays;
         }
         self.is_held_back = false;
         self.heard = work.now;
         if !self.ask_again(registry) {
             return self.end(broker, Ending::Stream);
         }
-        Step::Stays
+        ConnectionStep::Stays
     }
 
     /// What it holds for its client, besides messages in queues.
@@ -297,7 +297,7 @@ impl Connection {
         broker: &mut Broker<FULL>,
         event: &Event,
         work: &mut Work,
-    ) -> Step {
+    ) -> ConnectionStep {
         let buffer = work.buffers.current();
         let room = least_of(self.share, buffer.len());
         if broker.is_closed(self.session) || room == 0 {
@@ -307,21 +307,21 @@ impl Connection {
             // Nothing would tell again that the socket has failed.
             Err(_) if event.is_error() => self.end(broker, Ending::Stream),
             Err(fault) => self.keep_unread(alloc, registry, broker, work, fault),
-            Ok((Turn::Ended, _)) => {
+            Ok((ReadTurn::Ended, _)) => {
                 self.has_ended = true;
                 self.leave(alloc, registry, broker, work, Ending::Shut)
             }
             Ok((turn, brought)) => {
                 self.note(brought, work);
                 // The end of the octets has no event of its own where it came with the last of them.
-                let is_told = turn == Turn::Blocked && !event.is_read_closed();
+                let is_told = turn == ReadTurn::Blocked && !event.is_read_closed();
                 if !is_told && !self.ask_again(registry) {
                     return self.end(broker, Ending::Stream);
                 }
                 if broker.is_closed(self.session) {
                     return self.leave_closed(alloc, registry, broker, work);
                 }
-                Step::Stays
+                ConnectionStep::Stays
             }
         }
     }
@@ -344,7 +344,7 @@ impl Connection {
         broker: &mut Broker<FULL>,
         work: &mut Work,
         fault: ReadFault,
-    ) -> Step {
+    ) -> ConnectionStep {
         match fault {
             ReadFault::Stream => self.end(broker, Ending::Stream),
             ReadFault::Waits => self.wait(alloc, registry, broker, work, Due::Frames),
@@ -383,14 +383,14 @@ impl Connection {
         broker: &mut Broker<FULL>,
         work: &mut Work,
         due: Due,
-    ) -> Step {
+    ) -> ConnectionStep {
         self.heard = work.now;
         if broker.is_closed(self.session) {
             give_back(due, &mut work.buffers);
             return self.leave_closed(alloc, registry, broker, work);
         }
         self.due = due;
-        Step::Waits
+        ConnectionStep::Waits
     }
 
     /// Goes on with what waits, and notes whether it sends. Where nothing waits any more it is read again: the socket
@@ -401,9 +401,9 @@ impl Connection {
         registry: &Registry,
         broker: &mut Broker<FULL>,
         work: &mut Work,
-    ) -> Step {
+    ) -> ConnectionStep {
         if !self.is_waiting() {
-            return Step::Stays;
+            return ConnectionStep::Stays;
         }
         let due = replace(&mut self.due, Due::Nothing);
         take_accepted(broker, work);
@@ -438,14 +438,14 @@ impl Connection {
         registry: &Registry,
         broker: &mut Broker<FULL>,
         work: &mut Work,
-    ) -> Step {
+    ) -> ConnectionStep {
         if broker.is_closed(self.session) {
             return self.leave_closed(alloc, registry, broker, work);
         }
         if !self.ask_again(registry) {
             return self.end(broker, Ending::Stream);
         }
-        Step::Stays
+        ConnectionStep::Stays
     }
 
     /// Writes what is left for its session, or behind it. What was fresh may have been a delivery, behind which it is
@@ -455,14 +455,14 @@ impl Connection {
         registry: &Registry,
         broker: &mut Broker<FULL>,
         work: &mut Work,
-    ) -> Step {
+    ) -> ConnectionStep {
         match self.stage {
             Stage::Serving => match self.write_session(registry, broker, work) {
-                Step::Stays => self.release(registry, broker, work),
+                ConnectionStep::Stays => self.release(registry, broker, work),
                 step => step,
             },
             Stage::Leaving(_) => self.write_rest(registry, work),
-            Stage::Draining => Step::Stays,
+            Stage::Draining => ConnectionStep::Stays,
         }
     }
 
@@ -487,11 +487,11 @@ impl Connection {
         registry: &Registry,
         broker: &mut Broker<FULL>,
         work: &mut Work,
-    ) -> Step {
+    ) -> ConnectionStep {
         if !self.is_blocked {
             match self.write_some(broker, work) {
                 Err(_) => return self.end(broker, Ending::Stream),
-                Ok(Written::All) => return Step::Stays,
+                Ok(Written::All) => return ConnectionStep::Stays,
                 Ok(Written::Blocked) => self.is_blocked = true,
                 Ok(Written::Again) => {
                     if !self.ask_again(registry) {
@@ -504,23 +504,23 @@ impl Connection {
         if broker.out(self.session).len() > MAX_UNREAD {
             return self.end(broker, Ending::Unread);
         }
-        Step::Stays
+        ConnectionStep::Stays
     }
 
-    fn write_rest(&mut self, registry: &Registry, work: &mut Work) -> Step {
+    fn write_rest(&mut self, registry: &Registry, work: &mut Work) -> ConnectionStep {
         let Stage::Leaving(rest) = &mut self.stage else {
-            return Step::Stays;
+            return ConnectionStep::Stays;
         };
         let before = rest.len();
         let written = rest.write(&mut self.stream);
         work.figures.note_written(before.saturating_sub(rest.len()));
         match written {
-            Err(_) => Step::Closes,
-            Ok(Written::All) if self.is_over_by_shutting() => Step::Closes,
-            Ok(Written::All) => Step::Stays,
+            Err(_) => ConnectionStep::Closes,
+            Ok(Written::All) if self.is_over_by_shutting() => ConnectionStep::Closes,
+            Ok(Written::All) => ConnectionStep::Stays,
             Ok(Written::Blocked) => {
                 self.is_blocked = true;
-                Step::Stays
+                ConnectionStep::Stays
             }
             Ok(Written::Again) => {
                 self.is_blocked = true;
@@ -530,26 +530,26 @@ impl Connection {
     }
 
     /// Throws away what comes in behind the end of its session.
-    fn throw_away(&mut self, registry: &Registry, work: &mut Work) -> Step {
+    fn throw_away(&mut self, registry: &Registry, work: &mut Work) -> ConnectionStep {
         let buffer = work.buffers.current();
         if buffer.is_empty() {
-            return Step::Closes;
+            return ConnectionStep::Closes;
         }
         match discard(&mut self.stream, buffer) {
-            Err(_) => Step::Closes,
-            Ok((_, Turn::Blocked)) => Step::Stays,
-            Ok((_, Turn::Ended)) => {
+            Err(_) => ConnectionStep::Closes,
+            Ok((_, ReadTurn::Blocked)) => ConnectionStep::Stays,
+            Ok((_, ReadTurn::Ended)) => {
                 self.has_ended = true;
                 match self.stage {
-                    Stage::Draining => Step::Closes,
-                    Stage::Serving | Stage::Leaving(_) => Step::Stays,
+                    Stage::Draining => ConnectionStep::Closes,
+                    Stage::Serving | Stage::Leaving(_) => ConnectionStep::Stays,
                 }
             }
-            Ok((count, Turn::More)) => {
+            Ok((count, ReadTurn::More)) => {
                 work.figures.note_read(count);
                 self.thrown = self.thrown.saturating_add(count);
                 if self.thrown > MAX_THROWN {
-                    return Step::Closes;
+                    return ConnectionStep::Closes;
                 }
                 self.stays_if_asked(registry)
             }
@@ -563,7 +563,7 @@ impl Connection {
         registry: &Registry,
         broker: &mut Broker<FULL>,
         work: &mut Work,
-    ) -> Step {
+    ) -> ConnectionStep {
         let why = match refusal_in(broker.out(self.session)) {
             Some(refusal) => match broker.detail() {
                 Some(detail) => Ending::RefusedFor(refusal, detail),
@@ -582,7 +582,7 @@ impl Connection {
         broker: &mut Broker<FULL>,
         work: &mut Work,
         why: Ending,
-    ) -> Step {
+    ) -> ConnectionStep {
         let Ok(written) = self.write_some(broker, work) else {
             return self.end(broker, why);
         };
@@ -590,15 +590,15 @@ impl Connection {
             return self.end(broker, why);
         }
         let Ok(rest) = Rest::of(alloc, broker, self.session) else {
-            return Step::Ends(why);
+            return ConnectionStep::Ends(why);
         };
         self.stage = Stage::Leaving(rest);
         self.is_blocked = true;
         match written {
-            Written::All if self.is_over_by_shutting() => Step::Ends(why),
-            Written::All | Written::Blocked => Step::Leaves(why),
-            Written::Again if self.ask_again(registry) => Step::Leaves(why),
-            Written::Again => Step::Ends(why),
+            Written::All if self.is_over_by_shutting() => ConnectionStep::Ends(why),
+            Written::All | Written::Blocked => ConnectionStep::Leaves(why),
+            Written::Again if self.ask_again(registry) => ConnectionStep::Leaves(why),
+            Written::Again => ConnectionStep::Ends(why),
         }
     }
 
@@ -613,16 +613,16 @@ impl Connection {
         &mut self,
         broker: &mut Broker<FULL>,
         why: Ending,
-    ) -> Step {
+    ) -> ConnectionStep {
         broker.drop_session(self.session);
-        Step::Ends(why)
+        ConnectionStep::Ends(why)
     }
 
-    fn stays_if_asked(&mut self, registry: &Registry) -> Step {
+    fn stays_if_asked(&mut self, registry: &Registry) -> ConnectionStep {
         if self.ask_again(registry) {
-            Step::Stays
+            ConnectionStep::Stays
         } else {
-            Step::Closes
+            ConnectionStep::Closes
         }
     }
 

@@ -1,7 +1,7 @@
 //! The connections that a loop serves.
 
-use crate::connection::{Connection, Step, both_ways};
-use crate::places::{Place, Places};
+use crate::connection::{Connection, ConnectionStep, both_ways};
+use crate::places::{ConnectionPlace, Places};
 use crate::room::{Holding, Room};
 use crate::work::Work;
 use crate::{Ending, News, Watch};
@@ -47,7 +47,7 @@ impl Chosen {
 /// A connection that leaves, and until when.
 #[derive(Drop)]
 struct Leave {
-    place: Place,
+    place: ConnectionPlace,
     until: Instant,
 }
 
@@ -66,7 +66,7 @@ pub(crate) struct Connections {
     open: Slab<Connection>,
     places: Places,
     leaving: VecDeque<Leave>,
-    waiting: VecDeque<Place>,
+    waiting: VecDeque<ConnectionPlace>,
     /// What all of them hold, where there is a limit.
     holding: Holding,
     /// The highest number that was taken in.
@@ -114,7 +114,7 @@ impl Connections {
         let Ok(session) = broker.open() else {
             return Err(io::Error::from(ErrorKind::OutOfMemory));
         };
-        let place = Place {
+        let place = ConnectionPlace {
             key: self.open.vacant_key(),
             number: session.number(),
         };
@@ -130,7 +130,7 @@ impl Connections {
     }
 
     /// Has a new connection stand at its place, the next of the slab; `false` where there is no room.
-    fn insert(&mut self, place: Place, connection: Connection) -> bool {
+    fn insert(&mut self, place: ConnectionPlace, connection: Connection) -> bool {
         if !self.places.push(place) {
             return false;
         }
@@ -167,7 +167,12 @@ impl Connections {
     }
 
     /// Counts anew what a connection holds, where there is a limit.
-    fn count<const FULL: usize>(&mut self, broker: &Broker<FULL>, place: Place, work: &mut Work) {
+    fn count<const FULL: usize>(
+        &mut self,
+        broker: &Broker<FULL>,
+        place: ConnectionPlace,
+        work: &mut Work,
+    ) {
         if !work.room.is_limited() {
             return;
         }
@@ -223,7 +228,7 @@ impl Connections {
     /// give enough memory back: the first that is held back with an open transaction, until none of its own keeps
     /// anything. It is one at a time, so that its transactions alone come on top. The answer is its place, where it was
     /// chosen now.
-    fn choose_spared(&self, room: &mut Room) -> Option<Place> {
+    fn choose_spared(&self, room: &mut Room) -> Option<ConnectionPlace> {
         if let Some(number) = room.spared()
             && self.keeps(number)
         {
@@ -276,7 +281,7 @@ impl Connections {
         &mut self,
         registry: &Registry,
         broker: &mut Broker<FULL>,
-        place: Place,
+        place: ConnectionPlace,
         work: &mut Work,
         watch: &W,
     ) {
@@ -325,11 +330,11 @@ impl Connections {
                 let step = if chosen.has(connection, broker) {
                     connection.go_on(self.alloc, registry, broker, work)
                 } else {
-                    Step::Waits
+                    ConnectionStep::Waits
                 };
                 match step {
                     // That was told when it began to wait.
-                    Step::Waits => self.wait(broker, place, watch),
+                    ConnectionStep::Waits => self.wait(broker, place, watch),
                     step => self.follow(broker, place, step, work, watch),
                 }
             }
@@ -414,7 +419,7 @@ impl Connections {
     }
 
     /// Closes a connection whose session was taken away before, where it isn't closed yet.
-    fn close<W: Watch>(&mut self, place: Place, watch: &W) {
+    fn close<W: Watch>(&mut self, place: ConnectionPlace, watch: &W) {
         let number = place.number;
         if let Some(connection) = self.open.get(place.key)
             && connection.is_at(place)
@@ -430,7 +435,7 @@ impl Connections {
     fn wait<W: Watch, const FULL: usize>(
         &mut self,
         broker: &mut Broker<FULL>,
-        place: Place,
+        place: ConnectionPlace,
         watch: &W,
     ) {
         if self.waiting.push_back(place).is_err() {
@@ -450,35 +455,35 @@ impl Connections {
     fn follow<W: Watch, const FULL: usize>(
         &mut self,
         broker: &mut Broker<FULL>,
-        place: Place,
-        step: Step,
+        place: ConnectionPlace,
+        step: ConnectionStep,
         work: &mut Work,
         watch: &W,
     ) {
         self.count(broker, place, work);
         let number = place.number;
         match step {
-            Step::Stays => {}
-            Step::Waits => {
+            ConnectionStep::Stays => {}
+            ConnectionStep::Waits => {
                 watch.tell(News::Waits { number });
                 self.wait(broker, place, watch);
             }
-            Step::Leaves(why) => {
+            ConnectionStep::Leaves(why) => {
                 self.end(number, why, watch);
                 if !self.gives_time(place, work.now) {
                     self.close(place, watch);
                 }
             }
-            Step::Ends(why) => {
+            ConnectionStep::Ends(why) => {
                 self.end(number, why, watch);
                 self.close(place, watch);
             }
-            Step::Closes => self.close(place, watch),
+            ConnectionStep::Closes => self.close(place, watch),
         }
     }
 
     /// Gives a connection time to leave, if there is memory to note it.
-    fn gives_time(&mut self, place: Place, now: Instant) -> bool {
+    fn gives_time(&mut self, place: ConnectionPlace, now: Instant) -> bool {
         let Some(until) = now.checked_add(Duration::from_secs(LEAVE_SECONDS)) else {
             return false;
         };

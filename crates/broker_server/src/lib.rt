@@ -79,5 +79,5 @@ pub use laws::what_is_read_is_handled_once_and_in_order;
 pub use rest::Rest;
 pub use serving::{ServeOptions, serve, serve_watched};
 pub use stop::Stop;
-pub use turn::{Brought, Turn, Written, discard, feed_in, read_in, write_out};
+pub use turn::{Brought, ReadTurn, Written, discard, feed_in, read_in, write_out};
 pub use watching::{Ending, Figures, News, Watch};

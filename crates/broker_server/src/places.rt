@@ -6,7 +6,7 @@ use std::collections::VecDeque;
 /// Where a connection stands: the key that it has, and the number of its session. Once it is gone another may have the
 /// key, and none ever has the number: so what is kept of a connection is kept with both.
 #[derive(Clone, Copy, Debug)]
-pub(crate) struct Place {
+pub(crate) struct ConnectionPlace {
     pub(crate) key: usize,
     pub(crate) number: u64,
 }
@@ -15,7 +15,7 @@ pub(crate) struct Place {
 /// opened, so that a new one stands behind all others.
 #[derive(Drop)]
 pub(crate) struct Places {
-    rising: VecDeque<Place>,
+    rising: VecDeque<ConnectionPlace>,
 }
 
 impl Places {
@@ -28,7 +28,7 @@ impl Places {
 
     /// Takes a new one in, whose number is above all others; `false` where there is no memory, and then nothing has
     /// changed.
-    pub(crate) fn push(&mut self, place: Place) -> bool {
+    pub(crate) fn push(&mut self, place: ConnectionPlace) -> bool {
         self.rising.push_back(place).is_ok()
     }
 
@@ -43,12 +43,12 @@ impl Places {
     }
 
     /// The place that is so many places behind the lowest.
-    pub(crate) fn get(&self, index: usize) -> Option<Place> {
+    pub(crate) fn get(&self, index: usize) -> Option<ConnectionPlace> {
         self.rising.get(index).copied()
     }
 
     /// The place of the connection whose session has this number.
-    pub(crate) fn find(&self, number: u64) -> Option<Place> {
+    pub(crate) fn find(&self, number: u64) -> Option<ConnectionPlace> {
         let index = self.index_of(number)?;
         self.get(index)
     }

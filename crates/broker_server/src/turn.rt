@@ -12,7 +12,7 @@ use std::io::{ErrorKind, Read, Write};
 
 /// What a turn of reading came to.
 #[derive(Clone, Copy, Debug, PartialEq, Eq)]
-pub enum Turn {
+pub enum ReadTurn {
     /// What was there is read: the stream tells when there is more.
     Blocked,
     /// There may be more, of which the stream doesn't tell again.
@@ -117,7 +117,7 @@ pub fn read_in<S: Read, const FULL: usize>(
     broker: &mut Broker<FULL>,
     session: SessionId,
     buffer: &mut [u8],
-) -> Result<(Turn, Brought), ReadFault>
+) -> Result<(ReadTurn, Brought), ReadFault>
     requires open { closed_in (session_of session broker.old) ≡ false }
     requires room { 0 < length buffer.old }
     ensures { ReadAnswer FULL session broker.old broker.new (S.remaining stream.old) (S.remaining stream.new) buffer.new
@@ -136,14 +136,14 @@ pub fn read_in<S: Read, const FULL: usize>(
                 frames,
             };
             if count < buffer.len() {
-                Ok((Turn::Blocked, brought))
+                Ok((ReadTurn::Blocked, brought))
             } else {
-                Ok((Turn::More, brought))
+                Ok((ReadTurn::More, brought))
             }
         }
-        Piece::Blocked => Ok((Turn::Blocked, NOTHING)),
-        Piece::Ended => Ok((Turn::Ended, NOTHING)),
-        Piece::Interrupted => Ok((Turn::More, NOTHING)),
+        Piece::Blocked => Ok((ReadTurn::Blocked, NOTHING)),
+        Piece::Ended => Ok((ReadTurn::Ended, NOTHING)),
+        Piece::Interrupted => Ok((ReadTurn::More, NOTHING)),
     }
 }
 
@@ -151,15 +151,15 @@ pub fn read_in<S: Read, const FULL: usize>(
 ///
 /// # Errors
 /// `Stream` where the read failed, and then nothing was read.
-pub fn discard<S: Read>(stream: &mut S, buffer: &mut [u8]) -> Result<(usize, Turn), TurnFault>
+pub fn discard<S: Read>(stream: &mut S, buffer: &mut [u8]) -> Result<(usize, ReadTurn), TurnFault>
     requires { 0 < length buffer.old }
     ensures { DiscardAnswer (S.remaining stream.old) (S.remaining stream.new) result }
 {
     match read_piece(stream, buffer)? {
-        Piece::Octets(count) => Ok((count, Turn::More)),
-        Piece::Blocked => Ok((0, Turn::Blocked)),
-        Piece::Ended => Ok((0, Turn::Ended)),
-        Piece::Interrupted => Ok((0, Turn::More)),
+        Piece::Octets(count) => Ok((count, ReadTurn::More)),
+        Piece::Blocked => Ok((0, ReadTurn::Blocked)),
+        Piece::Ended => Ok((0, ReadTurn::Ended)),
+        Piece::Interrupted => Ok((0, ReadTurn::More)),
     }
 }
 

@@ -21,7 +21,7 @@ use base::limits::{HELD_WINDOW, SEATS};
 use base::{Entity, Pair};
 use envelope::Letter;
 use inbox::{Ahead, Window};
-use keep::{Faulty, Keep, Leaves, Place};
+use keep::{Faulty, Keep, Leaves, LetterPlace};
 use std::alloc::Global;
 use std::marker::{Model, PhantomData};
 
@@ -306,7 +306,7 @@ where
     pub fn unsettled(
         &mut self,
         alloc: Global,
-        after: &Option<Place>,
+        after: &Option<LetterPlace>,
         limit: usize,
     ) -> Result<Vec<Letter>, EndFault>
         ensures read { Reads K.seen self.old self.new (λ t letters. AreFirst t.unsettled after.now limit letters.items)

@@ -22,7 +22,7 @@ use Rattle.group_commit.specs.Parts.Planning.{IsStep, IsGathered, ended, rows_be
 use Rattle.group_commit.specs.declared.group.Group.{Group}
 use Rattle.group_commit.specs.declared.grouped.Grouped.{Grouped}
 use Rattle.group_commit.specs.declared.grouped.Grouped.TheVariants as grouped
-use Rattle.group_commit.specs.declared.planning.Step.{Step}
+use Rattle.group_commit.specs.declared.planning.PlannedStep.{PlannedStep}
 use Rattle.group_commit.proofs.Following.{steps-append}
 use Rattle.group_commit.proofs.Reading.{reads_nothing, reads_then, read_gives, read_refused, read_fails}
 
@@ -61,7 +61,7 @@ module _ {S C : Type 0} (service : Service S C) where
     pub long : rows ≡ length (changed group.changes.items t).journal
 
   taken-more : (Follows : Option Entity → S → S → Type 0) (es : List Envelope) (group later : Group S C) (rows : ℕ)
-      (t : Tables S C) (e : Envelope) (step : Step S C)
+      (t : Tables S C) (e : Envelope) (step : PlannedStep S C)
       → AreTaken es group rows t
       → length group.told.items < length es → e ≡ get_or es (length group.told.items) e
       → IsStep service Follows group.changes.items rows e t (Some step)
@@ -139,7 +139,7 @@ module _ {E S C : Type 0} (seen : E → Seen (Tables S C)) (service : Service S 
     }
 
     module _ (new : E) (e : Envelope) where
-      abbrev step_of : Tables S C → Option (Step S C) → Type 0
+      abbrev step_of : Tables S C → Option (PlannedStep S C) → Type 0
       step_of = IsStep service Follows group.changes.items rows e
 
       both : WasRead k new → WasRead old new
@@ -159,30 +159,30 @@ module _ {E S C : Type 0} (seen : E → Seen (Tables S C)) (service : Service S 
         );
       }
 
-      was_read : (found : Option (Step S C)) → Reads seen k new {R = Option (Step S C)} {F = KeepFault} step_of (Ok found)
+      was_read : (found : Option (PlannedStep S C)) → Reads seen k new {R = Option (PlannedStep S C)} {F = KeepFault} step_of (Ok found)
           → WasRead k new
       was_read found r = read_gives seen k new step_of found Nothing true (λ t a. tt) r
 
-      pub last_step : (found : Option (Step S C))
-          → Reads seen k new {R = Option (Step S C)} {F = KeepFault} step_of (Ok found)
+      pub last_step : (found : Option (PlannedStep S C))
+          → Reads seen k new {R = Option (PlannedStep S C)} {F = KeepFault} step_of (Ok found)
           → Gathered new (Ok group)
       last_step found r = same_then (was_read found r)
 
-      pub ended_step : (fault : KeepFault) → Reads seen k new step_of (keep_end {R = Option (Step S C)} (Err fault))
+      pub ended_step : (fault : KeepFault) → Reads seen k new step_of (keep_end {R = Option (PlannedStep S C)} (Err fault))
           → Gathered new (ended group fault)
       ended_step Memory r = same_then (record { call = r.call; doubt = r.doubt; clean = λ clean. (tt, r.clean clean) })
       ended_step Failed r = reads_then seen old k new Nothing true Goal Goal (Err Failed) (λ t x a b. b) so.read
           (read_fails seen k new step_of Goal Failed r)
       ended_step WrongFile r = absurd r.call.1
 
-      pub lost_step : (found : Option (Step S C))
-          → Reads seen k new {R = Option (Step S C)} {F = KeepFault} step_of (Ok found)
+      pub lost_step : (found : Option (PlannedStep S C))
+          → Reads seen k new {R = Option (PlannedStep S C)} {F = KeepFault} step_of (Ok found)
           → Gathered new (Err Memory)
       lost_step found r = read_refused seen old new Nothing true Goal (both (was_read found r))
 
-      pub more_so_far : (found : Option (Step S C)) (step : Step S C) (later : Group S C) (behind : ℕ) → found ≡ Some step
+      pub more_so_far : (found : Option (PlannedStep S C)) (step : PlannedStep S C) (later : Group S C) (behind : ℕ) → found ≡ Some step
           → at < length es → e ≡ get_or es at e
-          → Reads seen k new {R = Option (Step S C)} {F = KeepFault} step_of (Ok found)
+          → Reads seen k new {R = Option (PlannedStep S C)} {F = KeepFault} step_of (Ok found)
           → behind ≡ rows_behind rows step.told
           → later.changes.items ≡ group.changes.items ++ step.changes.items
           → later.told.items ≡ group.told.items ++ step.told ∷ []

@@ -9,7 +9,7 @@ ghost use Rattle.group_commit.specs.Group.{Groups};
 ghost use Rattle.group_commit.specs.Parts.Planning.{IsGathered, WritesGroup, ended, rows_behind};
 
 use crate::Grouped;
-use crate::planning::{Step, plan};
+use crate::planning::{PlannedStep, plan};
 use activities::Handler;
 use core::mem::replace_with;
 use endpoint::{EndFault, Endpoint};
@@ -39,11 +39,11 @@ impl<S: Drop, C: Drop> Group<S, C> {
     ///
     /// # Errors
     /// Where a growth was refused; the group is of no more use then.
-    fn add(&mut self, step: Step<S, C>) -> Result<(), AllocError>
+    fn add(&mut self, step: PlannedStep<S, C>) -> Result<(), AllocError>
         ensures { OnOk result ((self.new.changes.items ≡ self.old.changes.items ++ step.changes.items)
             × (self.new.told.items ≡ self.old.told.items ++ step.told ∷ [])) }
     {
-        let Step { mut changes, told } = step;
+        let PlannedStep { mut changes, told } = step;
         self.changes.append(&mut changes)?;
         self.told.push(told)?;
         Ok(())

@@ -22,7 +22,7 @@ use std::alloc::{AllocError, Global};
 
 /// What taking one envelope in changes, and what is told of it then.
 #[derive(Drop)]
-pub(crate) struct Step<S, C> {
+pub(crate) struct PlannedStep<S, C> {
     pub(crate) changes: Vec<Change<S, C>>,
     pub(crate) told: Grouped,
 }
@@ -99,7 +99,7 @@ fn react<H, K>(
     rows: u64,
     letter: &Letter,
     mut state: H::State,
-) -> Result<Option<Step<H::State, H::Command>>, KeepFault>
+) -> Result<Option<PlannedStep<H::State, H::Command>>, KeepFault>
 where
     H: Handler,
     K: Keep<State = H::State, Command = H::Command>,
@@ -131,7 +131,7 @@ where
         Err(fault) => return Err(fault),
     }
     match add_rows::<H>(alloc, position, &letter.pair.to, input, state, &mut changes) {
-        Ok(()) => Ok(Some(Step {
+        Ok(()) => Ok(Some(PlannedStep {
             changes,
             told: Grouped::Handled(position.get()),
         })),
@@ -147,7 +147,7 @@ fn plan_next<H, K>(
     before: &[Change<H::State, H::Command>],
     rows: u64,
     letter: &Letter,
-) -> Result<Option<Step<H::State, H::Command>>, KeepFault>
+) -> Result<Option<PlannedStep<H::State, H::Command>>, KeepFault>
 where
     H: Handler,
     K: Keep<State = H::State, Command = H::Command>,
@@ -171,7 +171,7 @@ fn plan_letter<H, K>(
     before: &[Change<H::State, H::Command>],
     rows: u64,
     letter: &Letter,
-) -> Result<Option<Step<H::State, H::Command>>, KeepFault>
+) -> Result<Option<PlannedStep<H::State, H::Command>>, KeepFault>
 where
     H: Handler,
     K: Keep<State = H::State, Command = H::Command>,
@@ -202,7 +202,7 @@ fn plan_mark<H, K>(
     _rows: u64,
     pair: &Pair,
     number: u64,
-) -> Result<Option<Step<H::State, H::Command>>, KeepFault>
+) -> Result<Option<PlannedStep<H::State, H::Command>>, KeepFault>
 where
     H: Handler,
     K: Keep<State = H::State, Command = H::Command>,
@@ -221,7 +221,7 @@ where
                 return Ok(None);
             };
             match settle(alloc, pair, raised) {
-                Ok(changes) => Ok(Some(Step {
+                Ok(changes) => Ok(Some(PlannedStep {
                     changes,
                     told: Grouped::Settled(number),
                 })),
@@ -241,7 +241,7 @@ fn plan_settle<H, K>(
     rows: u64,
     pair: &Pair,
     number: u64,
-) -> Result<Option<Step<H::State, H::Command>>, KeepFault>
+) -> Result<Option<PlannedStep<H::State, H::Command>>, KeepFault>
 where
     H: Handler,
     K: Keep<State = H::State, Command = H::Command>,
@@ -281,7 +281,7 @@ pub(crate) fn plan<H, K>(
     before: &[Change<H::State, H::Command>],
     rows: u64,
     envelope: &Envelope,
-) -> Result<Option<Step<H::State, H::Command>>, KeepFault>
+) -> Result<Option<PlannedStep<H::State, H::Command>>, KeepFault>
 where
     H: Handler,
     K: Keep<State = H::State, Command = H::Command>,

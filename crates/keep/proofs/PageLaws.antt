@@ -3,7 +3,7 @@ use Rattle.std.proofs.Common.{◌≡◌, ◌⊎◌, inl, inr, ℕ, zero, suc, �
 use Rattle.std.proofs.Common.{Equal, Greater, refl, sym, ap, subst, ◌∙◌, arith, zero-add}
 use Rattle.envelope.specs.declared.message.Message.{Message}
 use Rattle.envelope.specs.declared.message.Letter.{Letter}
-use Rattle.keep.specs.declared.change.Place.{Place}
+use Rattle.keep.specs.declared.change.LetterPlace.{LetterPlace}
 use Rattle.keep.specs.Tables.{Messages}
 use Rattle.keep.specs.Places.{place_cmp, IsBefore}
 use Rattle.keep.specs.Listing.{place_of, IsAfter, IsNext, AreFirst}
@@ -41,16 +41,16 @@ listed_letters_stand messages after (suc n) (k ∷ ks) are l (inr more) =
     (r.0, later_than after (place_of k) (place_of l) are.0.later r.1)
 
 -- the first letter of a page, or one behind it
-first_or_behind : (messages : Messages) (after : Option Place) (k : Letter) (x : Place) (m : Message)
+first_or_behind : (messages : Messages) (after : Option LetterPlace) (k : Letter) (x : LetterPlace) (m : Message)
     → IsNext messages after k
     → IsAfter after x → messages x.pair x.number ≡ Some m
     → (o : Ordering) → place_cmp x (place_of k) ≡ o → (letter x.pair x.number m ≡ k) ⊎ IsBefore (place_of k) x
 first_or_behind messages after k x m next late stands Less e = absurd (never_none _ m stands (next.first x late e))
 first_or_behind messages after k x m next late stands Equal e =
     let same : x ≡ place_of k = place_cmp-Equal x (place_of k) e in
-    let said : Some m ≡ Some k.message = sym stands ∙ ap (λ (y : Place). messages y.pair y.number) same ∙ next.stands in
+    let said : Some m ≡ Some k.message = sym stands ∙ ap (λ (y : LetterPlace). messages y.pair y.number) same ∙ next.stands in
     let message : m ≡ k.message = cc in
-    inl (ap (λ (y : Place). letter y.pair y.number m) same ∙ ap (λ (n : Message). letter k.pair k.number n) message)
+    inl (ap (λ (y : LetterPlace). letter y.pair y.number m) same ∙ ap (λ (n : Message). letter k.pair k.number n) message)
 first_or_behind messages after k x m next late stands Greater e = inr (place_cmp-Greater x (place_of k) e)
 
 pub standing_letters_are_listed : StandingLettersAreListed

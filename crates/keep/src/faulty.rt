@@ -2,7 +2,7 @@
 
 ghost use Rattle.std.specs.Prelude.{◌≡◌, ◌+◌, ◌-◌, ◌^◌, min, true, length, take, drop};
 
-use crate::{Change, Keep, KeepFault, Place};
+use crate::{Change, Keep, KeepFault, LetterPlace};
 use activities::JournalRow;
 use base::{Entity, Number, Pair};
 use envelope::{Letter, Message};
@@ -199,7 +199,7 @@ impl<K: Keep + Drop> Keep for Faulty<K> {
     fn unsettled(
         &mut self,
         alloc: Global,
-        after: &Option<Place>,
+        after: &Option<LetterPlace>,
         limit: usize,
     ) -> Result<Vec<Letter>, KeepFault>
         requires { (through K.seen self.old).usable ≡ true }

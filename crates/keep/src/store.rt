@@ -2,7 +2,7 @@
 
 ghost use Rattle.std.specs.Prelude.{◌≡◌, ◌-◌, true, length, take, drop};
 
-use crate::{Change, KeepFault, Place};
+use crate::{Change, KeepFault, LetterPlace};
 use activities::{JournalRow, Parts};
 use base::{Entity, Number, Pair};
 use envelope::{Letter, Message};
@@ -76,7 +76,7 @@ pub trait Keep {
     fn unsettled(
         &mut self,
         alloc: Global,
-        after: &Option<Place>,
+        after: &Option<LetterPlace>,
         limit: usize,
     ) -> Result<Vec<Letter>, KeepFault>
         requires { (seen self.old).usable ≡ true }

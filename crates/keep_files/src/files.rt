@@ -17,7 +17,7 @@ use activities::JournalRow;
 use base::{Entity, Number, Pair};
 use core::mem::replace_with;
 use envelope::{Letter, Message};
-use keep::{Change, Keep, KeepFault, Place};
+use keep::{Change, Keep, KeepFault, LetterPlace};
 use keep_sqlite::{Filed, SqliteKeep, opening_fault};
 use sqlite::{FileFrom, FileStore, Options, Start};
 use std::alloc::Global;
@@ -285,7 +285,7 @@ impl<H: Filed, S: Reopenable + Drop> Keep for FileKeep<H, S> {
     fn unsettled(
         &mut self,
         alloc: Global,
-        after: &Option<Place>,
+        after: &Option<LetterPlace>,
         limit: usize,
     ) -> Result<Vec<Letter>, KeepFault> {
         match &mut self.access {

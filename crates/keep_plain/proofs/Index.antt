@@ -13,7 +13,7 @@ use Rattle.base.specs.declared.pair.Pair.{Pair}
 use Rattle.base.specs.Order.{pair_cmp, pair_cmp-total, same_pair, same_pair-ties}
 use Rattle.base.proofs.Entities.{same_pair-Decides}
 use Rattle.envelope.specs.declared.message.Message.{Message}
-use Rattle.keep.specs.declared.change.Place.{Place}
+use Rattle.keep.specs.declared.change.LetterPlace.{LetterPlace}
 use Rattle.keep.specs.Listing.{IsDrainable, next_held}
 use Rattle.keep.specs.Places.{place_cmp, IsBefore}
 use Rattle.keep_plain.specs.Slots.{at, filled, SameAt, SetsAt, IsFirstFilled}
@@ -28,14 +28,14 @@ none_is None h = refl
 none_is (Some a) h = absurd (true≢false h)
 
 -- the first of these pairs is the answer of a drain
-first_drains : (handled : BTreeMap Pair (Option ℕ)) (held : BTreeMap Place (Option Message)) (drainable : Drainable)
+first_drains : (handled : BTreeMap Pair (Option ℕ)) (held : BTreeMap LetterPlace (Option Message)) (drainable : Drainable)
     → IsIndexed handled held drainable → (p : Option Pair) → IsFirstFilled pair_cmp (at pair_cmp drainable) p
     → IsDrainable (next_held (messages_in held) (handled_at handled)) p
 first_drains handled held drainable i None h = λ q. none_is _ (sym (i q) ∙ ap is_some (h q))
 first_drains handled held drainable i (Some p) h =
     (sym (i p) ∙ h.0, λ q less. none_is _ (sym (i q) ∙ ap is_some (h.1 q less)))
 
-pub result_drains : (handled : BTreeMap Pair (Option ℕ)) (held : BTreeMap Place (Option Message))
+pub result_drains : (handled : BTreeMap Pair (Option ℕ)) (held : BTreeMap LetterPlace (Option Message))
     (drainable : Drainable)
     → IsIndexed handled held drainable → (r : Result (Option Pair) AllocError)
     → IfOk r (IsFirstFilled pair_cmp (at pair_cmp drainable))
@@ -44,7 +44,7 @@ result_drains handled held drainable i (Ok p) h = first_drains handled held drai
 result_drains handled held drainable i (Err e) h = tt
 
 -- the same slots under the same marks
-pub same_index : (handled more_handled : BTreeMap Pair (Option ℕ)) (held more_held : BTreeMap Place (Option Message))
+pub same_index : (handled more_handled : BTreeMap Pair (Option ℕ)) (held more_held : BTreeMap LetterPlace (Option Message))
     (drainable more : Drainable)
     → IsIndexed handled held drainable → SameAt pair_cmp handled more_handled → SameAt place_cmp held more_held
     → SameAt pair_cmp drainable more → IsIndexed more_handled more_held more
@@ -69,7 +69,7 @@ some_where true = refl
 some_where false = refl
 
 -- a mark is set
-pub index_handled : (p : Pair) (n : ℕ) (old new : BTreeMap Pair (Option ℕ)) (held : BTreeMap Place (Option Message))
+pub index_handled : (p : Pair) (n : ℕ) (old new : BTreeMap Pair (Option ℕ)) (held : BTreeMap LetterPlace (Option Message))
     (was now : Drainable) (v : Option (Unit {0}))
     → IsIndexed old held was → SetsAt pair_cmp p (Some n) old new → SetsAt pair_cmp p v was now
     → is_some v ≡ is_some (messages_in held p (n + 1)) → IsIndexed new held now
@@ -84,8 +84,8 @@ index_handled p n old new held was now v i h d e = λ q. elim (cases_Bool (same_
 ]
 
 -- a message is put or taken away
-module _ (handled : BTreeMap Pair (Option ℕ)) (x : Place) (m : Option Message)
-    (old new : BTreeMap Place (Option Message))
+module _ (handled : BTreeMap Pair (Option ℕ)) (x : LetterPlace) (m : Option Message)
+    (old new : BTreeMap LetterPlace (Option Message))
     (was : Drainable) (i : IsIndexed handled old was) (h : SetsAt place_cmp x m old new) where
   -- that of another number stays
   not_here : (q : Pair) → (same_pair x.pair q && (x.number == (handled_at handled q + 1))) ≡ false
@@ -135,7 +135,7 @@ not_more k n h = elim (cases_lt n k) [
 ]
 
 -- a place behind that of a number and not behind that of the next one is the latter
-behind : (p : Pair) (n : ℕ) (y : Place) → IsBefore (record { pair = p; number = n }) y
+behind : (p : Pair) (n : ℕ) (y : LetterPlace) → IsBefore (record { pair = p; number = n }) y
     → is_gt (place_cmp y (record { pair = p; number = n + 1 })) ≡ false → (same_pair y.pair p ≡ true)
     × (y.number ≡ n + 1)
 behind p n y before upto =
@@ -150,9 +150,9 @@ behind p n y before upto =
     (same_pair-ties y.pair p ∙ ap is_eq back, omega (arith, over, under))
 
 -- the first slot behind a place, as a range gives it
-module _ (m : BTreeMap Place (Option Message)) (x y : Place) (slot : Option Message) (before : IsBefore x y)
+module _ (m : BTreeMap LetterPlace (Option Message)) (x y : LetterPlace) (slot : Option Message) (before : IsBefore x y)
     (stands : get place_cmp m y ≡ Some slot)
-    (least : (q : Place) → IsBefore x q → IsSome (get place_cmp m q) → is_gt (place_cmp y q) ≡ false) where
+    (least : (q : LetterPlace) → IsBefore x q → IsSome (get place_cmp m q) → is_gt (place_cmp y q) ≡ false) where
   -- is that of the next number, where its pair and its number are those
   pub behind_is : (same_pair y.pair x.pair && ((x.number + 1) == y.number)) ≡ true
       → messages_in m x.pair (x.number + 1) ≡ slot
@@ -162,7 +162,7 @@ module _ (m : BTreeMap Place (Option Message)) (x y : Place) (slot : Option Mess
       ((same_pair-Decides y.pair x.pair).0 parts.0)
       (sym (eqb-true (x.number + 1) y.number parts.1)))) ∙ ap filled stands
     where
-      place_is : (z : Place) (p : Pair) (n : ℕ) → z.pair ≡ p → z.number ≡ n → z ≡ record { pair = p; number = n }
+      place_is : (z : LetterPlace) (p : Pair) (n : ℕ) → z.pair ≡ p → z.number ≡ n → z ≡ record { pair = p; number = n }
       place_is z p n h k = ap (λ q. record z { pair = q }) h ∙ ap (λ j. record { pair = p; number = j }) k
 
   -- and otherwise that has no slot

@@ -15,7 +15,7 @@ use Rattle.std.proofs.lemmas.List.{append-nil}
 use Rattle.std.proofs.Math.Seq.{take-nil}
 use Rattle.envelope.specs.declared.message.Message.{Message}
 use Rattle.envelope.specs.declared.message.Letter.{Letter}
-use Rattle.keep.specs.declared.change.Place.{Place}
+use Rattle.keep.specs.declared.change.LetterPlace.{LetterPlace}
 use Rattle.keep.specs.Places.{place_cmp, place_cmp-total, IsBefore}
 use Rattle.keep.specs.Listing.{place_of, AreFirst}
 use Rattle.keep.specs.Sorted.{Has, AreSorted, is_after}
@@ -26,18 +26,18 @@ use Rattle.keep_plain.specs.Listed.{letters_at, start_after}
 use Rattle.keep_plain.proofs.Filled.{found, skipped, stopped, equal_is}
 
 abbrev Slot : Type 0
-Slot = Place × Option Message
+Slot = LetterPlace × Option Message
 
 -- each of these places comes after that one
-abbrev AllAfter : Place → List Slot → Type 0
-AllAfter x es = AllByRecursion (λ (y : Place). place_cmp x y ≡ Less) (keys_of es)
+abbrev AllAfter : LetterPlace → List Slot → Type 0
+AllAfter x es = AllByRecursion (λ (y : LetterPlace). place_cmp x y ≡ Less) (keys_of es)
 
 abbrev Ordered : List Slot → Type 0
 Ordered es = IsStrictlySortedBy place_cmp (keys_of es)
 
 -- ---- the letters are in order
 
-after_letters : (x : Place) (es : List Slot) → AllAfter x es
+after_letters : (x : LetterPlace) (es : List Slot) → AllAfter x es
     → AllByRecursion (λ k. IsBefore x (place_of k)) (letters_at es)
 after_letters x [] a = tt
 after_letters x ((y, None) ∷ es) a = after_letters x es a.1
@@ -51,7 +51,7 @@ letters_sorted ((y, Some m) ∷ es) o = (after_letters y es o.0, letters_sorted 
 
 -- ---- and they are the messages
 
-turned : (x y : Place) → IsBefore x y → is_eq (place_cmp y x) ≡ false
+turned : (x y : LetterPlace) → IsBefore x y → is_eq (place_cmp y x) ≡ false
 turned x y h = ap is_eq (place_cmp-total.antisymm y x) ∙ ap (λ o. is_eq (ordering_reverse o)) h
 
 among : (P : Letter → Type 0) (ls : List Letter) (l : Letter) → AllByRecursion P ls → Has ls l → P l
@@ -75,10 +75,10 @@ letters_stand ((y, Some m) ∷ es) o l (inl e) =
     ∙ ap (λ (k : Letter). Some k.message) (sym e)
 letters_stand ((y, Some m) ∷ es) o l (inr h) = later_found (y, Some m) es l o.0 h (letters_stand es o.1 l h)
 
-tied : (x y : Place) → is_eq (place_cmp x y) ≡ true → y ≡ x
+tied : (x y : LetterPlace) → is_eq (place_cmp x y) ≡ true → y ≡ x
 tied x y h = sym (place_cmp-Equal x y (equal_is (place_cmp x y) h))
 
-letters_all : (es : List Slot) (x : Place) → (found place_cmp es x ≡ None)
+letters_all : (es : List Slot) (x : LetterPlace) → (found place_cmp es x ≡ None)
     ⊎ ((l : Letter) × Has (letters_at es) l × (place_of l ≡ x))
 letters_all [] x = inl refl
 letters_all ((y, None) ∷ es) x = elim (cases_Bool (is_eq (place_cmp x y))) [
@@ -99,13 +99,13 @@ true_and : (b : Bool) → (b && true) ≡ b
 true_and true = refl
 true_and false = refl
 
-in_range : (after : Option Place) (l : Letter)
+in_range : (after : Option LetterPlace) (l : Letter)
     → range_contains place_cmp (start_after after) Unbounded (place_of l) ≡ is_after after l
 in_range None l = refl
 in_range (Some a) l = true_and (is_lt (place_cmp a (place_of l)))
 
 -- the letters in a part of the slots are a part of the letters
-letters_between : (after : Option Place) (es : List Slot)
+letters_between : (after : Option LetterPlace) (es : List Slot)
     → letters_at (entries_between place_cmp (start_after after) Unbounded es) ≡ filter (is_after after) (letters_at es)
 letters_between after [] = refl
 letters_between after ((y, None) ∷ es) = elim (cases_Bool (range_contains place_cmp (start_after after) Unbounded y)) [
@@ -121,8 +121,8 @@ letters_between after ((y, Some m) ∷ es) =
     ]
 
 -- the first letters in the slots after a place are the answer of a listing
-pub letters_listed : (m : BTreeMap Place (Option Message)) → IsOrdered place_cmp m
-    → (after : Option Place) (limit : ℕ) (r : List Slot)
+pub letters_listed : (m : BTreeMap LetterPlace (Option Message)) → IsOrdered place_cmp m
+    → (after : Option LetterPlace) (limit : ℕ) (r : List Slot)
     → r ≡ entries_between place_cmp (start_after after) Unbounded m.entries
     → AreFirst (messages_in m) after limit (take limit (letters_at r))
 letters_listed m o after limit r e =

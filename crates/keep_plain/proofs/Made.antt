@@ -17,7 +17,7 @@ use Rattle.envelope.specs.declared.message.Message.{Message}
 use Rattle.envelope.specs.declared.message.Letter.{Letter}
 use Rattle.keep.specs.declared.change.Change.{Change}
 use Rattle.keep.specs.declared.change.Change.TheVariants.{Journal, State, Sent, Settled, Handled, Held, NotHeld}
-use Rattle.keep.specs.declared.change.Place.{Place}
+use Rattle.keep.specs.declared.change.LetterPlace.{LetterPlace}
 use Rattle.keep.specs.Listing.{place_of}
 use Rattle.keep.specs.Places.{place_cmp}
 use Rattle.keep.specs.Tables.{Tables, set_entity, set_mark, set_message, without_upto, changed_by}
@@ -40,12 +40,12 @@ sets_entity : {S : Type 0} (e : Entity) (row : Option S) (old new : BTreeMap Ent
 sets_entity e row old new h =
     fun_ext (λ x. h x ∙ ap (λ b. if b then row else at entity_cmp old x) (sym (same_entity-ties e x)))
 
-sets_message : (x : Place) (m : Option Message) (old new : BTreeMap Place (Option Message))
+sets_message : (x : LetterPlace) (m : Option Message) (old new : BTreeMap LetterPlace (Option Message))
     → SetsAt place_cmp x m old new
     → messages_in new ≡ set_message x.pair x.number m (messages_in old)
 sets_message x m old new h = fun_ext (λ q. fun_ext (λ k. set_at x m old new h q k))
 
-without : (p : Pair) (n : ℕ) (old new : BTreeMap Place (Option Message))
+without : (p : Pair) (n : ℕ) (old new : BTreeMap LetterPlace (Option Message))
     → EmptiesFrom p 0 n (messages_in old) (messages_in new)
     → messages_in new ≡ without_upto p n (messages_in old)
 without p n old new h = fun_ext (λ q. fun_ext (λ k. emptied_is p n (messages_in old) (messages_in new) h q k))
@@ -129,7 +129,7 @@ module _ {S C : Type 0} (old : Maps S C) where
       → tables_in (record old { rows = rows }) ≡ changed_by (State e row) (tables_in old)
   state_made e row rows h = ap (λ x. record (tables_in old) { entity = x }) (sets_entity e row old.rows rows h)
 
-  pub sent_made : (l : Letter) (marks : BTreeMap Pair (Option Marks)) (outbox : BTreeMap Place (Option Message))
+  pub sent_made : (l : Letter) (marks : BTreeMap Pair (Option Marks)) (outbox : BTreeMap LetterPlace (Option Message))
       → SetsAt pair_cmp l.pair (Some (with_mark mark.Sent l.number (marks_at old.marks l.pair))) old.marks marks
       → SetsAt place_cmp (place_of l) (Some l.message) old.outbox outbox
       → tables_in (record old { marks = marks; outbox = outbox }) ≡ changed_by (Sent l) (tables_in old)
@@ -141,7 +141,7 @@ module _ {S C : Type 0} (old : Maps S C) where
       refl
 
   pub settled_made : (p : Pair) (n : ℕ) (marks : BTreeMap Pair (Option Marks))
-      (outbox : BTreeMap Place (Option Message))
+      (outbox : BTreeMap LetterPlace (Option Message))
       → SetsAt pair_cmp p (Some (with_mark mark.Settled n (marks_at old.marks p))) old.marks marks
       → EmptiesFrom p 0 n (messages_in old.outbox) (messages_in outbox)
       → tables_in (record old { marks = marks; outbox = outbox }) ≡ changed_by (Settled p n) (tables_in old)
@@ -161,7 +161,7 @@ module _ {S C : Type 0} (old : Maps S C) where
       (ap messages_in e)
 
   -- a message is put at a place, or taken away there
-  message_made : (x : Place) (m : Option Message) (arrivals : Arrivals)
+  message_made : (x : LetterPlace) (m : Option Message) (arrivals : Arrivals)
       → SetsAt place_cmp x m old.arrivals.held arrivals.held
       → arrivals.handled ≡ old.arrivals.handled
       → tables_in (record old { arrivals = arrivals })

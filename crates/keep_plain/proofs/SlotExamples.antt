@@ -13,7 +13,7 @@ use Rattle.base.specs.declared.pair.Pair.{Pair}
 use Rattle.activities.specs.declared.input.JournalRow.{JournalRow}
 use Rattle.envelope.specs.declared.message.Message.{Message}
 use Rattle.envelope.specs.declared.message.Message.TheVariants.{Request, Confirm}
-use Rattle.keep.specs.declared.change.Place.{Place}
+use Rattle.keep.specs.declared.change.LetterPlace.{LetterPlace}
 use Rattle.keep.specs.declared.change.Change.TheVariants.{Journal, Handled}
 use Rattle.keep.specs.Places.{place_cmp}
 use Rattle.keep.specs.Tables.{Messages, set_message}
@@ -43,7 +43,7 @@ there = record { from = o1; to = bolts }
 abbrev back : Pair
 back = record { from = bolts; to = o1 }
 
-abbrev place : Pair → ℕ → Place
+abbrev place : Pair → ℕ → LetterPlace
 place p n = record { pair = p; number = n }
 
 -- ---- slots
@@ -106,7 +106,7 @@ marks_are_set = (refl, refl, refl)
 
 -- ---- letters
 
-abbrev slots : List (Place × Option Message)
+abbrev slots : List (LetterPlace × Option Message)
 slots = (place there 1, Some (Request 3)) ∷ (place there 2, None) ∷ (place there 3, Some Confirm) ∷ []
 
 -- of three slots one is empty
@@ -134,7 +134,7 @@ abbrev stands : {V : Type 0} → List (Pair × Option V) → Pair → Option V
 stands es p = filled (lookup (λ y. is_eq (pair_cmp p y)) es)
 
 -- where none was handled the first letter is next, so its pair is missed
-indexes_are_whole : (handled : BTreeMap Pair (Option ℕ)) (held : BTreeMap Place (Option Message))
+indexes_are_whole : (handled : BTreeMap Pair (Option ℕ)) (held : BTreeMap LetterPlace (Option Message))
     (drainable : BTreeMap Pair (Option (Unit {0}))) → handled.entries ≡ [] → held.entries ≡ slots
     → drainable.entries ≡ []
     → IsIndexed handled held drainable → ⊥

@@ -11,14 +11,14 @@ use Rattle.base.specs.declared.pair.Pair.{Pair}
 use Rattle.base.specs.Order.{pair_cmp, pair_cmp-total, same_pair, same_pair-ties}
 use Rattle.base.proofs.Entities.{same_pair-Decides}
 use Rattle.envelope.specs.declared.message.Message.{Message}
-use Rattle.keep.specs.declared.change.Place.{Place}
+use Rattle.keep.specs.declared.change.LetterPlace.{LetterPlace}
 use Rattle.keep.specs.Places.{place_cmp, same_place-ties, IsBefore}
 use Rattle.keep.specs.Tables.{Messages, without_upto}
 use Rattle.keep_plain.specs.Slots.{at, SetsAt, filled}
 use Rattle.keep_plain.specs.Index.{messages_in}
 use Rattle.keep_plain.specs.Upto.{NoneBetween, EmptiesFrom}
 
-abbrev place : Pair → ℕ → Place
+abbrev place : Pair → ℕ → LetterPlace
 place p n = record { pair = p; number = n }
 
 -- places of one pair are ordered by their numbers
@@ -51,9 +51,9 @@ unless_some None h = refl
 unless_some (Some a) h = absurd (h refl)
 
 -- the last slot before a place, as a range gives it
-module _ (m : BTreeMap Place (Option Message)) (last x : Place) (before : IsBefore last x)
-    (greatest : (q : Place) → IsBefore q x → IsSome (get place_cmp m q) → is_lt (place_cmp last q) ≡ false) where
-  none_after : (q : Place) → IsBefore q x → IsBefore last q → get place_cmp m q ≡ None
+module _ (m : BTreeMap LetterPlace (Option Message)) (last x : LetterPlace) (before : IsBefore last x)
+    (greatest : (q : LetterPlace) → IsBefore q x → IsSome (get place_cmp m q) → is_lt (place_cmp last q) ≡ false) where
+  none_after : (q : LetterPlace) → IsBefore q x → IsBefore last q → get place_cmp m q ≡ None
   none_after q h l = unless_some _ (λ some. true≢false (sym (ap is_lt l) ∙ greatest q h some))
 
   pub last_same : same_pair last.pair x.pair ≡ true → (last.number < x.number)
@@ -86,13 +86,13 @@ if_false : {A : Type 0} (b : Bool) (x y : A) → b ≡ false → (if b then x el
 if_false b x y h = ap (λ c. if c then x else y) h
 
 -- a slot that is set, as messages
-pub set_at : (x : Place) (v : Option Message) (old new : BTreeMap Place (Option Message)) → SetsAt place_cmp x v old new
+pub set_at : (x : LetterPlace) (v : Option Message) (old new : BTreeMap LetterPlace (Option Message)) → SetsAt place_cmp x v old new
     → (q : Pair) (k : ℕ)
     → messages_in new q k ≡ (if same_pair x.pair q && (x.number == k) then v else messages_in old q k)
 set_at x v old new h q k =
     h (place q k) ∙ ap (λ b. if b then v else messages_in old q k) (sym (same_place-ties x (place q k)))
 
-module _ (x : Place) (old new : BTreeMap Place (Option Message)) (h : SetsAt place_cmp x None old new) where
+module _ (x : LetterPlace) (old new : BTreeMap LetterPlace (Option Message)) (h : SetsAt place_cmp x None old new) where
   set_here : messages_in new x.pair x.number ≡ None
   set_here = h x ∙ ap (λ o. if is_eq o then None else at place_cmp old x)
       (place_cmp-same x.pair x.number x.number ∙ sym (nat_cmp_is x.number x.number Equal refl))
@@ -116,7 +116,7 @@ module _ (x : Place) (old new : BTreeMap Place (Option Message)) (h : SetsAt pla
   }
 
 -- the slot before, where there are none between
-pub emptied_more : (p : Pair) (n low high : ℕ) (old mid new : BTreeMap Place (Option Message))
+pub emptied_more : (p : Pair) (n low high : ℕ) (old mid new : BTreeMap LetterPlace (Option Message))
     → EmptiesFrom p low high (messages_in old) (messages_in mid)
     → n < low → low ≤ high → NoneBetween mid p (λ k. n < k) low → SetsAt place_cmp (place p n) None mid new
     → EmptiesFrom p n high (messages_in old) (messages_in new)
@@ -134,7 +134,7 @@ emptied_more p n low high old mid new was less fits none h = record {
 }
 
 -- none is left before
-pub emptied_all : (p : Pair) (low high : ℕ) (old new : BTreeMap Place (Option Message))
+pub emptied_all : (p : Pair) (low high : ℕ) (old new : BTreeMap LetterPlace (Option Message))
     → EmptiesFrom p low high (messages_in old) (messages_in new)
     → NoneBetween new p (λ k. 0 ≤ k) low → EmptiesFrom p 0 high (messages_in old) (messages_in new)
 emptied_all p low high old new was none = record {

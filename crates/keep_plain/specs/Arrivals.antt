@@ -1,7 +1,7 @@
 -- Arrivals that have the slots that a change sets.
 use Rattle.base.specs.Order.{pair_cmp}
 use Rattle.base.specs.declared.pair.Pair.{Pair}
-use Rattle.keep.specs.declared.change.Place.{Place}
+use Rattle.keep.specs.declared.change.LetterPlace.{LetterPlace}
 use Rattle.keep.specs.Places.{place_cmp}
 use Rattle.keep_plain.specs.Slots.{HasSlot, KeepsSlots, SameAt}
 use Rattle.keep_plain.specs.declared.arrivals.Arrivals.{Arrivals}
@@ -11,7 +11,7 @@ abbrev pub CanHandle : Arrivals → Pair → Type 0
 CanHandle a p = HasSlot pair_cmp a.handled p × HasSlot pair_cmp a.drainable p
 
 -- a message may be held at a place
-abbrev pub CanHold : Arrivals → Place → Type 0
+abbrev pub CanHold : Arrivals → LetterPlace → Type 0
 CanHold a x = HasSlot place_cmp a.held x × HasSlot pair_cmp a.drainable x.pair
 
 -- no slot is taken away

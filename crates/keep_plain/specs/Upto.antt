@@ -4,16 +4,16 @@ use Rattle.std.specs.BTreeMap.{BTreeMap, get}
 use Rattle.base.specs.Order.{same_pair}
 use Rattle.base.specs.declared.pair.Pair.{Pair}
 use Rattle.envelope.specs.declared.message.Message.{Message}
-use Rattle.keep.specs.declared.change.Place.{Place}
+use Rattle.keep.specs.declared.change.LetterPlace.{LetterPlace}
 use Rattle.keep.specs.Places.{place_cmp}
 use Rattle.keep.specs.Tables.{Messages}
 
 -- the pair has no slots of the numbers that come after the one and before the other
-abbrev pub NoneBetween : BTreeMap Place (Option Message) → Pair → (ℕ → Type 0) → ℕ → Type 0
+abbrev pub NoneBetween : BTreeMap LetterPlace (Option Message) → Pair → (ℕ → Type 0) → ℕ → Type 0
 NoneBetween m p After high = (k : ℕ) → After k → k < high → get place_cmp m (record { pair = p; number = k }) ≡ None
 
 -- this is the number of the last slot of the place's pair before it, or there is none
-abbrev pub IsLastBefore : BTreeMap Place (Option Message) → Place → Option ℕ → Type 0
+abbrev pub IsLastBefore : BTreeMap LetterPlace (Option Message) → LetterPlace → Option ℕ → Type 0
 IsLastBefore m x None = NoneBetween m x.pair (λ k. 0 ≤ k) x.number
 IsLastBefore m x (Some n) = (n < x.number) × NoneBetween m x.pair (λ k. n < k) x.number
 

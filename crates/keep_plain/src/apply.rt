@@ -17,7 +17,7 @@ use crate::outbox::{empty_upto, sweep_upto};
 use crate::slots::{make_slot, set_slot, sweep_slot};
 use base::{Entity, Number, Pair};
 use envelope::Letter;
-use keep::{Change, Place};
+use keep::{Change, LetterPlace};
 use std::alloc::{AllocError, Global};
 
 /// Puts the slots that a change sets.
@@ -51,7 +51,7 @@ fn send<S: Drop, C: Drop>(maps: &mut Maps<S, C>, letter: Letter)
     ensures keeps { KeepsAll maps.old maps.new }
     ensures journal { maps.new.journal ≡ maps.old.journal }
 {
-    let place = Place {
+    let place = LetterPlace {
         pair: letter.pair,
         number: letter.number,
     };
@@ -67,7 +67,7 @@ fn settle<S: Drop, C: Drop>(maps: &mut Maps<S, C>, pair: Pair, number: Number) -
     ensures keeps { KeepsAll maps.old maps.new }
     ensures journal { maps.new.journal ≡ maps.old.journal }
 {
-    let mut place = Place { pair, number };
+    let mut place = LetterPlace { pair, number };
     set_mark(&mut maps.marks, &place.pair, Mark::Settled, number);
     empty_upto(&mut maps.outbox, &mut place);
     place.pair
@@ -81,20 +81,20 @@ fn handle<S: Drop, C: Drop>(maps: &mut Maps<S, C>, pair: Pair, number: Number) -
     ensures keeps { KeepsAll maps.old maps.new }
     ensures journal { maps.new.journal ≡ maps.old.journal }
 {
-    let place = Place { pair, number };
+    let place = LetterPlace { pair, number };
     maps.arrivals.handle(&place);
     place.pair
 }
 
 /// Holds a letter, in slots that are there, and gives its place. The slot of its pair as a drainable one may be left
 /// empty.
-fn hold<S: Drop, C: Drop>(maps: &mut Maps<S, C>, letter: Letter) -> Place
+fn hold<S: Drop, C: Drop>(maps: &mut Maps<S, C>, letter: Letter) -> LetterPlace
     requires { IsReady maps.old (Held letter) }
     ensures made { tables_in maps.new ≡ changed_by (Held letter) (tables_in maps.old) }
     ensures keeps { KeepsAll maps.old maps.new }
     ensures journal { maps.new.journal ≡ maps.old.journal }
 {
-    let place = Place {
+    let place = LetterPlace {
         pair: letter.pair,
         number: letter.number,
     };
@@ -109,7 +109,7 @@ fn release<S: Drop, C: Drop>(maps: &mut Maps<S, C>, pair: Pair, number: Number) 
     ensures keeps { KeepsAll maps.old maps.new }
     ensures journal { maps.new.journal ≡ maps.old.journal }
 {
-    let place = Place { pair, number };
+    let place = LetterPlace { pair, number };
     maps.arrivals.release(&place);
     place.pair
 }
@@ -183,7 +183,7 @@ fn sweep_change<S: Drop, C: Drop>(maps: &mut Maps<S, C>, change: Change<S, C>)
         Change::Journal(_, _) => {}
         Change::State(entity, _) => sweep_slot(&mut maps.rows, &entity),
         Change::Sent(letter) => {
-            let place = Place {
+            let place = LetterPlace {
                 pair: letter.pair,
                 number: letter.number,
             };
@@ -192,14 +192,14 @@ fn sweep_change<S: Drop, C: Drop>(maps: &mut Maps<S, C>, change: Change<S, C>)
         }
         Change::Settled(pair, number) => {
             sweep_slot(&mut maps.marks, &pair);
-            sweep_upto(&mut maps.outbox, Place { pair, number });
+            sweep_upto(&mut maps.outbox, LetterPlace { pair, number });
         }
         Change::Handled(pair, _) => maps.arrivals.sweep_handled(&pair),
-        Change::Held(letter) => maps.arrivals.sweep_held(&Place {
+        Change::Held(letter) => maps.arrivals.sweep_held(&LetterPlace {
             pair: letter.pair,
             number: letter.number,
         }),
-        Change::NotHeld(pair, number) => maps.arrivals.sweep_held(&Place { pair, number }),
+        Change::NotHeld(pair, number) => maps.arrivals.sweep_held(&LetterPlace { pair, number }),
     }
 }
 

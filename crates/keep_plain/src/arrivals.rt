@@ -13,7 +13,7 @@ use crate::held::{find_message, first_filled, has_next};
 use crate::slots::{empty_slot, get_slot, make_slot, set_slot, sweep_slot};
 use base::{Number, Pair};
 use envelope::{Letter, Message};
-use keep::Place;
+use keep::LetterPlace;
 use std::alloc::{AllocError, Global};
 use std::collections::BTreeMap;
 
@@ -24,7 +24,7 @@ pub struct Arrivals {
     /// The last number handled of each pair.
     handled: BTreeMap<Pair, Option<Number>>,
     /// What came too early.
-    held: BTreeMap<Place, Option<Message>>,
+    held: BTreeMap<LetterPlace, Option<Message>>,
     /// The pairs whose next message is held: its number is one more than the last handled.
     drainable: BTreeMap<Pair, Option<()>>,
     ghost indexed: { IsIndexed handled held drainable },
@@ -95,7 +95,7 @@ impl Arrivals {
     }
 
     /// Sets the handled mark of a place's pair to its number, in slots that are there.
-    pub fn handle(&mut self, place: &Place)
+    pub fn handle(&mut self, place: &LetterPlace)
         requires { CanHandle self.old place.now.pair }
         ensures handled { SetsAt pair_cmp place.now.pair (Some place.now.number) self.old.handled self.new.handled }
         ensures held { self.new.held ≡ self.old.held }
@@ -107,14 +107,14 @@ impl Arrivals {
     }
 
     /// Whether a place is the next of its pair: its number is one more than the last handled.
-    fn is_next(&self, place: &Place) -> bool
+    fn is_next(&self, place: &LetterPlace) -> bool
         ensures { result ≡ ((handled_at self.now.handled place.now.pair + 1) == place.now.number) }
     {
         place.number.get() - 1 == self.find_handled(&place.pair)
     }
 
     /// Holds a message, in slots that are there.
-    pub fn hold(&mut self, place: &Place, message: Message)
+    pub fn hold(&mut self, place: &LetterPlace, message: Message)
         requires { CanHold self.old place.now }
         ensures held { SetsAt place_cmp place.now (Some message) self.old.held self.new.held }
         ensures handled { self.new.handled ≡ self.old.handled }
@@ -128,7 +128,7 @@ impl Arrivals {
     }
 
     /// Holds a message no more. Its slots are left empty.
-    pub fn release(&mut self, place: &Place)
+    pub fn release(&mut self, place: &LetterPlace)
         ensures held { SetsAt place_cmp place.now None self.old.held self.new.held }
         ensures handled { self.new.handled ≡ self.old.handled }
         ensures keeps { KeepsArrivals self.old self.new }
@@ -149,7 +149,7 @@ impl Arrivals {
     }
 
     /// Takes the empty slots of a held message away.
-    pub fn sweep_held(&mut self, place: &Place)
+    pub fn sweep_held(&mut self, place: &LetterPlace)
         ensures { SameArrivals self.old self.new }
     {
         sweep_slot(&mut self.held, place);

@@ -8,7 +8,7 @@ ghost use Rattle.keep_plain.specs.Slots.{at, IsFirstFilled};
 use crate::slots::get_slot;
 use base::{Number, Pair};
 use envelope::Message;
-use keep::Place;
+use keep::LetterPlace;
 use std::alloc::{AllocError, Global};
 use std::collections::BTreeMap;
 use std::ops::Bound;
@@ -16,13 +16,13 @@ use std::ops::Bound;
 /// The message of a pair and number, where one is held.
 pub fn find_message(
     alloc: Global,
-    held: &BTreeMap<Place, Option<Message>>,
+    held: &BTreeMap<LetterPlace, Option<Message>>,
     pair: &Pair,
     number: Number,
 ) -> Result<Option<Message>, AllocError>
     ensures { IfOk result (λ m. m ≡ messages_in held.now pair.now number) }
 {
-    let place = Place {
+    let place = LetterPlace {
         pair: pair.copy(alloc)?,
         number,
     };
@@ -30,14 +30,14 @@ pub fn find_message(
 }
 
 /// Whether a place is behind another: of its pair, and with the next number.
-fn is_behind(place: &Place, other: &Place) -> bool
+fn is_behind(place: &LetterPlace, other: &LetterPlace) -> bool
     ensures { result ≡ (same_pair place.now.pair other.now.pair && ((other.now.number + 1) == place.now.number)) }
 {
     place.pair == other.pair && place.number.get() - 1 == other.number.get()
 }
 
 /// Whether the message behind a place is held.
-pub fn has_next(held: &BTreeMap<Place, Option<Message>>, place: &Place) -> bool
+pub fn has_next(held: &BTreeMap<LetterPlace, Option<Message>>, place: &LetterPlace) -> bool
     ensures { result ≡ is_some (messages_in held.now place.now.pair (place.now.number + 1)) }
 {
     let Some((found, slot)) = held

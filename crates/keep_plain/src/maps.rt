@@ -5,7 +5,7 @@ use crate::marks::Marks;
 use activities::JournalRow;
 use base::{Entity, Pair};
 use envelope::Message;
-use keep::Place;
+use keep::LetterPlace;
 use std::collections::BTreeMap;
 
 /// The tables of a service whose states are `S` and whose commands are `C`, as they stand in memory. An empty slot is
@@ -19,7 +19,7 @@ pub struct Maps<S, C> {
     /// The marks of pairs that send.
     pub marks: BTreeMap<Pair, Option<Marks>>,
     /// What was sent and isn't settled.
-    pub outbox: BTreeMap<Place, Option<Message>>,
+    pub outbox: BTreeMap<LetterPlace, Option<Message>>,
     /// What arrives.
     pub arrivals: Arrivals,
 }

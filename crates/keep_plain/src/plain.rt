@@ -12,7 +12,7 @@ use crate::outbox::first_letters;
 use activities::{Handler, JournalRow};
 use base::{Entity, Number, Pair};
 use envelope::{Letter, Message};
-use keep::{Change, Keep, KeepFault, Place};
+use keep::{Change, Keep, KeepFault, LetterPlace};
 use std::alloc::Global;
 use std::collections::BTreeMap;
 
@@ -95,7 +95,7 @@ impl<H: Handler> Keep for PlainKeep<H> {
     fn unsettled(
         &mut self,
         alloc: Global,
-        after: &Option<Place>,
+        after: &Option<LetterPlace>,
         limit: usize,
     ) -> Result<Vec<Letter>, KeepFault> {
         Ok(first_letters(alloc, &self.maps.outbox, after, limit)?)

@@ -23,7 +23,7 @@ use Rattle.sqlite.specs.Effect.{Database, IsDatabase}
 use Rattle.sqlite_catalog.specs.Listing.{IsSound}
 use Rattle.base.specs.Entity.{text_of}
 use Rattle.envelope.specs.declared.message.Letter.{Letter}
-use Rattle.keep.specs.declared.change.Place.{Place}
+use Rattle.keep.specs.declared.change.LetterPlace.{LetterPlace}
 use Rattle.keep.specs.Listing.{place_of, IsAfter, AreFirst}
 use Rattle.keep.specs.Places.{place_cmp-total, IsBefore}
 use Rattle.keep.proofs.Places.{never_self, place_cmp-Equal}
@@ -129,20 +129,20 @@ placed r l is =
 abbrev AtMost : Row → Row → Type 0
 AtMost a b = is_gt (by_place a b) ≡ false
 
-module _ (rows : List Row) (one : (x : Place) → IsOne (has_key (key_at x.pair x.number)) rows) where
-  same_place_of : (r s : Row) (x y : Place) → s ≡ r → IsPlaced x r → IsPlaced y s → x ≡ y
+module _ (rows : List Row) (one : (x : LetterPlace) → IsOne (has_key (key_at x.pair x.number)) rows) where
+  same_place_of : (r s : Row) (x y : LetterPlace) → s ≡ r → IsPlaced x r → IsPlaced y s → x ≡ y
   same_place_of r s x y same h k =
       let both = one_place r x.pair y.pair x.number y.number h (subst (IsPlaced y) same k) in
       ap₂ (λ p n. record { pair = p; number = n }) both.0 both.1
 
-  none_there : (x : Place) → ((r : Row) → Has rows r → IsPlaced x r → ⊥) → messages_in rows x.pair x.number ≡ None
+  none_there : (x : LetterPlace) → ((r : Row) → Has rows r → IsPlaced x r → ⊥) → messages_in rows x.pair x.number ≡ None
   none_there x never = ap letter_in (none_is (has_key (key_at x.pair x.number)) rows (λ r h. not_true _ (never r h)))
 
-  first_told : (n : ℕ) (after : Option Place) (all : List Row) (ls : List Letter)
+  first_told : (n : ℕ) (after : Option LetterPlace) (all : List Row) (ls : List Letter)
       → AllZip (λ r. IsLetterAt (shown_letter r)) (take n all) ls → IsAscending AtMost all
       → IsAscending (λ a b. same_id a b ≡ false) all → ((r : Row) → Has all r → Has rows r)
-      → ((r : Row) (x : Place) → Has all r → IsPlaced x r → IsAfter after x)
-      → ((r : Row) (x : Place) → Has rows r → IsPlaced x r → IsAfter after x → Has all r)
+      → ((r : Row) (x : LetterPlace) → Has all r → IsPlaced x r → IsAfter after x)
+      → ((r : Row) (x : LetterPlace) → Has rows r → IsPlaced x r → IsAfter after x → Has all r)
       → AreFirst (messages_in rows) after n ls
   first_told zero after all [] told rises apart from late there = tt
   first_told zero after all (l ∷ ls) told rises apart from late there = absurd told
@@ -181,7 +181,7 @@ module _ (rows : List Row) (one : (x : Place) → IsOne (has_key (key_at x.pair 
 
 module _ {S C : Type 0} (f : Filing S C) (count : ℕ) (db : Database) (filed : IsFiled f.schema count db) (sound :
     IsDatabase db) where
-  pub letters_are : {V E : Type 0} (letters : V → List Letter) (r : Result V E) (after : Option Place) (limit : ℕ)
+  pub letters_are : {V E : Type 0} (letters : V → List Letter) (r : Result V E) (after : Option LetterPlace) (limit : ℕ)
       (bound : Option ℕ) → MatchOption bound (2 ^ 63 ≤ limit) (λ most. most ≡ limit) → (items : List Row)
       → length items < 2 ^ 63
       → AreInOrder by_place bound shown_letter (filter (is_behind after) (db.trees 1)) items
@@ -215,7 +215,7 @@ all_behind [] = refl
 all_behind (r ∷ rows) = ap (λ l. r ∷ l) (all_behind rows)
 
 -- each of the two texts shows the first rows behind a place
-module _ {V E : Type 0} (items : V → List Row) (r : Result V E) (rows : List Row) (after : Option Place) (z limit : ℤ)
+module _ {V E : Type 0} (items : V → List Row) (r : Result V E) (rows : List Row) (after : Option LetterPlace) (z limit : ℤ)
     (bound : z ≡ limit) where
   abbrev Shows : ℤ → List Row → Type 0
   Shows n xs = IfOk r (λ v. AreInOrder by_place (as_count (Int n)) shown_letter xs (items v))
@@ -223,7 +223,7 @@ module _ {V E : Type 0} (items : V → List Row) (r : Result V E) (rows : List R
   pub behind_none : after ≡ None → Shows z rows → Shows limit (filter (is_behind after) rows)
   behind_none is shown = rw (is, all_behind rows) (subst (λ n. Shows n rows) bound shown)
 
-  pub behind_some : (a : Place) (s t : List ℕ) (n : ℤ) → after ≡ Some a → s ≡ text_of a.pair.from
+  pub behind_some : (a : LetterPlace) (s t : List ℕ) (n : ℤ) → after ≡ Some a → s ≡ text_of a.pair.from
       → t ≡ text_of a.pair.to → n ≡ pos a.number → Shows z (filter (is_after s t n) rows)
       → Shows limit (filter (is_behind after) rows)
   behind_some a s t n is from to number shown =

@@ -13,7 +13,7 @@ use Rattle.sqlite_value.proofs.OrderLemmas.{value_cmp_total, value_cmp-Text, val
 use Rattle.base.specs.Entity.{Entity, text_of}
 use Rattle.base.specs.Order.{entity_cmp, pair_cmp}
 use Rattle.base.specs.declared.pair.Pair.{Pair}
-use Rattle.keep.specs.declared.change.Place.{Place}
+use Rattle.keep.specs.declared.change.LetterPlace.{LetterPlace}
 use Rattle.keep.specs.Places.{place_cmp, place_cmp-total}
 use Rattle.keep.specs.Listing.{IsAfter}
 use Rattle.keep.proofs.Places.{place_cmp-Greater}
@@ -23,7 +23,7 @@ use Rattle.keep_sqlite.specs.Listing.{is_behind}
 use Rattle.keep_sqlite.proofs.Keys.{equal_is, and_parts}
 
 -- the key of the row of a place
-abbrev pub IsPlaced : Place → Row → Type 0
+abbrev pub IsPlaced : LetterPlace → Row → Type 0
 IsPlaced x r = has_key (key_at x.pair x.number) r ≡ true
 
 -- values that tie with two others compare as these
@@ -72,7 +72,7 @@ pairs_compare x y p q h k =
     (texts_compare (column x 2) (column y 2) p.to q.to c.0 d.0)
     ∙ then_both (entity_cmp p.from q.from) (entity_cmp p.to q.to)
 
-pub places_compare : (x y : Row) (a b : Place) → IsPlaced a x → IsPlaced b y → by_place x y ≡ place_cmp a b
+pub places_compare : (x y : Row) (a b : LetterPlace) → IsPlaced a x → IsPlaced b y → by_place x y ≡ place_cmp a b
 places_compare x y a b h k =
     let f = and_parts _ _ h in let g = and_parts _ _ k in
     let t = and_parts _ _ f.1 in let u = and_parts _ _ g.1 in
@@ -95,7 +95,7 @@ is_later Greater b c = refl
 pub itself : (v : Value) → is_eq (value_cmp v v) ≡ true
 itself v = ap is_eq (tied_itself value_cmp_total v)
 
-after_test : (r : Row) (x a : Place) → IsPlaced x r
+after_test : (r : Row) (x a : LetterPlace) → IsPlaced x r
     → is_after (text_of a.pair.from) (text_of a.pair.to) (pos a.number) r ≡ is_gt (place_cmp x a)
 after_test r x a h =
     let f = and_parts _ _ h in let t = and_parts _ _ f.1 in let m = and_parts _ _ t.1 in
@@ -110,12 +110,12 @@ greater_is Less h = absurd (true≢false (sym h))
 greater_is Equal h = absurd (true≢false (sym h))
 greater_is Greater h = refl
 
-pub after_behind : (after : Option Place) (r : Row) (x : Place) → IsPlaced x r → is_behind after r ≡ true
+pub after_behind : (after : Option LetterPlace) (r : Row) (x : LetterPlace) → IsPlaced x r → is_behind after r ≡ true
     → IsAfter after x
 after_behind None r x h is = tt
 after_behind (Some a) r x h is = place_cmp-Greater x a (greater_is _ (sym (after_test r x a h) ∙ is))
 
-pub behind_after : (after : Option Place) (r : Row) (x : Place) → IsPlaced x r → IsAfter after x
+pub behind_after : (after : Option LetterPlace) (r : Row) (x : LetterPlace) → IsPlaced x r → IsAfter after x
     → is_behind after r ≡ true
 behind_after None r x h is = refl
 behind_after (Some a) r x h is = after_test r x a h ∙ ap is_gt (place_cmp-total.antisymm x a ∙ ap ordering_reverse is)

@@ -5,12 +5,12 @@ use Rattle.sqlite_value.specs.Order.{Row, column}
 use Rattle.base.specs.Entity.{text_of}
 use Rattle.base.specs.declared.pair.Pair.{Pair}
 use Rattle.envelope.specs.declared.message.Letter.{Letter}
-use Rattle.keep.specs.declared.change.Place.{Place}
+use Rattle.keep.specs.declared.change.LetterPlace.{LetterPlace}
 use Rattle.sql_rows.specs.Tables.{is_after}
 use Rattle.keep_sqlite.specs.Tables.{message_in}
 
 -- the row stands behind that place, or behind none
-abbrev pub is_behind : Option Place → Row → Bool
+abbrev pub is_behind : Option LetterPlace → Row → Bool
 is_behind None r = true
 is_behind (Some a) r = is_after (text_of a.pair.from) (text_of a.pair.to) (pos a.number) r
 

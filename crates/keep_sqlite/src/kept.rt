@@ -31,7 +31,7 @@ use crate::writes::write_all;
 use activities::JournalRow;
 use base::{Entity, Number, Pair};
 use envelope::{Letter, Message};
-use keep::{Change, Keep, KeepFault, Place};
+use keep::{Change, Keep, KeepFault, LetterPlace};
 use last_states::LastStates;
 use sql_rows::with_sorted_rows;
 use sqlite::{Alter, Connection, Error, ErrorCode, FileFrom, FileStore, MemStore, Start};
@@ -266,7 +266,7 @@ impl<H: Filed, S: Alter> Keep for SqliteKeep<H, S> {
     fn unsettled(
         &mut self,
         alloc: Global,
-        after: &Option<Place>,
+        after: &Option<LetterPlace>,
         limit: usize,
     ) -> Result<Vec<Letter>, KeepFault> {
         self.is_usable = false;

@@ -23,7 +23,7 @@ use crate::reads::message_at;
 use crate::writes::bound_number;
 use base::{Entity, Number, Pair};
 use envelope::Letter;
-use keep::Place;
+use keep::LetterPlace;
 use sql_bodies::read_entity;
 use sql_rows::{read_drainable, read_letters, read_letters_after};
 use sqlite::{Alter, Connection, Error, Row};
@@ -94,7 +94,7 @@ fn bound_limit(limit: usize) -> i64
 /// The rows of the first letters after a place, or of the first of all.
 fn read_after<S: Alter>(
     conn: &mut Connection<S>,
-    after: &Option<Place>,
+    after: &Option<LetterPlace>,
     limit: i64,
 ) -> Result<Vec<Row>, Error>
     requires schema { HasCleanDisk (state S.Store conn.old) → IsService (state S.Store conn.old).now.schema }
@@ -130,7 +130,7 @@ fn read_after<S: Alter>(
 pub fn find_letters<H: Filed, S: Alter>(
     alloc: Global,
     conn: &mut Connection<S>,
-    after: &Option<Place>,
+    after: &Option<LetterPlace>,
     limit: usize,
     _count: u64,
 ) -> Result<Vec<Letter>, Error>

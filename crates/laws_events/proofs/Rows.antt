@@ -17,7 +17,7 @@ use Rattle.envelope.specs.declared.message.Letter.{Letter}
 use Rattle.envelope.specs.declared.message.Message.{Message}
 use Rattle.activities.specs.Service.{Service}
 use Rattle.activities.proofs.Sameness.{either}
-use Rattle.keep.specs.declared.change.Place.{Place}
+use Rattle.keep.specs.declared.change.LetterPlace.{LetterPlace}
 use Rattle.keep.specs.Failing.{through}
 use Rattle.keep.specs.Listing.{AreFirst, place_of}
 use Rattle.keep.specs.Seen.{Seen, IsSound}
@@ -59,7 +59,7 @@ unsent_stands messages p n m false h = absurd (none_is_some m h)
 abbrev Stand : Messages → List Letter → Type 0
 Stand messages ls = AllByRecursion (λ l. messages l.pair l.number ≡ Some l.message) ls
 
-first_stand : (marks : Pair → ℕ) (messages : Messages) (after : Option Place) (n : ℕ) (ls : List Letter)
+first_stand : (marks : Pair → ℕ) (messages : Messages) (after : Option LetterPlace) (n : ℕ) (ls : List Letter)
     → AreFirst (unsent marks messages) after n ls → Stand messages ls
 first_stand marks messages after n [] are = tt
 first_stand marks messages after zero (l ∷ ls) are = absurd are

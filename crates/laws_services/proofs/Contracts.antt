@@ -14,7 +14,7 @@ use Rattle.activities.specs.Service.{Service}
 use Rattle.activities.specs.declared.input.JournalRow.{JournalRow}
 use Rattle.activities.proofs.Journals.{command_row}
 use Rattle.activities.proofs.Sameness.{either}
-use Rattle.keep.specs.declared.change.Place.{Place}
+use Rattle.keep.specs.declared.change.LetterPlace.{LetterPlace}
 use Rattle.keep.specs.Law.{IsServed, IsCall, Reads}
 use Rattle.keep.specs.Listing.{AreFirst}
 use Rattle.keep.specs.Seen.{Seen, IsSound, End, no_memory, failed, unusable, refused}
@@ -310,7 +310,7 @@ module _ {E S C : Type 0} (seen : E → Seen (Tables S C)) (sound : (k : E) → 
         let same : t ≡ (seen old).tables = (sound new).only_now clean told.call.1 t may ∙ now.1 in
         (subst (λ u. gives u r) (sym same) now.0, stays clean t may)
 
-  pub listed_write : (after : Option Place) (limit : ℕ) (result : Result (Vec Letter) EndFault) (letters : Vec Letter)
+  pub listed_write : (after : Option LetterPlace) (limit : ℕ) (result : Result (Vec Letter) EndFault) (letters : Vec Letter)
       (i : ℕ) (l : Letter)
       → Reads seen old new (λ t letters. AreFirst t.unsettled after limit letters.items) (end_of result)
       → result ≡ Ok letters → slice_get letters.items i ≡ Some l → MayWrite seen service old new (envelope.Letter l)

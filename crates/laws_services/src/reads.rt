@@ -6,7 +6,7 @@ ghost use Rattle.base.specs.declared.pair.Pair.{Pair};
 ghost use Rattle.envelope.specs.declared.message.Envelope.{Envelope};
 ghost use Rattle.envelope.specs.declared.message.Envelope.TheVariants as envelope;
 ghost use Rattle.envelope.specs.declared.message.Letter.{Letter};
-ghost use Rattle.keep.specs.declared.change.Place.{Place};
+ghost use Rattle.keep.specs.declared.change.LetterPlace.{LetterPlace};
 ghost use Rattle.keep.specs.Law.{Reads};
 ghost use Rattle.keep.specs.Listing.{AreFirst};
 ghost use Rattle.endpoint.specs.Calls.{Stays};
@@ -32,11 +32,11 @@ pub fn listings_are_steps<H, K>()
 where
     H: Handler,
     K: Keep<State = H::State, Command = H::Command>,
-    ensures does { (old new : K) (written : List Envelope) (after : Option Place) (limit : ℕ)
+    ensures does { (old new : K) (written : List Envelope) (after : Option LetterPlace) (limit : ℕ)
         (result : Result (Vec Letter) EndFault) →
         Reads K.seen old new (λ t letters. AreFirst t.unsettled after limit letters.items) (end_of result) →
         Does K.seen H.service (IsFounded written) old new }
-    ensures letters { (old new : K) (after : Option Place) (limit : ℕ) (result : Result (Vec Letter) EndFault)
+    ensures letters { (old new : K) (after : Option LetterPlace) (limit : ℕ) (result : Result (Vec Letter) EndFault)
         (letters : Vec Letter) (i : ℕ) (l : Letter) →
         Reads K.seen old new (λ t letters. AreFirst t.unsettled after limit letters.items) (end_of result) →
         result ≡ Ok letters → slice_get letters.items i ≡ Some l →

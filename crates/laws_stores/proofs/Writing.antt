@@ -19,7 +19,7 @@ use Rattle.activities.specs.Reaction.{Reactions, sent, letters_from}
 use Rattle.activities.specs.Service.{Service}
 use Rattle.activities.proofs.Journals.{handled_of-letter}
 use Rattle.activities.proofs.Sameness.{either, same_entity-tells}
-use Rattle.keep.specs.declared.change.Place.{Place}
+use Rattle.keep.specs.declared.change.LetterPlace.{LetterPlace}
 use Rattle.keep.specs.Listing.{AreFirst, place_of}
 use Rattle.keep.specs.Tables.{Tables, Messages}
 use Rattle.outbox.specs.Numbering.{pair_between}
@@ -73,7 +73,7 @@ module _ {S C : Type 0} (s : Service S C) (x y : Kept C) (d : Deed C) (did : Did
 -- ---- letters
 
 -- a listing gives what stands there
-pub listed_stands : (messages : Messages) (after : Option Place) (limit : ℕ) (ls : List Letter)
+pub listed_stands : (messages : Messages) (after : Option LetterPlace) (limit : ℕ) (ls : List Letter)
     → AreFirst messages after limit ls
     → (i : ℕ) (l : Letter) → slice_get ls i ≡ Some l → messages l.pair l.number ≡ Some l.message
 listed_stands messages after limit [] h i l at = absurd (cc)

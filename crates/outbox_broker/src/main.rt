@@ -25,7 +25,7 @@ use std::process::ExitCode;
 use std::sync::Wait;
 use std::time::Clock;
 use std::{env, io, thread};
-use told::{TARGET, Told};
+use told::{BrokerLog, TARGET};
 use words::{Settings, USAGE, read_settings};
 
 /// Tells on standard error why the program ends with status 1.
@@ -81,7 +81,7 @@ fn serve_all<R: Net + Wait + Clock>(
         info!(log; target: TARGET, "listening on {address}");
     }
     let mut broker: Broker<MAX_QUEUED> = Broker::new(host.alloc());
-    let told = Told::new(&log);
+    let told = BrokerLog::new(&log);
     let served = serve_watched(
         rt,
         host.alloc(),

@@ -16,14 +16,14 @@ const NONE_FOR_THIS: i32 = 24;
 
 /// Tells what happens by lines of a log, and the figures whatever its level is.
 #[derive(Drop)]
-pub struct Told<'a, R> {
+pub struct BrokerLog<'a, R> {
     rt: &'a R,
 }
 
-impl<'a, R> Told<'a, R> {
+impl<'a, R> BrokerLog<'a, R> {
     /// By this runtime's log.
-    pub fn new(rt: &'a R) -> Told<'a, R> {
-        Told { rt }
+    pub fn new(rt: &'a R) -> BrokerLog<'a, R> {
+        BrokerLog { rt }
     }
 }
 
@@ -84,7 +84,7 @@ fn tell_figures<R: Eprint>(rt: &R, of: Figures) {
     );
 }
 
-impl<R: Log + Eprint> Watch for Told<'_, R> {
+impl<R: Log + Eprint> Watch for BrokerLog<'_, R> {
     fn tell(&self, news: News) {
         let rt = self.rt;
         match news {

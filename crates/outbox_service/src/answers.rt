@@ -6,7 +6,7 @@ ghost use Rattle.shared_endpoint.specs.Keys.{IsSeatOf, AreSeatsOf, seat_number};
 use crate::asks::{Ask, read_ask};
 use crate::board::Board;
 use crate::input::{Came, InputLines};
-use crate::told::Told;
+use crate::told::LineCommands;
 use base::Entity;
 use endpoint::EndFault;
 use keep::Keep;
@@ -92,7 +92,7 @@ fn commit<H, K, I: BufRead + Drop, W: Write + Drop, R: Wait>(
     event: Event,
 ) -> io::Result<()>
 where
-    H: Told,
+    H: LineCommands,
     K: Keep<State = H::State, Command = H::Command> + Drop,
     requires seat { IsSeatOf shared.now seat.old }
     ensures seat { IsSeatOf shared.now seat.new × (seat_number seat.new ≡ seat_number seat.old) }
@@ -125,7 +125,7 @@ fn show<H, K, I: BufRead + Drop, W: Write + Drop, R: Wait>(
     entity: &Entity,
 ) -> io::Result<()>
 where
-    H: Told,
+    H: LineCommands,
     K: Keep<State = H::State, Command = H::Command> + Drop,
     requires seat { IsSeatOf shared.now seat.old }
     ensures seat { IsSeatOf shared.now seat.new × (seat_number seat.new ≡ seat_number seat.old) }
@@ -148,7 +148,7 @@ fn await_rows<H, K, I: BufRead + Drop, W: Write + Drop, R: Wait>(
     rows: u64,
 ) -> io::Result<()>
 where
-    H: Told,
+    H: LineCommands,
     K: Keep<State = H::State, Command = H::Command> + Drop,
     requires seat { IsSeatOf shared.now seat.old }
     ensures seat { IsSeatOf shared.now seat.new × (seat_number seat.new ≡ seat_number seat.old) }
@@ -179,7 +179,7 @@ fn answer<H, K, I: BufRead + Drop, W: Write + Drop, R: Wait>(
     ask: Ask,
 ) -> io::Result<()>
 where
-    H: Told,
+    H: LineCommands,
     K: Keep<State = H::State, Command = H::Command> + Drop,
     requires seat { IsSeatOf shared.now seat.old }
     ensures seat { IsSeatOf shared.now seat.new × (seat_number seat.new ≡ seat_number seat.old) }
@@ -206,7 +206,7 @@ fn answer_all<H, K, I: BufRead + Drop, W: Write + Drop, R: Wait>(
     desk: &mut Desk<'_, I, W>,
 ) -> io::Result<()>
 where
-    H: Told,
+    H: LineCommands,
     K: Keep<State = H::State, Command = H::Command> + Drop,
     requires seat { IsSeatOf shared.now seat.old }
     ensures seat { IsSeatOf shared.now seat.new × (seat_number seat.new ≡ seat_number seat.old) }
@@ -246,7 +246,7 @@ fn answer_lines<H, K, R>(
     board: &Board,
 ) -> io::Result<()>
 where
-    H: Told,
+    H: LineCommands,
     K: Keep<State = H::State, Command = H::Command> + Drop,
     R: Wait,
     requires seat { IsSeatOf shared.now seat.old }
@@ -273,7 +273,7 @@ pub fn answer_first<H, K, R>(
     board: &Board,
 ) -> (io::Result<()>, [Seat<H, K>; 16])
 where
-    H: Told,
+    H: LineCommands,
     K: Keep<State = H::State, Command = H::Command> + Drop,
     R: Wait,
     requires seats { AreSeatsOf shared.now seats }

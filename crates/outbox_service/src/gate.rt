@@ -17,16 +17,16 @@ const MOMENT: u64 = 50;
 
 /// One run of the service's threads, which ends where connections are to be opened or all ends.
 #[derive(Drop)]
-pub struct Turn<'a> {
+pub struct BoardGate<'a> {
     board: &'a Board,
     /// By what it ends.
     stop: &'a Stop,
 }
 
-impl<'a> Turn<'a> {
+impl<'a> BoardGate<'a> {
     /// It goes on until the board says otherwise.
-    pub fn new(board: &'a Board, stop: &'a Stop) -> Turn<'a> {
-        Turn { board, stop }
+    pub fn new(board: &'a Board, stop: &'a Stop) -> BoardGate<'a> {
+        BoardGate { board, stop }
     }
 
     /// Ends it where the board says so.
@@ -86,7 +86,7 @@ fn tell_not_taken<R: Log>(rt: &R, number: u8, fault: ReceptionFault, envelope: O
     }
 }
 
-impl<R: Wait + Clock + Log> Gate<R> for Turn<'_> {
+impl<R: Wait + Clock + Log> Gate<R> for BoardGate<'_> {
     // Nothing is to be done before a SEND: `test_live` has threads meet here.
     fn before_send(&self, _rt: &R) {}
 

@@ -7,7 +7,7 @@ ghost use Rattle.service_workers.specs.Tokens.{GoesOn};
 use crate::board::Board;
 use activities::Handler;
 use envelope::Letter;
-use keep::{Keep, Place};
+use keep::{Keep, LetterPlace};
 use service_workers::unsettled;
 use shared_endpoint::{Scout, Shared};
 use std::alloc::Global;
@@ -51,7 +51,7 @@ impl Settles {
 #[derive(Drop)]
 pub struct Overdue {
     has_unsettled: bool,
-    first: Option<Place>,
+    first: Option<LetterPlace>,
     settles: u64,
     next: u64,
     pause: u64,
@@ -81,7 +81,7 @@ impl Overdue {
 
     /// The first letter that isn't settled is at this place, and so many settles were taken: whether letters are overdue.
     /// Where some were settled meanwhile the receivers are at work, and the first may just wait for its turn.
-    fn found(&mut self, first: Option<Place>, settles: u64) -> bool {
+    fn found(&mut self, first: Option<LetterPlace>, settles: u64) -> bool {
         let is_same = first.is_some() && first == self.first;
         let is_overdue = is_same && settles == self.settles;
         if is_overdue {
@@ -131,11 +131,11 @@ impl Overdue {
 }
 
 /// The place of the only letter.
-fn first_place(mut letters: Vec<Letter>) -> Option<Place> {
+fn first_place(mut letters: Vec<Letter>) -> Option<LetterPlace> {
     let Letter {
         pair,
         number,
         message: _,
     } = letters.pop()?;
-    Some(Place { pair, number })
+    Some(LetterPlace { pair, number })
 }

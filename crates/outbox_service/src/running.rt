@@ -13,7 +13,7 @@ use crate::fault::RunFault;
 use crate::migration::take_over;
 use crate::serving::{Served, keep_serving};
 use crate::sockets::{Broker, Reach, Site, Socket};
-use crate::told::Told;
+use crate::told::LineCommands;
 use crate::words::Settings;
 use activities::Handler;
 use billing::Accounts;
@@ -62,7 +62,7 @@ fn run_threads<N, L, H, K, R>(
 where
     N: Naming<K, L> + Send + Sync,
     L: Reach,
-    H: Told + Send + Sync,
+    H: LineCommands + Send + Sync,
     H::State: Send,
     H::Command: Send,
     K: Keep<State = H::State, Command = H::Command> + Drop + Send,
@@ -130,7 +130,7 @@ fn live<N, L, H, K, R>(
 where
     N: Naming<K, L> + Send + Sync,
     L: Reach,
-    H: Told + Send + Sync,
+    H: LineCommands + Send + Sync,
     H::State: Send,
     H::Command: Send,
     K: Keep<State = H::State, Command = H::Command> + Drop + Send,
@@ -165,7 +165,7 @@ fn run_over<H, K, R>(
     broker: Broker<'_>,
 ) -> Result<(), RunFault>
 where
-    H: Told + Send + Sync,
+    H: LineCommands + Send + Sync,
     H::State: Send,
     H::Command: Send,
     K: Keep<State = H::State, Command = H::Command> + Drop + Send,
@@ -216,7 +216,10 @@ fn run_kept<H, S, R>(
     broker: Broker<'_>,
 ) -> Result<(), RunFault>
 where
-    H: Told + Filed<State = <H as Handler>::State, Command = <H as Handler>::Command> + Send + Sync,
+    H: LineCommands
+        + Filed<State = <H as Handler>::State, Command = <H as Handler>::Command>
+        + Send
+        + Sync,
     <H as Handler>::State: Send,
     <H as Handler>::Command: Send,
     S: Reopenable + Drop + Send,
@@ -236,7 +239,10 @@ fn run_on_disk<H, D, R>(
     broker: Broker<'_>,
 ) -> Result<(), RunFault>
 where
-    H: Told + Filed<State = <H as Handler>::State, Command = <H as Handler>::Command> + Send + Sync,
+    H: LineCommands
+        + Filed<State = <H as Handler>::State, Command = <H as Handler>::Command>
+        + Send
+        + Sync,
     <H as Handler>::State: Send,
     <H as Handler>::Command: Send,
     D: Disk + Drop + Send,
@@ -254,7 +260,10 @@ fn run_from<H, D, R>(
     broker: Broker<'_>,
 ) -> Result<(), RunFault>
 where
-    H: Told + Filed<State = <H as Handler>::State, Command = <H as Handler>::Command> + Send + Sync,
+    H: LineCommands
+        + Filed<State = <H as Handler>::State, Command = <H as Handler>::Command>
+        + Send
+        + Sync,
     <H as Handler>::State: Send,
     <H as Handler>::Command: Send,
     D: Start + Send,
@@ -284,7 +293,10 @@ fn run_filed<H, D, R>(
     broker: Broker<'_>,
 ) -> Result<(), RunFault>
 where
-    H: Told + Filed<State = <H as Handler>::State, Command = <H as Handler>::Command> + Send + Sync,
+    H: LineCommands
+        + Filed<State = <H as Handler>::State, Command = <H as Handler>::Command>
+        + Send
+        + Sync,
     <H as Handler>::State: Send,
     <H as Handler>::Command: Send,
     D: Start + Send,
@@ -304,7 +316,10 @@ fn run_at<H, R>(
     broker: Broker<'_>,
 ) -> Result<(), RunFault>
 where
-    H: Told + Filed<State = <H as Handler>::State, Command = <H as Handler>::Command> + Send + Sync,
+    H: LineCommands
+        + Filed<State = <H as Handler>::State, Command = <H as Handler>::Command>
+        + Send
+        + Sync,
     <H as Handler>::State: Send,
     <H as Handler>::Command: Send,
     R: Threads + Wait + Clock + Log + Sync,

@@ -5,7 +5,7 @@ ghost use Rattle.shared_endpoint.specs.Keys.{IsHandOf, name_of, told_hand};
 ghost use Rattle.outbox_service.specs.Lives.{AreItsTokens, HaveServed, IsNamed};
 
 use crate::board::Board;
-use crate::gate::Turn;
+use crate::gate::BoardGate;
 use crate::overdue::Overdue;
 use crate::pulse::{Pulse, Silence};
 use crate::sockets::{Reach, Site, open};
@@ -370,7 +370,7 @@ where
     ensures served { HaveServed L.put_gives L.take_gives K.seen H.service N.sound N.given shared.now tokens result.0 }
 {
     let stop = Stop::new();
-    let turn = Turn::new(site.board, &stop);
+    let turn = BoardGate::new(site.board, &stop);
     let alloc = site.host.alloc();
     let Conns { zero, one } = conns;
     let Slot {

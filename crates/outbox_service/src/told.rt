@@ -8,12 +8,12 @@ use trade::{AccountCommand, OrderCommand, StockCommand};
 use warehouse::Stocks;
 
 /// A service that can be told commands by lines.
-pub trait Told: Shown {
+pub trait LineCommands: Shown {
     /// The command of an event, where it is one of this service.
     fn command(event: Event) -> Option<SeatCommand<Self::Command>>;
 }
 
-impl Told for Orders {
+impl LineCommands for Orders {
     fn command(event: Event) -> Option<SeatCommand<OrderCommand>> {
         match event {
             Event::Order(asked) => Some(asked),
@@ -22,7 +22,7 @@ impl Told for Orders {
     }
 }
 
-impl Told for Stocks {
+impl LineCommands for Stocks {
     fn command(event: Event) -> Option<SeatCommand<StockCommand>> {
         match event {
             Event::Stock(asked) => Some(asked),
@@ -31,7 +31,7 @@ impl Told for Stocks {
     }
 }
 
-impl Told for Accounts {
+impl LineCommands for Accounts {
     fn command(event: Event) -> Option<SeatCommand<AccountCommand>> {
         match event {
             Event::Account(asked) => Some(asked),

@@ -9,7 +9,7 @@ use Rattle.envelope.specs.declared.message.Letter.{Letter}
 use Rattle.activities.specs.Service.{Service}
 use Rattle.activities.specs.Journal.{part}
 use Rattle.activities.specs.declared.input.JournalRow.{JournalRow}
-use Rattle.keep.specs.declared.change.Place.{Place}
+use Rattle.keep.specs.declared.change.LetterPlace.{LetterPlace}
 use Rattle.keep.specs.Listing.{AreFirst}
 use Rattle.keep.specs.Seen.{Seen, IsSound}
 use Rattle.keep.specs.Tables.{Tables, Messages}
@@ -27,21 +27,21 @@ use Rattle.relay.specs.declared.relay.Relay.{Relay}
 use Rattle.relay.proofs.Knowing.{known_again, known_still}
 
 -- nothing stands up to no place
-pub none_upto : (marks : Pair → ℕ) (messages : Messages) (behind : Option Place) → behind ≡ None
+pub none_upto : (marks : Pair → ℕ) (messages : Messages) (behind : Option LetterPlace) → behind ≡ None
     → AllSent marks messages behind
-none_upto marks messages behind none = λ x up some. absurd (subst (λ (b : Option Place). IsUpto b x) none up)
+none_upto marks messages behind none = λ x up some. absurd (subst (λ (b : Option LetterPlace). IsUpto b x) none up)
 
 pub same_but : {C : Type 0} (news news' : List (JournalRow C)) (r b : Relay) (ms ms' : Messages)
-    (reach reach' : Option Place)
+    (reach reach' : Option LetterPlace)
     → news' ≡ news → b.marks ≡ r.marks → ms' ≡ ms → reach' ≡ reach → SentBut news (marks_of r) ms reach
     → SentBut news' (marks_of b) ms' reach'
 same_but {C} news news' r b ms ms' reach reach' rows marks same upto sent = λ x up none some.
     subst (λ (m : BTreeMap Pair ℕ). x.number ≤ mark_in m x.pair) (sym marks)
-    (sent x (subst (λ (p : Option Place). IsUpto p x) upto up) (subst (λ (n : List (JournalRow C)). part x.pair.from n
+    (sent x (subst (λ (p : Option LetterPlace). IsUpto p x) upto up) (subst (λ (n : List (JournalRow C)). part x.pair.from n
     ≡ []) rows none)
     (subst (λ (m : Messages). IsSome (m x.pair x.number)) same some))
 
-same_sent : (r s : Relay) (ms ms' : Messages) (behind : Option Place) → s.marks ≡ r.marks → ms ≡ ms'
+same_sent : (r s : Relay) (ms ms' : Messages) (behind : Option LetterPlace) → s.marks ≡ r.marks → ms ≡ ms'
     → AllSent (marks_of r) ms behind
     → AllSent (marks_of s) ms' behind
 same_sent r s ms ms' behind marks same sent = λ x up some.
@@ -98,7 +98,7 @@ fills_to {clean} {ms} {limit} {start} {old} {end} {new} {result} e g f =
 
 -- ---- the cursor behind a filling
 
-pub was_behind : {a b r : Option Place} → a ≡ b → (b ≡ None) ⊎ (b ≡ r) → (a ≡ None) ⊎ (a ≡ r)
+pub was_behind : {a b r : Option LetterPlace} → a ≡ b → (b ≡ None) ⊎ (b ≡ r) → (a ≡ None) ⊎ (a ≡ r)
 was_behind same (inl none) = inl (same ∙ none)
 was_behind same (inr is) = inr (same ∙ is)
 
@@ -118,7 +118,7 @@ module _ {E S C : Type 0} (seen : E → Seen (Tables S C)) (sound : (k : E) → 
         ),
   )
 
-  known_back : (reach : Option Place) → s.rows ≡ r.rows → s.behind ≡ reach → (reach ≡ None) ⊎ (reach ≡ r.behind)
+  known_back : (reach : Option LetterPlace) → s.rows ≡ r.rows → s.behind ≡ reach → (reach ≡ None) ⊎ (reach ≡ r.behind)
       → ((p : Pair) → marks_of r p ≤ marks_of s p)
       → KnowsAll service s (seen new).may_leave
   known_back reach rows behind (inl none) rise = known_gone rows (behind ∙ none)
@@ -126,7 +126,7 @@ module _ {E S C : Type 0} (seen : E → Seen (Tables S C)) (sound : (k : E) → 
       known_still seen sound service old new r s clean stays known rows (behind ∙ same) rise
 
   -- the cursor went on, or it stays where it was
-  pub known_last : (f : Relay) (rows since : ℕ) (reach : Option Place) (ms : Messages) → (seen old).usable ≡ true
+  pub known_last : (f : Relay) (rows since : ℕ) (reach : Option LetterPlace) (ms : Messages) → (seen old).usable ≡ true
       → (seen old).doubt ≡ 0
       → rows ≡ length (seen old).tables.journal → f.rows ≡ rows → s.marks ≡ f.marks → ms ≡ (seen old).tables.unsettled
       → AllSent (marks_of f) ms f.behind → since ≡ r.rows → (reach ≡ None) ⊎ (reach ≡ r.behind)
@@ -135,7 +135,7 @@ module _ {E S C : Type 0} (seen : E → Seen (Tables S C)) (sound : (k : E) → 
       → KnowsAll service s (seen new).may_leave
   known_last f rows since reach ms up clean0 long at marks same sent was from rise (inl on) =
       known_again seen sound service old new r s up clean0 clean stays known (on.1 ∙ at ∙ long)
-      (subst (λ (b : Option Place). AllSent (marks_of s) (seen old).tables.unsettled b) (sym on.0)
+      (subst (λ (b : Option LetterPlace). AllSent (marks_of s) (seen old).tables.unsettled b) (sym on.0)
       (same_sent f s ms (seen old).tables.unsettled f.behind marks same sent))
   known_last f rows since reach ms up clean0 long at marks same sent was from rise (inr back) =
       known_back reach (back.1 ∙ was) back.0 from

@@ -10,7 +10,7 @@ use Rattle.base.specs.declared.pair.Pair.{Pair}
 use Rattle.base.proofs.Entities.{same_pair-Decides}
 use Rattle.envelope.specs.declared.message.Message.{Message}
 use Rattle.envelope.specs.declared.message.Letter.{Letter}
-use Rattle.keep.specs.declared.change.Place.{Place}
+use Rattle.keep.specs.declared.change.LetterPlace.{LetterPlace}
 use Rattle.keep.specs.Places.{place_cmp, IsBefore}
 use Rattle.keep.specs.Listing.{place_of, IsAfter, IsNext, IsNoneAfter, AreFirst}
 use Rattle.keep.specs.Pages.{place_behind}
@@ -30,15 +30,15 @@ if_none true o h = h
 if_none false o h = refl
 
 module _ (messages : Messages) where
-  unsent_none : (m : Pair → ℕ) (x : Place) → messages x.pair x.number ≡ None → unsent m messages x.pair x.number ≡ None
+  unsent_none : (m : Pair → ℕ) (x : LetterPlace) → messages x.pair x.number ≡ None → unsent m messages x.pair x.number ≡ None
   unsent_none m x h = if_none (nat_lt (m x.pair) x.number) (messages x.pair x.number) h
 
   -- what isn't above its mark isn't due
-  pub not_due : (m : Pair → ℕ) (x : Place) → x.number ≤ m x.pair → unsent m messages x.pair x.number ≡ None
+  pub not_due : (m : Pair → ℕ) (x : LetterPlace) → x.number ≤ m x.pair → unsent m messages x.pair x.number ≡ None
   not_due m x low = ap (λ b. if b then messages x.pair x.number else None) (le-ltb (m x.pair) x.number low)
 
   -- a letter that is first among the messages and due is first among those due
-  next_due : (m : Pair → ℕ) (after : Option Place) (l : Letter) → IsNext messages after l
+  next_due : (m : Pair → ℕ) (after : Option LetterPlace) (l : Letter) → IsNext messages after l
       → nat_lt (m l.pair) l.number ≡ true
       → IsNext (unsent m messages) after l
   next_due m after l next e = record {
@@ -48,17 +48,17 @@ module _ (messages : Messages) where
   }
 
   -- one that isn't due is passed over
-  passed : (m : Pair → ℕ) (after : Option Place) (l : Letter) → IsNext messages after l
+  passed : (m : Pair → ℕ) (after : Option LetterPlace) (l : Letter) → IsNext messages after l
       → nat_lt (m l.pair) l.number ≡ false
-      → (x : Place) → IsAfter after x → (o : Ordering) → place_cmp x (place_of l) ≡ o
+      → (x : LetterPlace) → IsAfter after x → (o : Ordering) → place_cmp x (place_of l) ≡ o
       → IsBefore (place_of l) x ⊎ (unsent m messages x.pair x.number ≡ None)
   passed m after l next e x h Less o = inr (unsent_none m x (next.first x h o))
-  passed m after l next e x h Equal o = inr (subst (λ (y : Place). unsent m messages y.pair y.number ≡ None)
+  passed m after l next e x h Equal o = inr (subst (λ (y : LetterPlace). unsent m messages y.pair y.number ≡ None)
       (sym (place_cmp-Equal x (place_of l) o))
       (ap (λ b. if b then messages l.pair l.number else None) e))
   passed m after l next e x h Greater o = inl (place_cmp-Greater x (place_of l) o)
 
-  skip : (m : Pair → ℕ) (after : Option Place) (l : Letter) (n : ℕ) (ls : List Letter) → IsNext messages after l
+  skip : (m : Pair → ℕ) (after : Option LetterPlace) (l : Letter) (n : ℕ) (ls : List Letter) → IsNext messages after l
       → nat_lt (m l.pair) l.number ≡ false
       → AreFirst (unsent m messages) (Some (place_of l)) n ls → AreFirst (unsent m messages) after n ls
   skip m after l n ls next e are =
@@ -66,7 +66,7 @@ module _ (messages : Messages) where
       (λ x h. passed m after l next e x h (place_cmp x (place_of l)) refl) are
 
   -- the mark of a letter that is due changes nothing behind it
-  still_due : (m : Pair → ℕ) (l : Letter) → nat_lt (m l.pair) l.number ≡ true → (x : Place) → IsBefore (place_of l) x
+  still_due : (m : Pair → ℕ) (l : Letter) → nat_lt (m l.pair) l.number ≡ true → (x : LetterPlace) → IsBefore (place_of l) x
       → unsent m messages x.pair x.number ≡ unsent (set_mark l.pair l.number m) messages x.pair x.number
   still_due m l e x later = elim (cases_Bool (same_pair l.pair x.pair)) [
     | inl same ↦
@@ -90,7 +90,7 @@ module _ (messages : Messages) where
       (λ x h. still_due m l e x h) are
 
   -- what is due of a page, up to so many, is first among all that is due behind its place
-  pub first_due : (n : ℕ) (after : Option Place) (ls : List Letter) → AreFirst messages after n ls
+  pub first_due : (n : ℕ) (after : Option LetterPlace) (ls : List Letter) → AreFirst messages after n ls
       → (j : ℕ) (m : Pair → ℕ)
       → AreFirst (unsent m messages) after (length (due j m ls)) (due j m ls)
   first_due n after ls are zero m = tt
@@ -108,7 +108,7 @@ module _ (messages : Messages) where
   ]
 
   -- where all that is due of a page was sent, what is due behind it comes next
-  pub all_due : (n : ℕ) (after : Option Place) (ls : List Letter) → AreFirst messages after n ls
+  pub all_due : (n : ℕ) (after : Option LetterPlace) (ls : List Letter) → AreFirst messages after n ls
       → (j : ℕ) (m : Pair → ℕ)
       → length (due j m ls) < j → (k : ℕ) (more : List Letter)
       → AreFirst (unsent (marked m (due j m ls)) messages) (place_behind after ls) k more
@@ -139,7 +139,7 @@ module _ (messages : Messages) where
   ]
 
   -- behind a page that was the last no more is due
-  pub none_behind : (m : Pair → ℕ) (after : Option Place) (k : ℕ) → IsNoneAfter messages after
+  pub none_behind : (m : Pair → ℕ) (after : Option LetterPlace) (k : ℕ) → IsNoneAfter messages after
       → AreFirst (unsent m messages) after k []
   none_behind m after zero none = tt
   none_behind m after (suc k) none = λ x h. unsent_none m x (none x h)

@@ -13,7 +13,7 @@ use Rattle.envelope.specs.declared.message.Letter.{Letter}
 use Rattle.envelope.specs.declared.message.Message.TheVariants.{Cancel}
 use Rattle.activities.specs.Numbered.{nth}
 use Rattle.activities.proofs.Asking.{Asked}
-use Rattle.keep.specs.declared.change.Place.{Place}
+use Rattle.keep.specs.declared.change.LetterPlace.{LetterPlace}
 use Rattle.keep.specs.Seen.{no_memory, failed}
 use Rattle.keep.specs.Tables.{Messages}
 use Rattle.endpoint.specs.declared.fault.EndFault.TheVariants.{StoreFailed}
@@ -60,7 +60,7 @@ relays_are_idle =
 
 -- ---- what a cursor tells
 
-abbrev at : Entity → ℕ → Place
+abbrev at : Entity → ℕ → LetterPlace
 at receiver number = record { pair = from_order receiver; number = number }
 
 -- a place stands up to itself, and what comes before it does: a lower number, a receiver before in order; nothing
@@ -73,11 +73,11 @@ places_stand_up_to = (inr refl, inl refl, inl refl, higher, behind, λ h. h)
   where
     higher : IsUpto (Some (at bolts 2)) (at bolts 3) → ⊥
     higher (inl before) = absurd (cc)
-    higher (inr same) = let number : 3 ≡ 2 = ap (λ (x : Place). x.number) same in omega (arith, number)
+    higher (inr same) = let number : 3 ≡ 2 = ap (λ (x : LetterPlace). x.number) same in omega (arith, number)
 
     behind : IsUpto (Some (at acme 7)) (at bolts 1) → ⊥
     behind (inl before) = absurd (cc)
-    behind (inr same) = let number : 1 ≡ 7 = ap (λ (x : Place). x.number) same in omega (arith, number)
+    behind (inr same) = let number : 1 ≡ 7 = ap (λ (x : LetterPlace). x.number) same in omega (arith, number)
 
 -- messages of which one stands at each pair, with the number 1
 abbrev ones : Messages
@@ -105,7 +105,7 @@ all_was_sent = (
 -- a relay that sent nothing
 module _ (fresh : Relay) (nothing : (p : Pair) → marks_of fresh p ≡ 0) where
   -- with a cursor at a place behind so many rows
-  abbrev cursor : Option Place → ℕ → Relay
+  abbrev cursor : Option LetterPlace → ℕ → Relay
   cursor behind rows = record fresh { behind = behind; rows = rows }
 
   -- with no place it is right of any messages; it isn't of rows that there aren't, nor with a place that an unsent

@@ -11,11 +11,11 @@ use Rattle.activities.specs.declared.input.Input.{Input}
 use Rattle.activities.specs.declared.input.JournalRow.{JournalRow}
 use Rattle.activities.specs.Journal.{part}
 use Rattle.activities.proofs.Sameness.{same_entity-tells, either}
-use Rattle.keep.specs.declared.change.Place.{Place}
+use Rattle.keep.specs.declared.change.LetterPlace.{LetterPlace}
 use Rattle.relay.specs.Parts.News.{IsFrom, IsFirstFrom}
 
 -- the first entity of these rows, where it is known as something else
-abbrev pub Best : {C A : Type 0} → (now : A → Entity) → List (JournalRow C) → Option Place → Option A → Type 0
+abbrev pub Best : {C A : Type 0} → (now : A → Entity) → List (JournalRow C) → Option LetterPlace → Option A → Type 0
 Best now news behind best =
     MatchOption best (IsFirstFrom news behind None) (λ e. IsFirstFrom news behind (Some (now e)))
 
@@ -43,7 +43,7 @@ one_more_row (x ∷ xs) (suc i) row f lt at ne none =
     (λ none'. one_more_row xs i row f (omega (arith, lt)) at ne none')
 
 module _ {C A : Type 0} (now : A → Entity) (news : List (JournalRow C)) (i : ℕ) (row : JournalRow C)
-    (behind : Option Place)
+    (behind : Option LetterPlace)
     (lt : i < length news) (at : row ≡ get_or news i row) where
   more : (f : Entity) → f ≢ row.entity → part f (take i news) ≡ [] → part f (take (i + 1) news) ≡ []
   more f ne none = rw add-one (one_more_row news i row f lt at ne none)

@@ -24,7 +24,7 @@ use Rattle.activities.specs.declared.input.JournalRow.{JournalRow}
 use Rattle.activities.proofs.Journals.{part-append}
 use Rattle.std.proofs.lemmas.List.{take-append-le, append-nil}
 use Rattle.relay.specs.Parts.News.{SentBut, Skips}
-use Rattle.keep.specs.declared.change.Place.{Place}
+use Rattle.keep.specs.declared.change.LetterPlace.{LetterPlace}
 use Rattle.keep.specs.Listing.{place_of, IsAfter, IsNext, AreFirst}
 use Rattle.keep.specs.Pages.{place_behind}
 use Rattle.keep.specs.Places.{place_cmp, IsBefore}
@@ -45,13 +45,13 @@ use Rattle.relay.proofs.Sending.{marked}
 
 -- ---- places
 
-stands_at : (x a : Place) (o : Ordering) → place_cmp x a ≡ o → (IsBefore x a ⊎ (x ≡ a)) ⊎ IsBefore a x
+stands_at : (x a : LetterPlace) (o : Ordering) → place_cmp x a ≡ o → (IsBefore x a ⊎ (x ≡ a)) ⊎ IsBefore a x
 stands_at x a Less e = inl (inl e)
 stands_at x a Equal e = inl (inr (place_cmp-Equal x a e))
 stands_at x a Greater e = inr (place_cmp-Greater x a e)
 
 -- a place is up to another, or it comes after that
-pub is_after : (after : Option Place) (x : Place) → IsUpto after x ⊎ IsAfter after x
+pub is_after : (after : Option LetterPlace) (x : LetterPlace) → IsUpto after x ⊎ IsAfter after x
 is_after None x = inr tt
 is_after (Some a) x = stands_at x a (place_cmp x a) refl
 
@@ -63,7 +63,7 @@ never_some None h = refl
 never_some (Some m) h = absurd (h refl)
 
 module _ (messages : Messages) (m : Pair → ℕ) where
-  not_unsent : (x : Place) → (IsSome (messages x.pair x.number) → x.number ≤ m x.pair)
+  not_unsent : (x : LetterPlace) → (IsSome (messages x.pair x.number) → x.number ≤ m x.pair)
       → unsent m messages x.pair x.number ≡ None
   not_unsent x low = elim (cases_Bool (nat_lt (m x.pair) x.number)) [
     | inl more ↦
@@ -75,7 +75,7 @@ module _ (messages : Messages) (m : Pair → ℕ) where
   ]
 
   -- what is due behind the cursor is all that is due
-  pub from_cursor : (after : Option Place) (n : ℕ) (ls : List Letter) → AllSent m messages after
+  pub from_cursor : (after : Option LetterPlace) (n : ℕ) (ls : List Letter) → AllSent m messages after
       → AreFirst (unsent m messages) after n ls
       → AreFirst (unsent m messages) None n ls
   from_cursor None n ls sent are = are
@@ -84,7 +84,7 @@ module _ (messages : Messages) (m : Pair → ℕ) where
       are
 
   -- behind the next row that was sent
-  row_sent : (after : Option Place) (l : Letter) → AllSent m messages after → IsNext messages after l
+  row_sent : (after : Option LetterPlace) (l : Letter) → AllSent m messages after → IsNext messages after l
       → l.number ≤ m l.pair
       → AllSent m messages (Some (place_of l))
   row_sent after l sent next low = λ x up some. elim up [
@@ -92,11 +92,11 @@ module _ (messages : Messages) (m : Pair → ℕ) where
       | inl old ↦ sent x old some
       | inr late ↦ absurd (none_some (messages x.pair x.number) (next.first x late before) some)
     ]
-    | inr same ↦ subst (λ (y : Place). y.number ≤ m y.pair) (sym same) low
+    | inr same ↦ subst (λ (y : LetterPlace). y.number ≤ m y.pair) (sym same) low
   ]
 
   -- and behind all rows of a page that were
-  pub rows_sent : (n : ℕ) (after : Option Place) (page : ℕ) (rows : List Letter) → AreFirst messages after page rows
+  pub rows_sent : (n : ℕ) (after : Option LetterPlace) (page : ℕ) (rows : List Letter) → AreFirst messages after page rows
       → AreSent m (take n rows)
       → AllSent m messages after → AllSent m messages (place_behind after (take n rows))
   rows_sent zero after page rows are low sent = sent
@@ -105,7 +105,7 @@ module _ (messages : Messages) (m : Pair → ℕ) where
   rows_sent (suc n) after (suc page) (l ∷ ls) are low sent =
       rows_sent n (Some (place_of l)) page ls are.1 low.1 (row_sent after l sent are.0 low.0)
 
-  pub page_sent : (after : Option Place) (page : ℕ) (rows : List Letter) → AreFirst messages after page rows
+  pub page_sent : (after : Option LetterPlace) (page : ℕ) (rows : List Letter) → AreFirst messages after page rows
       → AreSent m rows
       → AllSent m messages after → AllSent m messages (place_behind after rows)
   page_sent after page [] are low sent = sent
@@ -113,7 +113,7 @@ module _ (messages : Messages) (m : Pair → ℕ) where
   page_sent after (suc page) (l ∷ ls) are low sent =
       page_sent (Some (place_of l)) page ls are.1 low.1 (row_sent after l sent are.0 low.0)
 
-  jumped : (here next : Place) → Jumps m (Some here) (Some next) → AllSent m messages (Some here)
+  jumped : (here next : LetterPlace) → Jumps m (Some here) (Some next) → AllSent m messages (Some here)
       → AllSent m messages (Some next)
   jumped here next (pair, least, which) sent = λ x up some. elim (is_after (Some here) x) [
     | inl old ↦ sent x old some
@@ -129,9 +129,9 @@ module _ (messages : Messages) (m : Pair → ℕ) where
                 (arith, below, mark, marks)
           ]
       | inr is ↦
-          let at : here.pair ≡ x.pair = sym pair ∙ sym (ap (λ (y : Place). y.pair) is) in
+          let at : here.pair ≡ x.pair = sym pair ∙ sym (ap (λ (y : LetterPlace). y.pair) is) in
           let rise : here.number < x.number = numbers_rise here x at late in
-          let there : x.number ≡ next.number = ap (λ (y : Place). y.number) is in
+          let there : x.number ≡ next.number = ap (λ (y : LetterPlace). y.number) is in
           let marks : m here.pair ≡ m x.pair = ap m at in
           elim which [
             | inl same ↦ absurd (omega (arith, rise, there, same))
@@ -141,19 +141,19 @@ module _ (messages : Messages) (m : Pair → ℕ) where
     ]
   ]
 
-  jump : (here next : Option Place) → Jumps m here next → AllSent m messages here → AllSent m messages next
+  jump : (here next : Option LetterPlace) → Jumps m here next → AllSent m messages here → AllSent m messages next
   jump None next j sent = absurd j
   jump (Some here) None j sent = absurd j
   jump (Some here) (Some next) j sent = jumped here next j sent
 
   -- and behind all of the last one's pair
-  pub moved_sent : (here next : Option Place) → StaysOrJumps m here next → AllSent m messages here
+  pub moved_sent : (here next : Option LetterPlace) → StaysOrJumps m here next → AllSent m messages here
       → AllSent m messages next
-  moved_sent here next (inl same) sent = subst (λ (x : Option Place). AllSent m messages x) (sym same) sent
+  moved_sent here next (inl same) sent = subst (λ (x : Option LetterPlace). AllSent m messages x) (sym same) sent
   moved_sent here next (inr j) sent = jump here next j sent
 
   -- what is due behind a place to which the cursor skips is what is due
-  pub skip_first : (after next : Option Place) (n : ℕ) (ls : List Letter) → Skips m messages after next
+  pub skip_first : (after next : Option LetterPlace) (n : ℕ) (ls : List Letter) → Skips m messages after next
       → AreFirst (unsent m messages) next n ls → AreFirst (unsent m messages) after n ls
   skip_first after next n ls skips are = gap_over (unsent m messages) after next n ls skips.0
       (λ x h. elim (is_after next x) [
@@ -162,7 +162,7 @@ module _ (messages : Messages) (m : Pair → ℕ) where
             late
       ]) are
 
-  pub skip_sent : (after next : Option Place) → Skips m messages after next → AllSent m messages after
+  pub skip_sent : (after next : Option LetterPlace) → Skips m messages after next → AllSent m messages after
       → AllSent m messages next
   skip_sent after next skips sent = λ x up some. elim (is_after after x) [
     | inl old ↦ sent x old some
@@ -170,7 +170,7 @@ module _ (messages : Messages) (m : Pair → ℕ) where
   ]
 
 -- marks that rise tell no less
-pub risen : (messages : Messages) (after : Option Place) (m n : Pair → ℕ) → ((p : Pair) → m p ≤ n p)
+pub risen : (messages : Messages) (after : Option LetterPlace) (m n : Pair → ℕ) → ((p : Pair) → m p ≤ n p)
     → AllSent m messages after
     → AllSent n messages after
 risen messages after m n rise sent =
@@ -267,7 +267,7 @@ pub knows_start : (r : Relay) → r.rows ≡ 0 → r.behind ≡ None → (rows :
     → KnowsRows r rows messages
 knows_start r none start rows messages = (
   omega (arith, none),
-  λ x up some. absurd (subst (λ (after : Option Place). IsUpto after x) start up),
+  λ x up some. absurd (subst (λ (after : Option LetterPlace). IsUpto after x) start up),
 )
 
 -- the same cursor, and marks that rose
@@ -278,7 +278,7 @@ knows_risen r s same behind rise rows messages k =
     let least = k.0 in (
       omega (arith, least, same),
       risen messages s.behind (marks_of r) (marks_of s) rise
-          (subst (λ (after : Option Place). AllSent (marks_of r) messages after) (sym behind) k.1),
+          (subst (λ (after : Option LetterPlace). AllSent (marks_of r) messages after) (sym behind) k.1),
     )
 
 -- a settle only takes rows away

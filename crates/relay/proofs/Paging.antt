@@ -7,7 +7,7 @@ use Rattle.std.proofs.Common.{length-append, add-one, take, true≢false, Bool, 
 use Rattle.std.specs.Prelude.{⊤}
 use Rattle.base.specs.declared.pair.Pair.{Pair}
 use Rattle.envelope.specs.declared.message.Letter.{Letter}
-use Rattle.keep.specs.declared.change.Place.{Place}
+use Rattle.keep.specs.declared.change.LetterPlace.{LetterPlace}
 use Rattle.keep.specs.Law.{Reads}
 use Rattle.keep.specs.Listing.{place_of, AreFirst}
 use Rattle.keep.specs.Pages.{place_behind}
@@ -43,7 +43,7 @@ use Rattle.stomp_client.specs.Clients.{Client as Client-state, ClientWithRoom}
 -- ---- one page
 
 -- what stops behind some letters, wherever these begin
-stops_behind : (clean : Type 0) (messages : Messages) (after : Option Place) (letters : List Letter) (last : ℕ)
+stops_behind : (clean : Type 0) (messages : Messages) (after : Option LetterPlace) (letters : List Letter) (last : ℕ)
     (fault : RelayFault)
     → StopsSending last fault → (clean → (l : Letter)
     × AreFirst messages after (length letters + 1) (letters ++ l ∷ []))
@@ -52,7 +52,7 @@ stops_behind clean messages after letters last (Client cause) stops next = (stop
 stops_behind clean messages after letters last (Envelope cause) stops next = (stops, next)
 stops_behind clean messages after letters last (Endpoint cause) stops next = tt
 
-module _ (clean : Type 0) (messages : Messages) (after next : Option Place) (page limit : ℕ) (rows : List Letter)
+module _ (clean : Type 0) (messages : Messages) (after next : Option LetterPlace) (page limit : ℕ) (rows : List Letter)
     (old new : SendState)
     (are : clean → AreFirst messages after page rows) where
   abbrev now_due : List Letter
@@ -146,13 +146,13 @@ module _ (clean : Type 0) (messages : Messages) (after next : Option Place) (pag
       }
 
 -- the outbox couldn't be read
-pub page_unread : (clean : Type 0) (messages : Messages) (after next : Option Place) (limit : ℕ) (old : SendState)
+pub page_unread : (clean : Type 0) (messages : Messages) (after next : Option LetterPlace) (limit : ℕ) (old : SendState)
     (fault : EndFault)
     → FillsPage clean messages after next limit old old (Err (Endpoint fault))
 page_unread clean messages after next limit old fault =
     record { letters = []; sends = sends_none old; within = omega arith; ends = (λ c. tt, tt) }
 
-pub page_unread_of : (clean : Type 0) (messages : Messages) (after next : Option Place) (limit : ℕ) (old : SendState)
+pub page_unread_of : (clean : Type 0) (messages : Messages) (after next : Option LetterPlace) (limit : ℕ) (old : SendState)
     (cause : EndFault)
     (result : Result (ℕ × Bool) RelayFault) (fault : RelayFault) → result ≡ Err fault → fault ≡ Endpoint cause
     → FillsPage clean messages after next limit old old result
@@ -160,22 +160,22 @@ page_unread_of clean messages after next limit old cause result fault e f =
     subst (λ (r : Result (ℕ × Bool) RelayFault). FillsPage clean messages after next limit old old r)
     (sym (e ∙ ap (λ (x : RelayFault). Err x) f)) (page_unread clean messages after next limit old cause)
 
-abbrev place : Pair → ℕ → Place
+abbrev place : Pair → ℕ → LetterPlace
 place p n = record { pair = p; number = n }
 
-place_is : (x y : Place) → x.pair ≡ y.pair → x.number ≡ y.number → x ≡ y
+place_is : (x y : LetterPlace) → x.pair ≡ y.pair → x.number ≡ y.number → x ≡ y
 place_is x y pair number = ap (λ p. place p x.number) pair ∙ ap (λ n. place y.pair n) number
 
 -- between a place and that of its pair's mark nothing is due
-not_due_upto : (messages : Messages) (m : Pair → ℕ) (here next : Place) → next.pair ≡ here.pair
+not_due_upto : (messages : Messages) (m : Pair → ℕ) (here next : LetterPlace) → next.pair ≡ here.pair
     → next.number ≡ m here.pair
-    → (x : Place) → IsBefore here x → (o : Ordering) → place_cmp x next ≡ o
+    → (x : LetterPlace) → IsBefore here x → (o : Ordering) → place_cmp x next ≡ o
     → IsBefore next x ⊎ (unsent m messages x.pair x.number ≡ None)
 not_due_upto messages m here next pair mark x h Greater o = inl (place_cmp-Greater x next o)
 not_due_upto messages m here next pair mark x h Equal o =
     let same = place_cmp-Equal x next o in
     let number : x.number ≡ m x.pair =
-    ap (λ (y : Place). y.number) same ∙ mark ∙ ap m (sym (ap (λ (y : Place). y.pair) same ∙ pair)) in
+    ap (λ (y : LetterPlace). y.number) same ∙ mark ∙ ap m (sym (ap (λ (y : LetterPlace). y.pair) same ∙ pair)) in
     inr (not_due messages m x (omega (arith, number)))
 not_due_upto messages m here next pair mark x h Less o =
     let at : here.pair ≡ x.pair = pair_between_places here x next (sym pair) h o in
@@ -184,13 +184,13 @@ not_due_upto messages m here next pair mark x h Less o =
     inr (not_due messages m x (omega (arith, number, mark, marks)))
 
 -- what is due behind a place to which the relay jumps is what is due behind the page
-pub jump_over : (messages : Messages) (m : Pair → ℕ) (here next : Place) → Jumps m (Some here) (Some next)
+pub jump_over : (messages : Messages) (m : Pair → ℕ) (here next : LetterPlace) → Jumps m (Some here) (Some next)
     → (k : ℕ) (more : List Letter)
     → AreFirst (unsent m messages) (Some next) k more → AreFirst (unsent m messages) (Some here) k more
 jump_over messages m here next (pair, least, inl same) k more are =
-    subst (λ (x : Place). AreFirst (unsent m messages) (Some x) k more) (place_is next here pair same) are
+    subst (λ (x : LetterPlace). AreFirst (unsent m messages) (Some x) k more) (place_is next here pair same) are
 jump_over messages m here next (pair, least, inr mark) k more are = elim (cases_eq here.number next.number) [
-  | inl same ↦ subst (λ (x : Place). AreFirst (unsent m messages) (Some x) k more) (place_is next here pair (sym same))
+  | inl same ↦ subst (λ (x : LetterPlace). AreFirst (unsent m messages) (Some x) k more) (place_is next here pair (sym same))
       are
   | inr other ↦
       let before : IsBefore here next = before_in_pair here next (sym pair) (omega (arith, least, other)) in
@@ -198,7 +198,7 @@ jump_over messages m here next (pair, least, inr mark) k more are = elim (cases_
       (λ x h. not_due_upto messages m here next pair mark x h (place_cmp x next) refl) are
 ]
 
-jump_behind : (messages : Messages) (m : Pair → ℕ) (here next : Option Place) → Jumps m here next
+jump_behind : (messages : Messages) (m : Pair → ℕ) (here next : Option LetterPlace) → Jumps m here next
     → (k : ℕ) (more : List Letter)
     → AreFirst (unsent m messages) next k more → AreFirst (unsent m messages) here k more
 jump_behind messages m None next jumps k more are = absurd jumps
@@ -206,14 +206,14 @@ jump_behind messages m (Some here) None jumps k more are = absurd jumps
 jump_behind messages m (Some here) (Some next) jumps k more are = jump_over messages m here next jumps k more are
 
 -- or from that page's own place
-move_behind : (messages : Messages) (m : Pair → ℕ) (here next : Option Place) → StaysOrJumps m here next
+move_behind : (messages : Messages) (m : Pair → ℕ) (here next : Option LetterPlace) → StaysOrJumps m here next
     → (k : ℕ) (more : List Letter)
     → AreFirst (unsent m messages) next k more → AreFirst (unsent m messages) here k more
 move_behind messages m here next (inl same) k more are =
-    subst (λ (x : Option Place). AreFirst (unsent m messages) x k more) same are
+    subst (λ (x : Option LetterPlace). AreFirst (unsent m messages) x k more) same are
 move_behind messages m here next (inr jumps) k more are = jump_behind messages m here next jumps k more are
 
-module _ (clean : Type 0) (messages : Messages) (after next : Option Place) (page limit : ℕ) (rows : List Letter)
+module _ (clean : Type 0) (messages : Messages) (after next : Option LetterPlace) (page limit : ℕ) (rows : List Letter)
     (old new : SendState)
     (are : clean → AreFirst messages after page rows) (count : ℕ) (f : FillsLetters limit rows old new (Ok count))
     (other : count ≢ limit) where
@@ -261,7 +261,7 @@ seen_as marks client = record { marks = marks; client = client }
 pub same_connection : (r s : Relay) (c : ClientWithRoom ℕ) → s.marks ≡ r.marks → send_state s c ≡ send_state r c
 same_connection r s c e = ap (λ (m : BTreeMap Pair ℕ). seen_as (λ p. mark_in m p) c.client) e
 
-pub page_moved : {clean : Type 0} {messages : Messages} {after next : Option Place} {limit : ℕ}
+pub page_moved : {clean : Type 0} {messages : Messages} {after next : Option LetterPlace} {limit : ℕ}
     {old mid new : SendState}
     {result : Result (ℕ × Bool) RelayFault} → new ≡ mid → FillsPage clean messages after next limit old mid result
     → FillsPage clean messages after next limit old new result
@@ -272,11 +272,11 @@ module _ (messages : Messages) (page limit : ℕ) (rows : List Letter) (r s t : 
     (same : s.behind ≡ r.behind)
     (are : AreFirst messages r.behind page rows) (sent : AllSent (marks_of r) messages r.behind) where
   still_first : AreFirst messages s.behind page rows
-  still_first = subst (λ (x : Option Place). AreFirst messages x page rows) (sym same) are
+  still_first = subst (λ (x : Option LetterPlace). AreFirst messages x page rows) (sym same) are
 
   still_sent : (result : Result ℕ RelayFault) → FillsLetters limit rows (send_state r c) (send_state s d) result
       → AllSent (marks_of s) messages s.behind
-  still_sent result f = subst (λ (x : Option Place). AllSent (marks_of s) messages x) (sym same)
+  still_sent result f = subst (λ (x : Option LetterPlace). AllSent (marks_of s) messages x) (sym same)
       (risen messages r.behind (marks_of r) (marks_of s) (filling_rises limit rows (send_state r c) (send_state s d)
       result f) sent)
 
@@ -300,7 +300,7 @@ module _ (messages : Messages) (page limit : ℕ) (rows : List Letter) (r s t : 
       (λ x. x) count f other)
       (still_sent (Ok count) f)))
 
-pub sent_on : (m n : Pair → ℕ) (b d : Option Place) (here there : Messages) → there ≡ here
+pub sent_on : (m n : Pair → ℕ) (b d : Option LetterPlace) (here there : Messages) → there ≡ here
     → (AllSent m there b → AllSent n there d) → AllSent m here b → AllSent n here d
 sent_on m n b d here there e f s =
     subst (λ (x : Messages). AllSent n x d) e (f (subst (λ (x : Messages). AllSent m x b) (sym e) s))
@@ -317,18 +317,18 @@ goes_behind messages r t n page rows low moves marks are sent =
     (moved_sent messages (marks_of r) (place_behind r.behind (take n rows)) t.behind moves
     (rows_sent messages (marks_of r) n r.behind page rows are low sent))
 
-behind_last : (after : Option Place) (front : List Letter) (last : Letter)
+behind_last : (after : Option LetterPlace) (front : List Letter) (last : Letter)
     → place_behind after (front ++ last ∷ []) ≡ Some (place_of last)
 behind_last after [] last = refl
 behind_last after (l ∷ ls) last = behind_last (Some (place_of l)) ls last
 
 -- the place behind the last row of a page, or the one to which its pair's mark goes
-pub jumps_behind : (m : Pair → ℕ) (after : Option Place) (rows front : List Letter) (last : Letter) (n mark : ℕ)
+pub jumps_behind : (m : Pair → ℕ) (after : Option LetterPlace) (rows front : List Letter) (last : Letter) (n mark : ℕ)
     → rows ≡ front ++ last ∷ []
     → last.number ≤ n → (n ≡ last.number) ⊎ (n ≡ mark) → mark ≡ m last.pair
     → StaysOrJumps m (place_behind after rows) (Some (place last.pair n))
 jumps_behind m after rows front last n mark cut least which is = inr (
-    subst (λ (x : Option Place). Jumps m x (Some (place last.pair n))) (sym
+    subst (λ (x : Option LetterPlace). Jumps m x (Some (place last.pair n))) (sym
     (ap (λ (x : List Letter). place_behind after x) cut
     ∙ behind_last after front last))
     (refl, least, elim which [ inl same ↦ inl same | inr far ↦ inr (far ∙ is) ]))
@@ -342,7 +342,7 @@ rest_of : (a count limit : ℕ) → count ≡ a → count ≤ limit → a + (lim
 rest_of a count limit e h = omega (arith, e, h)
 
 module _ (messages : Messages) (limit : ℕ) (old : SendState) where
-  pub none_filled : (clean : Type 0) (after : Option Place) → (clean → AllSent old.marks messages after)
+  pub none_filled : (clean : Type 0) (after : Option LetterPlace) → (clean → AllSent old.marks messages after)
       → old.client.stage ≡ Connected
       → HasFilled clean messages limit old old 0 after
   none_filled clean after sent stage = record {
@@ -357,7 +357,7 @@ module _ (messages : Messages) (limit : ℕ) (old : SendState) where
   }
 
   module _ (clean clean' clean'' : Type 0) (messages' : Messages) (mid new : SendState) (count : ℕ)
-      (after next : Option Place)
+      (after next : Option LetterPlace)
       (f : HasFilled clean messages limit old mid count after) (earlier : clean' → clean) (there : clean' → clean'')
       (same : clean' → messages' ≡ messages) where
     -- what is due behind the pages so far, as the next page found it
@@ -502,7 +502,7 @@ passed_sent messages r t marks skips sent =
     (skip_sent messages (marks_of r) r.behind t.behind skips sent)
 
 -- marks that rise tell no less
-pub risen_but : {C : Type 0} (news : List (JournalRow C)) (messages : Messages) (reach : Option Place) (m n : Pair → ℕ)
+pub risen_but : {C : Type 0} (news : List (JournalRow C)) (messages : Messages) (reach : Option LetterPlace) (m n : Pair → ℕ)
     → ((p : Pair) → m p ≤ n p)
     → SentBut news m messages reach → SentBut news n messages reach
 risen_but news messages reach m n rise sent = λ x up none some.
@@ -527,7 +527,7 @@ rises_with {m} r s same rise p =
 -- ---- what is told where less is in doubt
 
 stops_where : (clean clean' : Type 0) → (clean' → clean)
-    → (messages : Messages) (after : Option Place) (letters : List Letter) (last : ℕ)
+    → (messages : Messages) (after : Option LetterPlace) (letters : List Letter) (last : ℕ)
     (fault : RelayFault) → StopsBehind clean messages after letters last fault
     → StopsBehind clean' messages after letters last fault
 stops_where clean clean' less messages after letters last (Endpoint cause) s = tt

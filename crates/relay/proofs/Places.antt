@@ -8,7 +8,7 @@ use Rattle.std.proofs.lemmas.Bool.{cases_eq, cases_lt}
 use Rattle.base.specs.Order.{pair_cmp, pair_cmp-total}
 use Rattle.base.specs.declared.pair.Pair.{Pair}
 use Rattle.envelope.specs.declared.message.Letter.{Letter}
-use Rattle.keep.specs.declared.change.Place.{Place}
+use Rattle.keep.specs.declared.change.LetterPlace.{LetterPlace}
 use Rattle.keep.specs.Places.{IsBefore}
 use Rattle.keep.specs.Listing.{place_of, IsAfter, AreFirst}
 use Rattle.keep.specs.Tables.{Messages}
@@ -28,12 +28,12 @@ tie : (p q : Pair) → p ≡ q → pair_cmp p q ≡ Equal
 tie p q e = subst (λ x. pair_cmp p x ≡ Equal) e (tied_itself pair_cmp-total p)
 
 -- within a pair places are in order of their numbers
-pub numbers_rise : (x y : Place) → x.pair ≡ y.pair → IsBefore x y → x.number < y.number
+pub numbers_rise : (x y : LetterPlace) → x.pair ≡ y.pair → IsBefore x y → x.number < y.number
 numbers_rise x y e h =
     number_less x.number y.number (ap (λ o. ordering_then o (nat_cmp x.number y.number)) (sym (tie x.pair y.pair e))
     ∙ h)
 
-pub before_in_pair : (x y : Place) → x.pair ≡ y.pair → x.number < y.number → IsBefore x y
+pub before_in_pair : (x y : LetterPlace) → x.pair ≡ y.pair → x.number < y.number → IsBefore x y
 before_in_pair x y e h = ap (λ o. ordering_then o (nat_cmp x.number y.number)) (tie x.pair y.pair e)
     ∙ sym (nat_cmp_is x.number y.number Less h)
 
@@ -42,14 +42,14 @@ first_part Less r h = inl refl
 first_part Equal r h = inr refl
 first_part Greater r h = let z : Greater ≡ Less = h in absurd cc
 
-pairs_rise : (x y : Place) → IsBefore x y → (pair_cmp x.pair y.pair ≡ Less) ⊎ (x.pair ≡ y.pair)
+pairs_rise : (x y : LetterPlace) → IsBefore x y → (pair_cmp x.pair y.pair ≡ Less) ⊎ (x.pair ≡ y.pair)
 pairs_rise x y h = elim (first_part (pair_cmp x.pair y.pair) (nat_cmp x.number y.number) h) [
   | inl less ↦ inl less
   | inr same ↦ inr (pair_cmp-Equal x.pair y.pair same)
 ]
 
 -- what stands between two places of a pair is of that pair
-pub pair_between_places : (x y z : Place) → x.pair ≡ z.pair → IsBefore x y → IsBefore y z → x.pair ≡ y.pair
+pub pair_between_places : (x y z : LetterPlace) → x.pair ≡ z.pair → IsBefore x y → IsBefore y z → x.pair ≡ y.pair
 pair_between_places x y z e h k = elim (pairs_rise x y h) [
   | inr same ↦ same
   | inl less ↦ elim (pairs_rise y z k) [
@@ -60,8 +60,8 @@ pair_between_places x y z e h k = elim (pairs_rise x y h) [
 ]
 
 -- they are the same of messages that are the same behind the place
-pub alike : (d e : Messages) (after : Option Place) (n : ℕ) (ls : List Letter)
-    → ((x : Place) → IsAfter after x → e x.pair x.number ≡ d x.pair x.number) → AreFirst d after n ls
+pub alike : (d e : Messages) (after : Option LetterPlace) (n : ℕ) (ls : List Letter)
+    → ((x : LetterPlace) → IsAfter after x → e x.pair x.number ≡ d x.pair x.number) → AreFirst d after n ls
     → AreFirst e after n ls
 alike d e after zero [] same are = tt
 alike d e after zero (l ∷ ls) same are = absurd are
@@ -76,9 +76,9 @@ alike d e after (suc n) (l ∷ ls) same are = (
 )
 
 -- and they are those behind an earlier place, where none stands between
-pub gap_over : (d : Messages) (after here : Option Place) (n : ℕ) (ls : List Letter)
-    → ((x : Place) → IsAfter here x → IsAfter after x)
-    → ((x : Place) → IsAfter after x → IsAfter here x ⊎ (d x.pair x.number ≡ None)) → AreFirst d here n ls
+pub gap_over : (d : Messages) (after here : Option LetterPlace) (n : ℕ) (ls : List Letter)
+    → ((x : LetterPlace) → IsAfter here x → IsAfter after x)
+    → ((x : LetterPlace) → IsAfter after x → IsAfter here x ⊎ (d x.pair x.number ≡ None)) → AreFirst d here n ls
     → AreFirst d after n ls
 gap_over d after here zero [] wide none are = tt
 gap_over d after here zero (l ∷ ls) wide none are = absurd are
@@ -93,8 +93,8 @@ gap_over d after here (suc n) (l ∷ ls) wide none are = (
   are.1,
 )
 
-pub gap : (d : Messages) (after : Option Place) (here : Place) (n : ℕ) (ls : List Letter)
-    → ((x : Place) → IsBefore here x → IsAfter after x)
-    → ((x : Place) → IsAfter after x → IsBefore here x ⊎ (d x.pair x.number ≡ None)) → AreFirst d (Some here) n ls
+pub gap : (d : Messages) (after : Option LetterPlace) (here : LetterPlace) (n : ℕ) (ls : List Letter)
+    → ((x : LetterPlace) → IsBefore here x → IsAfter after x)
+    → ((x : LetterPlace) → IsAfter after x → IsBefore here x ⊎ (d x.pair x.number ≡ None)) → AreFirst d (Some here) n ls
     → AreFirst d after n ls
 gap d after here n ls = gap_over d after (Some here) n ls

@@ -5,7 +5,7 @@ use Rattle.stomp_client.specs.declared.fault.ClientFault.TheVariants.{Closed}
 use Rattle.stomp_client.specs.declared.session.Stage.{Stage}
 use Rattle.stomp_client.specs.declared.session.Stage.TheVariants as stage
 use Rattle.envelope.specs.declared.message.Letter.{Letter}
-use Rattle.keep.specs.declared.change.Place.{Place}
+use Rattle.keep.specs.declared.change.LetterPlace.{LetterPlace}
 use Rattle.keep.specs.Listing.{AreFirst}
 use Rattle.keep.specs.Seen.{End, no_memory}
 use Rattle.keep.specs.Tables.{Messages}
@@ -33,14 +33,14 @@ FillsLetters limit letters old new (Err fault) =
     × SendsLetters (due count old.marks letters) old new × StopsSending new.client.receipts.last fault
 
 -- why it stopped behind these letters: the store told, or the next one that is due couldn't be sent
-abbrev pub StopsBehind : (clean : Type 0) → (messages : Messages) → (after : Option Place) → List Letter → (last : ℕ)
+abbrev pub StopsBehind : (clean : Type 0) → (messages : Messages) → (after : Option LetterPlace) → List Letter → (last : ℕ)
     → RelayFault → Type 0
 StopsBehind clean messages after letters last (Endpoint fault) = ⊤
 StopsBehind clean messages after letters last fault = StopsSending last fault
     × (clean → (l : Letter) × AreFirst messages after (length letters + 1) (letters ++ l ∷ []))
 
 -- of these messages the first ones after a place were sent, up to the limit; or a first part of these, and why no more
-abbrev pub Gives : (clean : Type 0) → (messages : Messages) → (after : Option Place) → (limit : ℕ) → List Letter
+abbrev pub Gives : (clean : Type 0) → (messages : Messages) → (after : Option LetterPlace) → (limit : ℕ) → List Letter
     → (last : ℕ)
     → Result ℕ RelayFault → Type 0
 Gives clean messages after limit letters last (Ok count) =

@@ -2,7 +2,7 @@
 use Rattle.std.specs.Prelude.{◌≡◌, ℕ, ◌≤◌, ◌⊎◌, length, take, Option, Some, None, IsSome}
 use Rattle.base.specs.declared.pair.Pair.{Pair}
 use Rattle.activities.specs.Service.{Service}
-use Rattle.keep.specs.declared.change.Place.{Place}
+use Rattle.keep.specs.declared.change.LetterPlace.{LetterPlace}
 use Rattle.keep.specs.Places.{IsBefore}
 use Rattle.keep.specs.Tables.{Tables, Messages}
 use Rattle.outbox.specs.Rows.{unsettled_of}
@@ -12,14 +12,14 @@ use Rattle.relay.specs.Filling.{marks_of}
 use Rattle.relay.specs.declared.relay.Relay.{Relay}
 
 -- a place stands before that one, or it is that one
-abbrev pub IsUpto : Option Place → Place → Type 0
+abbrev pub IsUpto : Option LetterPlace → LetterPlace → Type 0
 IsUpto None x = ⊥
 IsUpto (Some a) x = IsBefore x a ⊎ (x ≡ a)
 
 -- what stands up to a place isn't above what was sent of its pair
-abbrev pub AllSent : (Pair → ℕ) → Messages → Option Place → Type 0
+abbrev pub AllSent : (Pair → ℕ) → Messages → Option LetterPlace → Type 0
 AllSent marks messages behind =
-    (x : Place) → IsUpto behind x → IsSome (messages x.pair x.number) → x.number ≤ marks x.pair
+    (x : LetterPlace) → IsUpto behind x → IsSome (messages x.pair x.number) → x.number ≤ marks x.pair
 
 -- The cursor is right of a journal of so many rows, whose first rows sent these messages, as many rows as there were
 -- then: it had no more then, and all that stands up to the cursor's place was sent.

@@ -9,7 +9,7 @@ ghost use Rattle.relay.specs.Parts.News.{IsFrom, IsFirstFrom, IsClear};
 
 use activities::JournalRow;
 use base::{Entity, Number, Pair};
-use keep::Place;
+use keep::LetterPlace;
 use std::alloc::Global;
 use std::cmp::Ordering;
 use std::collections::BTreeMap;
@@ -18,7 +18,7 @@ use std::collections::BTreeMap;
 const FIRST: &str = "account/\u{1}";
 
 /// Whether an entity doesn't come before the sender of a place.
-fn is_from(entity: &Entity, behind: &Option<Place>) -> bool
+fn is_from(entity: &Entity, behind: &Option<LetterPlace>) -> bool
     ensures { result ≡ false → ¬ (IsFrom behind.now entity.now) }
 {
     match behind {
@@ -39,7 +39,10 @@ fn is_before(entity: &Entity, other: Option<&Entity>) -> bool
 }
 
 /// The first entity of these rows that doesn't come before the sender of a place.
-pub fn first_from<'a, C>(news: &'a [JournalRow<C>], behind: &Option<Place>) -> Option<&'a Entity>
+pub fn first_from<'a, C>(
+    news: &'a [JournalRow<C>],
+    behind: &Option<LetterPlace>,
+) -> Option<&'a Entity>
     ensures { MatchOption result (IsFirstFrom news.now behind.now None) (λ e. IsFirstFrom news.now behind.now
         (Some e.now)) }
 {
@@ -54,7 +57,7 @@ pub fn first_from<'a, C>(news: &'a [JournalRow<C>], behind: &Option<Place>) -> O
 
 /// The place of the last letter sent of the pairs before those of an entity, where it is known and memory isn't
 /// refused.
-fn place_before(alloc: Global, marks: &BTreeMap<Pair, u64>, entity: &Entity) -> Option<Place>
+fn place_before(alloc: Global, marks: &BTreeMap<Pair, u64>, entity: &Entity) -> Option<LetterPlace>
     ensures { IfSome result (λ p. entity_cmp p.pair.from entity.now ≡ Less) }
 {
     let bound = Pair {
@@ -66,17 +69,17 @@ fn place_before(alloc: Global, marks: &BTreeMap<Pair, u64>, entity: &Entity) -> 
     if last.from.cmp(entity) != Ordering::Less {
         return None;
     }
-    Some(Place {
+    Some(LetterPlace {
         pair: last.copy(alloc).ok()?,
         number: Number::new(*mark)?,
     })
 }
 
 /// A place that is the same, where memory isn't refused.
-fn copy_place(alloc: Global, place: &Place) -> Option<Place>
+fn copy_place(alloc: Global, place: &LetterPlace) -> Option<LetterPlace>
     ensures { IfSome result (λ p. p ≡ place.now) }
 {
-    Some(Place {
+    Some(LetterPlace {
         pair: place.pair.copy(alloc).ok()?,
         number: place.number,
     })
@@ -88,9 +91,9 @@ pub fn clear_place<C>(
     alloc: Global,
     marks: &BTreeMap<Pair, u64>,
     news: &[JournalRow<C>],
-    behind: &Option<Place>,
-    reach: &Place,
-) -> Option<Place>
+    behind: &Option<LetterPlace>,
+    reach: &LetterPlace,
+) -> Option<LetterPlace>
     ensures { IfSome result (λ p. IsClear news.now behind.now p) }
 {
     match first_from(news, behind) {

@@ -2,7 +2,7 @@
 
 ghost use Rattle.std.specs.Prelude.{◌≡◌, ◌≢◌, ◌<◌, ◌≤◌, ◌^◌, ◌⊎◌, None, Some, Err, false, true, ⊤, length, ℕ, Option};
 ghost use Rattle.std.specs.Prelude.{IfOk, IfErr};
-ghost use Rattle.keep.specs.declared.change.Place.{Place};
+ghost use Rattle.keep.specs.declared.change.LetterPlace.{LetterPlace};
 ghost use Rattle.keep.specs.Law.{Reads};
 ghost use Rattle.keep.specs.Listing.{AreFirst};
 ghost use Rattle.keep.specs.Pages.{place_behind};
@@ -27,7 +27,7 @@ use activities::{Handler, JournalRow};
 use base::Number;
 use endpoint::{EndFault, Endpoint};
 use envelope::Letter;
-use keep::{Keep, Place};
+use keep::{Keep, LetterPlace};
 use std::cmp::Ordering;
 use stomp_client::ClientSession;
 
@@ -79,7 +79,7 @@ impl Relay {
     }
 
     /// Begins at the first row, of a journal of so many rows, and answers where the cursor was.
-    fn begin(&mut self, rows: u64) -> Option<Place>
+    fn begin(&mut self, rows: u64) -> Option<LetterPlace>
         ensures reach { result ≡ self.old.behind }
         ensures behind { self.new.behind ≡ None }
         ensures rows { self.new.rows ≡ rows }
@@ -133,7 +133,7 @@ impl Relay {
 
     /// Takes the cursor back to a place, and to the rows of the journal that it knew there, where it hasn't come so far
     /// again.
-    fn stay_at(&mut self, reach: Option<Place>, since: u64)
+    fn stay_at(&mut self, reach: Option<LetterPlace>, since: u64)
         ensures marks { self.new.marks ≡ self.old.marks }
         ensures cursor { ((self.new.behind ≡ self.old.behind) × (self.new.rows ≡ self.old.rows))
             ⊎ ((self.new.behind ≡ reach) × (self.new.rows ≡ since)) }
@@ -148,7 +148,7 @@ impl Relay {
     }
 
     /// Moves the cursor over what was sent: up to a place all was but letters that these rows' entities sent.
-    fn pass_over<C>(&mut self, news: &[JournalRow<C>], reach: &Option<Place>)
+    fn pass_over<C>(&mut self, news: &[JournalRow<C>], reach: &Option<LetterPlace>)
         ensures skips { (messages : Messages) → SentBut news.now (marks_of self.old) messages reach.now
             → Skips (marks_of self.old) messages self.old.behind self.new.behind }
         ensures marks { self.new.marks ≡ self.old.marks }
@@ -172,7 +172,7 @@ impl Relay {
         client: &mut ClientSession<u64>,
         endpoint: &mut Endpoint<H, K>,
         news: &[JournalRow<H::Command>],
-        reach: &Option<Place>,
+        reach: &Option<LetterPlace>,
         limit: usize,
     ) -> Result<usize, RelayFault>
     where
@@ -281,7 +281,7 @@ impl Relay {
         if let Some(last) = rows.pop() {
             // Earlier fillings may have sent more of this pair than the page has: they needn't be read again.
             let mark = find(&self.marks, &last.pair);
-            self.behind = Some(Place {
+            self.behind = Some(LetterPlace {
                 number: greater(last.number, mark),
                 pair: last.pair,
             });
@@ -290,8 +290,8 @@ impl Relay {
 }
 
 /// Whether a place comes after another, or there is no other.
-fn is_ahead(place: &Place, behind: &Option<Place>) -> bool
-    ensures { result ≡ true → (x : Place) → IsAfter (Some place.now) x → IsAfter behind.now x }
+fn is_ahead(place: &LetterPlace, behind: &Option<LetterPlace>) -> bool
+    ensures { result ≡ true → (x : LetterPlace) → IsAfter (Some place.now) x → IsAfter behind.now x }
 {
     match behind {
         Some(here) => match here.cmp(place) {
@@ -303,7 +303,7 @@ fn is_ahead(place: &Place, behind: &Option<Place>) -> bool
 }
 
 /// Whether a place doesn't come after another.
-fn is_upto(place: &Place, reach: &Place) -> bool
+fn is_upto(place: &LetterPlace, reach: &LetterPlace) -> bool
     ensures { result ≡ true → place_cmp place.now reach.now ≢ Greater }
 {
     match place.cmp(reach) {

@@ -17,7 +17,7 @@ use activities::Handler;
 use base::Pair;
 use endpoint::Endpoint;
 use envelope::{Letter, letter_to_send};
-use keep::{Keep, Place};
+use keep::{Keep, LetterPlace};
 use std::alloc::Global;
 use std::collections::BTreeMap;
 use stomp_client::{ClientFault, ClientSession, Stage};
@@ -29,7 +29,7 @@ pub struct Relay {
     // The truth: what isn't above its pair's mark was sent, and isn't sent again.
     pub(crate) marks: BTreeMap<Pair, u64>,
     // A hint, which saves reads: without it a filling reads more rows, and sends the same.
-    pub(crate) behind: Option<Place>,
+    pub(crate) behind: Option<LetterPlace>,
     pub(crate) rows: u64,
 }
 

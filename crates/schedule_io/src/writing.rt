@@ -10,7 +10,7 @@ ghost use Rattle.schedule_io.specs.Written.{of_pair};
 use base::{Entity, Pair};
 use itoa::Buffer;
 use schedule_shows::spelled;
-use schedule_text::{Outcome, Told};
+use schedule_text::{Outcome, Pieces};
 use std::io;
 use std::io::Write;
 use streams::{write_octets, write_three};
@@ -72,15 +72,15 @@ fn write_of_pair<W: Write>(out: &mut W, words: &[u8], pair: &Pair, number: u64) 
 }
 
 /// Writes the lines that pieces make.
-fn write_told<W: Write>(out: &mut W, told: Told<'_>) -> io::Result<()>
+fn write_told<W: Write>(out: &mut W, told: Pieces<'_>) -> io::Result<()>
     ensures ok { OnOk result (Appends (W.contents out.old) (W.contents out.new) (told_lines told.entry)) }
     ensures err { OnErr result (AppendsPart (W.contents out.old) (W.contents out.new) (told_lines told.entry)) }
 {
     match told {
-        Told::Number(words, number) => write_numbered(out, words.as_bytes(), number, b"\n"),
-        Told::Text(words, text) => write_three(out, words.as_bytes(), text.as_bytes(), b"\n"),
-        Told::OfPair(words, pair, number) => write_of_pair(out, words.as_bytes(), pair, number),
-        Told::Lines(lines) => write_octets(out, lines),
+        Pieces::Number(words, number) => write_numbered(out, words.as_bytes(), number, b"\n"),
+        Pieces::Text(words, text) => write_three(out, words.as_bytes(), text.as_bytes(), b"\n"),
+        Pieces::OfPair(words, pair, number) => write_of_pair(out, words.as_bytes(), pair, number),
+        Pieces::Lines(lines) => write_octets(out, lines),
     }
 }
 

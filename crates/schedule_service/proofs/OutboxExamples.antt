@@ -22,7 +22,7 @@ use Rattle.envelope.specs.declared.message.Message.TheVariants.{Request}
 use Rattle.keep.specs.Listing.{IsNext, AreFirst, place_of}
 use Rattle.keep.specs.Places.{IsBefore, same_place, place_cmp, same_place-ties}
 use Rattle.keep.specs.Tables.{set_mark}
-use Rattle.keep.specs.declared.change.Place.{Place}
+use Rattle.keep.specs.declared.change.LetterPlace.{LetterPlace}
 use Rattle.keep.proofs.Places.{never_self, place_cmp-Equal}
 use Rattle.endpoint.proofs.Examples.{acme, bolts, from_order}
 use Rattle.endpoint.proofs.CallExamples.{orders, after, taken_in}
@@ -50,7 +50,7 @@ use Rattle.schedule_service.proofs.WorkExamples.{no_fault, seen, store, Service,
 abbrev letter : Letter
 letter = record { pair = from_order acme; number = 1; message = Request 500 }
 
-abbrev at : Pair → Place
+abbrev at : Pair → LetterPlace
 at p = record { pair = p; number = 1 }
 
 equal : (o : Ordering) → is_eq o ≡ true → o ≡ Equal
@@ -58,7 +58,7 @@ equal Equal same = refl
 equal Less same = absurd (cc)
 equal Greater same = absurd (cc)
 
-here : (a x : Place) → same_place a x ≡ true → a ≡ x
+here : (a x : LetterPlace) → same_place a x ≡ true → a ≡ x
 here a x same = place_cmp-Equal a x (equal (place_cmp a x) (sym (same_place-ties a x) ∙ same))
 
 neither : (a b : Bool) (m n : Option Message) → (a ≡ true → ⊥) → (b ≡ true → ⊥)
@@ -67,7 +67,7 @@ neither true b m n first second = absurd (first refl)
 neither false true m n first second = absurd (second refl)
 neither false false m n first second = refl
 
-none_before : (x : Place) → IsBefore x (place_of letter) → after.unsettled x.pair x.number ≡ None
+none_before : (x : LetterPlace) → IsBefore x (place_of letter) → after.unsettled x.pair x.number ≡ None
 unfolding same_entity same_pair
 none_before x before = neither (same_place (at (from_order acme)) x) (same_place (at (from_order bolts)) x)
     (Some (Request 500))

@@ -5,8 +5,8 @@ use Rattle.base.specs.Entity.{Entity, text_of}
 use Rattle.base.specs.declared.pair.Pair.{Pair}
 use Rattle.activities.specs.Faults.{refusal_number}
 use Rattle.schedule_text.specs.Words.{escaped}
-use Rattle.schedule_text.specs.declared.outcome.Told.{Told}
-use Rattle.schedule_text.specs.declared.outcome.Told.TheVariants as pieces
+use Rattle.schedule_text.specs.declared.outcome.Pieces.{Pieces}
+use Rattle.schedule_text.specs.declared.outcome.Pieces.TheVariants as pieces
 use Rattle.schedule_text.specs.declared.outcome.Outcome.{Outcome}
 use Rattle.schedule_text.specs.declared.outcome.Outcome.TheVariants.{Committed, Opened, Already, Closed, Cut, Sent, Due}
 use Rattle.schedule_text.specs.declared.outcome.Outcome.TheVariants.{Carried, Connected}
@@ -65,7 +65,7 @@ outcome_lines (Shown lines) = lines.items
 outcome_lines outcome = told outcome ++ 10 ∷ []
 
 -- the lines that pieces make
-abbrev pub told_lines : Told → List ℕ
+abbrev pub told_lines : Pieces → List ℕ
 told_lines (pieces.Number words number) = words.now ++ decimal number ++ 10 ∷ []
 told_lines (pieces.Text words text) = words.now ++ text.now ++ 10 ∷ []
 told_lines (pieces.OfPair words pair number) =

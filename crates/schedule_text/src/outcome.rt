@@ -67,7 +67,7 @@ pub enum Outcome {
 
 /// The pieces of the lines that tell an outcome: all but the last have one line.
 #[derive(Clone, Copy, Debug)]
-pub enum Told<'a> {
+pub enum Pieces<'a> {
     /// Words and a number.
     Number(&'a str, u64),
     /// Words, and a text, which may be empty.
@@ -81,40 +81,40 @@ pub enum Told<'a> {
 impl Outcome {
     /// The pieces of the lines that tell it.
     #[tactic(auto, using(std::proofs::Common::append_assoc))]
-    pub fn told(&self) -> Told<'_>
+    pub fn told(&self) -> Pieces<'_>
         ensures { told_lines result ≡ outcome_lines self.now }
     {
         match self {
-            Outcome::Committed(pos) => Told::Number("committed ", *pos),
-            Outcome::Opened => Told::Text("opened", ""),
-            Outcome::Already => Told::Text("already", ""),
-            Outcome::Closed => Told::Text("closed", ""),
-            Outcome::Cut => Told::Text("cut", ""),
-            Outcome::Sent(count) => Told::Number("sent ", *count),
-            Outcome::Due => Told::Text("due", ""),
-            Outcome::Carried(count) => Told::Number("carried ", *count),
-            Outcome::Connected => Told::Text("connected", ""),
-            Outcome::Receipt(number) => Told::Number("receipt ", *number),
-            Outcome::Handled(pos) => Told::Number("handled ", *pos),
-            Outcome::Repeated => Told::Text("repeated", ""),
-            Outcome::Held => Told::Text("held", ""),
-            Outcome::Settled(mark) => Told::Number("settled ", *mark),
-            Outcome::Error(text) => Told::Text("error ", text),
-            Outcome::Idle => Told::Text("idle", ""),
-            Outcome::Drained(pair, number) => Told::OfPair("drained ", pair, *number),
-            Outcome::Again(number) => Told::Number("again ", *number),
-            Outcome::Absent => Told::Text("none", ""),
-            Outcome::Armed => Told::Text("armed", ""),
-            Outcome::Reopened => Told::Text("reopened", ""),
-            Outcome::Stopped => Told::Text("stopped", ""),
-            Outcome::Pumped => Told::Text("pumped", ""),
-            Outcome::Refused(number) => Told::Number("refused ", u64::from(*number)),
+            Outcome::Committed(pos) => Pieces::Number("committed ", *pos),
+            Outcome::Opened => Pieces::Text("opened", ""),
+            Outcome::Already => Pieces::Text("already", ""),
+            Outcome::Closed => Pieces::Text("closed", ""),
+            Outcome::Cut => Pieces::Text("cut", ""),
+            Outcome::Sent(count) => Pieces::Number("sent ", *count),
+            Outcome::Due => Pieces::Text("due", ""),
+            Outcome::Carried(count) => Pieces::Number("carried ", *count),
+            Outcome::Connected => Pieces::Text("connected", ""),
+            Outcome::Receipt(number) => Pieces::Number("receipt ", *number),
+            Outcome::Handled(pos) => Pieces::Number("handled ", *pos),
+            Outcome::Repeated => Pieces::Text("repeated", ""),
+            Outcome::Held => Pieces::Text("held", ""),
+            Outcome::Settled(mark) => Pieces::Number("settled ", *mark),
+            Outcome::Error(text) => Pieces::Text("error ", text),
+            Outcome::Idle => Pieces::Text("idle", ""),
+            Outcome::Drained(pair, number) => Pieces::OfPair("drained ", pair, *number),
+            Outcome::Again(number) => Pieces::Number("again ", *number),
+            Outcome::Absent => Pieces::Text("none", ""),
+            Outcome::Armed => Pieces::Text("armed", ""),
+            Outcome::Reopened => Pieces::Text("reopened", ""),
+            Outcome::Stopped => Pieces::Text("stopped", ""),
+            Outcome::Pumped => Pieces::Text("pumped", ""),
+            Outcome::Refused(number) => Pieces::Number("refused ", u64::from(*number)),
             Outcome::NotDone(refusal) => {
-                Told::Number("refused 61 ", u64::from(refusal.number()))
+                Pieces::Number("refused 61 ", u64::from(refusal.number()))
             }
-            Outcome::Shown(lines) => Told::Lines(lines.as_slice()),
-            Outcome::Agreement(true) => Told::Text("agreement true", ""),
-            Outcome::Agreement(false) => Told::Text("agreement false", ""),
+            Outcome::Shown(lines) => Pieces::Lines(lines.as_slice()),
+            Outcome::Agreement(true) => Pieces::Text("agreement true", ""),
+            Outcome::Agreement(false) => Pieces::Text("agreement false", ""),
         }
     }
 }

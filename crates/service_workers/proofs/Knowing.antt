@@ -10,7 +10,7 @@ use Rattle.keep.specs.Tables.{Tables}
 use Rattle.reception.specs.declared.fault.ReceptionFault.{ReceptionFault}
 use Rattle.reception.specs.declared.taken.Taken.{Taken}
 use Rattle.told_lock.specs.Rule.{seen_by}
-use Rattle.told_lock.specs.declared.view.Told.{Told}
+use Rattle.told_lock.specs.declared.view.ToldToken.{ToldToken}
 use Rattle.shared_endpoint.specs.Keys.{Any}
 use Rattle.service_workers.specs.Conns.{link_of, client_of, start_of, or_was}
 use Rattle.service_workers.specs.Tokens.{Progress, progress_of}
@@ -33,7 +33,7 @@ module _ {L : Type 0} (put_gives : L → List ℕ → Result ℕ LinkFault → L
         line_goes put_gives take_gives seen service given sound xs now was c d is known
         (none_of put_gives take_gives (IsOfSession service.kind) c d h)
 
-    module _ (given : L → Type 0) (sound : Type 0) (xs ys zs : List E) (own : List (Told E)) (others : List E)
+    module _ (given : L → Type 0) (sound : Type 0) (xs ys zs : List E) (own : List (ToldToken E)) (others : List E)
         (now was : Option (Conn L)) (c d : Conn L) where
       by_reply : (came : Content → Type 0) (f : Content) (a : Answer) (r : Result Taken ReceptionFault) (block : List Content)
           → Knows seen service sound (AnsweredTo service f a) own

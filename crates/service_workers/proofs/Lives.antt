@@ -8,7 +8,7 @@ use Rattle.keep.specs.Seen.{Seen}
 use Rattle.keep.specs.Tables.{Tables}
 use Rattle.endpoint.specs.Deeds.{kept}
 use Rattle.told_lock.specs.Rule.{Every, IsTold, new_told}
-use Rattle.told_lock.specs.declared.view.Told.{Told}
+use Rattle.told_lock.specs.declared.view.ToldToken.{ToldToken}
 use Rattle.told_lock.proofs.Views.{every_both, every_map}
 use Rattle.shared_endpoint.specs.History.{EndsAs, EverSince, IsLater, Since, Stands}
 use Rattle.shared_endpoint.specs.Keys.{Any, Closes}
@@ -25,7 +25,7 @@ use Rattle.service_workers.proofs.Lasting.{every_left, every_right, no_doubt, on
 use Rattle.service_workers.proofs.Taking.{among_left, among_right, both_take, by_standing, nothing_takes, so_takes, takes_join}
 
 -- the token of a key is among all that come together in the end
-pub one_among : {E : Type 0} (xs ys zs : List (Told E)) (w : Told E) → ys ≡ w ∷ [] → Any (λ k. k ≡ w) ((xs ++ ys) ++ zs)
+pub one_among : {E : Type 0} (xs ys zs : List (ToldToken E)) (w : ToldToken E) → ys ≡ w ∷ [] → Any (λ k. k ≡ w) ((xs ++ ys) ++ zs)
 one_among xs ys zs w is = any_left (λ k. k ≡ w) (xs ++ ys) zs
     (any_right (λ k. k ≡ w) xs ys (subst (Any (λ k. k ≡ w)) (sym is) (inl refl)))
 
@@ -33,7 +33,7 @@ module _ {L : Type 0} (put_gives : L → List ℕ → Result ℕ LinkFault → L
     (take_gives : L → ℕ → Result (List ℕ) LinkFault → L → Type 0) {E S C : Type 0} (seen : E → Seen (Tables S C))
     (service : Service S C) (sound : Type 0) (given : L → Type 0) where
   -- by no call
-  pub nothing_came : (vs : List (Told E)) (v : Told E) → vs ≡ v ∷ []
+  pub nothing_came : (vs : List (ToldToken E)) (v : ToldToken E) → vs ≡ v ∷ []
       → TakesWhatCame put_gives take_gives seen service sound given vs vs
   nothing_came vs v is = record {
     goes_on = on_same seen service hand_number vs v is;
@@ -43,7 +43,7 @@ module _ {L : Type 0} (put_gives : L → List ℕ → Result ℕ LinkFault → L
   }
 
   -- two calls, one after the other
-  pub both_came : (us vs ws : List (Told E)) → TakesWhatCame put_gives take_gives seen service sound given us vs
+  pub both_came : (us vs ws : List (ToldToken E)) → TakesWhatCame put_gives take_gives seen service sound given us vs
       → TakesWhatCame put_gives take_gives seen service sound given vs ws
       → TakesWhatCame put_gives take_gives seen service sound given us ws
   both_came us vs ws a b = record {
@@ -58,7 +58,7 @@ module _ {L : Type 0} (put_gives : L → List ℕ → Result ℕ LinkFault → L
   }
 
   -- what the Hand has processed since the life began, where the endpoint was good to the end
-  taken_till : (found good : E) (w : Told E) → IsGood seen service (new_told hand_number found)
+  taken_till : (found good : E) (w : ToldToken E) → IsGood seen service (new_told hand_number found)
       → w.number ≡ hand_number → (seen good).doubt ≡ 0 → Since seen service w.number w.seen good
       → (t : TakesWhatCame put_gives take_gives seen service sound given (new_told hand_number found ∷ []) (w ∷ []))
       → TakesFrom (CarriedAmong t.messages) (kept (seen found).tables) (kept (seen good).tables)
@@ -71,7 +71,7 @@ module _ {L : Type 0} (put_gives : L → List ℕ → Result ℕ LinkFault → L
       (since.clean z (t.goes_on.good clean whole).matches).1))
 
   -- how a life ends, by what the Hand has learned of its connections and has processed
-  pub life_stands : (found : Option E) (e : E) (tokens : List (Told E)) (scout hand known seats : List E) (w : Told E)
+  pub life_stands : (found : Option E) (e : E) (tokens : List (ToldToken E)) (scout hand known seats : List E) (w : ToldToken E)
       (conns : List (Option (Conn L))) → sound
       → Closes seen service tokens ((scout ++ (hand ++ known)) ++ seats) e → (seen e).doubt ≡ 0
       → Any (λ x. found ≡ Some x) known

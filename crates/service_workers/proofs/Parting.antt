@@ -10,7 +10,7 @@ use Rattle.activities.specs.Service.{Service}
 use Rattle.keep.specs.Seen.{Seen}
 use Rattle.keep.specs.Tables.{Tables}
 use Rattle.laws_stores.specs.Writing.{IsTrueIn}
-use Rattle.told_lock.specs.declared.view.Told.{Told}
+use Rattle.told_lock.specs.declared.view.ToldToken.{ToldToken}
 use Rattle.service_workers.specs.Counts.{count_of, with_count}
 use Rattle.service_workers.specs.Truth.{AreSentIn, Knows}
 use Rattle.service_workers.specs.declared.counts.Counts.{Counts}
@@ -34,7 +34,7 @@ module _ {A : Type 0} (p : A → Bool) where
 
 -- some of the letters that a token knows to be sent
 pub some_known : {E S C : Type 0} (seen : E → Seen (Tables S C)) (service : Service S C) (sound : Type 0) (p : Letter → Bool)
-    (ls some : List Letter) → some ≡ filter p ls → (ws : List (Told E))
+    (ls some : List Letter) → some ≡ filter p ls → (ws : List (ToldToken E))
     → Knows seen service sound (AreSentIn service.reactions ls) ws
     → Knows seen service sound (AreSentIn service.reactions some) ws
 some_known seen service sound p ls some is =

@@ -38,7 +38,7 @@ use Rattle.laws_stores.specs.Deeds.{DeedIs}
 use Rattle.laws_stores.specs.Good.{IsHeldIn}
 use Rattle.laws_stores.proofs.Doing.{did_held, did_settled}
 use Rattle.laws_stores.proofs.Founded.{ingest_is, settle_is, drain_is}
-use Rattle.told_lock.specs.declared.view.Told.{Told}
+use Rattle.told_lock.specs.declared.view.ToldToken.{ToldToken}
 use Rattle.told_lock.specs.Rule.{IsTold}
 use Rattle.shared_endpoint.specs.History.{fault_in, tells, DidAll, EndsAs, IsLater, Since, Stands, Turn, Turns}
 use Rattle.shared_endpoint.specs.Promises.{Continues, IsGood, IsOneThreads, DoesAt, GroupsAt}
@@ -236,7 +236,7 @@ module _ {E S C : Type 0} (seen : E → Seen (Tables S C)) (service : Service S 
   -- token has seen stays.
   by_answer : {R : Type 0} (known : Envelope → Type 0) (Call : E → E → Type 0) (result : Result R EndFault)
       (At : Tables S C → Tables S C → Type 0) → ((t u : Tables S C) → At t u → TakesFrom known (kept t) (kept u))
-      → IsOneThreads seen service hand_number Call result At → (v w : Told E)
+      → IsOneThreads seen service hand_number Call result At → (v w : ToldToken E)
       → Turn seen service hand_number v w Call (fault_in result)
       → TokenTakes seen service known v w
   by_answer known Call result At leads law v w turn z good = by_told (tells (fault_in result)) refl
@@ -254,8 +254,8 @@ module _ {E S C : Type 0} (seen : E → Seen (Tables S C)) (service : Service S 
           subst (λ (e : E). TakesFrom known (kept (seen v.seen).tables) (kept (seen e).tables)) (sym same)
           (takes_same known (kept (seen v.seen).tables))
 
-  by_tokens : (known : Envelope → Type 0) (Call : E → E → Type 0) (fault : Option EndFault) (vs ws : List (Told E))
-      → ((v w : Told E) → Turn seen service hand_number v w Call fault → TokenTakes seen service known v w)
+  by_tokens : (known : Envelope → Type 0) (Call : E → E → Type 0) (fault : Option EndFault) (vs ws : List (ToldToken E))
+      → ((v w : ToldToken E) → Turn seen service hand_number v w Call fault → TokenTakes seen service known v w)
       → Turns seen service hand_number vs ws Call fault
       → Takes seen service known vs ws
   by_tokens known Call fault (v ∷ []) (w ∷ []) takes turn = takes v w turn
@@ -267,7 +267,7 @@ module _ {E S C : Type 0} (seen : E → Seen (Tables S C)) (service : Service S 
   -- a call that does one deed
   deed_takes : {R : Type 0} (known : Envelope → Type 0) (Call : E → E → Type 0) (result : Result R EndFault)
       (may : Kept C → Deed C → Type 0) → ((x : Kept C) (d : Deed C) → may x d → DeedIs (WasThere known x) d)
-      → (vs ws : List (Told E))
+      → (vs ws : List (ToldToken E))
       → IsOneThreads seen service hand_number Call result (DoesAt service hand_number may)
       → Turns seen service hand_number vs ws Call (fault_in result)
       → Takes seen service known vs ws
@@ -275,21 +275,21 @@ module _ {E S C : Type 0} (seen : E → Seen (Tables S C)) (service : Service S 
       (by_answer known Call result (DoesAt service hand_number may)
       (λ t u does. by_deed service known (kept t) (kept u) does.deed does.did (is (kept t) does.deed does.allowed)) law) turns
 
-  pub ingest_takes : (Call : E → E → Type 0) (l : Letter) (r : Result Ingested EndFault) (vs ws : List (Told E))
+  pub ingest_takes : (Call : E → E → Type 0) (l : Letter) (r : Result Ingested EndFault) (vs ws : List (ToldToken E))
       → IsOneThreads seen service hand_number Call r (DoesAt service hand_number (IngestMay service l r))
       → Turns seen service hand_number vs ws Call (fault_in r)
       → Takes seen service (OnlyLetter l) vs ws
   ingest_takes Call l r = deed_takes (OnlyLetter l) Call r (IngestMay service l r)
       (λ x d may. ingest_is service (WasThere (OnlyLetter l) x) l (inl refl) r x d may)
 
-  pub drain_takes : (Call : E → E → Type 0) (p : Pair) (r : Result (Option ℕ) EndFault) (vs ws : List (Told E))
+  pub drain_takes : (Call : E → E → Type 0) (p : Pair) (r : Result (Option ℕ) EndFault) (vs ws : List (ToldToken E))
       → IsOneThreads seen service hand_number Call r (DoesAt service hand_number (DrainMay service p r))
       → Turns seen service hand_number vs ws Call (fault_in r)
       → Takes seen service NoEnvelope vs ws
   drain_takes Call p r = deed_takes NoEnvelope Call r (DrainMay service p r)
       (λ x d may. drain_is service (WasThere NoEnvelope x) p r x d (λ e h. inr h) may)
 
-  pub settle_takes : (Call : E → E → Type 0) (p : Pair) (n : ℕ) (r : Result ℕ EndFault) (vs ws : List (Told E))
+  pub settle_takes : (Call : E → E → Type 0) (p : Pair) (n : ℕ) (r : Result ℕ EndFault) (vs ws : List (ToldToken E))
       → IsOneThreads seen service hand_number Call r (DoesAt service hand_number (SettleMay service p n r))
       → Turns seen service hand_number vs ws Call (fault_in r)
       → Takes seen service (OnlySettle p n) vs ws
@@ -301,7 +301,7 @@ module _ {E S C : Type 0} (seen : E → Seen (Tables S C)) (service : Service S 
   group_leads es (Ok told) t u at = by_each service (Contains es) es told.items t u (λ e h. h) at.0
   group_leads es (Err fault) t u at = absurd at
 
-  pub group_takes : (Call : E → E → Type 0) (es : List Envelope) (r : Result (Vec Grouped) EndFault) (vs ws : List (Told E))
+  pub group_takes : (Call : E → E → Type 0) (es : List Envelope) (r : Result (Vec Grouped) EndFault) (vs ws : List (ToldToken E))
       → IsOneThreads seen service hand_number Call r (GroupsAt service es r)
       → Turns seen service hand_number vs ws Call (fault_in r)
       → Takes seen service (Contains es) vs ws
@@ -310,7 +310,7 @@ module _ {E S C : Type 0} (seen : E → Seen (Tables S C)) (service : Service S 
 
   -- ---- one call where the store failed
 
-  by_failure : (known : Envelope → Type 0) (Call : E → E → Type 0) (v w : Told E)
+  by_failure : (known : Envelope → Type 0) (Call : E → E → Type 0) (v w : ToldToken E)
       → Turn seen service hand_number v w Call (Some StoreFailed)
       → ((d e : E) → Call d e → (seen e).doubt ≡ 0 → AllMatch service (seen d).may_leave → (t : Tables S C)
       → (seen e).may_leave t → TakesFrom known (kept (seen d).tables) (kept t))
@@ -323,7 +323,7 @@ module _ {E S C : Type 0} (seen : E → Seen (Tables S C)) (service : Service S 
       (by_standing known (kept (seen v.seen).tables) (kept (seen taken).tables) clean.1)
       (leaves taken w.last turn.call z clean.0 t may)
 
-  all_leave : (known : Envelope → Type 0) (Call : E → E → Type 0) (vs ws : List (Told E))
+  all_leave : (known : Envelope → Type 0) (Call : E → E → Type 0) (vs ws : List (ToldToken E))
       → ((d e : E) → Call d e → (seen e).doubt ≡ 0 → AllMatch service (seen d).may_leave → (t : Tables S C)
       → (seen e).may_leave t → TakesFrom known (kept (seen d).tables) (kept t))
       → Turns seen service hand_number vs ws Call (Some StoreFailed)
@@ -337,7 +337,7 @@ module _ {E S C : Type 0} (seen : E → Seen (Tables S C)) (service : Service S 
   -- a call that does one deed, or none
   deed_leaves : {R : Type 0} (known : Envelope → Type 0) (Reason : EndFault → Type 0) (name : Entity)
       (may : Result R EndFault → Kept C → Deed C → Type 0) (r : Result R EndFault)
-      → ((x : Kept C) (d : Deed C) → may (Err StoreFailed) x d → DeedIs (WasThere known x) d) → (vs ws : List (Told E))
+      → ((x : Kept C) (d : Deed C) → may (Err StoreFailed) x d → DeedIs (WasThere known x) d) → (vs ws : List (ToldToken E))
       → Turns seen service hand_number vs ws (λ d e. DoesDeed seen d e HELD_WINDOW service Reason name may r) (fault_in r)
       → r ≡ Err StoreFailed → Leaves seen service known vs ws
   deed_leaves known Reason name may r is vs ws turns failed =
@@ -347,21 +347,21 @@ module _ {E S C : Type 0} (seen : E → Seen (Tables S C)) (service : Service S 
       (subst (λ q. Turns seen service hand_number vs ws (λ d e. DoesDeed seen d e HELD_WINDOW service Reason name may q)
       (fault_in q)) failed turns)
 
-  pub ingest_leaves : (l : Letter) (r : Result Ingested EndFault) (vs ws : List (Told E))
+  pub ingest_leaves : (l : Letter) (r : Result Ingested EndFault) (vs ws : List (ToldToken E))
       → Turns seen service hand_number vs ws
       (λ d e. DoesDeed seen d e HELD_WINDOW service OfLetter l.pair.to (IngestMay service l) r) (fault_in r)
       → r ≡ Err StoreFailed → Leaves seen service (OnlyLetter l) vs ws
   ingest_leaves l r = deed_leaves (OnlyLetter l) OfLetter l.pair.to (IngestMay service l) r
       (λ x d may. ingest_is service (WasThere (OnlyLetter l) x) l (inl refl) (Err StoreFailed) x d may)
 
-  pub drain_leaves : (p : Pair) (r : Result (Option ℕ) EndFault) (vs ws : List (Told E))
+  pub drain_leaves : (p : Pair) (r : Result (Option ℕ) EndFault) (vs ws : List (ToldToken E))
       → Turns seen service hand_number vs ws
       (λ d e. DoesDeed seen d e HELD_WINDOW service OfHeldLetter p.to (DrainMay service p) r) (fault_in r)
       → r ≡ Err StoreFailed → Leaves seen service NoEnvelope vs ws
   drain_leaves p r = deed_leaves NoEnvelope OfHeldLetter p.to (DrainMay service p) r
       (λ x d may. drain_is service (WasThere NoEnvelope x) p (Err StoreFailed) x d (λ e h. inr h) may)
 
-  pub settle_leaves : (p : Pair) (n : ℕ) (r : Result ℕ EndFault) (vs ws : List (Told E))
+  pub settle_leaves : (p : Pair) (n : ℕ) (r : Result ℕ EndFault) (vs ws : List (ToldToken E))
       → Turns seen service hand_number vs ws
       (λ d e. DoesDeed seen d e HELD_WINDOW service OfSettle p.from (SettleMay service p n) r) (fault_in r)
       → r ≡ Err StoreFailed → Leaves seen service (OnlySettle p n) vs ws
@@ -369,7 +369,7 @@ module _ {E S C : Type 0} (seen : E → Seen (Tables S C)) (service : Service S 
       (λ x d may. settle_is service (WasThere (OnlySettle p n) x) p n (inl refl) (Err StoreFailed) x d may)
 
   -- a first part of a group
-  pub group_leaves : (es : List Envelope) (r : Result (Vec Grouped) EndFault) (vs ws : List (Told E))
+  pub group_leaves : (es : List Envelope) (r : Result (Vec Grouped) EndFault) (vs ws : List (ToldToken E))
       → Turns seen service hand_number vs ws (λ d e. Groups seen d e service es r) (fault_in r)
       → r ≡ Err StoreFailed → Leaves seen service (Contains es) vs ws
   group_leaves es r vs ws turns failed =
@@ -381,7 +381,7 @@ module _ {E S C : Type 0} (seen : E → Seen (Tables S C)) (service : Service S 
   -- ---- several calls
 
   -- two calls, one after the other
-  pub both_take : (n : ℕ) (known : Envelope → Type 0) (us vs ws : List (Told E))
+  pub both_take : (n : ℕ) (known : Envelope → Type 0) (us vs ws : List (ToldToken E))
       → GoesOn seen service n us vs → GoesOn seen service n vs ws → Takes seen service known us vs
       → Takes seen service known vs ws
       → Takes seen service known us ws
@@ -397,7 +397,7 @@ module _ {E S C : Type 0} (seen : E → Seen (Tables S C)) (service : Service S 
   both_take n known (u ∷ []) (v ∷ []) (w ∷ x ∷ ws) a b h k = absurd b
 
   -- by more that is known
-  pub so_takes : (known more : Envelope → Type 0) → ((e : Envelope) → known e → more e) → (vs ws : List (Told E))
+  pub so_takes : (known more : Envelope → Type 0) → ((e : Envelope) → known e → more e) → (vs ws : List (ToldToken E))
       → Takes seen service known vs ws → Takes seen service more vs ws
   so_takes known more all (v ∷ []) (w ∷ []) h = λ z good.
       takes_more known more (kept (seen v.seen).tables) (kept (seen w.seen).tables) all (h z good)
@@ -407,13 +407,13 @@ module _ {E S C : Type 0} (seen : E → Seen (Tables S C)) (service : Service S 
   so_takes known more all (v ∷ x ∷ vs) ws h = absurd h
 
   -- by no call
-  pub nothing_takes : (known : Envelope → Type 0) (vs ws : List (Told E)) (v : Told E) → vs ≡ v ∷ [] → ws ≡ vs
+  pub nothing_takes : (known : Envelope → Type 0) (vs ws : List (ToldToken E)) (v : ToldToken E) → vs ≡ v ∷ [] → ws ≡ vs
       → Takes seen service known vs ws
   nothing_takes known vs ws v is same = subst (λ xs. Takes seen service known vs xs) (sym same)
       (subst (λ xs. Takes seen service known xs xs) (sym is) (λ z good. takes_same known (kept (seen v.seen).tables)))
 
   -- calls, and after them calls to which nothing was given
-  pub then_nothing : (n : ℕ) (known : Envelope → Type 0) (us vs ws : List (Told E))
+  pub then_nothing : (n : ℕ) (known : Envelope → Type 0) (us vs ws : List (ToldToken E))
       → GoesOn seen service n us vs → GoesOn seen service n vs ws → Takes seen service known us vs
       → Takes seen service NoEnvelope vs ws
       → Takes seen service known us ws
@@ -423,7 +423,7 @@ module _ {E S C : Type 0} (seen : E → Seen (Tables S C)) (service : Service S 
   -- ---- the end
 
   -- others may have done more since the Hand has seen so much
-  takes_till : (known : Envelope → Type 0) (n : ℕ) (v w : Told E) (t : Tables S C) → TokenTakes seen service known v w
+  takes_till : (known : Envelope → Type 0) (n : ℕ) (v w : ToldToken E) (t : Tables S C) → TokenTakes seen service known v w
       → (seen w.seen).doubt ≡ 0 → IsGood seen service v → n ≡ hand_number → Continues seen service n w t
       → TakesFrom known (kept (seen v.seen).tables) (kept t)
   takes_till known n v w t h z good is c =
@@ -444,7 +444,7 @@ module _ {E S C : Type 0} (seen : E → Seen (Tables S C)) (service : Service S 
           let one = one_of_these (λ k. k ≡ w) (IsTold (Since seen service) (IsLater seen) (EndsAs seen service) e closes.good)
           tokens among closes.told in
           let least : (seen w.seen).doubt ≤ (seen closes.good).doubt
-          = subst (λ (k : Told E). (seen k.seen).doubt ≤ (seen closes.good).doubt) one.1 one.2.since.doubt in
+          = subst (λ (k : ToldToken E). (seen k.seen).doubt ≤ (seen closes.good).doubt) one.1 one.2.since.doubt in
           le-zero (subst (λ n. (seen w.seen).doubt ≤ n) (no_doubt seen service closes.good e closes.ends z) least)
 
       all : TakesFrom (Contains (envelopes_in messages)) (kept (seen v.seen).tables) (kept history.tables)
@@ -454,7 +454,7 @@ module _ {E S C : Type 0} (seen : E → Seen (Tables S C)) (service : Service S 
           takes_more (CarriedAmong messages) (Contains (envelopes_in messages)) (kept (seen v.seen).tables)
           (kept history.tables) (among_contained messages)
           (takes_till (CarriedAmong messages) w.number v w history.tables h clean good is
-          (subst (λ (k : Told E). Continues seen service k.number k history.tables) one.1 one.2))
+          (subst (λ (k : ToldToken E). Continues seen service k.number k history.tables) one.1 one.2))
 
 -- ---- what MESSAGEs carry
 

@@ -18,7 +18,7 @@ use Rattle.activities.specs.Numbered.{IsPrefixOf}
 use Rattle.activities.specs.Service.{Service}
 use Rattle.endpoint.specs.Deeds.{Kept, kept}
 use Rattle.endpoint.specs.Matches.{AllMatch}
-use Rattle.told_lock.specs.declared.view.Told.{Told}
+use Rattle.told_lock.specs.declared.view.ToldToken.{ToldToken}
 use Rattle.told_lock.specs.Rule.{Every, seen_by}
 use Rattle.told_lock.proofs.Views.{every_map, every_both}
 use Rattle.shared_endpoint.proofs.Closing.{any_left, any_right}
@@ -240,7 +240,7 @@ module _ {L : Type 0} (put_gives : L → List ℕ → Result ℕ LinkFault → L
           × Speaks service came (kept (seen y).tables) block) xs ys was)
 
       -- what a good token has seen
-      pub known_shown : (sound : Type 0) (P : Kept C → Type 0) (block : List Content) (own : List (Told E)) (others : List E)
+      pub known_shown : (sound : Type 0) (P : Kept C → Type 0) (block : List Content) (own : List (ToldToken E)) (others : List E)
           → ((x : Kept C) → P x → Speaks service came x block) → Knows seen service sound P own → sound
           → MightSpeak seen service (seen_by own ++ others) came block
       known_shown sound P block (w ∷ []) others so knows is =

@@ -8,7 +8,7 @@ use Rattle.keep.specs.Tables.{Tables}
 use Rattle.endpoint.specs.Deeds.{kept}
 use Rattle.endpoint.specs.Matches.{AllMatch}
 use Rattle.told_lock.specs.Rule.{Every, new_told}
-use Rattle.told_lock.specs.declared.view.Told.{Told}
+use Rattle.told_lock.specs.declared.view.ToldToken.{ToldToken}
 use Rattle.shared_endpoint.specs.History.{EverSince, EndsAs}
 use Rattle.shared_endpoint.specs.Keys.{told_hand}
 use Rattle.shared_endpoint.specs.Promises.{IsGood}
@@ -26,7 +26,7 @@ module _ {L : Type 0} (put_gives : L → List ℕ → Result ℕ LinkFault → L
   -- The Hand, earlier and later: what it has seen has grown. Each letter that was handled meanwhile or is held then, and each
   -- settle that was marked, is carried by one of these MESSAGEs, or the letter was held before. While the service is sound, each
   -- MESSAGE came on a connection that was given.
-  pub record TakesWhatCame (sound : Type 0) (given : L → Type 0) (vs ws : List (Told E)) : Type 0 where
+  pub record TakesWhatCame (sound : Type 0) (given : L → Type 0) (vs ws : List (ToldToken E)) : Type 0 where
     pub goes_on : GoesOn seen service hand_number vs ws
     pub messages : List Content
     pub came : sound → Every (Came put_gives take_gives given) messages
@@ -38,7 +38,7 @@ module _ {L : Type 0} (put_gives : L → List ℕ → Result ℕ LinkFault → L
 
   -- The service's life began with this endpoint, which was good while the service is sound. Since then the Hand has
   -- processed what came.
-  pub record HasTakenWhatCame (sound : Type 0) (given : L → Type 0) (found : Option E) (ws : List (Told E)) : Type 0 where
+  pub record HasTakenWhatCame (sound : Type 0) (given : L → Type 0) (found : Option E) (ws : List (ToldToken E)) : Type 0 where
     pub first : E
     pub is_found : found ≡ Some first
     pub good : sound → IsGood seen service (new_told hand_number first)

@@ -14,7 +14,7 @@ use Rattle.keep.specs.Tables.{Tables}
 use Rattle.endpoint.specs.Deeds.{Kept, kept}
 use Rattle.laws_journals.specs.Growth.{IsFrom}
 use Rattle.laws_stores.specs.Good.{IsHeldIn}
-use Rattle.told_lock.specs.declared.view.Told.{Told}
+use Rattle.told_lock.specs.declared.view.ToldToken.{ToldToken}
 use Rattle.shared_endpoint.specs.Keys.{Any, Closes}
 use Rattle.shared_endpoint.specs.Promises.{IsGood, IsOneHistory}
 use Rattle.shared_endpoint.specs.Token.{hand_number}
@@ -75,28 +75,28 @@ pub record TakesFrom {C : Type 0} (known : Envelope → Type 0) (x y : Kept C) :
 
 module _ {E S C : Type 0} (seen : E → Seen (Tables S C)) (service : Service S C) where
   -- so it is of what the token has seen, where that file isn't in doubt and the token was good before
-  abbrev pub TokenTakes : (Envelope → Type 0) → (v w : Told E) → Type 0
+  abbrev pub TokenTakes : (Envelope → Type 0) → (v w : ToldToken E) → Type 0
   TokenTakes known v w = (seen w.seen).doubt ≡ 0 → IsGood seen service v
       → TakesFrom known (kept (seen v.seen).tables) (kept (seen w.seen).tables)
 
   -- so it is of what two keys know, each of which stands for this one token
-  abbrev pub Takes : (Envelope → Type 0) → (vs ws : List (Told E)) → Type 0
+  abbrev pub Takes : (Envelope → Type 0) → (vs ws : List (ToldToken E)) → Type 0
   Takes known (v ∷ []) (w ∷ []) = TokenTakes known v w
   Takes known _ _ = ⊥
 
   -- so it is of each content that a stop may leave of the endpoint that the token returned
-  abbrev pub TokenLeaves : (Envelope → Type 0) → (v w : Told E) → Type 0
+  abbrev pub TokenLeaves : (Envelope → Type 0) → (v w : ToldToken E) → Type 0
   TokenLeaves known v w = (seen w.last).doubt ≡ 0 → IsGood seen service v → (t : Tables S C)
       → (seen w.last).may_leave t → TakesFrom known (kept (seen v.seen).tables) (kept t)
 
-  abbrev pub Leaves : (Envelope → Type 0) → (vs ws : List (Told E)) → Type 0
+  abbrev pub Leaves : (Envelope → Type 0) → (vs ws : List (ToldToken E)) → Type 0
   Leaves known (v ∷ []) (w ∷ []) = TokenLeaves known v w
   Leaves known _ _ = ⊥
 
   -- In the end, of one history of all tokens: since the Hand had seen so much, only what these MESSAGEs carried, or what was held,
   -- has come into the tables; and so it is of each content that a stop may leave of an endpoint that is still usable.
   abbrev pub TakingStands : Type 0
-  TakingStands = (messages : List Content) (v w : Told E) (tokens : List (Told E)) (witnessed : List E) (e : E)
+  TakingStands = (messages : List Content) (v w : ToldToken E) (tokens : List (ToldToken E)) (witnessed : List E) (e : E)
       → TokenTakes (CarriedAmong messages) v w → IsGood seen service v → w.number ≡ hand_number
       → Any (λ k. k ≡ w) tokens → Closes seen service tokens witnessed e → (seen e).doubt ≡ 0
       → (history : IsOneHistory seen service tokens witnessed e)

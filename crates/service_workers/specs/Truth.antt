@@ -30,7 +30,7 @@ use Rattle.reception.specs.declared.fault.ReceptionFault.TheVariants as fault
 use Rattle.reception.specs.declared.taken.Taken.{Taken}
 use Rattle.reception.specs.declared.taken.Taken.TheVariants as taken
 use Rattle.laws_stores.specs.Writing.{IsTrueIn}
-use Rattle.told_lock.specs.declared.view.Told.{Told}
+use Rattle.told_lock.specs.declared.view.ToldToken.{ToldToken}
 use Rattle.shared_endpoint.specs.Promises.{IsGood}
 use Rattle.service_workers.specs.Tokens.{Progress, progress_of, HasArrived}
 use Rattle.service_workers.specs.declared.worker.Answer.{Answer}
@@ -38,23 +38,23 @@ use Rattle.service_workers.specs.declared.worker.Answer.TheVariants as answer
 
 module _ {E S C : Type 0} (seen : E → Seen (Tables S C)) (service : Service S C) where
   -- this holds of what the token has then seen, where that file isn't in doubt and the token was good before
-  abbrev pub TokenLearns : (Kept C → Type 0) → (v w : Told E) → Type 0
+  abbrev pub TokenLearns : (Kept C → Type 0) → (v w : ToldToken E) → Type 0
   TokenLearns P v w = (seen w.seen).doubt ≡ 0 → IsGood seen service v → P (kept (seen w.seen).tables)
 
   -- the same of what two keys know: each stands for this one token
-  abbrev pub Learns : (Kept C → Type 0) → (vs ws : List (Told E)) → Type 0
+  abbrev pub Learns : (Kept C → Type 0) → (vs ws : List (ToldToken E)) → Type 0
   Learns P (v ∷ []) (w ∷ []) = TokenLearns P v w
   Learns P _ _ = ⊥
 
   -- While the service is sound the token of this key is good, where the file that it has seen isn't in doubt; and this holds
   -- of what it has seen.
-  abbrev pub Knows : (sound : Type 0) → (Kept C → Type 0) → (ws : List (Told E)) → Type 0
+  abbrev pub Knows : (sound : Type 0) → (Kept C → Type 0) → (ws : List (ToldToken E)) → Type 0
   Knows sound P (w ∷ []) =
       sound → (seen w.seen).doubt ≡ 0 → IsGood seen service w × P (kept (seen w.seen).tables)
   Knows sound P _ = ⊥
 
   -- it is good
-  abbrev pub IsGoodWhile : (sound : Type 0) → (ws : List (Told E)) → Type 0
+  abbrev pub IsGoodWhile : (sound : Type 0) → (ws : List (ToldToken E)) → Type 0
   IsGoodWhile sound = Knows sound (λ x. ⊤)
 
 -- ---- what the Hand is told

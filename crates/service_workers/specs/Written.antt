@@ -24,7 +24,7 @@ use Rattle.endpoint.specs.Matches.{AllMatch}
 use Rattle.reception.specs.Replies.{answer, settling}
 use Rattle.laws_stores.specs.Writing.{IsTrueIn}
 use Rattle.told_lock.specs.Rule.{Every}
-use Rattle.told_lock.specs.declared.view.Told.{Told}
+use Rattle.told_lock.specs.declared.view.ToldToken.{ToldToken}
 use Rattle.shared_endpoint.specs.Promises.{IsOneHistory}
 use Rattle.shared_endpoint.specs.Keys.{Any, Closes, shown_hand}
 use Rattle.service_workers.specs.Conns.{link_of, client_of, start_of, or_was, IsGiven}
@@ -116,7 +116,7 @@ module _ {E S C : Type 0} (seen : E → Seen (Tables S C)) (service : Service S 
 
   -- In the end the tables stand by each block that might be written, by the endpoints that were shown to a token.
   abbrev pub WrittenStands : (came : Content → Type 0) → Type 0
-  WrittenStands came = (tokens : List (Told E)) (witnessed : List E) (e : E) → Closes seen service tokens witnessed e
+  WrittenStands came = (tokens : List (ToldToken E)) (witnessed : List E) (e : E) → Closes seen service tokens witnessed e
       → (seen e).doubt ≡ 0 → (history : IsOneHistory seen service tokens witnessed e)
       → (block : List Content) → MightSpeak witnessed came block
       → StandsBy service history.tables came block
@@ -172,7 +172,7 @@ module _ {L : Type 0} (put_gives : L → List ℕ → Result ℕ LinkFault → L
     -- In the end the tables stand by all that a connection has written, whose blocks might be written by the endpoints that
     -- were shown to a token.
     abbrev pub ConnectionsStand : Type 0
-    ConnectionsStand = (tokens : List (Told E)) (witnessed : List E) (e : E) → Closes seen service tokens witnessed e
+    ConnectionsStand = (tokens : List (ToldToken E)) (witnessed : List E) (e : E) → Closes seen service tokens witnessed e
         → (seen e).doubt ≡ 0 → (history : IsOneHistory seen service tokens witnessed e)
         → (c : Conn L) → HasSpoken witnessed c → HasWritten (StandsBy service history.tables (came_of c)) c
 

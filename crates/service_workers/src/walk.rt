@@ -8,12 +8,12 @@ ghost use Rattle.service_workers.specs.declared.conn.TheConstants.{WINDOW};
 ghost use Rattle.service_workers.specs.declared.walk.TheConstants.{ENOUGH, PAGE};
 ghost use Rattle.service_workers.specs.declared.walk.Left.{Left};
 ghost use Rattle.service_workers.specs.declared.walk.Left.TheVariants.{Full, Nothing};
-ghost use Rattle.service_workers.specs.declared.walk.Step.TheVariants.{Ends, Goes};
+ghost use Rattle.service_workers.specs.declared.walk.WalkStep.TheVariants.{Ends, Goes};
 
 use crate::conn::WINDOW;
 use base::Kind;
 use envelope::Letter;
-use keep::Place;
+use keep::LetterPlace;
 use std::alloc::{AllocError, Global};
 
 /// How many letters are read at once.
@@ -34,7 +34,7 @@ pub(crate) enum Left {
 }
 
 /// What comes of one page.
-pub(crate) enum Step {
+pub(crate) enum WalkStep {
     /// There may be another.
     Goes,
     /// The page was the last, and this is left.
@@ -46,10 +46,10 @@ pub(crate) enum Step {
 }
 
 /// The place of a letter.
-pub(crate) fn place_of(alloc: Global, letter: &Letter) -> Result<Place, AllocError>
+pub(crate) fn place_of(alloc: Global, letter: &Letter) -> Result<LetterPlace, AllocError>
     ensures { IfOk result (λ place. place ≡ place_of letter.now) }
 {
-    Ok(Place {
+    Ok(LetterPlace {
         pair: letter.pair.copy(alloc)?,
         number: letter.number,
     })
@@ -89,7 +89,7 @@ pub(crate) struct Page {
     /// How many letters it has, to whomever.
     count: usize,
     /// The place of the last of them.
-    last: Option<Place>,
+    last: Option<LetterPlace>,
     /// Those that are to receivers of the walk's kind.
     pub own: Vec<Letter>,
 }
@@ -129,7 +129,7 @@ pub(crate) struct Walk {
     /// How many settles were taken when it began, or was resumed last.
     seen: u64,
     /// After which letter its next page begins.
-    pub after: Option<Place>,
+    pub after: Option<LetterPlace>,
     /// How many letters up to there were sent on the connection, now or before, and aren't settled.
     sent: usize,
     /// `sent`, and how many of the last page were sent.
@@ -191,7 +191,7 @@ impl Walk {
     }
 
     /// Counts a page, of whose own letters so many were sent. The next page begins after it, unless this is the last for now.
-    pub(crate) fn pass(&mut self, page: Page, sent: usize) -> Step
+    pub(crate) fn pass(&mut self, page: Page, sent: usize) -> WalkStep
         ensures ends { (left : Left) → result ≡ Ends left → (page.count < PAGE) ⊎ (WINDOW ≤ self.new.total) }
         ensures full { result ≡ Ends Full → WINDOW ≤ self.new.total }
         ensures nothing { result ≡ Ends Nothing → (self.old.is_all ≡ true) × (sent ≡ vec_len page.own) }
@@ -211,17 +211,17 @@ impl Walk {
             self.sent = self.total.saturating_sub(sent);
         }
         if page.count < PAGE {
-            return Step::Ends(self.left(is_whole));
+            return WalkStep::Ends(self.left(is_whole));
         }
         // Where the window is full nothing more is sent, however many letters there are. Once there is room, this page is
         // read again: what was sent of it may be anywhere in it.
         if self.total >= WINDOW {
-            return Step::Ends(Left::Full);
+            return WalkStep::Ends(Left::Full);
         }
         self.is_all = self.is_all && is_whole;
         self.sent = self.total;
         self.after = page.last;
-        Step::Goes
+        WalkStep::Goes
     }
 
     /// What is left after the last letter, where all letters of the last page were sent or not.

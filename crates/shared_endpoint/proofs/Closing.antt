@@ -8,7 +8,7 @@ use Rattle.keep.specs.Seen.{Seen}
 use Rattle.keep.specs.Tables.{Tables}
 use Rattle.crossbeam_channel.specs.Claims.{Pass}
 use Rattle.told_lock.specs.declared.lock.Lock.{Lock}
-use Rattle.told_lock.specs.declared.view.Told.{Told}
+use Rattle.told_lock.specs.declared.view.ToldToken.{ToldToken}
 use Rattle.told_lock.specs.declared.view.Known.{Known}
 use Rattle.told_lock.specs.Keys.{IsKeyOf}
 use Rattle.told_lock.specs.Rule.{Every, IsTold, Sums}
@@ -32,10 +32,10 @@ any_right P [] ys h = h
 any_right P (x ∷ xs) ys h = inr (any_right P xs ys h)
 
 module _ {E : Type 0} where
-  has_number : (n m : ℕ) (key : Pass E (Known E)) (one : Told E) → told key ≡ one ∷ [] → one.number ≡ m → m ≡ n
+  has_number : (n m : ℕ) (key : Pass E (Known E)) (one : ToldToken E) → told key ≡ one ∷ [] → one.number ≡ m → m ≡ n
       → Any (λ t. t.number ≡ n) (told key)
   has_number n m key one own number same =
-      subst (Any (λ (t : Told E). t.number ≡ n)) (sym own) (inl (number ∙ same))
+      subst (Any (λ (t : ToldToken E). t.number ≡ n)) (sym own) (inl (number ∙ same))
 
 module _ {H E S C : Type 0} where
   -- seats with the numbers n, n + 1, .. that know this endpoint
@@ -96,7 +96,7 @@ module _ {H E S C : Type 0} where
       rest))
       (which n below)
     where
-      P : Told E → Type 0
+      P : ToldToken E → Type 0
       P t = t.number ≡ n
 
       which : (n : ℕ) → n < suc scout_number → (n < SEATS) ⊎ ((n ≡ hand_number) ⊎ (n ≡ scout_number))
@@ -104,7 +104,7 @@ module _ {H E S C : Type 0} where
 
 module _ {E S C : Type 0} where
   -- all tokens are back
-  pub closes : (seen : E → Seen (Tables S C)) (service : Service S C) (v : Known E) (e : E) (tokens : List (Told E))
+  pub closes : (seen : E → Seen (Tables S C)) (service : Service S C) (v : Known E) (e : E) (tokens : List (ToldToken E))
       (witnessed : List E)
       → Sums (Since seen service) (IsLater seen) (EndsAs seen service) (EverSince seen service) v → v.has ≡ Some e
       → v.own ≡ tokens → v.shown ≡ witnessed → ((n : ℕ) → n < suc scout_number → Any (λ t. t.number ≡ n) tokens)

@@ -13,7 +13,7 @@ use Rattle.keep.specs.Seen.{Seen, IsSound}
 use Rattle.keep.specs.Tables.{Tables}
 use Rattle.endpoint.specs.Deeds.{kept}
 use Rattle.endpoint.specs.Matches.{AllMatch}
-use Rattle.told_lock.specs.declared.view.Told.{Told}
+use Rattle.told_lock.specs.declared.view.ToldToken.{ToldToken}
 use Rattle.told_lock.specs.Rule.{Every, IsTold}
 use Rattle.told_lock.proofs.Views.{every_map}
 use Rattle.shared_endpoint.specs.Token.{hand_number, scout_number, is_of, rows_of}
@@ -65,7 +65,7 @@ module _ {C : Type 0} where
 module _ {E S C : Type 0} (seen : E → Seen (Tables S C)) (service : Service S C) (sound : (e : E) → IsSound (seen e))
   where
     -- all of these rows are listed, where each list of the whole journal is a token's
-    all_listed : (tokens : List (Told E)) (journal rows : List (JournalRow C)) (pos : ℕ) → AreSeated rows
+    all_listed : (tokens : List (ToldToken E)) (journal rows : List (JournalRow C)) (pos : ℕ) → AreSeated rows
         → ((n : ℕ) (item : ℕ × JournalRow C) → IsIn (rows_of n pos rows) item → IsIn (rows_of n 1 journal) item)
         → Every (λ k. rows_of k.number 1 journal ≡ rows_of k.number 1 (seen k.seen).tables.journal) tokens
         → ((n : ℕ) → n < suc scout_number → Any (λ k. k.number ≡ n) tokens)
@@ -114,7 +114,7 @@ module _ {E S C : Type 0} (seen : E → Seen (Tables S C)) (service : Service S 
         clean0 : (seen c.good).doubt ≡ 0
         clean0 = no_doubt c.ends
 
-        Holds : Told E → Type 0
+        Holds : ToldToken E → Type 0
         Holds k = ((seen c.good).usable ≡ true) × AllMatch service (seen c.good).may_leave
             × Stands k.number (kept (seen k.seen).tables) (kept tables)
 
@@ -126,7 +126,7 @@ module _ {E S C : Type 0} (seen : E → Seen (Tables S C)) (service : Service S 
             (told.since.usable good.usable, known.0, known.1))
             c.told goods
 
-        one : (k : Told E) × Holds k
+        one : (k : ToldToken E) × Holds k
         one = of_any Holds (λ k. k.number ≡ 0) tokens each (c.all 0 (omega arith))
 
         usable : (seen c.good).usable ≡ true

@@ -12,7 +12,7 @@ use Rattle.endpoint.specs.declared.fault.EndFault.TheVariants.{NotMine, Business
 use Rattle.endpoint.specs.declared.fault.EndFault.TheVariants.{Unusable, NumberLimit, NotSent}
 use Rattle.endpoint.specs.Deeds.{kept, Deed}
 use Rattle.endpoint.specs.Matches.{AllMatch}
-use Rattle.told_lock.specs.declared.view.Told.{Told}
+use Rattle.told_lock.specs.declared.view.ToldToken.{ToldToken}
 use Rattle.told_lock.specs.declared.view.Known.{Known}
 use Rattle.told_lock.specs.Rule.{Every, IsTold, Took, MaySee, MayStay, without}
 use Rattle.told_lock.proofs.Views.{every_map}
@@ -129,7 +129,7 @@ module _ {E S C : Type 0} (seen : E → Seen (Tables S C)) (service : Service S 
     good_is good d (inr broke) up = absurd (true≢false (sym up ∙ broke.now))
 
     -- it may be given back
-    pub gives : (n : ℕ) (v w : Known E) (d e : E) (t : Told E) (fault : Option EndFault)
+    pub gives : (n : ℕ) (v w : Known E) (d e : E) (t : ToldToken E) (fault : Option EndFault)
         → Took (Since seen service) (IsLater seen) (EndsAs seen service) (EverSince seen service) v d w
         → v.own ≡ t ∷ [] → t.number ≡ n → Steps seen service n d e fault → Gives seen service w e (tells fault)
     gives n v w d e t fault took own number s = (see, stay)
@@ -153,7 +153,7 @@ module _ {E S C : Type 0} (seen : E → Seen (Tables S C)) (service : Service S 
               later = later;
               others = λ m apart. subst (λ y. Since seen service m y e) same
                   (others_stand n d e fault s used m (λ is.
-                  (subst (λ (ts : List (Told E)). Every (λ x. x.number ≢ m) ts) w_own apart).0 (number ∙ sym is)));
+                  (subst (λ (ts : List (ToldToken E)). Every (λ x. x.number ≢ m) ts) w_own apart).0 (number ∙ sym is)));
             }
 
         stays_at : (now : E) → EndsAs seen service now e → ((m : ℕ) → Since seen service m took.good now)
@@ -205,7 +205,7 @@ module _ {E S C : Type 0} (seen : E → Seen (Tables S C)) (service : Service S 
             (used_or seen d e fault s.used)
 
     -- and what the token knows then is this turn
-    pub turns : (n : ℕ) (v w u : Known E) (d e : E) (t : Told E) (fault : Option EndFault) (Call : E → E → Type 0)
+    pub turns : (n : ℕ) (v w u : Known E) (d e : E) (t : ToldToken E) (fault : Option EndFault) (Call : E → E → Type 0)
         → Took (Since seen service) (IsLater seen) (EndsAs seen service) (EverSince seen service) v d w
         → v.own ≡ t ∷ [] → t.number ≡ n → Steps seen service n d e fault → Call d e
         → u ≡ without (map (given (tells fault) e) w.own) w → Turns seen service n v.own u.own Call fault
@@ -214,12 +214,12 @@ module _ {E S C : Type 0} (seen : E → Seen (Tables S C)) (service : Service S 
         let u_own : u.own ≡ given (tells fault) e t ∷ [] =
         ap (λ (k : Known E). k.own) is ∙ ap (map (given (tells fault) e)) w_own in
         let mine = (subst
-        (λ (ts : List (Told E)).
+        (λ (ts : List (ToldToken E)).
         Every (IsTold (Since seen service) (IsLater seen)
         (EndsAs seen service) d took.good) ts) own took.told).0
         in
         let last : (given (tells fault) e t).last ≡ e = last_is (tells fault) in
-        subst (λ (y : List (Told E) × List (Told E)). Turns seen service n y.0 y.1 Call fault)
+        subst (λ (y : List (ToldToken E) × List (ToldToken E)). Turns seen service n y.0 y.1 Call fault)
         (λ i. (sym own i, sym u_own i))
         (record {
           taken = d;
@@ -258,7 +258,7 @@ module _ {E S C : Type 0} (seen : E → Seen (Tables S C)) (service : Service S 
         seen_of false = refl
 
     -- and what was shown to its key is so of what the turn gave back
-    pub bears : (n : ℕ) (v w u : Known E) (d e : E) (t : Told E) (fault : Option EndFault)
+    pub bears : (n : ℕ) (v w u : Known E) (d e : E) (t : ToldToken E) (fault : Option EndFault)
         → Took (Since seen service) (IsLater seen) (EndsAs seen service) (EverSince seen service) v d w
         → v.own ≡ t ∷ [] → Steps seen service n d e fault → u ≡ without (map (given (tells fault) e) w.own) w
         → Every (BearsOut seen service v.shown) u.own
@@ -266,7 +266,7 @@ module _ {E S C : Type 0} (seen : E → Seen (Tables S C)) (service : Service S 
         let w_own : w.own ≡ t ∷ [] = ap (λ (k : Known E). k.own) took.is ∙ own in
         let u_own : u.own ≡ given (tells fault) e t ∷ [] =
         ap (λ (k : Known E). k.own) is ∙ ap (map (given (tells fault) e)) w_own in
-        subst (λ (ts : List (Told E)). Every (BearsOut seen service v.shown) ts) (sym u_own) (
+        subst (λ (ts : List (ToldToken E)). Every (BearsOut seen service v.shown) ts) (sym u_own) (
           subst (λ y. (seen y).usable ≡ true → Every (λ x. EverSince seen service x y) v.shown)
               (sym (last_is (tells fault))) so,
           tt,

@@ -20,7 +20,7 @@ use Rattle.keep.specs.Law.{MoreFailures, IsServed, HasFailed, IsRefusedUnusable,
 use Rattle.keep.specs.Listing.{AreFirst}
 use Rattle.keep.specs.Seen.{Seen, IsSound}
 use Rattle.keep.specs.Tables.{Tables, Messages}
-use Rattle.keep.specs.declared.change.Place.{Place}
+use Rattle.keep.specs.declared.change.LetterPlace.{LetterPlace}
 use Rattle.endpoint.specs.declared.answer.Committed.{Committed}
 use Rattle.endpoint.specs.declared.fault.EndFault.{EndFault}
 use Rattle.endpoint.specs.declared.fault.EndFault.TheVariants.{NotMine, Business, TooEarly, StoreFailed, Memory}
@@ -31,7 +31,7 @@ use Rattle.endpoint.specs.Calls.{Commits, DoesDeed, OfLetter, OfHeldLetter, OfSe
 use Rattle.endpoint.specs.Deeds.{Kept, kept, Deed, Nothing, TakesIn, Holds, Settles, Did}
 use Rattle.endpoint.specs.Faults.{end_of}
 use Rattle.endpoint.specs.Matches.{TablesMatchJournal, AllMatch}
-use Rattle.told_lock.specs.declared.view.Told.{Told}
+use Rattle.told_lock.specs.declared.view.ToldToken.{ToldToken}
 use Rattle.shared_endpoint.specs.Token.{hand_number, is_of, rows_of}
 use Rattle.shared_endpoint.specs.History.{IsDeedOf, IsUsed, fault_in, tells, Passes}
 use Rattle.shared_endpoint.specs.Lore.{zero_below, then_more}
@@ -105,14 +105,14 @@ module _ {C : Type 0} (s e : Entity) where
 module _ {E S C : Type 0} (seen : E → Seen (Tables S C)) (service : Service S C) (sound : (e : E) → IsSound (seen e))
   where
     -- what a call of a good token stands on, where its answer tells of the journal
-    record Stood (n : ℕ) (v w : Told E) (taken : E) : Type 0 where
+    record Stood (n : ℕ) (v w : ToldToken E) (taken : E) : Type 0 where
       matches : AllMatch service (seen taken).may_leave
       clean : (seen taken).doubt ≡ 0
       continues : Continues seen service n v (seen taken).tables
       served : IsServed seen taken w.last
       saw : w.seen ≡ w.last
 
-    stood : (n : ℕ) (v w : Told E) (taken : E) (fault : Option EndFault) → Passes seen service n v w taken fault
+    stood : (n : ℕ) (v w : ToldToken E) (taken : E) (fault : Option EndFault) → Passes seen service n v w taken fault
         → tells fault ≡ true → IsGood seen service v → (seen w.last).doubt ≡ 0 → Stood n v w taken
     stood n v w taken fault p told good clean =
         let served = used_served seen taken w.last fault told p.used in
@@ -284,7 +284,7 @@ module _ {E S C : Type 0} (seen : E → Seen (Tables S C)) (service : Service S 
     pub handled : HandledIsTheLists seen service
     handled p result = one_threads hand_number _ result (HandledAt service p result) (handled_at p result)
 
-    unsettled_at : (after : Option Place) (limit : ℕ) (result : Result (Vec Letter) EndFault) (d e : E)
+    unsettled_at : (after : Option LetterPlace) (limit : ℕ) (result : Result (Vec Letter) EndFault) (d e : E)
         → Reads seen d e (λ t letters. AreFirst t.unsettled after limit letters.items) (end_of result)
         → tells (fault_in result) ≡ true → (seen d).doubt ≡ 0 → (seen e).doubt ≡ 0
         → AllMatch service (seen d).may_leave → TablesMatchJournal service (seen d).tables

@@ -7,7 +7,7 @@ use Rattle.keep.specs.Seen.{Seen}
 use Rattle.keep.specs.Tables.{Tables}
 use Rattle.endpoint.specs.Matches.{AllMatch}
 use Rattle.told_lock.specs.declared.lock.Lock.{Lock}
-use Rattle.told_lock.specs.declared.view.Told.{Told}
+use Rattle.told_lock.specs.declared.view.ToldToken.{ToldToken}
 use Rattle.told_lock.specs.declared.view.Known.{Known}
 use Rattle.told_lock.specs.Keys.{knows, IsKeyOf, LockName}
 use Rattle.told_lock.specs.Rule.{seen_by, shown_of}
@@ -76,10 +76,10 @@ module _ {E S C : Type 0} (seen : E → Seen (Tables S C)) (service : Service S 
   was_so P stays (y ∷ ys) t borne (inr h) = was_so P stays ys t borne.1 h
 
   -- a good token's witness knows what is so of the tables that it has seen
-  pub was_seen : (P : Tables S C → Type 0) (own : List (Told E)) (t : Told E) (others : List E) → own ≡ t ∷ []
+  pub was_seen : (P : Tables S C → Type 0) (own : List (ToldToken E)) (t : ToldToken E) (others : List E) → own ≡ t ∷ []
       → IsGood seen service t → P (seen t.seen).tables
       → WasSo seen service P (seen_by own ++ others)
-  was_seen P own t others is good h = subst (λ (ts : List (Told E)). WasSo seen service P (seen_by ts ++ others))
+  was_seen P own t others is good h = subst (λ (ts : List (ToldToken E)). WasSo seen service P (seen_by ts ++ others))
       (sym is) (inl (good.matches, h))
 
   -- a witness that learns another knows what each of both knew

@@ -12,7 +12,7 @@ use Rattle.endpoint.specs.declared.fault.EndFault.TheVariants.{StoreFailed, Memo
 use Rattle.endpoint.specs.Calls.{StillMatches}
 use Rattle.endpoint.specs.Deeds.{Kept, kept, Deed, Nothing, TakesIn, Holds, Settles, Did}
 use Rattle.endpoint.specs.Matches.{AllMatch}
-use Rattle.told_lock.specs.declared.view.Told.{Told}
+use Rattle.told_lock.specs.declared.view.ToldToken.{ToldToken}
 use Rattle.told_lock.specs.declared.view.Known.{Known}
 use Rattle.told_lock.specs.Rule.{Every, MaySee, MayStay, saw, counted}
 use Rattle.shared_endpoint.specs.Token.{hand_number, is_of, rows_of}
@@ -78,7 +78,7 @@ module _ {S C : Type 0} (service : Service S C) where
   AllCame Allowed old new = (t : Tables S C) → new t → CameAll Allowed old t
 
 -- what a token knows that gave this back: it has seen it, or what it has seen stays
-abbrev pub given : {E : Type 0} → Bool → E → Told E → Told E
+abbrev pub given : {E : Type 0} → Bool → E → ToldToken E → ToldToken E
 given true e t = saw e t
 given false e t = counted e t
 
@@ -131,7 +131,7 @@ module _ {E S C : Type 0} (seen : E → Seen (Tables S C)) where
 
     -- A token's call at the endpoint `taken`, that ended so: what the token knew, by its number, and what it knows
     -- then.
-    pub record Passes (n : ℕ) (v w : Told E) (taken : E) (fault : Option EndFault) : Type 0 where
+    pub record Passes (n : ℕ) (v w : ToldToken E) (taken : E) (fault : Option EndFault) : Type 0 where
       -- the endpoint is later than what the token gave back last, and than what it found
       pub later : IsLater v.last taken
       pub found : IsLater v.found taken
@@ -149,18 +149,18 @@ module _ {E S C : Type 0} (seen : E → Seen (Tables S C)) where
       pub number : w.number ≡ n
 
     -- A token's call: at some endpoint that passed it did what it does for one thread.
-    pub record Turn (n : ℕ) (v w : Told E) (Call : E → E → Type 0) (fault : Option EndFault) : Type 0 where
+    pub record Turn (n : ℕ) (v w : ToldToken E) (Call : E → E → Type 0) (fault : Option EndFault) : Type 0 where
       pub taken : E
       pub passes : Passes n v w taken fault
       pub call : Call taken w.last
 
     -- the same of what two keys know: each stands for this one token
-    abbrev pub Turns : ℕ → (v w : List (Told E)) → (E → E → Type 0) → Option EndFault → Type 0
+    abbrev pub Turns : ℕ → (v w : List (ToldToken E)) → (E → E → Type 0) → Option EndFault → Type 0
     Turns n (v ∷ []) (w ∷ []) Call fault = Turn n v w Call fault
     Turns n _ _ Call fault = ⊥
 
     -- All that was shown is so of the endpoint that a token's call gave back, where that is usable.
-    abbrev pub BearsOut : List E → Told E → Type 0
+    abbrev pub BearsOut : List E → ToldToken E → Type 0
     BearsOut shown w = (seen w.last).usable ≡ true → Every (λ y. EverSince y w.last) shown
 
     -- ---- between taking and giving back

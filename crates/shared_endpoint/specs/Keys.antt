@@ -11,7 +11,7 @@ use Rattle.marks.specs.Seats.{raised_by, read_by}
 use Rattle.marks.specs.Seats as mark_seats
 use Rattle.told_lock.specs.declared.lock.Lock.{Lock}
 use Rattle.told_lock.specs.declared.view.Stage.TheVariants.{Open}
-use Rattle.told_lock.specs.declared.view.Told.{Told}
+use Rattle.told_lock.specs.declared.view.ToldToken.{ToldToken}
 use Rattle.told_lock.specs.declared.view.Known.{Known}
 use Rattle.told_lock.specs.Keys.{knows, IsKeyOf, LockName, IsKeyAt}
 use Rattle.told_lock.specs.Keys as lock_keys
@@ -26,7 +26,7 @@ use Rattle.shared_endpoint.specs.History.{IsLater, Since, EverSince, EndsAs}
 
 module _ {E : Type 0} where
   -- the tokens that a key stands for, by what they know
-  abbrev pub told : Pass E (Known E) → List (Told E)
+  abbrev pub told : Pass E (Known E) → List (ToldToken E)
   told key = (knows key).own
 
   -- the endpoints that were shown to a key, each as some token has seen it
@@ -37,7 +37,7 @@ module _ {E : Type 0} where
   pub record IsToken {L : Type 0} (lock : Lock E L) (n : ℕ) (key : Pass E (Known E)) : Type 0 where
     pub at : IsKeyOf lock key
     pub stage : (knows key).stage ≡ Open
-    pub one : Told E
+    pub one : ToldToken E
     pub own : told key ≡ one ∷ []
     pub number : one.number ≡ n
 
@@ -58,14 +58,14 @@ module _ {H E S C : Type 0} where
   abbrev pub seat_number : Seat H E S C → ℕ
   seat_number seat = seat.number
 
-  abbrev pub told_seat : Seat H E S C → List (Told E)
+  abbrev pub told_seat : Seat H E S C → List (ToldToken E)
   told_seat seat = told seat.key
 
   -- what the Hand and the Scout know
-  abbrev pub told_hand : Hand H E S C → List (Told E)
+  abbrev pub told_hand : Hand H E S C → List (ToldToken E)
   told_hand hand = told hand.key
 
-  abbrev pub told_scout : Scout H E S C → List (Told E)
+  abbrev pub told_scout : Scout H E S C → List (ToldToken E)
   told_scout scout = told scout.key
 
   -- the endpoints that were shown to the Hand and to the Scout, and those that a witness knows
@@ -89,7 +89,7 @@ module _ {H E S C : Type 0} where
   marks_read scout = read_by scout.mark
 
   -- what several seats know
-  abbrev pub told_seats : List (Seat H E S C) → List (Told E)
+  abbrev pub told_seats : List (Seat H E S C) → List (ToldToken E)
   told_seats [] = []
   told_seats (seat ∷ seats) = told_seat seat ++ told_seats seats
 
@@ -158,7 +158,7 @@ Any P (x ∷ xs) = P x ⊎ Any P xs
 -- There is an endpoint that was good to the end, of which all holds that any token has seen or that was shown to one; and
 -- the one that comes out is that, or what became of it where its store failed, and is later than all that tokens gave
 -- back.
-pub record Closes {E S C : Type 0} (seen : E → Seen (Tables S C)) (service : Service S C) (tokens : List (Told E))
+pub record Closes {E S C : Type 0} (seen : E → Seen (Tables S C)) (service : Service S C) (tokens : List (ToldToken E))
     (witnessed : List E) (e : E) : Type 0 where
   pub all : (n : ℕ) → n < suc (number_of the_scout) → Any (λ t. t.number ≡ n) tokens
   pub good : E

@@ -17,7 +17,7 @@ use Rattle.keep.specs.Law.{MoreFailures, Reads}
 use Rattle.keep.specs.Listing.{AreFirst}
 use Rattle.keep.specs.Seen.{Seen}
 use Rattle.keep.specs.Tables.{Tables}
-use Rattle.keep.specs.declared.change.Place.{Place}
+use Rattle.keep.specs.declared.change.LetterPlace.{LetterPlace}
 use Rattle.outbox.specs.Rows.{unsettled_of}
 use Rattle.endpoint.specs.declared.answer.Committed.{Committed}
 use Rattle.endpoint.specs.declared.answer.Ingested.{Ingested}
@@ -32,7 +32,7 @@ use Rattle.endpoint.specs.Matches.{TablesMatchJournal, AllMatch}
 use Rattle.group_commit.specs.Group.{Groups, TakesEach}
 use Rattle.group_commit.specs.declared.grouped.Grouped.{Grouped}
 use Rattle.group_commit.specs.declared.grouped.Grouped.TheVariants as grouped
-use Rattle.told_lock.specs.declared.view.Told.{Told}
+use Rattle.told_lock.specs.declared.view.ToldToken.{ToldToken}
 use Rattle.told_lock.specs.Rule.{Every}
 use Rattle.shared_endpoint.specs.Token.{hand_number, is_of, rows_of}
 use Rattle.shared_endpoint.specs.History.{fault_in, tells, Stands, Grows, AreOneCalls, DidAll, Passes, Turn}
@@ -102,7 +102,7 @@ module _ {S C : Type 0} (service : Service S C) where
   HandledAt p (Err _) t u = ⊥
 
   -- the first unsettled letters after a place, by what the journal sends above these marks
-  abbrev pub UnsettledAt : Option Place → ℕ → Result (Vec Letter) EndFault → (t u : Tables S C) → Type 0
+  abbrev pub UnsettledAt : Option LetterPlace → ℕ → Result (Vec Letter) EndFault → (t u : Tables S C) → Type 0
   UnsettledAt after limit (Ok letters) t u =
       AreFirst (unsettled_of service.reactions t.journal t.settled) after limit letters.items
       × (u ≡ t)
@@ -123,14 +123,14 @@ module _ {S C : Type 0} (service : Service S C) where
 module _ {E S C : Type 0} (seen : E → Seen (Tables S C)) (service : Service S C) where
   -- What the token has seen is usable, and its tables match their journal. A new token of such an endpoint is good, and
   -- its calls leave it so.
-  pub record IsGood (t : Told E) : Type 0 where
+  pub record IsGood (t : ToldToken E) : Type 0 where
     pub usable : (seen t.seen).usable ≡ true
     pub matches : AllMatch service (seen t.seen).may_leave
 
   -- Tables of which all holds that the token of this number has seen. They match their journal, which is legal, begins
   -- with the journal that the token has seen, and has exactly its list of that; no settled mark is below one that it
   -- has seen, and the Hand's marks and held letters are those.
-  pub record Continues (n : ℕ) (v : Told E) (t : Tables S C) : Type 0 where
+  pub record Continues (n : ℕ) (v : ToldToken E) (t : Tables S C) : Type 0 where
     pub matches : TablesMatchJournal service t
     pub stands : Stands n (kept (seen v.seen).tables) (kept t)
 
@@ -138,7 +138,7 @@ module _ {E S C : Type 0} (seen : E → Seen (Tables S C)) (service : Service S 
   -- at such tables, and the token has then seen what that left.
   abbrev pub IsOneThreads : {R : Type 0} → ℕ → (E → E → Type 0) → Result R EndFault
       → (Tables S C → Tables S C → Type 0) → Type 0
-  IsOneThreads n Call result Answer = (v w : Told E) → Turn seen service n v w Call (fault_in result)
+  IsOneThreads n Call result Answer = (v w : ToldToken E) → Turn seen service n v w Call (fault_in result)
       → tells (fault_in result) ≡ true → IsGood v → (seen w.last).doubt ≡ 0
       → (t : Tables S C) × Continues n v t × Answer t (seen w.seen).tables
 
@@ -179,7 +179,7 @@ module _ {E S C : Type 0} (seen : E → Seen (Tables S C)) (service : Service S 
       (HandledAt service p result)
 
   abbrev pub UnsettledAreAboveMarks : Type 0
-  UnsettledAreAboveMarks = (n : ℕ) (after : Option Place) (limit : ℕ) (result : Result (Vec Letter) EndFault)
+  UnsettledAreAboveMarks = (n : ℕ) (after : Option LetterPlace) (limit : ℕ) (result : Result (Vec Letter) EndFault)
       → IsOneThreads n
       (λ d e. Reads seen d e (λ t letters. AreFirst t.unsettled after limit letters.items) (end_of result)) result
       (UnsettledAt service after limit result)
@@ -199,21 +199,21 @@ module _ {E S C : Type 0} (seen : E → Seen (Tables S C)) (service : Service S 
   -- The store failed, or had failed before: that's told only where a failure was counted since the lock was opened,
   -- which the token has then seen, or where the endpoint wasn't usable then.
   abbrev pub FailuresAreCounted : Type 0
-  FailuresAreCounted = (n : ℕ) (v w : Told E) (taken : E) (fault : EndFault)
+  FailuresAreCounted = (n : ℕ) (v w : ToldToken E) (taken : E) (fault : EndFault)
       → Passes seen service n v w taken (Some fault)
       → (fault ≡ StoreFailed) ⊎ (fault ≡ Unusable) → (seen v.found).usable ≡ true
       → MoreFailures (seen v.found).failures (seen w.last).failures
 
   -- behind such an answer the token gets `Unusable` and no other
   abbrev pub FailuresAreForGood : Type 0
-  FailuresAreForGood = (n : ℕ) (v w : Told E) (taken : E) (fault : Option EndFault)
+  FailuresAreForGood = (n : ℕ) (v w : ToldToken E) (taken : E) (fault : Option EndFault)
       → Passes seen service n v w taken fault
       → ((fault ≡ Some StoreFailed) ⊎ (fault ≡ Some Unusable) → (seen w.last).usable ≡ false)
       × ((seen v.last).usable ≡ false → fault ≡ Some Unusable)
 
   -- a good token stays good
   abbrev pub TokensStayGood : Type 0
-  TokensStayGood = (n : ℕ) (v w : Told E) (taken : E) (fault : Option EndFault) → Passes seen service n v w taken fault
+  TokensStayGood = (n : ℕ) (v w : ToldToken E) (taken : E) (fault : Option EndFault) → Passes seen service n v w taken fault
       → (seen w.last).doubt ≡ 0 → IsGood v → IsGood w
 
   -- ---- witnesses
@@ -229,14 +229,14 @@ module _ {E S C : Type 0} (seen : E → Seen (Tables S C)) (service : Service S 
   -- A call that bears out what was shown to its token, and whose answer tells of the journal, where no file is in doubt:
   -- the tables that the token has then seen have grown since each of these.
   abbrev pub WitnessesAreBorneOut : Type 0
-  WitnessesAreBorneOut = (n : ℕ) (witnessed : List E) (v w : Told E) (taken : E) (fault : Option EndFault)
+  WitnessesAreBorneOut = (n : ℕ) (witnessed : List E) (v w : ToldToken E) (taken : E) (fault : Option EndFault)
       → Passes seen service n v w taken fault → BearsOut seen service witnessed w
       → tells fault ≡ true → (seen w.last).doubt ≡ 0 → AreBorneOut witnessed (seen w.seen).tables
 
   -- ---- the end
 
   -- each row of a journal, with its position, stands in the list of one of the tokens
-  abbrev pub AllListed : List (Told E) → ℕ → List (JournalRow C) → Type 0
+  abbrev pub AllListed : List (ToldToken E) → ℕ → List (JournalRow C) → Type 0
   AllListed tokens pos [] = ⊤
   AllListed tokens pos (row ∷ rows) =
       Any (λ k. Any (λ item. item ≡ (pos, row)) (rows_of k.number 1 (seen k.seen).tables.journal)) tokens
@@ -254,7 +254,7 @@ module _ {E S C : Type 0} (seen : E → Seen (Tables S C)) (service : Service S 
   -- One history of all: tables that match their journal, of which all holds that any token has seen, so that each list
   -- stands in it, and all that was shown to one; it has no other rows; and no more failures were seen by any than are
   -- counted.
-  pub record IsOneHistory (tokens : List (Told E)) (witnessed : List E) (e : E) : Type 0 where
+  pub record IsOneHistory (tokens : List (ToldToken E)) (witnessed : List E) (e : E) : Type 0 where
     pub tables : Tables S C
     pub continues : Every (λ k. Continues k.number k tables) tokens
     pub borne_out : AreBorneOut witnessed tables
@@ -263,6 +263,6 @@ module _ {E S C : Type 0} (seen : E → Seen (Tables S C)) (service : Service S 
     pub left : (t : Tables S C) → (seen e).may_leave t → IsLeft tables e t
 
   abbrev pub ClosesToOneHistory : Type 0
-  ClosesToOneHistory = (tokens : List (Told E)) (witnessed : List E) (e : E)
+  ClosesToOneHistory = (tokens : List (ToldToken E)) (witnessed : List E) (e : E)
       → Closes seen service tokens witnessed e → Every IsGood tokens → (seen e).doubt ≡ 0
       → IsOneHistory tokens witnessed e

@@ -22,7 +22,7 @@ use base::{Entity, Pair};
 use endpoint::{Committed, EndFault, Ingested};
 use envelope::{Envelope, Letter};
 use group_commit::{Grouped, take_group};
-use keep::{Keep, Place};
+use keep::{Keep, LetterPlace};
 use std::alloc::Global;
 use std::sync::Wait;
 
@@ -278,7 +278,7 @@ where
         rt: &R,
         alloc: Global,
         scout: &mut Scout<H, K>,
-        after: &Option<Place>,
+        after: &Option<LetterPlace>,
         limit: usize,
     ) -> Result<Vec<Letter>, EndFault>
         requires scout { IsScoutOf self.now scout.old }

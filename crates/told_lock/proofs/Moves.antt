@@ -8,7 +8,7 @@ use mathlib.Core.Option.{some, some-ne-none, some-injective}
 use lib.ListN.{get_elem?}
 use Rattle.crossbeam_channel.specs.Fifo.{Pushes, Pops, Forks, Merges, Learns}
 use Rattle.atomic_table.proofs.Lists.{at_set}
-use Rattle.told_lock.specs.declared.view.Told.{Told}
+use Rattle.told_lock.specs.declared.view.ToldToken.{ToldToken}
 use Rattle.told_lock.specs.declared.view.Known.{Known}
 use Rattle.told_lock.specs.declared.view.Stage.TheVariants.{New, Waiting, Open}
 use Rattle.told_lock.specs.Rule.{Every, opener, waiting, entered, gone, holding, without, new_told, saw, counted}
@@ -51,7 +51,7 @@ module _ {T : Type 0} (Since : ℕ → T → T → Type 0) (Later Ends : T → T
   abbrev K : List T → List (Known T) → Type 0
   K = Kept Since Later Ends Ever
 
-  abbrev Is : T → T → Told T → Type 0
+  abbrev Is : T → T → ToldToken T → Type 0
   Is = IsTold Since Later Ends
 
   abbrev Knows : T → T → (ℕ → ℕ) → ℕ → ℕ → ℕ → Known T → Type 0
@@ -239,7 +239,7 @@ module _ {T : Type 0} (Since : ℕ → T → T → Type 0) (Later Ends : T → T
       let h = mine items views i v may.value may.stage may.has at rule in
       let same : h.good ≡ may.good = mine_at items views i v may.value may.good h may.was in
       let me = h.known i v at in
-      let on : (t : Told T) → Since t.number t.seen h.good
+      let on : (t : ToldToken T) → Since t.number t.seen h.good
       → Since t.number t.seen may.now = λ t s. since_join t.number t.seen h.good may.now s
       (subst (λ y. Since t.number y may.now) (sym same) (may.all t.number)) in
       let ever : Ever h.good may.now = ever_of 0 h.good may.now (subst (λ y. Since 0 y may.now) (sym same) (may.all 0)) in
@@ -385,7 +385,7 @@ module _ {T : Type 0} (Since : ℕ → T → T → Type 0) (Later Ends : T → T
       let right : Known T = token_of v in
       let vs : List (Known T) = set views i left in
       let owner : ℕ → ℕ = λ s. if s == v.next then length vs else h.owner s in
-      let keeps : (j : ℕ) (t : Told T) → Is d h.good t × (h.owner t.number ≡ j) × (t.number < h.top) → Is d h.good t
+      let keeps : (j : ℕ) (t : ToldToken T) → Is d h.good t × (h.owner t.number ≡ j) × (t.number < h.top) → Is d h.good t
       × (owner t.number ≡ j) × (t.number < suc h.top) =
       λ j t p. (
         p.0,
@@ -472,7 +472,7 @@ module _ {T : Type 0} (Since : ℕ → T → T → Type 0) (Later Ends : T → T
       (λ (x : (other ≢ i) × (get_elem? views other ≡ some w)). x.1) (at_set views i other both w there) in
       let theirs = h.known other w was in
       let owner : ℕ → ℕ = λ s. if h.owner s == other then i else h.owner s in
-      let keeps : (j : ℕ) → j ≢ other → (t : Told T) → Is d h.good t × (h.owner t.number ≡ j) × (t.number < h.top)
+      let keeps : (j : ℕ) → j ≢ other → (t : ToldToken T) → Is d h.good t × (h.owner t.number ≡ j) × (t.number < h.top)
       → Is d h.good t × (owner t.number ≡ j) × (t.number < h.top) =
       λ j off t p. (p.0, pick_else (h.owner t.number) other i (h.owner t.number) (λ e. off (sym p.1 ∙ e)) ∙ p.1, p.2) in
       inr (inr (record {
@@ -515,7 +515,7 @@ module _ {T : Type 0} (Since : ℕ → T → T → Type 0) (Later Ends : T → T
 
   -- ---- what was shown
 
-  every_seen : (x good : T) (own : List (Told T)) → Every (Is x good) own → Every (λ y. Ever y good) (seen_by own)
+  every_seen : (x good : T) (own : List (ToldToken T)) → Every (Is x good) own → Every (λ y. Ever y good) (seen_by own)
   every_seen x good [] all = tt
   every_seen x good (t ∷ ts) all = (ever_of t.number t.seen good all.0.since, every_seen x good ts all.1)
 

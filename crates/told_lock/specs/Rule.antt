@@ -2,7 +2,7 @@
 use Rattle.std.specs.Prelude.{◌≡◌, ◌≢◌, ◌⊎◌, ℕ, suc, ◌<◌, List, [], ◌∷◌, ◌++◌, map, true, false, Option, Some, None, ⊤}
 use mathlib.Core.Option.{some}
 use lib.ListN.{get_elem?}
-use Rattle.told_lock.specs.declared.view.Told.{Told}
+use Rattle.told_lock.specs.declared.view.ToldToken.{ToldToken}
 use Rattle.told_lock.specs.declared.view.Known.{Known}
 use Rattle.told_lock.specs.declared.view.Stage.TheVariants.{New, Waiting, Open}
 
@@ -49,7 +49,7 @@ module _ {T : Type 0} where
   }
 
   -- it stands for these tokens, and holds nothing
-  abbrev pub without : List (Told T) → Known T → Known T
+  abbrev pub without : List (ToldToken T) → Known T → Known T
   without own v = record {
     stage = Open;
     own = own;
@@ -61,15 +61,15 @@ module _ {T : Type 0} where
   }
 
   -- a new token: all that it knows is this value
-  abbrev pub new_told : ℕ → T → Told T
+  abbrev pub new_told : ℕ → T → ToldToken T
   new_told n x = record { number = n; found = x; seen = x; last = x }
 
   -- what a token knows that has seen the value
-  abbrev pub saw : T → Told T → Told T
+  abbrev pub saw : T → ToldToken T → ToldToken T
   saw x t = record { number = t.number; found = t.found; seen = x; last = x }
 
   -- what it knows where it gave the value back, and what it has seen stays
-  abbrev pub counted : T → Told T → Told T
+  abbrev pub counted : T → ToldToken T → ToldToken T
   counted x t = record { number = t.number; found = t.found; seen = t.seen; last = x }
 
   -- the step of each call: of a first sending and a first receiving, and of giving back what was seen or wasn't
@@ -86,7 +86,7 @@ module _ {T : Type 0} where
   Stayed v x w = w ≡ without (map (counted x) v.own) v
 
   -- the token that is made, by its number and the value
-  abbrev pub told_by : ℕ → Option T → List (Told T)
+  abbrev pub told_by : ℕ → Option T → List (ToldToken T)
   told_by n None = []
   told_by n (Some x) = new_told n x ∷ []
 
@@ -125,7 +125,7 @@ module _ {T : Type 0} where
   }
 
   -- the values that tokens have seen
-  abbrev pub seen_by : List (Told T) → List T
+  abbrev pub seen_by : List (ToldToken T) → List T
   seen_by own = map (λ t. t.seen) own
 
   -- the key of a witness that is made: it was shown what the other key's tokens have seen, and all that this was shown
@@ -168,7 +168,7 @@ module _ {T : Type 0} where
 
 module _ {T : Type 0} (Since : ℕ → T → T → Type 0) (Later Ends : T → T → Type 0) where
   -- what a token knows is so of the value, and of what is good of it
-  pub record IsTold (x good : T) (t : Told T) : Type 0 where
+  pub record IsTold (x good : T) (t : ToldToken T) : Type 0 where
     pub since : Since t.number t.seen good
     pub last : Later t.last x
     pub found : Later t.found x

@@ -18,7 +18,7 @@ pub enum Stage {
 }
 
 /// What one token knows. No value of it is made.
-pub struct Told<T> {
+pub struct ToldToken<T> {
     /// The token's number.
     pub number: u64,
     /// The value for which the lock was opened.
@@ -34,7 +34,7 @@ pub struct Known<T> {
     /// How far the lock has come.
     pub stage: Stage,
     /// The tokens that the key stands for.
-    pub own: LinkedList<Told<T>>,
+    pub own: LinkedList<ToldToken<T>>,
     /// The value, where this key holds it.
     pub has: Option<T>,
     /// What was good of that: the value itself, or what it was before it broke.

@@ -32,7 +32,7 @@ use Rattle.endpoint.specs.declared.fault.EndFault.{EndFault}
 use Rattle.group_commit.specs.Group.{TakesOne, TakesEach}
 use Rattle.group_commit.specs.declared.grouped.Grouped.{Grouped}
 use Rattle.group_commit.specs.declared.grouped.Grouped.TheVariants as grouped
-use Rattle.group_commit.specs.declared.planning.Step.{Step}
+use Rattle.group_commit.specs.declared.planning.PlannedStep.{PlannedStep}
 use Rattle.group_commit.specs.declared.group.Group.{Group}
 
 -- the change concerns this entity's row, what it sends, or what is sent to it
@@ -78,7 +78,7 @@ module _ {S C : Type 0} (service : Service S C) (Follows : Option Entity → S �
   -- A step takes in this envelope, where these changes go before it and the journal has so many rows behind them. What it
   -- sets follows what stood before, whatever the journal says. There is none only where the envelope is another service's,
   -- where these changes concern its entity, or where it can't be taken in anyway.
-  abbrev pub IsStep : List (Change S C) → (rows : ℕ) → Envelope → Tables S C → Option (Step S C) → Type 0
+  abbrev pub IsStep : List (Change S C) → (rows : ℕ) → Envelope → Tables S C → Option (PlannedStep S C) → Type 0
   IsStep before rows e t None =
       ((own_of e).kind ≢ service.kind) ⊎ (list_any (touches (own_of e)) before ≡ true) ⊎ CantFollow service rows e t
   IsStep before rows e t (Some step) =

@@ -4,7 +4,7 @@ use Rattle.std.specs.Prelude.{Option, Some, None, Result, Ok, Err, ⊤}
 use Rattle.stomp_client.specs.declared.session.Stage.TheVariants.{Connected}
 use Rattle.base.specs.declared.pair.Pair.{Pair}
 use Rattle.envelope.specs.declared.message.Letter.{Letter}
-use Rattle.keep.specs.declared.change.Place.{Place}
+use Rattle.keep.specs.declared.change.LetterPlace.{LetterPlace}
 use Rattle.keep.specs.Law.{Reads}
 use Rattle.keep.specs.Listing.{AreFirst}
 use Rattle.keep.specs.Seen.{Seen}
@@ -27,13 +27,13 @@ pub record IsFilling (limit : ℕ) (letters : List Letter) (old now : SendState)
     pub stage : now.client.stage ≡ Connected
 
 -- what is due first behind the one place makes, behind these letters, what was due first behind the other
-abbrev pub GoesOn : (messages : Messages) → (old now : SendState) → (after next : Option Place) → List Letter → Type 0
+abbrev pub GoesOn : (messages : Messages) → (old now : SendState) → (after next : Option LetterPlace) → List Letter → Type 0
 GoesOn messages old now after next letters =
     (k : ℕ) (more : List Letter) → AreFirst (unsent now.marks messages) next k more
     → AreFirst (unsent old.marks messages) after (length letters + k) (letters ++ more)
 
 -- how a page ends: no more is to be sent; or it goes on behind this place; or it stopped
-abbrev pub EndsPage : (clean : Type 0) → Messages → (after next : Option Place) → (limit : ℕ) → (old new : SendState)
+abbrev pub EndsPage : (clean : Type 0) → Messages → (after next : Option LetterPlace) → (limit : ℕ) → (old new : SendState)
     → List Letter
     → Result (ℕ × Bool) RelayFault → Type 0
 EndsPage clean messages after next limit old new letters (Ok (count, false)) =
@@ -44,7 +44,7 @@ EndsPage clean messages after next limit old new letters (Err fault) =
     Gives clean (unsent old.marks messages) after limit letters new.client.receipts.last (Err fault)
 
 -- what is due of a page after a place was sent
-pub record FillsPage (clean : Type 0) (messages : Messages) (after next : Option Place) (limit : ℕ)
+pub record FillsPage (clean : Type 0) (messages : Messages) (after next : Option LetterPlace) (limit : ℕ)
     (old new : SendState)
     (result : Result (ℕ × Bool) RelayFault) : Type 0 where
   pub letters : List Letter
@@ -53,14 +53,14 @@ pub record FillsPage (clean : Type 0) (messages : Messages) (after next : Option
   pub ends : EndsPage clean messages after next limit old new letters result
 
 -- the pages behind the one place begin behind this one: the same, or one of its pair up to which all was sent
-abbrev pub Jumps : (Pair → ℕ) → Option Place → Option Place → Type 0
+abbrev pub Jumps : (Pair → ℕ) → Option LetterPlace → Option LetterPlace → Type 0
 Jumps marks (Some here) (Some next) = (next.pair ≡ here.pair) × (here.number ≤ next.number)
     × ((next.number ≡ here.number) ⊎ (next.number ≡ marks here.pair))
 Jumps marks (Some here) None = ⊥
 Jumps marks None next = ⊥
 
 -- and they are the pages behind the place itself, where there is no such place
-abbrev pub StaysOrJumps : (Pair → ℕ) → Option Place → Option Place → Type 0
+abbrev pub StaysOrJumps : (Pair → ℕ) → Option LetterPlace → Option LetterPlace → Type 0
 StaysOrJumps marks here next = (next ≡ here) ⊎ Jumps marks here next
 
 -- none of these letters is above what was sent of its pair
@@ -75,7 +75,7 @@ HasRead seen old now =
 
 -- so far these letters were sent, and what is due behind that place comes next
 pub record HasFilled (clean : Type 0) (messages : Messages) (limit : ℕ) (old now : SendState) (count : ℕ)
-    (after : Option Place)
+    (after : Option LetterPlace)
     : Type 0 where
   pub letters : List Letter
   pub sends : SendsLetters letters old now

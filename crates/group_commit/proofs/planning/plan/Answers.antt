@@ -4,7 +4,7 @@ use Rattle.base.specs.Entity.{Entity}
 use Rattle.keep.specs.Tables.{Tables}
 use Rattle.std.specs.List.{list_any}
 use Rattle.group_commit.specs.Parts.Planning.{own_of, touches, IsStep}
-use Rattle.group_commit.specs.declared.planning.Step.{Step}
+use Rattle.group_commit.specs.declared.planning.PlannedStep.{PlannedStep}
 use Rattle.group_commit.proofs.Reading.{reads_nothing}
 use Rattle.group_commit.proofs.planning.plan.Goals as goal
 
@@ -12,7 +12,7 @@ pub returns-then-ne : goal.returns-then-ne
 returns-then-ne g c =
     let S = g.row.H-State.Denot in
     let C = g.row.H-Command.Denot in
-    let gives : Tables S C → Option (Step S C) → Type 0 =
+    let gives : Tables S C → Option (PlannedStep S C) → Type 0 =
     IsStep g.H.Handler.service g.H.State.Parts.follows c.args.before.now c.args.rows c.args.envelope.now in
     let is : c.kind.result ≡ (own_of c.args.envelope.now).kind = c.kind.ensures.kind ∙ ap (λ (e : Entity). e.kind) c.own_of-own.ensures in
     let apart : (own_of c.args.envelope.now).kind ≢ g.H.Handler.service.kind = λ same.
@@ -24,7 +24,7 @@ pub returns-then-are_touching : goal.returns-then-are_touching
 returns-then-are_touching g c =
     let S = g.row.H-State.Denot in
     let C = g.row.H-Command.Denot in
-    let gives : Tables S C → Option (Step S C) → Type 0 =
+    let gives : Tables S C → Option (PlannedStep S C) → Type 0 =
     IsStep g.H.Handler.service g.H.State.Parts.follows c.args.before.now c.args.rows c.args.envelope.now in
     let touched : list_any (touches {S = S} {C = C} (own_of c.args.envelope.now)) c.args.before.now ≡ true =
     ap (λ (e : Entity). list_any (touches {S = S} {C = C} e) c.args.before.now) (sym c.own_of-own.ensures)

@@ -11,7 +11,7 @@ use Rattle.outbox.specs.Numbering.{numbering, NumbersPass}
 use Rattle.keep.specs.Tables.{Tables, changed}
 use Rattle.envelope.specs.declared.message.Envelope.TheVariants.{Letter}
 use Rattle.group_commit.specs.Parts.Planning.{IsStep, IsNext}
-use Rattle.group_commit.specs.declared.planning.Step.{Step}
+use Rattle.group_commit.specs.declared.planning.PlannedStep.{PlannedStep}
 use Rattle.group_commit.proofs.Apart.{spares}
 use Rattle.group_commit.proofs.Ends.{no_row_left, passes, refuses}
 use Rattle.group_commit.proofs.Following.{letter_follows}
@@ -46,7 +46,7 @@ returns-in_default g c =
     let C = g.row.H-Command.Denot in
     let service = g.H.Handler.service in
     let l = c.args.letter.now in
-    let gives : Tables S C → Option (Step S C) → Type 0 = λ t step. IsNext l t
+    let gives : Tables S C → Option (PlannedStep S C) → Type 0 = λ t step. IsNext l t
     → c.args.state ≡ state_for service.reactions.opening (t.entity l.pair.to)
     → IsStep service g.H.State.Parts.follows c.args._before.now c.args.rows (Letter l) t step in
     reads_nothing g.K.Keep.seen c.args.keep.now gives None c.requires.usable
@@ -58,7 +58,7 @@ returns-in-Err-Business g c =
     let C = g.row.H-Command.Denot in
     let service = g.H.Handler.service in
     let l = c.args.letter.now in
-    let gives : Tables S C → Option (Step S C) → Type 0 = λ t step. IsNext l t
+    let gives : Tables S C → Option (PlannedStep S C) → Type 0 = λ t step. IsNext l t
     → c.args.state ≡ state_for service.reactions.opening (t.entity l.pair.to)
     → IsStep service g.H.State.Parts.follows c.args._before.now c.args.rows (Letter l) t step in
     let refused = rw c.in-Err-Business.field-0-is at c.in-Err-Business.ensures in

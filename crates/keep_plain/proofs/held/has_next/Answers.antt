@@ -6,7 +6,7 @@ use Rattle.std.specs.BTreeMap.{get}
 use Rattle.std.specs.BTreeMap.Range.{IsEntryInRange, IsLeBy}
 use Rattle.std.specs.declared.ops.Bound.TheVariants.{Excluded, Unbounded}
 use Rattle.envelope.specs.declared.message.Message.{Message}
-use Rattle.keep.specs.declared.change.Place.{Place}
+use Rattle.keep.specs.declared.change.LetterPlace.{LetterPlace}
 use Rattle.keep.specs.Places.{place_cmp, IsBefore}
 use Rattle.keep_plain.specs.Slots.{filled}
 use Rattle.keep_plain.proofs.Index.{behind_is, behind_none}
@@ -24,12 +24,12 @@ returns-then-is_behind c =
     let x = c.args.place.now in
     let m = c.args.held.now in
     let range = c.range.ensures.in_range tt in
-    let first = subst (λ (r : List (Place × Option Message)). IfSome (slice_get r 0)
+    let first = subst (λ (r : List (LetterPlace × Option Message)). IfSome (slice_get r 0)
     (IsEntryInRange place_cmp (Excluded x) Unbounded m))
     c.in-Some.ensures.steps range.1 in
-    let least : (q : Place) → IsBefore x q → IsSome (get place_cmp m q)
+    let least : (q : LetterPlace) → IsBefore x q → IsSome (get place_cmp m q)
     → is_gt (place_cmp c.in-Some.found.now q) ≡ false =
-    λ q h some. subst (λ (r : List (Place × Option Message)). IfSome (slice_get r 0) (λ e. IsLeBy place_cmp e.0 q))
+    λ q h some. subst (λ (r : List (LetterPlace × Option Message)). IfSome (slice_get r 0) (λ e. IsLeBy place_cmp e.0 q))
     c.in-Some.ensures.steps (range.2 q (h, tt) some) in
     c.is_some.ensures ∙ ap is_some (sym (behind_is m x c.in-Some.found.now c.in-Some.slot.now first.0.0 first.1 least
     (sym c.is_behind.ensures ∙ c.if-is_behind.true)))
@@ -39,12 +39,12 @@ returns-else-is_behind c =
     let x = c.args.place.now in
     let m = c.args.held.now in
     let range = c.range.ensures.in_range tt in
-    let first = subst (λ (r : List (Place × Option Message)). IfSome (slice_get r 0)
+    let first = subst (λ (r : List (LetterPlace × Option Message)). IfSome (slice_get r 0)
     (IsEntryInRange place_cmp (Excluded x) Unbounded m))
     c.in-Some.ensures.steps range.1 in
-    let least : (q : Place) → IsBefore x q → IsSome (get place_cmp m q)
+    let least : (q : LetterPlace) → IsBefore x q → IsSome (get place_cmp m q)
     → is_gt (place_cmp c.in-Some.found.now q) ≡ false =
-    λ q h some. subst (λ (r : List (Place × Option Message)). IfSome (slice_get r 0) (λ e. IsLeBy place_cmp e.0 q))
+    λ q h some. subst (λ (r : List (LetterPlace × Option Message)). IfSome (slice_get r 0) (λ e. IsLeBy place_cmp e.0 q))
     c.in-Some.ensures.steps (range.2 q (h, tt) some) in
     c.if-is_behind.false ∙ ap is_some (sym (behind_none m x c.in-Some.found.now c.in-Some.slot.now first.0.0 first.1
     least

@@ -1,6 +1,6 @@
 use Rattle.std.proofs.Common.{arith, subst, Option, Err, Ok}
 use Rattle.std.proofs.lemmas.Result.{err_from_is_err_and}
-use Rattle.keep.specs.declared.change.Place.{Place}
+use Rattle.keep.specs.declared.change.LetterPlace.{LetterPlace}
 use Rattle.keep.specs.Pages.{place_behind}
 use Rattle.relay.specs.Filling.{marks_of, send_state}
 use Rattle.relay.specs.Parts.Pages.{StaysOrJumps}
@@ -75,7 +75,7 @@ returns-clause-fills g c =
     (λ clean. (c.in_ok-rows.ensures.read.clean clean).0) c.in-Ok.sent (rw c.deref.ensures.value at
     c.in-Ok.ensures.fills)
     c.if-sent-limit.false
-    (subst (λ (x : Option Place). StaysOrJumps (marks_of c.fill_letters.new.self)
+    (subst (λ (x : Option LetterPlace). StaysOrJumps (marks_of c.fill_letters.new.self)
     (place_behind x c.in_ok-rows.rows.items)
     c.go_behind-2.new.self.behind) c.in-Ok.ensures.behind c.go_behind-2.ensures.behind))
 

@@ -1,5 +1,5 @@
 use Rattle.std.proofs.Common.{subst, Option}
-use Rattle.keep.specs.declared.change.Place.{Place}
+use Rattle.keep.specs.declared.change.LetterPlace.{LetterPlace}
 use Rattle.relay.specs.Filling.{marks_of}
 use Rattle.relay.specs.Parts.News.{SentBut}
 use Rattle.relay.proofs.Passing.{passes, stays_put}
@@ -20,5 +20,5 @@ pub returns-then-is_ahead-clause-skips : goal.returns-then-is_ahead-clause-skips
 returns-then-is_ahead-clause-skips g c messages sent =
     passes c.args.news.now (marks_of c.args.self.now) messages c.args.self.now.behind c.in-Some-clear_place.place
     c.in-Some.reach
-    (subst (λ (r : Option Place). SentBut c.args.news.now (marks_of c.args.self.now) messages r) c.in-Some.is sent)
+    (subst (λ (r : Option LetterPlace). SentBut c.args.news.now (marks_of c.args.self.now) messages r) c.in-Some.is sent)
     c.in-Some-clear_place.ensures (c.is_upto.ensures c.if-is_upto.true) (c.is_ahead.ensures c.if-is_ahead.true)
