@@ -203,7 +203,7 @@ impl<const FULL: usize> Broker<FULL> {
     }
 
     /// Takes a session away: its subscriptions end, what is out to them is ready again, and its transactions and octets
-    /// are gone. It deals nothing, and does the same where memory is refused.
+    /// are gone. It deals nothing, and takes no memory.
     pub fn drop_session(&mut self, session: SessionId)
         ensures { self.new ≡ dropped session self.old (session_of session self.old) }
     {

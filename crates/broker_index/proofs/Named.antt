@@ -1,6 +1,6 @@
 -- Queues by name, in slots to which a map leads.
 use Rattle.std.proofs.Common.{◌≡◌, ◌≢◌, ℕ, ◌+◌, zero, suc, true, false, List, [], ◌∷◌, map, get_or, set, Option, Some}
-use Rattle.std.proofs.Common.{None}
+use Rattle.std.proofs.Common.{None, cond, count_by, is_some, length}
 use Rattle.std.proofs.Common.{refl, sym, ap, ◌∙◌, inl, inr, arith}
 use Rattle.std.specs.Prelude.{◌⊎◌, String, Result, Ok, Err, OnOk}
 use Rattle.std.specs.Cmp.Lexicographic.{slice_cmp}
@@ -10,6 +10,7 @@ use Rattle.std.specs.Str.{bytes_eq}
 use Rattle.std.specs.BTreeMap.{BTreeMap, get_by_text, UpdatesBy}
 use Rattle.std.specs.String.{string_bytes, string_cmp}
 use Rattle.std.proofs.lemmas.Bool.{cases_Bool, cases_eq, cond-true, cond-false, false_from_ne_true, true≢false}
+use Rattle.std.proofs.lemmas.List.Sums.{sum_by-cons}
 use Rattle.std.proofs.lemmas.Map.Text.{btree_map_updates_text}
 use Rattle.std.proofs.lemmas.Slice.Eq.{bytes_eq-Decides}
 use Rattle.std.specs.Option.{option_map, option_and_then}
@@ -438,6 +439,14 @@ pub names_of : (first : ℕ) (slots : List (Option Destination))
 names_of first [] = refl
 names_of first (None ∷ slots) = names_of (first + 1) slots
 names_of first (Some d ∷ slots) = ap (λ l. d.name ∷ l) (names_of (first + 1) slots)
+
+-- as many names as there are values
+pub names_length : (slots : List (Option Destination)) → length (queues_in slots) ≡ count_by is_some slots
+names_length [] = refl
+names_length (None ∷ slots) =
+    omega (arith, names_length slots, sum_by-cons (λ (o : Option Destination). cond (is_some o) 1 0) None slots)
+names_length (Some d ∷ slots) =
+    omega (arith, names_length slots, sum_by-cons (λ (o : Option Destination). cond (is_some o) 1 0) (Some d) slots)
 
 -- where it went well, more is so
 pub on_ok : {T E : Type 0} {P Q : Type 0} (r : Result T E) → OnOk r P → (P → Q) → OnOk r Q

@@ -10,7 +10,7 @@ use Rattle.std.specs.Map.{lookup, set_value}
 use Rattle.std.specs.BTreeMap.{BTreeMap, get, is_at, Updates}
 use Rattle.std.proofs.lemmas.Bool.{cases_Bool, cases_order, cond-true, cond-false, lt-ltb, le-ltb, eq-eqb, ne_eqb}
 use Rattle.std.proofs.lemmas.Bool.{true≢false, eqb-true}
-use Rattle.broker_index.specs.declared.places.Place.{Place}
+use Rattle.broker_index.specs.declared.places.KeyedPlace.{KeyedPlace}
 use Rattle.broker_index.specs.Index.{Sets}
 use Rattle.broker_index.specs.Listed.{NoneIsEmpty}
 
@@ -103,7 +103,7 @@ module _ {V X : Type 0} (list_of : V → List X) where
       ]
 
 -- the places that stand in a vector
-abbrev pub items_of : Vec Place Global → List Place
+abbrev pub items_of : Vec KeyedPlace Global → List KeyedPlace
 items_of v = v.items
 
 -- what has no value is none
@@ -119,14 +119,14 @@ on_err (Err e) P p = p
 -- ---- lists that aren't empty
 
 -- whether a vector has no length tells whether its list is empty
-pub empty_from : (v : Vec Place Global) → eqb v.len 0 ≡ true → v.items ≡ []
+pub empty_from : (v : Vec KeyedPlace Global) → eqb v.len 0 ≡ true → v.items ≡ []
 empty_from v is = none v.items (ap (λ n. eqb n 0) (sym v.ok.0) ∙ is)
   where
-    none : (xs : List Place) → eqb (length xs) 0 ≡ true → xs ≡ []
+    none : (xs : List KeyedPlace) → eqb (length xs) 0 ≡ true → xs ≡ []
     none [] same = refl
     none (x ∷ xs) same = absurd (omega (arith, eqb-true (length (x ∷ xs)) 0 same))
 
-pub filled_from : (v : Vec Place Global) → eqb v.len 0 ≡ false → v.items ≢ []
+pub filled_from : (v : Vec KeyedPlace Global) → eqb v.len 0 ≡ false → v.items ≢ []
 filled_from v is empty =
     true≢false (sym (ap (λ n. eqb n 0) v.ok.0 ∙ ap (λ xs. eqb (length xs) 0) empty) ∙ is)
 
@@ -135,21 +135,21 @@ pub filled_by : {X : Type 0} (xs : List X) (x : X) → (xs ++ x ∷ []) ≢ []
 filled_by [] x empty = let never : (x ∷ []) ≡ [] = empty in cc
 filled_by (y ∷ ys) x empty = let never : (y ∷ (ys ++ x ∷ [])) ≡ [] = empty in cc
 
-pub none_empty-none : (m : BTreeMap ℕ (Vec Place Global)) → m.entries ≡ [] → NoneIsEmpty m
+pub none_empty-none : (m : BTreeMap ℕ (Vec KeyedPlace Global)) → m.entries ≡ [] → NoneIsEmpty m
 none_empty-none m none q v found =
     let never : None ≡ Some v = sym (ap (λ es. lookup (is_at (nat_cmp q)) es) none) ∙ found in absurd (cc)
 
 -- nothing has changed
-pub none_empty-same : (old new : BTreeMap ℕ (Vec Place Global)) → new.entries ≡ old.entries → NoneIsEmpty old
+pub none_empty-same : (old new : BTreeMap ℕ (Vec KeyedPlace Global)) → new.entries ≡ old.entries → NoneIsEmpty old
     → NoneIsEmpty new
 none_empty-same old new same none q v found =
     none q v (sym (ap (λ es. lookup (is_at (nat_cmp q)) es) same) ∙ found)
 
 -- one list changes, whatever stood there between, to one that isn't empty, or goes
-pub none_empty-updated : (n : ℕ) (old between new : BTreeMap ℕ (Vec Place Global)) (w : Option (Vec Place Global))
+pub none_empty-updated : (n : ℕ) (old between new : BTreeMap ℕ (Vec KeyedPlace Global)) (w : Option (Vec KeyedPlace Global))
     → ((q : ℕ) → is_at (nat_cmp n) q ≡ false → get nat_cmp between q ≡ get nat_cmp old q)
     → Updates nat_cmp between new n w
-    → ((v : Vec Place Global) → w ≡ Some v → v.items ≢ []) → NoneIsEmpty old → NoneIsEmpty new
+    → ((v : Vec KeyedPlace Global) → w ≡ Some v → v.items ≢ []) → NoneIsEmpty old → NoneIsEmpty new
 none_empty-updated n old between new w others updates filled none q v found =
     elim (cases_Bool (is_at (nat_cmp n) q)) [
       | inl is ↦ filled v (sym (cond-true (is_at (nat_cmp n) q) w (get nat_cmp between q) is) ∙ sym (updates.0 q) ∙ found)
@@ -157,7 +157,7 @@ none_empty-updated n old between new w others updates filled none q v found =
     ]
 
 -- a list is written that isn't empty
-pub none_empty-written : (n : ℕ) (old new : BTreeMap ℕ (Vec Place Global)) (w : Vec Place Global)
+pub none_empty-written : (n : ℕ) (old new : BTreeMap ℕ (Vec KeyedPlace Global)) (w : Vec KeyedPlace Global)
     → Updates nat_cmp old new n (Some w) → w.items ≢ [] → NoneIsEmpty old → NoneIsEmpty new
 none_empty-written n old new w updates filled none =
     none_empty-updated n old old new (Some w) (λ q isnt. refl) updates

@@ -9,7 +9,7 @@ use Rattle.broker_book.specs.Books.{Fate}
 use Rattle.broker_book.specs.declared.parts.Sent.{Sent}
 use Rattle.broker_book.specs.declared.parts.Subscription.{Subscription}
 use Rattle.broker_index.specs.declared.places.Entry.{Entry}
-use Rattle.broker_index.specs.declared.places.Place.{Place}
+use Rattle.broker_index.specs.declared.places.KeyedPlace.{KeyedPlace}
 
 -- ---- messages
 
@@ -30,15 +30,15 @@ with_fate number fate k = if k.number == number then record k { fate = fate } el
 -- ---- places
 
 -- whether a place is the one of this number
-abbrev pub is_place_of : ℕ → Place → Bool
+abbrev pub is_place_of : ℕ → KeyedPlace → Bool
 is_place_of number p = p.number == number
 
 -- whether a place is at this number or behind it
-abbrev pub is_from : ℕ → Place → Bool
+abbrev pub is_from : ℕ → KeyedPlace → Bool
 is_from number p = nat_le number p.number
 
 -- the places but the one of this number
-abbrev pub without : ℕ → List Place → List Place
+abbrev pub without : ℕ → List KeyedPlace → List KeyedPlace
 without number ps = filter (λ p. not (p.number == number)) ps
 
 -- ---- subscribers
@@ -76,10 +76,10 @@ without_entries age number s = if s.age == age then record s { entries = entries
 -- a destination: the messages that go to it, how many of them aren't gone, a number that no ready one is before; and
 -- the subscribers that listen on it, with an age that none with credit is before
 pub record Queue : Type 0 where
-  pub numbers : List Place
+  pub numbers : List KeyedPlace
   pub count : ℕ
   pub ready_from : ℕ
-  pub subscribers : List Place
+  pub subscribers : List KeyedPlace
   pub taker_from : ℕ
 
 -- nothing goes to it, and none listens
@@ -92,7 +92,7 @@ opened None = empty_queue
 opened (Some q) = q
 
 -- a queue with one message more, at the end
-abbrev pub with_number : Place → Queue → Queue
+abbrev pub with_number : KeyedPlace → Queue → Queue
 with_number place q = record q { numbers = q.numbers ++ place ∷ [] }
 
 -- a queue without a message
@@ -104,7 +104,7 @@ abbrev pub counting : ℕ → Queue → Queue
 counting count q = record q { count = count }
 
 -- a queue with one message more, at the end, which is counted
-abbrev pub with_counted : Place → Queue → Queue
+abbrev pub with_counted : KeyedPlace → Queue → Queue
 with_counted place q = record q { numbers = q.numbers ++ place ∷ []; count = q.count + 1 }
 
 -- a queue that counts one message fewer, if it counts any
@@ -116,7 +116,7 @@ abbrev pub ready_from : ℕ → Queue → Queue
 ready_from number q = record q { ready_from = number }
 
 -- a queue with one subscriber more, the youngest
-abbrev pub with_subscriber : Place → Queue → Queue
+abbrev pub with_subscriber : KeyedPlace → Queue → Queue
 with_subscriber place q = record q { subscribers = q.subscribers ++ place ∷ [] }
 
 -- a queue without a subscriber
@@ -159,5 +159,5 @@ abbrev pub queue_at : List (List ℕ × Queue) → List ℕ → Option Queue
 queue_at qs name = lookup (bytes_eq name) qs
 
 -- the places of a session, among sessions with theirs
-abbrev pub places_at : List (ℕ × List Place) → ℕ → List Place
+abbrev pub places_at : List (ℕ × List KeyedPlace) → ℕ → List KeyedPlace
 places_at ss session = unwrap_or (lookup (λ s. session == s) ss) []

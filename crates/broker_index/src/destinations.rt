@@ -1,7 +1,7 @@
 //! The destinations of a broker.
 
-ghost use Rattle.std.specs.Prelude.{◌≡◌, ◌≢◌, ◌<◌, ◌^◌, ◌-◌, ℕ, [], true, false, map, All, Some, IfNone, IfOk, IfSome, OnOk};
-ghost use Rattle.std.specs.Prelude.{OnErr};
+ghost use Rattle.std.specs.Prelude.{◌≡◌, ◌≢◌, ◌<◌, ◌^◌, ◌-◌, ℕ, [], true, false, length, map, All, Some, IfNone, IfOk, IfSome};
+ghost use Rattle.std.specs.Prelude.{OnErr, OnOk};
 ghost use Rattle.std.specs.Option.{option_copied, option_map, option_and_then, ForSome};
 ghost use Rattle.slab.specs.Slab.{get};
 ghost use Rattle.broker_index.specs.Index.{Sets, is_idle, opened, queue_at, unless_idle, with_number};
@@ -11,18 +11,19 @@ ghost use Rattle.broker_index.specs.Index.{taken_number};
 ghost use Rattle.broker_index.specs.Named.{IsIndexed, queues_in};
 ghost use Rattle.broker_index.specs.declared.destinations.Destination.{Destination};
 
-use crate::Place;
+use crate::KeyedPlace;
 use crate::queue::StoredQueue;
+use broker_book::Shared;
 use slab::Slab;
 use std::alloc::{AllocError, Global};
 use std::collections::BTreeMap;
 use std::marker::Model;
 use stomp_session::Text;
 
-/// A destination: its name and its queue.
+/// A destination: its name, which is shared with whoever notes it, and its queue.
 #[derive(Drop)]
 struct Destination {
-    name: Text,
+    name: Shared<Text>,
     queue: StoredQueue,
 }
 
@@ -55,7 +56,7 @@ fn is_at(slab: &Slab<Destination>, key: usize, name: &Text) -> bool
     ensures no { result ≡ false → (d : Destination) → get slab.now key ≡ Some d → d.name ≢ name.now }
 {
     match slab.get(key) {
-        Some(destination) => destination.name.same(name),
+        Some(destination) => destination.name.get().same(name),
         None => false,
     }
 }
@@ -114,13 +115,13 @@ fn close_at(
     }
 }
 
-/// The names of all queues, in memory of their own.
-fn copied_names(alloc: Global, slab: &Slab<Destination>) -> Result<Vec<Text>, AllocError>
+/// The names of all queues, each of them shared.
+fn shared_names(alloc: Global, slab: &Slab<Destination>) -> Result<Vec<Shared<Text>>, AllocError>
     ensures { IfOk result (λ names. names.items ≡ map (λ e. e.0) (queues_in slab.now.slots)) }
 {
     let mut names = Vec::new(alloc);
     for (_, destination) in slab.iter() {
-        names.push(destination.name.copy(alloc)?)?;
+        names.push(destination.name.share()?)?;
     }
     Ok(names)
 }
@@ -164,14 +165,37 @@ impl Destinations {
         }
     }
 
-    /// The names of all queues, in memory of their own.
+    /// How many queues there are.
+    pub fn len(&self) -> usize
+        ensures { result ≡ length self.now }
+    {
+        self.slab.len()
+    }
+
+    /// The name of the queue of this name, if there is one: shared, so that it takes no memory.
     ///
     /// # Errors
-    /// Where memory is refused.
-    pub fn names(&self) -> Result<Vec<Text>, AllocError>
+    /// Where the name has too many owners to count.
+    pub fn shared_name(&self, name: &Text) -> Result<Option<Shared<Text>>, AllocError>
+        ensures { IfOk result (λ shared. shared ≡ option_map (λ q. name.now) (queue_at self.now name.now)) }
+    {
+        match find_queue(&self.slab, &self.keys, self.last, name) {
+            Some(key) => {
+                let shared = self.slab[key].name.share()?;
+                Ok(Some(shared))
+            }
+            None => Ok(None),
+        }
+    }
+
+    /// The names of all queues, each of them shared.
+    ///
+    /// # Errors
+    /// Where there is no room for so many.
+    pub fn names(&self) -> Result<Vec<Shared<Text>>, AllocError>
         ensures { IfOk result (λ names. names.items ≡ map (λ e. e.0) self.now) }
     {
-        let names = copied_names(self.alloc, &self.slab)?;
+        let names = shared_names(self.alloc, &self.slab)?;
         Ok(names)
     }
 
@@ -200,8 +224,9 @@ impl Destinations {
             (Some (opened (queue_at self.old name.now)))) }
         ensures err { OnErr result (self.new ≡ self.old) }
     {
+        let shared = Shared::new(self.alloc, name.copy(self.alloc)?)?;
         let destination = Destination {
-            name: name.copy(self.alloc)?,
+            name: shared,
             queue: StoredQueue::new(self.alloc),
         };
         let text = String::from_str(self.alloc, name.as_str())?;
@@ -215,7 +240,7 @@ impl Destinations {
     ///
     /// # Errors
     /// Where memory is refused; then nothing has changed.
-    pub fn push_number(&mut self, name: &Text, place: Place) -> Result<(), AllocError>
+    pub fn push_number(&mut self, name: &Text, place: KeyedPlace) -> Result<(), AllocError>
         requires { ForSome (queue_at self.old name.now) (λ q. All (λ p. p.number < place.number) q.numbers) }
         ensures ok { OnOk result (Sets (queue_at self.old) (queue_at self.new) name.now
             (option_map (with_number place) (queue_at self.old name.now))) }
@@ -248,7 +273,7 @@ impl Destinations {
     ///
     /// # Errors
     /// Where memory is refused; then nothing has changed.
-    pub fn push_counted(&mut self, name: &Text, place: Place) -> Result<(), AllocError>
+    pub fn push_counted(&mut self, name: &Text, place: KeyedPlace) -> Result<(), AllocError>
         requires above { ForSome (queue_at self.old name.now) (λ q. All (λ p. p.number < place.number) q.numbers) }
         requires room { ForSome (queue_at self.old name.now) (λ q. q.count < 2 ^ 64 - 1) }
         ensures ok { OnOk result (Sets (queue_at self.old) (queue_at self.new) name.now
@@ -297,7 +322,7 @@ impl Destinations {
     ///
     /// # Errors
     /// Where memory is refused; then nothing has changed.
-    pub fn push_subscriber(&mut self, name: &Text, place: Place) -> Result<(), AllocError>
+    pub fn push_subscriber(&mut self, name: &Text, place: KeyedPlace) -> Result<(), AllocError>
         requires { ForSome (queue_at self.old name.now) (λ q. All (λ p. p.number < place.number) q.subscribers) }
         ensures ok { OnOk result (Sets (queue_at self.old) (queue_at self.new) name.now
             (option_map (with_subscriber place) (queue_at self.old name.now))) }

@@ -37,7 +37,7 @@ mod subscribers;
 
 pub use destinations::Destinations;
 pub use messages::{Messages, Stored};
-pub use places::{Entry, Place};
+pub use places::{Entry, KeyedPlace};
 pub use queue::StoredQueue;
 pub use sessions::Sessions;
 pub use standing::{Holder, Standing};

@@ -11,7 +11,7 @@ ghost use Rattle.std.specs.List.Sorted.{IsPartitionPoint};
 ghost use Rattle.broker_index.specs.Index.{is_from, without};
 ghost use Rattle.broker_index.specs.Places.{IsBefore, IsFrom, are_rising};
 
-use crate::Place;
+use crate::KeyedPlace;
 use std::alloc::{AllocError, Global};
 use std::collections::VecDeque;
 use std::marker::Model;
@@ -22,15 +22,15 @@ const RESTING: usize = 64;
 /// Places, by rising numbers.
 #[derive(Drop)]
 pub struct Places {
-    places: VecDeque<Place>,
+    places: VecDeque<KeyedPlace>,
 }
 
 impl Model for Places {
     ghost use Rattle.std.specs.Prelude.{◌≡◌, true, List};
     ghost use Rattle.broker_index.specs.Places.{are_rising};
-    ghost use Rattle.broker_index.specs.declared.places.Place.{Place};
+    ghost use Rattle.broker_index.specs.declared.places.KeyedPlace.{KeyedPlace};
 
-    ghost Value = { List Place };
+    ghost Value = { List KeyedPlace };
 
     ghost view = { λ p. p.places.items };
 
@@ -38,7 +38,7 @@ impl Model for Places {
 }
 
 /// How many places are before this number, at most: each has a number above that of the place in front of it.
-fn most_before(places: &VecDeque<Place>, number: u64) -> usize
+fn most_before(places: &VecDeque<KeyedPlace>, number: u64) -> usize
     requires { are_rising places.now.items ≡ true }
     ensures bound { result ≤ length places.now.items }
     ensures behind { AllWithin (IsFrom number) places.now.items result (length places.now.items) }
@@ -53,7 +53,7 @@ fn most_before(places: &VecDeque<Place>, number: u64) -> usize
 
 /// Two indices up to the highest, between which the first place at this number or behind it is. The higher one is at
 /// most about twice the index of that place.
-fn bounds(places: &VecDeque<Place>, number: u64, highest: usize) -> (usize, usize)
+fn bounds(places: &VecDeque<KeyedPlace>, number: u64, highest: usize) -> (usize, usize)
     requires rising { are_rising places.now.items ≡ true }
     requires bound { highest ≤ length places.now.items }
     requires behind { AllWithin (IsFrom number) places.now.items highest (length places.now.items) }
@@ -72,7 +72,7 @@ fn bounds(places: &VecDeque<Place>, number: u64, highest: usize) -> (usize, usiz
 }
 
 /// The index of the first place at this number or behind it, which is at most the highest.
-fn search(places: &VecDeque<Place>, number: u64, highest: usize) -> usize
+fn search(places: &VecDeque<KeyedPlace>, number: u64, highest: usize) -> usize
     requires rising { are_rising places.now.items ≡ true }
     requires bound { highest ≤ length places.now.items }
     requires behind { AllWithin (IsFrom number) places.now.items highest (length places.now.items) }
@@ -91,7 +91,7 @@ fn search(places: &VecDeque<Place>, number: u64, highest: usize) -> usize
 }
 
 /// The index of the first place at this number or behind it, how many there are if none is.
-fn first_index(places: &VecDeque<Place>, number: u64) -> usize
+fn first_index(places: &VecDeque<KeyedPlace>, number: u64) -> usize
     requires { are_rising places.now.items ≡ true }
     ensures { IsPartitionPoint (IsBefore number) (IsFrom number) places.now.items result }
 {
@@ -128,7 +128,7 @@ impl Places {
     ///
     /// # Errors
     /// Where memory is refused; then nothing has changed.
-    pub fn push(&mut self, place: Place) -> Result<(), AllocError>
+    pub fn push(&mut self, place: KeyedPlace) -> Result<(), AllocError>
         requires { All (λ p. p.number < place.number) self.old }
         ensures ok { OnOk result (self.new ≡ self.old ++ place ∷ []) }
         ensures err { OnErr result (self.new ≡ self.old) }
@@ -152,7 +152,7 @@ impl Places {
     }
 
     /// The first place at this number or behind it.
-    pub fn first_from(&self, number: u64) -> Option<Place>
+    pub fn first_from(&self, number: u64) -> Option<KeyedPlace>
         ensures found { result ≡ find (is_from number) self.now }
         ensures least { IfSome result (λ p. All (λ q. (q.number < number) ⊎ (p.number ≤ q.number)) self.now) }
     {

@@ -3,7 +3,7 @@
 /// Where a message or a subscriber is: its number or age, by which it is found, and the key that it was given, which
 /// makes that quick.
 #[derive(Clone, Copy, Debug, PartialEq, Eq)]
-pub struct Place {
+pub struct KeyedPlace {
     /// The number of the message, or the age of the subscriber.
     pub number: u64,
     /// Its key.

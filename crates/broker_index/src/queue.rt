@@ -8,7 +8,7 @@ ghost use Rattle.std.specs.List.{find};
 ghost use Rattle.broker_index.specs.Index.{counting_fewer, empty_queue, is_from, is_idle, with_counted, without};
 ghost use Rattle.broker_index.specs.Index.{without_counted};
 
-use crate::Place;
+use crate::KeyedPlace;
 use crate::numbers::Places;
 use std::alloc::{AllocError, Global};
 use std::marker::Model;
@@ -73,7 +73,7 @@ impl StoredQueue {
     }
 
     /// The first message at this number or behind it.
-    pub fn first_number_from(&self, number: u64) -> Option<Place>
+    pub fn first_number_from(&self, number: u64) -> Option<KeyedPlace>
         ensures found { result ≡ find (is_from number) self.now.numbers }
         ensures least { IfSome result (λ p. All (λ q. (q.number < number) ⊎ (p.number ≤ q.number)) self.now.numbers) }
     {
@@ -81,7 +81,7 @@ impl StoredQueue {
     }
 
     /// The first subscriber of this age or a higher one.
-    pub fn first_subscriber_from(&self, age: u64) -> Option<Place>
+    pub fn first_subscriber_from(&self, age: u64) -> Option<KeyedPlace>
         ensures found { result ≡ find (is_from age) self.now.subscribers }
         ensures least { IfSome result (λ p. All (λ q. (q.number < age) ⊎ (p.number ≤ q.number)) self.now.subscribers) }
     {
@@ -95,7 +95,7 @@ impl StoredQueue {
         self.numbers.is_empty() && self.subscribers.is_empty()
     }
 
-    pub(crate) fn push_number(&mut self, place: Place) -> Result<(), AllocError>
+    pub(crate) fn push_number(&mut self, place: KeyedPlace) -> Result<(), AllocError>
         requires { All (λ p. p.number < place.number) self.old.numbers }
         ensures ok { OnOk result (self.new ≡ record self.old { numbers = self.old.numbers ++ place ∷ [] }) }
         ensures err { OnErr result (self.new ≡ self.old) }
@@ -115,7 +115,7 @@ impl StoredQueue {
         self.count = count;
     }
 
-    pub(crate) fn push_counted(&mut self, place: Place) -> Result<(), AllocError>
+    pub(crate) fn push_counted(&mut self, place: KeyedPlace) -> Result<(), AllocError>
         requires above { All (λ p. p.number < place.number) self.old.numbers }
         requires room { self.old.count < 2 ^ 64 - 1 }
         ensures ok { OnOk result (self.new ≡ with_counted place self.old) }
@@ -145,7 +145,7 @@ impl StoredQueue {
         self.ready_from = number;
     }
 
-    pub(crate) fn push_subscriber(&mut self, place: Place) -> Result<(), AllocError>
+    pub(crate) fn push_subscriber(&mut self, place: KeyedPlace) -> Result<(), AllocError>
         requires { All (λ p. p.number < place.number) self.old.subscribers }
         ensures ok { OnOk result (self.new ≡ record self.old { subscribers = self.old.subscribers ++ place ∷ [] }) }
         ensures err { OnErr result (self.new ≡ self.old) }

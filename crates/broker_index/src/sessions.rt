@@ -4,7 +4,7 @@ ghost use Rattle.std.specs.Prelude.{◌≡◌, ◌==◌, ◌++◌, ◌∷◌, []
 ghost use Rattle.std.specs.Map.{lookup};
 ghost use Rattle.broker_index.specs.Index.{Sets, places_at, without};
 
-use crate::Place;
+use crate::KeyedPlace;
 use std::alloc::{AllocError, Global};
 use std::collections::BTreeMap;
 use std::marker::Model;
@@ -13,14 +13,14 @@ use std::marker::Model;
 #[derive(Drop)]
 pub struct Sessions {
     alloc: Global,
-    places: BTreeMap<u64, Vec<Place>>,
+    places: BTreeMap<u64, Vec<KeyedPlace>>,
 }
 
 impl Model for Sessions {
     ghost use Rattle.std.specs.Prelude.{ℕ, List, map};
-    ghost use Rattle.broker_index.specs.declared.places.Place.{Place};
+    ghost use Rattle.broker_index.specs.declared.places.KeyedPlace.{KeyedPlace};
 
-    ghost Value = { List (ℕ × List Place) };
+    ghost Value = { List (ℕ × List KeyedPlace) };
 
     ghost view = { λ s. map (λ e. (e.0, e.1.items)) s.places.entries };
 
@@ -41,7 +41,7 @@ impl Sessions {
     }
 
     /// Where the subscribers of a session are.
-    pub fn get(&self, session: u64) -> &[Place]
+    pub fn get(&self, session: u64) -> &[KeyedPlace]
         ensures { result.now ≡ places_at self.now session }
     {
         match self.places.get(&session) {
@@ -51,7 +51,7 @@ impl Sessions {
     }
 
     /// Adds a subscriber to a session that has some.
-    fn push_more(&mut self, session: u64, place: Place) -> Result<(), AllocError>
+    fn push_more(&mut self, session: u64, place: KeyedPlace) -> Result<(), AllocError>
         requires { IsSome (lookup (λ s. session == s) self.old) }
         ensures ok { OnOk result (Sets (places_at self.old) (places_at self.new) session
             (places_at self.old session ++ place ∷ [])) }
@@ -67,7 +67,7 @@ impl Sessions {
     }
 
     /// Adds a subscriber to a session that had none.
-    fn push_first(&mut self, session: u64, place: Place) -> Result<(), AllocError>
+    fn push_first(&mut self, session: u64, place: KeyedPlace) -> Result<(), AllocError>
         requires { lookup (λ s. session == s) self.old ≡ None }
         ensures ok { OnOk result (Sets (places_at self.old) (places_at self.new) session
             (places_at self.old session ++ place ∷ [])) }
@@ -83,7 +83,7 @@ impl Sessions {
     ///
     /// # Errors
     /// Where memory is refused; then nothing has changed.
-    pub fn push(&mut self, session: u64, place: Place) -> Result<(), AllocError>
+    pub fn push(&mut self, session: u64, place: KeyedPlace) -> Result<(), AllocError>
         ensures ok { OnOk result (Sets (places_at self.old) (places_at self.new) session
             (places_at self.old session ++ place ∷ [])) }
         ensures err { OnErr result (self.new ≡ self.old) }

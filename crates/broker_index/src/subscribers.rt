@@ -6,7 +6,7 @@ ghost use Rattle.std.specs.List.{find};
 ghost use Rattle.broker_index.specs.Index.{has_age, with_count, with_entry, without_entries, entries_without};
 
 use crate::keyed::{Keyed, find_key, find_value, put_value, take_value};
-use crate::{Entry, Place};
+use crate::{Entry, KeyedPlace};
 use broker_book::Subscription;
 use slab::Slab;
 use std::alloc::{AllocError, Global};
@@ -125,7 +125,7 @@ impl Subscribers {
     ///
     /// # Errors
     /// Where memory is refused, or no age is left; then nothing has changed.
-    pub fn push(&mut self, subscription: &Subscription) -> Result<Place, AllocError>
+    pub fn push(&mut self, subscription: &Subscription) -> Result<KeyedPlace, AllocError>
         ensures ok { IfOk result (λ p. self.new
             ≡ self.old ++ record { age = p.number; subscription = subscription.now; count = 0; entries = [] } ∷ []) }
         ensures youngest { IfOk result (λ p. All (λ s. s.age < p.number) self.old) }
@@ -143,7 +143,7 @@ impl Subscribers {
         };
         let key = put_value(&mut self.slab, stored)?;
         self.next = age + 1;
-        Ok(Place { number: age, key })
+        Ok(KeyedPlace { number: age, key })
     }
 
     /// The age of the next subscriber, above the ages of all that there are.

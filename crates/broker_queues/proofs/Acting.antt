@@ -13,7 +13,7 @@ use Rattle.broker_book.specs.declared.parts.Sent.{Sent}
 use Rattle.broker_book.specs.Books.{Book}
 use Rattle.broker_book.specs.Steps.{UnlessMemory, act_of, apply_of, put_of, then_all}
 use Rattle.broker_index.specs.Index.{Subscriber}
-use Rattle.broker_index.specs.declared.places.Place.{Place}
+use Rattle.broker_index.specs.declared.places.KeyedPlace.{KeyedPlace}
 use Rattle.broker_queues.specs.declared.transactions.Logged.{Logged}
 use Rattle.broker_queues.specs.Parts.Begun.{Accepts, Acts, Applies, Goes, Grows, IsBegun, Noted}
 use Rattle.broker_queues.specs.Parts.Fates.{is_held_at}
@@ -103,7 +103,7 @@ module _ (full : ℕ) (h i : Holding) (noted : List Logged) (given accepted : Li
 
 -- ---- an answer
 
-module _ (h : Holding) (x number : ℕ) (again : Bool) (p : Place) (noted now : List Logged)
+module _ (h : Holding) (x number : ℕ) (again : Bool) (p : KeyedPlace) (noted now : List Logged)
     (found : find (is_held_at h.kept h.subscribers number) (h.sessions x) ≡ Some p) where
   holds_it : IsSound h → IsHolder h x number p.number
   holds_it is =

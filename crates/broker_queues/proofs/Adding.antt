@@ -9,7 +9,7 @@ use Rattle.broker_book.specs.declared.parts.Sent.{Sent}
 use Rattle.broker_book.specs.Books.{Fate, is_for}
 use Rattle.broker_index.specs.Index.{Kept, Queue, Sets, opened, empty_queue, is_idle, unless_idle, with_counted}
 use Rattle.broker_index.specs.Index.{with_subscriber}
-use Rattle.broker_index.specs.declared.places.Place.{Place}
+use Rattle.broker_index.specs.declared.places.KeyedPlace.{KeyedPlace}
 use Rattle.broker_queues.specs.Parts.Queues.{HasTold, LooksFrom, told_count, told_from}
 use Rattle.broker_queues.specs.Parts.Facts.{kept_at, lists, queue_of, living_as, message_of}
 use Rattle.broker_queues.specs.Parts.Fates.{weight}
@@ -76,7 +76,7 @@ told_counts queues name told has = ap told_count has ∙ by_queue (queues name)
     by_queue (Some q) = refl
 
 -- and from where it looks, which a message more doesn't change
-pub told_low : (a c : List ℕ → Option Queue) (name : List ℕ) (place : Place) (number : ℕ) (told : Option (ℕ × ℕ))
+pub told_low : (a c : List ℕ → Option Queue) (name : List ℕ) (place : KeyedPlace) (number : ℕ) (told : Option (ℕ × ℕ))
     → HasTold a name told → Becomes (adding place) a c name → told_from told number ≡ true
     → (queue_of c name).ready_from ≤ number
 told_low a c name place number told has b on =
@@ -94,7 +94,7 @@ told_low a c name place number told has b on =
     by_queue (Some q) low = leb-true q.ready_from number low
 
 -- a message is listed at its end, and counted
-pub number_added : (a b c : List ℕ → Option Queue) (name : List ℕ) (place : Place)
+pub number_added : (a b c : List ℕ → Option Queue) (name : List ℕ) (place : KeyedPlace)
     → Sets a b name (Some (opened (a name))) → Sets b c name (option_map (with_counted place) (b name))
     → Becomes (adding place) a c name
 number_added a b c name place p q =
@@ -102,7 +102,7 @@ number_added a b c name place p q =
     (λ d other. ap opened (q.others d other ∙ p.others d other))
 
 -- a subscriber is listed at its end
-pub subscriber_added : (a b c : List ℕ → Option Queue) (name : List ℕ) (place : Place)
+pub subscriber_added : (a b c : List ℕ → Option Queue) (name : List ℕ) (place : KeyedPlace)
     → Sets a b name (Some (opened (a name))) → Sets b c name (option_map (with_subscriber place) (b name))
     → Becomes (with_subscriber place) a c name
 subscriber_added a b c name place p q =
@@ -229,7 +229,7 @@ stays h is = record {
 
 -- ---- a message comes
 
-module _ (h : Holding) (is : IsSound h) (sent : Sent) (place : Place) (q : List ℕ → Option Queue) (i : Holding)
+module _ (h : Holding) (is : IsSound h) (sent : Sent) (place : KeyedPlace) (q : List ℕ → Option Queue) (i : Holding)
     (number : place.number ≡ h.last + 1) (b : Becomes (adding place) h.queues q sent.destination)
     (l : LooksFrom q i.queues sent.destination place.number) where
   -- the queue of its destination, or another one

@@ -14,7 +14,7 @@ use Rattle.broker_book.specs.Books.{Fate, Ready, Out, out_as, out_to, reaches}
 use Rattle.broker_book.specs.Steps.{covered}
 use Rattle.broker_index.specs.Index.{Kept, Subscriber, has_age, without_entries}
 use Rattle.broker_index.specs.declared.places.Entry.{Entry}
-use Rattle.broker_index.specs.declared.places.Place.{Place}
+use Rattle.broker_index.specs.declared.places.KeyedPlace.{KeyedPlace}
 use Rattle.broker_queues.specs.Parts.Fates.{back, counts_alone, fate_of_kept, fated, is_covered, is_held, is_held_at, passes}
 use Rattle.broker_queues.specs.Parts.Fates.{is_held_of}
 use Rattle.broker_queues.specs.Parts.Fates.{recounted, sole_covered, turn_among}
@@ -116,7 +116,7 @@ covered_as s answered (Some (Out x i n)) alone on =
     rw (name.0, name.1, number) refl
 
 -- what an answer counts for alone is held
-pub sole_is_held : (kept : List Kept) (subscribers : List Subscriber) (answered : ℕ) (p : Place) (e : Entry)
+pub sole_is_held : (kept : List Kept) (subscribers : List Subscriber) (answered : ℕ) (p : KeyedPlace) (e : Entry)
     → sole_covered kept answered (subscriber_at p.number subscribers) ≡ Some e
     → is_held_at kept subscribers answered p ≡ true
 sole_is_held kept subscribers answered p e is = by_subscriber (subscriber_at p.number subscribers) is
@@ -143,7 +143,7 @@ sole_is_held kept subscribers answered p e is = by_subscriber (subscriber_at p.n
     ]
 
 -- the first of places is the one that holds it, where it does
-pub first_holds : (kept : List Kept) (subscribers : List Subscriber) (answered : ℕ) (ps : List Place) (p : Place)
+pub first_holds : (kept : List Kept) (subscribers : List Subscriber) (answered : ℕ) (ps : List KeyedPlace) (p : KeyedPlace)
     → slice_get ps 0 ≡ Some p → is_held_at kept subscribers answered p ≡ true
     → find (is_held_at kept subscribers answered) ps ≡ Some p
 first_holds kept subscribers answered [] p first on = let never : None ≡ Some p = first in cc
@@ -253,7 +253,7 @@ module _ (h i : Holding) (is : IsSound h) (age answered : ℕ) (again : Bool) (e
 
 -- ---- the answer
 
-module _ (h j l : Holding) (is : IsSound h) (x number : ℕ) (again : Bool) (p : Place) (e : Entry)
+module _ (h j l : Holding) (is : IsSound h) (x number : ℕ) (again : Bool) (p : KeyedPlace) (e : Entry)
     (held : find (is_held_at h.kept h.subscribers number) (h.sessions x) ≡ Some p)
     (found : sole_covered h.kept number (subscriber_at p.number h.subscribers) ≡ Some e)
     (answers : AnswersAlone h p.number e.number again j) where

@@ -12,7 +12,7 @@ use Rattle.broker_book.specs.Books.{Fate, Ready, Out, out_to, out_as, is_named, 
 use Rattle.broker_book.specs.Steps.{covered, ready_if}
 use Rattle.broker_index.specs.Index.{Kept, Subscriber, with_fate, has_number}
 use Rattle.broker_index.specs.declared.places.Entry.{Entry}
-use Rattle.broker_index.specs.declared.places.Place.{Place}
+use Rattle.broker_index.specs.declared.places.KeyedPlace.{KeyedPlace}
 use Rattle.broker_queues.specs.Parts.Facts.{rise, kept_at, subscriber_at, lists, living_of, holds_number, notes}
 use Rattle.broker_queues.specs.Parts.Fates.{passes, fated, turn_if, turn_among, fate_of_kept, is_held, is_held_of}
 use Rattle.broker_queues.specs.Parts.Fates.{is_held_at}
@@ -281,7 +281,7 @@ module _ (h : Holding) (is : IsSound h) (x number : ℕ) where
       eqb-true s.subscription.session x (and_parts (s.subscription.session == x) out holds).0 in
       any_at (λ p. p.number) (λ p. p.number == a) 0 (h.sessions x) (is.owned_rise x) (rw mine at (is.owned a s sits))
 
-  held_there : (p : Place) (s : Subscriber) → subscriber_at p.number h.subscribers ≡ Some s
+  held_there : (p : KeyedPlace) (s : Subscriber) → subscriber_at p.number h.subscribers ≡ Some s
       → holds_out_in h x number s ≡ true
       → is_held_at h.kept h.subscribers number p ≡ true
   held_there p s sits holds =
@@ -316,7 +316,7 @@ module _ (h : Holding) (is : IsSound h) (x number : ℕ) where
           cc
 
   -- the first that holds it at its places is the first that holds it
-  pub the_holder : (p : Place) → find (is_held_at h.kept h.subscribers number) (h.sessions x) ≡ Some p
+  pub the_holder : (p : KeyedPlace) → find (is_held_at h.kept h.subscribers number) (h.sessions x) ≡ Some p
       → lists p.number (h.sessions x) ≡ true
       → IsHolder h x number p.number
   the_holder p foremost listed = by_subscriber (subscriber_at p.number h.subscribers) refl (find_passes

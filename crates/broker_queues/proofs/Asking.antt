@@ -10,7 +10,7 @@ use Rattle.broker_book.specs.declared.parts.Accepted.{Accepted}
 use Rattle.broker_book.specs.Books.{is_named}
 use Rattle.broker_book.specs.Steps.{holder}
 use Rattle.broker_index.specs.Index.{Subscriber, is_place_of}
-use Rattle.broker_index.specs.declared.places.Place.{Place}
+use Rattle.broker_index.specs.declared.places.KeyedPlace.{KeyedPlace}
 use Rattle.broker_queues.specs.Parts.Fates.{is_held_at}
 use Rattle.broker_queues.specs.Parts.Facts.{rise, subscriber_at, subscriptions_of, lists}
 use Rattle.broker_queues.specs.Parts.Storing.{is_named_at, named_by}
@@ -78,7 +78,7 @@ pub asks_holder : (h : Holding) (accepted : List Accepted) (x number : ℕ) → 
     ≡ is_some (holder (book_of h accepted) x number)
 asks_holder h accepted x number is = by_place (find (is_held_at h.kept h.subscribers number) (h.sessions x)) refl
   where
-    by_place : (o : Option Place) → find (is_held_at h.kept h.subscribers number) (h.sessions x) ≡ o
+    by_place : (o : Option KeyedPlace) → find (is_held_at h.kept h.subscribers number) (h.sessions x) ≡ o
         → is_some o ≡ is_some (holder (book_of h accepted) x number)
     by_place None none = sym (ap is_some (holder_is h accepted x number
         ∙ ap (λ o. option_map (λ (s : Subscriber). s.subscription) o) (no_holder h is x number none)))

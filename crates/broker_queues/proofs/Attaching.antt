@@ -14,7 +14,7 @@ use Rattle.broker_book.specs.Books.{is_named}
 use Rattle.broker_book.specs.Steps.{subscribed}
 use Rattle.broker_index.specs.Index.{Subscriber, Queue, Sets, is_idle, opened, unless_idle, with_subscriber, without}
 use Rattle.broker_index.specs.Index.{without_subscriber}
-use Rattle.broker_index.specs.declared.places.Place.{Place}
+use Rattle.broker_index.specs.declared.places.KeyedPlace.{KeyedPlace}
 use Rattle.broker_queues.specs.Parts.Facts.{subscriber_at, subscriptions_of, lists, queue_of, rise}
 use Rattle.broker_queues.specs.Parts.Storing.{Attached, Becomes, Closes, SubscribesTo, Tidies}
 use Rattle.broker_queues.specs.Parts.Whole.{Holding, IsSound, Subscribes, book_of}
@@ -39,7 +39,7 @@ becomes_without age b c name sets = by_queue (b name) refl
     by_queue (Some q) is = ap opened (sets.at ∙ ap (λ x. option_map (without_subscriber age) x) is)
         ∙ sym (ap (λ x. without_subscriber age (opened x)) is)
 
-pub detaches_again : (a b c e : List ℕ → Option Queue) (name : List ℕ) (place : Place)
+pub detaches_again : (a b c e : List ℕ → Option Queue) (name : List ℕ) (place : KeyedPlace)
     → All (λ p. p.number < place.number) (queue_of a name).subscribers → Becomes (with_subscriber place) a b name
     → Sets b c name (option_map (without_subscriber place.number) (b name))
     → Sets c e name (option_and_then unless_idle (c name))
@@ -54,7 +54,7 @@ detaches_again a b c e name place above becomes without closed d = elim (closes 
       | inl on ↦
           becomes_without place.number b c name without ∙ ap (without_subscriber place.number) on.1
           ∙ ap (λ ps. record (queue_of a name) { subscribers = ps })
-          (push_filter (λ (p : Place). p.number) (queue_of a name).subscribers place above)
+          (push_filter (λ (p : KeyedPlace). p.number) (queue_of a name).subscribers place above)
       | inr off ↦ let never : true ≡ false = sym (itself name) ∙ off.0 in cc
     ]
 
@@ -68,7 +68,7 @@ detaches_again a b c e name place above becomes without closed d = elim (closes 
 -- ---- a subscription comes
 
 -- the subscriber that comes
-abbrev pub newcomer : Subscription → Place → Subscriber
+abbrev pub newcomer : Subscription → KeyedPlace → Subscriber
 newcomer sub place = record { age = place.number; subscription = sub; count = 0; entries = [] }
 
 module _ (h : Holding) (is : IsSound h) (n : ℕ) (young : All (λ (s : Subscriber). s.age < n) h.subscribers) where
@@ -90,7 +90,7 @@ module _ (h : Holding) (is : IsSound h) (n : ℕ) (young : All (λ (s : Subscrib
       is_mapped (λ s. s.subscription.session) (subscriber_at a h.subscribers) x (is.owners x a listed) in
       lower a was.from was.found
 
-module _ (h i : Holding) (is : IsSound h) (sub : Subscription) (place : Place) (subs : List Subscriber)
+module _ (h i : Holding) (is : IsSound h) (sub : Subscription) (place : KeyedPlace) (subs : List Subscriber)
     (pushed : subs ≡ h.subscribers ++ newcomer sub place ∷ [])
     (young : All (λ (s : Subscriber). s.age < place.number) h.subscribers)
     (free : list_any (is_named sub.session sub.id) (subscriptions_of h.subscribers) ≡ false)
@@ -178,7 +178,7 @@ module _ (h i : Holding) (is : IsSound h) (sub : Subscription) (place : Place) (
 
   owned_rise : (x : ℕ) → rise (λ p. p.number) 0 (i.sessions x) ≡ true
   owned_rise x = elim (cases_eq x sub.session) [
-    | inl same ↦ rw (same, t.sessions.at) (rise_push (λ (p : Place). p.number) 0 (h.sessions sub.session) place
+    | inl same ↦ rw (same, t.sessions.at) (rise_push (λ (p : KeyedPlace). p.number) 0 (h.sessions sub.session) place
         (is.owned_rise sub.session) (omega arith)
         (λ n p found. owned_lower h is place.number young sub.session n (found_listed n (h.sessions sub.session) p
         found)))
@@ -232,7 +232,7 @@ pub tidy_same : (h : Holding) → IsSound h → (subs : List Subscriber) → sub
 tidy_same h is subs same = rw same (tidy h is)
 
 -- the subscriber goes again
-module _ (h i : Holding) (is : IsSound h) (sub : Subscription) (place : Place) (subs back : List Subscriber)
+module _ (h i : Holding) (is : IsSound h) (sub : Subscription) (place : KeyedPlace) (subs back : List Subscriber)
     (pushed : subs ≡ h.subscribers ++ newcomer sub place ∷ [])
     (young : All (λ (s : Subscriber). s.age < place.number) h.subscribers)
     (closed : Closes h.queues i.queues) (rest : i ≡ record h { subscribers = subs; queues = i.queues }) where

@@ -10,7 +10,7 @@ use Rattle.broker_book.specs.declared.parts.Subscription.{Subscription}
 use Rattle.broker_book.specs.Books.{Fate, Ready, Out, out_to}
 use Rattle.broker_index.specs.Index.{Kept, Subscriber, entries_without, has_age, has_number, without_entries}
 use Rattle.broker_index.specs.declared.places.Entry.{Entry}
-use Rattle.broker_index.specs.declared.places.Place.{Place}
+use Rattle.broker_index.specs.declared.places.KeyedPlace.{KeyedPlace}
 use Rattle.broker_queues.specs.Parts.Fates.{back, counts_in, fate_of_kept, is_held_at, passes, turn_among}
 use Rattle.broker_queues.specs.Parts.Held.{Turns, TurnsAll, entries_of}
 use Rattle.broker_queues.specs.Parts.Facts.{kept_at, subscriber_at, notes}
@@ -213,7 +213,7 @@ among_number to test es k = elim (cases_Bool (passes test k.fate && notes k.numb
   | inr off ↦ rw off refl
 ]
 
-pub none_gone : (h i j : Holding) → IsSound h → (x number : ℕ) (again : Bool) (p : Place)
+pub none_gone : (h i j : Holding) → IsSound h → (x number : ℕ) (again : Bool) (p : KeyedPlace)
     → find (is_held_at h.kept h.subscribers number) (h.sessions x) ≡ Some p → TurnsAll h p.number (Some number) again i
     → Clears i p.number j → SweepsOne i p.number j → NoneGone h.kept → NoneGone j.kept
 none_gone h i j is x number again p found turns clears swept none n k there =

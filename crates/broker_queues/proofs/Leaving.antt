@@ -8,7 +8,7 @@ use Rattle.broker_book.specs.declared.parts.Accepted.{Accepted}
 use Rattle.broker_book.specs.declared.parts.Subscription.{Subscription}
 use Rattle.broker_book.specs.Books.{out_to}
 use Rattle.broker_index.specs.Index.{Kept, Subscriber, Queue, Sets, opened, unless_idle, without, without_subscriber}
-use Rattle.broker_index.specs.declared.places.Place.{Place}
+use Rattle.broker_index.specs.declared.places.KeyedPlace.{KeyedPlace}
 use Rattle.broker_queues.specs.Parts.Fates.{passes, back, counts_in, turn_among}
 use Rattle.broker_queues.specs.Parts.Held.{Turns}
 use Rattle.broker_queues.specs.Parts.Facts.{kept_at, subscriber_at, destination_at, session_at, lists, queue_of}
@@ -175,7 +175,7 @@ module _ (h i j : Holding) (is : IsSound h) (age : ℕ) (s : Subscriber) (sits :
         ∙ released_book h i is age s sits t accepted goes.between goes.leaves;
     session = ap (λ (u : Subscription). j.sessions u.session) (sym t.subscription) ∙ goes.session
         ∙ ap (λ (u : Subscription). without age (i.sessions u.session)) t.subscription
-        ∙ ap (λ (f : ℕ → List Place). without age (f s.subscription.session)) t.sessions;
+        ∙ ap (λ (f : ℕ → List KeyedPlace). without age (f s.subscription.session)) t.sessions;
     none_gone = λ none. none_same (map (turn_among (back true) (counts_in s.subscription None) s.entries) h.kept) j.kept
         (goes.moves.kept ∙ goes.leaves.kept
         ∙ t.kept) (none_turned (counts_in s.subscription None) s.entries h.kept none);

@@ -8,20 +8,20 @@ use Rattle.std.proofs.lemmas.List.Folds.{list_any-append}
 use Rattle.std.proofs.lemmas.Map.Views.{any-filter_same}
 use Rattle.broker_index.specs.Index.{entries_without, is_place_of, without}
 use Rattle.broker_index.specs.declared.places.Entry.{Entry}
-use Rattle.broker_index.specs.declared.places.Place.{Place}
+use Rattle.broker_index.specs.declared.places.KeyedPlace.{KeyedPlace}
 use Rattle.broker_queues.specs.Parts.Facts.{lists, notes, rise}
 use Rattle.broker_queues.proofs.Rising.{any_from_at, at, at_number, behind}
 
-pub lists_push : (m : ℕ) (ps : List Place) (p : Place)
+pub lists_push : (m : ℕ) (ps : List KeyedPlace) (p : KeyedPlace)
     → lists m (ps ++ p ∷ []) ≡ (lists m ps || ((p.number == m) || false))
 lists_push m ps p = list_any-append (is_place_of m) ps (p ∷ [])
 
 -- what was listed is
-pub lists_still : (m : ℕ) (ps : List Place) (p : Place) → lists m ps ≡ true → lists m (ps ++ p ∷ []) ≡ true
+pub lists_still : (m : ℕ) (ps : List KeyedPlace) (p : KeyedPlace) → lists m ps ≡ true → lists m (ps ++ p ∷ []) ≡ true
 lists_still m ps p listed = lists_push m ps p ∙ rw listed refl
 
 -- the new one is
-pub lists_last : (ps : List Place) (p : Place) → lists p.number (ps ++ p ∷ []) ≡ true
+pub lists_last : (ps : List KeyedPlace) (p : KeyedPlace) → lists p.number (ps ++ p ∷ []) ≡ true
 lists_last ps p = lists_push p.number ps p ∙ rw (eq-eqb p.number p.number refl) (always (lists p.number ps))
   where
     always : (b : Bool) → (b || (true || false)) ≡ true
@@ -29,7 +29,7 @@ lists_last ps p = lists_push p.number ps p ∙ rw (eq-eqb p.number p.number refl
     always false = refl
 
 -- no other is
-pub lists_was : (m : ℕ) (ps : List Place) (p : Place) → lists m (ps ++ p ∷ []) ≡ true → (lists m ps ≡ true)
+pub lists_was : (m : ℕ) (ps : List KeyedPlace) (p : KeyedPlace) → lists m (ps ++ p ∷ []) ≡ true → (lists m ps ≡ true)
     ⊎ (m ≡ p.number)
 lists_was m ps p listed = elim (cases_Bool (lists m ps)) [
   | inl old ↦ inl old
@@ -43,11 +43,11 @@ lists_was m ps p listed = elim (cases_Bool (lists m ps)) [
 ]
 
 -- numbers that are listed are below a number: so are all
-pub all_below : (n : ℕ) (ps : List Place) → ((m : ℕ) → lists m ps ≡ true → m < n) → All (λ p. p.number < n) ps
-all_below n [] below = All-nil (λ (p : Place). p.number < n)
+pub all_below : (n : ℕ) (ps : List KeyedPlace) → ((m : ℕ) → lists m ps ≡ true → m < n) → All (λ p. p.number < n) ps
+all_below n [] below = All-nil (λ (p : KeyedPlace). p.number < n)
 all_below n (p ∷ ps) below =
     let first : lists p.number (p ∷ ps) ≡ true = rw (eq-eqb p.number p.number refl) refl in
-    All-cons (λ (p : Place). p.number < n) p ps (below p.number first) (all_below n ps
+    All-cons (λ (p : KeyedPlace). p.number < n) p ps (below p.number first) (all_below n ps
     (λ m listed. below m (later m listed)))
   where
     later : (m : ℕ) → lists m ps ≡ true → lists m (p ∷ ps) ≡ true
@@ -80,11 +80,11 @@ found_all number P n (x ∷ xs) y found all = elim (cases_Bool (number x == n)) 
 ]
 
 -- one that is found is listed
-pub found_listed : (n : ℕ) (ps : List Place) (p : Place) → at (λ (p : Place). p.number) n ps ≡ Some p
+pub found_listed : (n : ℕ) (ps : List KeyedPlace) (p : KeyedPlace) → at (λ (p : KeyedPlace). p.number) n ps ≡ Some p
     → lists n ps ≡ true
 found_listed n ps p found =
-    any_from_at (λ (p : Place). p.number) (is_place_of n) n ps p found
-    (eq-eqb p.number n (at_number (λ (p : Place). p.number) n ps p found))
+    any_from_at (λ (p : KeyedPlace). p.number) (is_place_of n) n ps p found
+    (eq-eqb p.number n (at_number (λ (p : KeyedPlace). p.number) n ps p found))
 
 -- the last one goes, above all others
 pub push_filter : {X : Type 0} (number : X → ℕ) (xs : List X) (x : X) → All (λ y. number y < number x) xs
@@ -96,11 +96,11 @@ push_filter number (y ∷ ys) x all =
     rw other (ap (λ l. y ∷ l) (push_filter number ys x (All-tail (λ y. number y < number x) y ys all)))
 
 -- one that goes isn't listed any more
-pub lists_gone : (n : ℕ) (ps : List Place) → lists n (without n ps) ≡ false
+pub lists_gone : (n : ℕ) (ps : List KeyedPlace) → lists n (without n ps) ≡ false
 lists_gone n ps = any-filter_same (is_place_of n) (λ p. not (p.number == n)) false (λ p on. ap not on) ps
 
 -- the others are as before
-pub lists_other : (n m : ℕ) (ps : List Place) → (m ≡ n → ⊥) → lists m (without n ps) ≡ lists m ps
+pub lists_other : (n m : ℕ) (ps : List KeyedPlace) → (m ≡ n → ⊥) → lists m (without n ps) ≡ lists m ps
 lists_other n m ps other =
     any-filter_same (is_place_of m) (λ p. not (p.number == n)) true
     (λ p on. ap not (ne_eqb p.number n (λ same. other (sym (eqb-true p.number m on) ∙ same)))) ps

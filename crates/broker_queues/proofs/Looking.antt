@@ -8,7 +8,7 @@ use Rattle.std.proofs.lemmas.List.Elements.{All-head, All-tail}
 use Rattle.std.proofs.lemmas.Slice.Eq.{bytes_eq-Decides}
 use Rattle.broker_book.specs.Books.{Fate, Ready, Out, is_ready_fate}
 use Rattle.broker_index.specs.Index.{Kept, Subscriber, Queue}
-use Rattle.broker_index.specs.declared.places.Place.{Place}
+use Rattle.broker_index.specs.declared.places.KeyedPlace.{KeyedPlace}
 use Rattle.broker_queues.specs.Parts.Choosing.{Rests, Looked, pick_of}
 use Rattle.broker_queues.specs.Parts.Dealings.{SeeksReady, SeeksTaker, FirstOf, is_open, is_free, opens, takes_more}
 use Rattle.broker_queues.specs.Parts.Fates.{passes}
@@ -19,12 +19,12 @@ use Rattle.broker_queues.proofs.Rising.{at_number}
 use Rattle.broker_queues.proofs.Subscribing.{itself, same_texts}
 
 -- no later than the place that was found; nothing was, and so it can't be
-abbrev pub NoLater : Option Place → ℕ → Type 0
+abbrev pub NoLater : Option KeyedPlace → ℕ → Type 0
 NoLater None number = ⊥
 NoLater (Some p) number = p.number ≤ number
 
 -- what passes a test and is listed is no later than the first that does
-no_later : (test : ℕ → Bool) (places : List Place) (from last : ℕ) (found : Option Place) (m : ℕ)
+no_later : (test : ℕ → Bool) (places : List KeyedPlace) (from last : ℕ) (found : Option KeyedPlace) (m : ℕ)
     → FirstOf test places from last found
     → lists m places ≡ true → from ≤ m → m ≤ last → test m ≡ true → NoLater found m
 no_later test places from last None m first listed later within on =
@@ -72,7 +72,7 @@ it_opens kept name n k there ready for_it =
     let dest : bytes_eq k.sent.destination name ≡ true = rw for_it (itself name) in
     rw there (and_from (passes is_ready_fate k.fate) (bytes_eq k.sent.destination name) fate dest)
 
-module _ (h : Holding) (is : IsSound h) (name : List ℕ) (q : List ℕ → Option Queue) (found : Option Place)
+module _ (h : Holding) (is : IsSound h) (name : List ℕ) (q : List ℕ → Option Queue) (found : Option KeyedPlace)
     (r : SeeksReady h.kept h.last name h.queues q found) where
   -- what is ready there is no earlier than what was found
   pub ready_later : (n : ℕ) (k : Kept) → kept_at n h.kept ≡ Some k → k.fate ≡ Some Ready → k.sent.destination ≡ name
@@ -97,7 +97,7 @@ module _ (h : Holding) (is : IsSound h) (name : List ℕ) (q : List ℕ → Opti
         rw (r.others k.sent.destination other) (is.ahead n k there ready)
   ]
     where
-      by_found : (o : Option Place) → IfSome o (λ p. (queue_of q name).ready_from ≤ p.number) → NoLater o n
+      by_found : (o : Option KeyedPlace) → IfSome o (λ p. (queue_of q name).ready_from ≤ p.number) → NoLater o n
           → (queue_of q name).ready_from ≤ n
       by_found None from never = absurd never
       by_found (Some p) from later = omega (arith, from, later)
@@ -161,7 +161,7 @@ all_at P a (x ∷ ss) s all found = elim (cases_Bool (x.age == a)) [
   | inr off ↦ all_at P a ss s (All-tail P x ss all) (rw off at found)
 ]
 
-module _ (h : Holding) (is : IsSound h) (name : List ℕ) (q : List ℕ → Option Queue) (found : Option Place)
+module _ (h : Holding) (is : IsSound h) (name : List ℕ) (q : List ℕ → Option Queue) (found : Option KeyedPlace)
     (r : SeeksTaker h.subscribers h.given name h.queues q found) where
   pub taker_later : (a : ℕ) (s : Subscriber) → subscriber_at a h.subscribers ≡ Some s
       → s.subscription.destination ≡ name
@@ -189,7 +189,7 @@ module _ (h : Holding) (is : IsSound h) (name : List ℕ) (q : List ℕ → Opti
         rw (r.others s.subscription.destination other) (is.takers a s there may)
   ]
     where
-      by_found : (o : Option Place) → IfSome o (λ p. (queue_of q name).taker_from ≤ p.number) → NoLater o a
+      by_found : (o : Option KeyedPlace) → IfSome o (λ p. (queue_of q name).taker_from ≤ p.number) → NoLater o a
           → (queue_of q name).taker_from ≤ a
       by_found None from never = absurd never
       by_found (Some p) from later = omega (arith, from, later)
@@ -225,7 +225,7 @@ module _ (h : Holding) (is : IsSound h) (name : List ℕ) (q : List ℕ → Opti
     covers = λ n due. absurd (ready_later h is name q None r n due.message due.there due.ready due.for_it);
   }
 
-  module _ (m : Place) (one : SeeksReady h.kept h.last name h.queues q (Some m)) (r : List ℕ → Option Queue) where
+  module _ (m : KeyedPlace) (one : SeeksReady h.kept h.last name h.queues q (Some m)) (r : List ℕ → Option Queue) where
     -- one is, and none takes it
     looked_untaken : SeeksTaker h.subscribers h.given name q r None → Looked h name (record h { queues = r }) None
     looked_untaken two =
@@ -240,7 +240,7 @@ module _ (h : Holding) (is : IsSound h) (name : List ℕ) (q : List ℕ → Opti
         }
 
     -- one is, and one takes it
-    looked_some : (a : Place) → SeeksTaker h.subscribers h.given name q r (Some a)
+    looked_some : (a : KeyedPlace) → SeeksTaker h.subscribers h.given name q r (Some a)
         → Looked h name (record h { queues = r }) (Some (record { message = m; taker = a }))
     looked_some a two =
         let mid : IsSound (record h { queues = q }) = sought_ready h is name q (Some m) one in
@@ -265,7 +265,7 @@ module _ (h : Holding) (is : IsSound h) (name : List ℕ) (q : List ℕ → Opti
         }
 
     -- one or the other
-    pub looked_with : (o : Option Place) → SeeksTaker h.subscribers h.given name q r o
+    pub looked_with : (o : Option KeyedPlace) → SeeksTaker h.subscribers h.given name q r o
         → Looked h name (record h { queues = r }) (pick_of m o)
     looked_with None two = looked_untaken two
     looked_with (Some a) two = looked_some a two

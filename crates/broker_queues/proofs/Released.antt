@@ -13,7 +13,7 @@ use Rattle.broker_book.specs.declared.parts.Subscription.{Subscription}
 use Rattle.broker_book.specs.Books.{Book, Fate, QueuedMessage, Ready, Out, out_of, out_to, is_named}
 use Rattle.broker_book.specs.Steps.{ended, ready_if, released}
 use Rattle.broker_index.specs.Index.{Kept, Subscriber, is_place_of, without}
-use Rattle.broker_index.specs.declared.places.Place.{Place}
+use Rattle.broker_index.specs.declared.places.KeyedPlace.{KeyedPlace}
 use Rattle.broker_queues.specs.Parts.Fates.{passes, turn_if}
 use Rattle.broker_queues.specs.Parts.Facts.{kept_at, subscriber_at, subscriptions_of, living_of, lists, holds_number}
 use Rattle.broker_queues.specs.Parts.Facts.{notes}
@@ -112,7 +112,7 @@ record IsNamed (h : Holding) (x : ℕ) (j : List ℕ) (age : ℕ) : Type 0 where
   session : subscriber.subscription.session ≡ x
   id : subscriber.subscription.id ≡ j
 
-is_the_named : (h : Holding) (x : ℕ) (j : List ℕ) (p : Place) → is_named_at h.subscribers x j p ≡ true
+is_the_named : (h : Holding) (x : ℕ) (j : List ℕ) (p : KeyedPlace) → is_named_at h.subscribers x j p ≡ true
     → IsNamed h x j p.number
 is_the_named h x j p named = by_subscriber (subscriber_at p.number h.subscribers) refl named
   where
@@ -124,7 +124,7 @@ is_the_named h x j p named = by_subscriber (subscriber_at p.number h.subscribers
         record { subscriber = s; sits = at; session = name.0; id = name.1 }
 
 -- one has it
-pub released_found : (h i : Holding) → IsSound h → (x : ℕ) (j : List ℕ) (p : Place)
+pub released_found : (h i : Holding) → IsSound h → (x : ℕ) (j : List ℕ) (p : KeyedPlace)
     → find (is_named_at h.subscribers x j) (h.sessions x) ≡ Some p → EndsOne h p.number i
     → IsSound i × ((accepted : List Accepted) → book_of i accepted ≡ released (book_of h accepted) x j)
     × (NoneGone h.kept → NoneGone i.kept)
@@ -143,7 +143,7 @@ released_found h i is x j p found ends =
 
 -- none is left
 module _ (h : Holding) (is : IsSound h) (x : ℕ) (none : length (h.sessions x) ≤ 0) where
-  no_places : (ps : List Place) → length ps ≤ 0 → (a : ℕ) → lists a ps ≡ false
+  no_places : (ps : List KeyedPlace) → length ps ≤ 0 → (a : ℕ) → lists a ps ≡ false
   no_places [] short a = refl
   no_places (p ∷ ps) short a = absurd (omega arith)
 
@@ -206,31 +206,31 @@ module _ (x : ℕ) (j : List ℕ) where
   ended_released : (b : Book) → ended (released b x j) x ≡ ended b x
   ended_released b = rw (ready_all b.living, goes_twice b.subscriptions) refl
 
-shorter : (n : ℕ) (ps : List Place) → length (without n ps) ≤ length ps
+shorter : (n : ℕ) (ps : List KeyedPlace) → length (without n ps) ≤ length ps
 shorter n [] = omega arith
 shorter n (p ∷ ps) = elim (cases_Bool (p.number == n)) [
   | inl on ↦ rw on (omega (arith, shorter n ps))
   | inr off ↦ rw off (omega (arith, shorter n ps))
 ]
 
-first_goes : (p : Place) (ps : List Place) → slice_get ps 0 ≡ Some p → length (without p.number ps) ≤ length ps - 1
+first_goes : (p : KeyedPlace) (ps : List KeyedPlace) → slice_get ps 0 ≡ Some p → length (without p.number ps) ≤ length ps - 1
 first_goes p [] first = let never : None ≡ Some p = first in cc
 first_goes p (r ∷ ps) first =
     let both : Some r ≡ Some p = first in
     let e : r ≡ p = cc in
-    let number : (r.number == p.number) ≡ true = eq-eqb r.number p.number (ap (λ (q : Place). q.number) e) in
+    let number : (r.number == p.number) ≡ true = eq-eqb r.number p.number (ap (λ (q : KeyedPlace). q.number) e) in
     rw number (omega (arith, shorter p.number ps))
 
-first_listed : (p : Place) (ps : List Place) → slice_get ps 0 ≡ Some p → lists p.number ps ≡ true
+first_listed : (p : KeyedPlace) (ps : List KeyedPlace) → slice_get ps 0 ≡ Some p → lists p.number ps ≡ true
 first_listed p [] first = let never : None ≡ Some p = first in cc
 first_listed p (r ∷ ps) first =
     let both : Some r ≡ Some p = first in
     let e : r ≡ p = cc in
-    let number : (r.number == p.number) ≡ true = eq-eqb r.number p.number (ap (λ (q : Place). q.number) e) in
+    let number : (r.number == p.number) ≡ true = eq-eqb r.number p.number (ap (λ (q : KeyedPlace). q.number) e) in
     rw number refl
 
 -- the first goes
-pub ends_first : (h i : Holding) → IsSound h → (x : ℕ) (p : Place) → slice_get (h.sessions x) 0 ≡ Some p
+pub ends_first : (h i : Holding) → IsSound h → (x : ℕ) (p : KeyedPlace) → slice_get (h.sessions x) 0 ≡ Some p
     → EndsOne h p.number i
     → EndsSome h x (length (h.sessions x) - 1) i
 ends_first h i is x p first ends =
@@ -253,7 +253,7 @@ ends_first h i is x p first ends =
 pub ends_nothing : (h : Holding) → IsSound h → (x most : ℕ) → length (h.sessions x) ≤ most → EndsSome h x most h
 ends_nothing h is x most few = record { sound = is; book = λ accepted. refl; left = few; none_gone = λ none. none }
 
-pub no_first : (ps : List Place) → slice_get ps 0 ≡ None → length ps ≤ length ps - 1
+pub no_first : (ps : List KeyedPlace) → slice_get ps 0 ≡ None → length ps ≤ length ps - 1
 no_first [] none = omega arith
 no_first (p ∷ ps) none = let never : Some p ≡ None = none in cc
 

@@ -8,7 +8,7 @@ use Rattle.broker_book.specs.declared.fault.QueueFault.TheVariants.{NoSuchAck}
 use Rattle.broker_book.specs.declared.parts.Accepted.{Accepted}
 use Rattle.broker_book.specs.Steps.{covered, ready_if, holder, holds_out, acked, nacked}
 use Rattle.broker_index.specs.Index.{Subscriber}
-use Rattle.broker_index.specs.declared.places.Place.{Place}
+use Rattle.broker_index.specs.declared.places.KeyedPlace.{KeyedPlace}
 use Rattle.broker_queues.specs.Parts.Facts.{lists, living_of}
 use Rattle.broker_queues.specs.Parts.Fates.{back, is_held_at}
 use Rattle.broker_queues.specs.Parts.Held.{Turns, TurnsAll, step_of}
@@ -17,13 +17,13 @@ use Rattle.broker_queues.proofs.Answering.{holds_out_in, IsHolder, no_holder, th
 use Rattle.broker_queues.proofs.Finding.{find_mapped}
 
 -- what is found is there
-pub found_lists : (test : Place → Bool) (ps : List Place) (p : Place) → find test ps ≡ Some p → lists p.number ps ≡ true
+pub found_lists : (test : KeyedPlace → Bool) (ps : List KeyedPlace) (p : KeyedPlace) → find test ps ≡ Some p → lists p.number ps ≡ true
 found_lists test [] p found = let never : None ≡ Some p = found in cc
 found_lists test (q ∷ ps) p found = elim (cases_Bool (test q)) [
   | inl on ↦
       let same : Some q ≡ Some p = rw on at found in
       let e : q ≡ p = cc in
-      let number : (q.number == p.number) ≡ true = eq-eqb q.number p.number (ap (λ (r : Place). r.number) e) in
+      let number : (q.number == p.number) ≡ true = eq-eqb q.number p.number (ap (λ (r : KeyedPlace). r.number) e) in
       rw number refl
   | inr off ↦ elim (cases_Bool (q.number == p.number)) [
     | inl here ↦ rw here refl
@@ -80,7 +80,7 @@ module _ (h i : Holding) (accepted : List Accepted) (x number : ℕ) (is : IsSou
   stepped true t = again_ready t
   stepped false t = gone t
 
-pub responded : (h i : Holding) (accepted : List Accepted) (x number : ℕ) (again : Bool) (p : Place) → IsSound h
+pub responded : (h i : Holding) (accepted : List Accepted) (x number : ℕ) (again : Bool) (p : KeyedPlace) → IsSound h
     → find (is_held_at h.kept h.subscribers number) (h.sessions x) ≡ Some p → TurnsAll h p.number (Some number) again i
     → IsSound i × (step_of again (book_of h accepted) x number ≡ Ok (book_of i accepted))
 responded h i accepted x number again p is found turns =

@@ -3,6 +3,7 @@ use Rattle.std.proofs.Common.{◌≡◌, ℕ, ◌+◌, ◌-◌, Bool, true, fals
 use Rattle.std.proofs.Common.{Option, Some, None, refl, sym, ap, ◌∙◌, arith, inl, inr}
 use Rattle.std.specs.Prelude.{◌==◌, ◌++◌, ◌||◌, [], ◌∷◌}
 use Rattle.std.specs.List.{list_any}
+use Rattle.std.specs.Option.{option_map}
 use Rattle.std.specs.Str.{bytes_eq}
 use Rattle.std.proofs.lemmas.Bool.{cases_Bool, cases_eq, eq-eqb, ne_eqb}
 use Rattle.std.proofs.lemmas.List.Folds.{list_any-append}
@@ -211,6 +212,11 @@ noted_name false names copy name same =
     last : (b : Bool) → (b || (true || false)) ≡ true
     last true = refl
     last false = refl
+
+-- what a queue of a name tells of its name
+pub told_name : (o : Option Queue) (shared name : List ℕ) → Some shared ≡ option_map (λ q. name) o → shared ≡ name
+told_name None shared name same = absurd (let never : Some shared ≡ None = same in cc)
+told_name (Some q) shared name same = let both : Some shared ≡ Some name = same in cc
 
 pub noted_wakes : (all : Bool) (names : List (List ℕ)) (copy : List ℕ)
     → Wakes (awake_in all names) (awake_in all (names ++ copy ∷ []))

@@ -8,7 +8,7 @@ use Rattle.std.specs.Option.{option_map}
 use Rattle.std.proofs.lemmas.Bool.{cases_Bool, cases_eq, ne_eqb, leb-false, leb-true}
 use Rattle.std.proofs.lemmas.List.Elements.{All-head, All-tail}
 use Rattle.broker_index.specs.Index.{Kept, Subscriber, Queue, Sets, opened, is_from, ready_from, taken_from}
-use Rattle.broker_index.specs.declared.places.Place.{Place}
+use Rattle.broker_index.specs.declared.places.KeyedPlace.{KeyedPlace}
 use Rattle.broker_queues.specs.Parts.Dealings.{FirstOf, SeeksReady, SeeksTaker, number_or, opens, takes_more}
 use Rattle.broker_queues.specs.Parts.Facts.{IsPast, lists, queue_of}
 use Rattle.broker_queues.specs.Parts.Queues.{TakesFrom, next_of}
@@ -16,11 +16,11 @@ use Rattle.broker_queues.proofs.Finding.{find_none, find_passes}
 use Rattle.broker_queues.proofs.Setting.{sets_map}
 
 -- none of those that were passed by passes
-abbrev pub Walked : (ℕ → Bool) → List Place → ℕ → ℕ → Type 0
+abbrev pub Walked : (ℕ → Bool) → List KeyedPlace → ℕ → ℕ → Type 0
 Walked test places start from = (m : ℕ) → lists m places ≡ true → start ≤ m → m < from → test m ≡ false
 
 -- what holds of all holds of a listed one
-listed_all : (P : ℕ → Type 0) (m : ℕ) (ps : List Place) → All (λ p. P p.number) ps → lists m ps ≡ true → P m
+listed_all : (P : ℕ → Type 0) (m : ℕ) (ps : List KeyedPlace) → All (λ p. P p.number) ps → lists m ps ≡ true → P m
 listed_all P m [] all listed = let never : false ≡ true = listed in cc
 listed_all P m (p ∷ ps) all listed = elim (cases_eq p.number m) [
   | inl same ↦ rw (← same) (All-head (λ p. P p.number) p ps all)
@@ -31,7 +31,7 @@ listed_all P m (p ∷ ps) all listed = elim (cases_eq p.number m) [
 ]
 
 -- where none is at a number or behind it, each listed one is below
-below_none : (from m : ℕ) (ps : List Place) → list_any (is_from from) ps ≡ false → lists m ps ≡ true → m < from
+below_none : (from m : ℕ) (ps : List KeyedPlace) → list_any (is_from from) ps ≡ false → lists m ps ≡ true → m < from
 below_none from m [] none listed = let never : false ≡ true = listed in cc
 below_none from m (p ∷ ps) none listed = elim (cases_Bool (nat_le from p.number)) [
   | inl on ↦ let never : true ≡ false = rw on at none in cc
@@ -45,7 +45,7 @@ below_none from m (p ∷ ps) none listed = elim (cases_Bool (nat_le from p.numbe
   ]
 ]
 
-no_some : (o : Option Place) → is_some o ≡ false → o ≡ None
+no_some : (o : Option KeyedPlace) → is_some o ≡ false → o ≡ None
 no_some None none = refl
 no_some (Some p) none = let never : true ≡ false = none in cc
 
@@ -63,12 +63,12 @@ past_still old new name age t past m listed from =
     past m (ap (λ ps. lists m ps) (sym (t.lowers.numbers name)) ∙ listed) (omega (arith, t.ready name, from))
 
 -- the next place isn't before where the walk is
-pub next_from : (from : ℕ) (places : List Place) (p : Place) → Some p ≡ find (is_from from) places → from ≤ p.number
+pub next_from : (from : ℕ) (places : List KeyedPlace) (p : KeyedPlace) → Some p ≡ find (is_from from) places → from ≤ p.number
 next_from from places p found = leb-true from p.number (find_passes (is_from from) places p (sym found))
 
-module _ (test : ℕ → Bool) (places : List Place) (start from : ℕ) (w : Walked test places start from) where
+module _ (test : ℕ → Bool) (places : List KeyedPlace) (start from : ℕ) (w : Walked test places start from) where
   -- the next one passes
-  pub walked_to : (last : ℕ) (p : Place) → All (λ q. (q.number < from) ⊎ (p.number ≤ q.number)) places
+  pub walked_to : (last : ℕ) (p : KeyedPlace) → All (λ q. (q.number < from) ⊎ (p.number ≤ q.number)) places
       → test p.number ≡ true
       → FirstOf test places start last (Some p)
   walked_to last p all on = (
@@ -80,7 +80,7 @@ module _ (test : ℕ → Bool) (places : List Place) (start from : ℕ) (w : Wal
   )
 
   -- it doesn't
-  pub walked_on : (p : Place) → All (λ q. (q.number < from) ⊎ (p.number ≤ q.number)) places → test p.number ≡ false
+  pub walked_on : (p : KeyedPlace) → All (λ q. (q.number < from) ⊎ (p.number ≤ q.number)) places → test p.number ≡ false
       → Walked test places start (p.number + 1)
   walked_on p all off m listed later below = elim (listed_all (λ n. (n < from) ⊎ (p.number ≤ n)) m places all listed) [
     | inl low ↦ w m listed later low
@@ -88,7 +88,7 @@ module _ (test : ℕ → Bool) (places : List Place) (start from : ℕ) (w : Wal
   ]
 
   -- it doesn't, and is the last
-  pub walked_past : (last : ℕ) (p : Place) → All (λ q. (q.number < from) ⊎ (p.number ≤ q.number)) places
+  pub walked_past : (last : ℕ) (p : KeyedPlace) → All (λ q. (q.number < from) ⊎ (p.number ≤ q.number)) places
       → test p.number ≡ false
       → last ≤ p.number → FirstOf test places start last None
   walked_past last p all off past m listed later within =
@@ -111,7 +111,7 @@ takes_no_later age None = omega arith
 takes_no_later age (Some q) = omega arith
 
 pub seeks_ready : (kept : List Kept) (last above number : ℕ) (name : List ℕ) (old new : List ℕ → Option Queue)
-    (found : Option Place) → number ≡ number_or found above
+    (found : Option KeyedPlace) → number ≡ number_or found above
     → Sets old new name (option_map (ready_from number) (old name))
     → FirstOf (opens kept name) (queue_of old name).numbers (queue_of old name).ready_from last found
     → SeeksReady kept last name old new found
@@ -131,7 +131,7 @@ seeks_ready kept last above number name old new found is sets first = record {
     now : (queue_of new name).ready_from ≤ number
     now = rw (sets.at) (looks_no_later number (old name))
 
-    by_found : (o : Option Place) → number ≡ number_or o above
+    by_found : (o : Option KeyedPlace) → number ≡ number_or o above
         → IfSome o (λ p. (queue_of new name).ready_from ≤ p.number)
     by_found None e = tt
     by_found (Some p) e = omega (arith, now, e)
@@ -149,7 +149,7 @@ looks_there name queues number is = record { at = by_queue (queues name) is; oth
 -- the taker was looked for before the queue looked elsewhere for ready messages
 pub seeks_taker : (subscribers : List Subscriber) (given last age : ℕ) (name : List ℕ)
     (old between new : List ℕ → Option Queue)
-    (found : Option Place) → All (λ s. s.age < last) subscribers → age ≡ number_or found last
+    (found : Option KeyedPlace) → All (λ s. s.age < last) subscribers → age ≡ number_or found last
     → (queue_of between name).subscribers ≡ (queue_of old name).subscribers
     → (queue_of between name).taker_from ≡ (queue_of old name).taker_from
     → Sets between new name (option_map (taken_from age) (between name))
@@ -173,7 +173,7 @@ seeks_taker subscribers given last age name old between new found young is liste
     now : (queue_of new name).taker_from ≤ age
     now = rw (sets.at) (takes_no_later age (between name))
 
-    by_found : (o : Option Place) → age ≡ number_or o last → IfSome o (λ p. (queue_of new name).taker_from ≤ p.number)
+    by_found : (o : Option KeyedPlace) → age ≡ number_or o last → IfSome o (λ p. (queue_of new name).taker_from ≤ p.number)
     by_found None e = tt
     by_found (Some p) e = omega (arith, now, e)
 

@@ -12,7 +12,7 @@ use Rattle.broker_book.specs.Books.{Fate, Out, out_to, is_named}
 use Rattle.broker_index.specs.Index.{Kept, Subscriber, Queue, Sets, entries_without, opened, unless_idle}
 use Rattle.broker_index.specs.Index.{taken_number, without_entries, without_number}
 use Rattle.broker_index.specs.declared.places.Entry.{Entry}
-use Rattle.broker_index.specs.declared.places.Place.{Place}
+use Rattle.broker_index.specs.declared.places.KeyedPlace.{KeyedPlace}
 use Rattle.broker_queues.specs.Parts.Fates.{passes, fate_of_kept, is_held_at}
 use Rattle.broker_queues.specs.Parts.Held.{TurnsAll, step_of}
 use Rattle.broker_queues.specs.Parts.Facts.{kept_at, subscriber_at, living_of, subscriptions_of, lists, notes, queue_of}
@@ -270,7 +270,7 @@ pub tidy_book : (h i : Holding) → Tidies h i → (accepted : List Accepted) �
 tidy_book h i t accepted = rw (t.living, t.subscriptions, t.last, t.given) refl
 
 -- an answer, and then a subscriber's deliveries are swept
-pub answered : (h i j : Holding) (accepted : List Accepted) (x number : ℕ) (again : Bool) (p : Place) → IsSound h
+pub answered : (h i j : Holding) (accepted : List Accepted) (x number : ℕ) (again : Bool) (p : KeyedPlace) → IsSound h
     → find (is_held_at h.kept h.subscribers number) (h.sessions x) ≡ Some p → TurnsAll h p.number (Some number) again i
     → Sweeps i j
     → IsSound j × (step_of again (book_of h accepted) x number ≡ Ok (book_of j accepted))

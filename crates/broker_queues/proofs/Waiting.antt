@@ -12,7 +12,7 @@ use Rattle.broker_book.specs.Books.{Fate, Out, QueuedMessage, Ready, out_of, out
 use Rattle.broker_book.specs.Sizes.{held_octets, sent_octets}
 use Rattle.broker_index.specs.Held.{kept_octets}
 use Rattle.broker_index.specs.Index.{Kept, Subscriber, is_place_of}
-use Rattle.broker_index.specs.declared.places.Place.{Place}
+use Rattle.broker_index.specs.declared.places.KeyedPlace.{KeyedPlace}
 use Rattle.broker_queues.specs.Parts.Facts.{holds_number, kept_at, lists, living_as, living_of, message_of, notes, rise}
 use Rattle.broker_queues.specs.Parts.Facts.{subscriber_at}
 use Rattle.broker_queues.specs.Parts.Fates.{fated}
@@ -76,10 +76,10 @@ module _ (h : Holding) (is : IsSound h) (x : ℕ) where
 
   out_where_waits : SomeWaits → SomeOut
   out_where_waits any =
-      let one : IsAmong (λ (p : Place). p.number) (waits_at h.subscribers) (h.sessions x) =
-      any_at (λ (p : Place). p.number) (waits_at h.subscribers) 0 (h.sessions x) (is.owned_rise x) any in
+      let one : IsAmong (λ (p : KeyedPlace). p.number) (waits_at h.subscribers) (h.sessions x) =
+      any_at (λ (p : KeyedPlace). p.number) (waits_at h.subscribers) 0 (h.sessions x) (is.owned_rise x) any in
       let listed : lists one.value.number (h.sessions x) ≡ true =
-      any_from_at (λ (p : Place). p.number) (is_place_of one.value.number) one.value.number (h.sessions x) one.value
+      any_from_at (λ (p : KeyedPlace). p.number) (is_place_of one.value.number) one.value.number (h.sessions x) one.value
       one.found (eq-eqb one.value.number one.value.number refl) in
       out_by one.value.number listed (subscriber_at one.value.number h.subscribers) refl one.passes
 
@@ -104,12 +104,12 @@ module _ (h : Holding) (is : IsSound h) (x : ℕ) where
       let counted : s.count ≡ count_by test (living_of h.kept) = is.credited s.age s one.found in
       let owned : lists s.age (h.sessions x) ≡ true =
       ap (λ y. lists s.age (h.sessions y)) (sym name.0) ∙ is.owned s.age s one.found in
-      let place : IsAmong (λ (p : Place). p.number) (is_place_of s.age) (h.sessions x) =
-      any_at (λ (p : Place). p.number) (is_place_of s.age) 0 (h.sessions x) (is.owned_rise x) owned in
+      let place : IsAmong (λ (p : KeyedPlace). p.number) (is_place_of s.age) (h.sessions x) =
+      any_at (λ (p : KeyedPlace). p.number) (is_place_of s.age) 0 (h.sessions x) (is.owned_rise x) owned in
       let same : place.value.number ≡ s.age = eqb-true place.value.number s.age place.passes in
       let waiting : waits_at h.subscribers place.value ≡ true =
       ap (λ b. waits (subscriber_at b h.subscribers)) same ∙ ap waits one.found ∙ lt-ltb 0 s.count (omega arith) in
-      any_from_at (λ (p : Place). p.number) (waits_at h.subscribers) place.value.number (h.sessions x) place.value
+      any_from_at (λ (p : KeyedPlace). p.number) (waits_at h.subscribers) place.value.number (h.sessions x) place.value
       place.found waiting
 
   waits_at_fate : (k : Kept) → kept_at k.number h.kept ≡ Some k → (f : Option Fate) → k.fate ≡ f

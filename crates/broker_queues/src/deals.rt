@@ -16,14 +16,14 @@ use crate::destinations::{count_fewer, look_on, next_ready, next_taker, number_o
 use crate::parts::Parts;
 use crate::sink::Sink;
 use broker_book::{Sent, Subscription};
-use broker_index::{Entry, Holder, Place, Standing};
+use broker_index::{Entry, Holder, KeyedPlace, Standing};
 use std::alloc::AllocError;
 
 /// A deal that can be made: where its message is, and where its taker is.
 #[derive(Clone, Copy)]
 pub struct Pick {
-    pub message: Place,
-    pub taker: Place,
+    pub message: KeyedPlace,
+    pub taker: KeyedPlace,
 }
 
 /// The pick with the earlier message.
@@ -43,7 +43,7 @@ fn earlier(best: Option<Pick>, pick: Pick) -> Pick
 }
 
 /// The pick of a message and the taker that was found for it, if one was.
-fn pick_of(message: Place, taker: Option<Place>) -> Option<Pick>
+fn pick_of(message: KeyedPlace, taker: Option<KeyedPlace>) -> Option<Pick>
     ensures { result ≡ pick_of message taker }
 {
     match taker {
@@ -87,7 +87,8 @@ impl Parts {
     {
         match best {
             Some(pick) => {
-                pick.message.number <= ready_from(&self.destinations, &self.active.names[index])
+                pick.message.number
+                    <= ready_from(&self.destinations, self.active.names[index].get())
             }
             None => false,
         }
@@ -101,7 +102,7 @@ impl Parts {
             (holding_of self.new) result }
         ensures active { self.new.active ≡ self.old.active }
     {
-        let name = &self.active.names[index];
+        let name = self.active.names[index].get();
         let Some(message) = next_ready(&self.messages, &self.destinations, self.last, name) else {
             // Behind all that came: what the queue lists is passed at once then.
             self.destinations
@@ -147,7 +148,8 @@ impl Parts {
         best
     }
 
-    /// Names all destinations, where a name could not be noted before.
+    /// Names all destinations, where a name could not be noted before. That never comes up: see
+    /// `Active::wake`.
     fn rouse(&mut self) -> Result<(), AllocError>
         ensures rests { IsSound (holding_of self.old) → Rests (holding_of self.old) (holding_of self.new) }
         ensures named { OnOk result (self.new.active.all ≡ false) }
@@ -183,8 +185,8 @@ impl Parts {
     /// Where memory is refused; then nothing has changed.
     fn hand_auto<S: Sink>(
         &mut self,
-        message: Place,
-        to: Place,
+        message: KeyedPlace,
+        to: KeyedPlace,
         sink: &mut S,
     ) -> Result<(), AllocError>
         ensures hands { HandsOut S.takes true message.number to.number (holding_of self.old) sink.old
@@ -214,8 +216,8 @@ impl Parts {
     /// is stale, may be forgotten.
     fn hand_out<S: Sink>(
         &mut self,
-        message: Place,
-        to: Place,
+        message: KeyedPlace,
+        to: KeyedPlace,
         sink: &mut S,
     ) -> Result<(), AllocError>
         ensures hands { HandsOut S.takes false message.number to.number (holding_of self.old) sink.old
@@ -258,7 +260,7 @@ impl Parts {
     }
 
     /// Whether the subscriber at a place wants to give no answers.
-    fn is_auto_at(&self, place: Place) -> bool
+    fn is_auto_at(&self, place: KeyedPlace) -> bool
         ensures { result ≡ is_auto_of (subscriber_at place.number self.now.subscribers) }
     {
         match self.subscribers.get(place.number, place.key) {

@@ -22,7 +22,7 @@ ghost use Rattle.std.specs.Str.{bytes_eq};
 use crate::destinations::{credit, mark};
 use crate::parts::Parts;
 use broker_book::{Mode, QueueFault, Subscription};
-use broker_index::{Entry, Holder, Place, Standing, StoredSubscriber};
+use broker_index::{Entry, Holder, KeyedPlace, Standing, StoredSubscriber};
 
 /// Where a message is whose delivery is taken back: ready again, or else gone.
 fn standing_back(again: bool) -> Standing
@@ -89,7 +89,7 @@ pub fn is_out(standing: &Standing) -> bool
 }
 
 /// The only one of these places; none, where there are more.
-fn sole_of(places: &[Place]) -> Option<Place>
+fn sole_of(places: &[KeyedPlace]) -> Option<KeyedPlace>
     ensures { IfSome result (λ p. slice_get places.now 0 ≡ Some p) }
 {
     // Of more than one it isn't said which it is: to ask the first in vain would cost more than that spares.
@@ -208,7 +208,7 @@ impl Parts {
     }
 
     /// Takes back the deliveries of a subscriber for which an answer to the delivery `answered` counts, without an
-    /// answer all: their messages are ready again, or else gone. It does the same where memory is refused.
+    /// answer all: their messages are ready again, or else gone. It takes no memory.
     pub fn answer(&mut self, age: u64, age_key: usize, answered: Option<u64>, again: bool)
         ensures { TurnsAll (holding_of self.old) age answered again (holding_of self.new) }
     {
@@ -244,7 +244,7 @@ impl Parts {
     }
 
     /// Whether a delivery of this number is out to the subscriber at a place.
-    fn is_held_at(&self, place: &Place, ack: u64) -> bool
+    fn is_held_at(&self, place: &KeyedPlace, ack: u64) -> bool
         ensures { result ≡ is_held_at self.now.messages self.now.subscribers ack place.now }
     {
         match self.subscribers.get(place.number, place.key) {
@@ -254,7 +254,7 @@ impl Parts {
     }
 
     /// The first of these places whose subscriber holds a delivery of this number.
-    fn first_held(&self, places: &[Place], ack: u64) -> Option<Place>
+    fn first_held(&self, places: &[KeyedPlace], ack: u64) -> Option<KeyedPlace>
         ensures { result ≡ find (is_held_at self.now.messages self.now.subscribers ack) places.now }
     {
         for place in places {
@@ -266,7 +266,7 @@ impl Parts {
     }
 
     /// The place of the oldest subscriber of a session to whom a delivery of this number is out.
-    pub fn holder(&self, session: u64, ack: u64) -> Option<Place>
+    pub fn holder(&self, session: u64, ack: u64) -> Option<KeyedPlace>
         ensures { result ≡ find (is_held_at self.now.messages self.now.subscribers ack)
             (places_at self.now.sessions session) }
     {
@@ -337,7 +337,7 @@ impl Parts {
 
     /// The delivery to the subscriber at a place for which alone an answer to the delivery `answered` counts; none,
     /// where it may count for more.
-    fn sole_covered(&self, place: &Place, answered: u64) -> Option<Entry>
+    fn sole_covered(&self, place: &KeyedPlace, answered: u64) -> Option<Entry>
         ensures { result ≡ sole_covered self.now.messages answered (subscriber_at place.now.number
             self.now.subscribers) }
     {
@@ -355,7 +355,7 @@ impl Parts {
     /// takes no memory.
     ///
     /// The message isn't put down as gone before: so its queue counts and lists it no more by one look.
-    fn settle(&mut self, entry: &Entry, holder: &Place)
+    fn settle(&mut self, entry: &Entry, holder: &KeyedPlace)
         ensures { AnswersAlone (holding_of self.old) holder.now.number entry.now.number false (holding_of self.new) }
     {
         let Some(stored) = self.messages.get(entry.number, entry.key) else {
@@ -382,7 +382,7 @@ impl Parts {
 
     /// Takes back one delivery to the subscriber at a place, and forgets it: its message is ready again, or else taken
     /// out. It takes no memory.
-    fn answer_alone(&mut self, entry: &Entry, place: &Place, again: bool)
+    fn answer_alone(&mut self, entry: &Entry, place: &KeyedPlace, again: bool)
         ensures { AnswersAlone (holding_of self.old) place.now.number entry.now.number again (holding_of self.new) }
     {
         if !again {
@@ -418,7 +418,7 @@ impl Parts {
 
     /// The delivery of this number to the only subscription of a session, and where its subscriber is, if an answer to it
     /// counts for it alone.
-    fn sole_held(&self, session: u64, ack: u64) -> Option<(Place, Entry)>
+    fn sole_held(&self, session: u64, ack: u64) -> Option<(KeyedPlace, Entry)>
         ensures { IfSome result (λ r. (find (is_held_at self.now.messages self.now.subscribers ack)
             (places_at self.now.sessions session) ≡ Some r.0)
             × (sole_covered self.now.messages ack (subscriber_at r.0.number self.now.subscribers) ≡ Some r.1)) }
@@ -451,8 +451,8 @@ impl Parts {
         Ok(())
     }
 
-    /// An ACK of a session, or a NACK where the messages are to be ready again; what is gone then is taken out. It does
-    /// the same where memory is refused.
+    /// An ACK of a session, or a NACK where the messages are to be ready again; what is gone then is taken out. It takes
+    /// no memory.
     ///
     /// # Errors
     /// Where no delivery of this number is out to the session; then nothing has changed.

@@ -19,7 +19,7 @@ ghost use Rattle.std.specs.Prelude.{◌&&◌, ◌-◌, ◌<◌, ◌==◌, ◌^�
 use crate::active::Active;
 use base::limits::MAX_UNANSWERED;
 use broker_index::{
-    Destinations, Messages, Place, Standing, StoredQueue, StoredSubscriber, Subscribers,
+    Destinations, KeyedPlace, Messages, Standing, StoredQueue, StoredSubscriber, Subscribers,
 };
 use std::alloc::AllocError;
 use stomp_session::Text;
@@ -138,7 +138,7 @@ pub fn mark(
 {
     if again {
         look_from(destinations, name, number);
-        active.wake(name);
+        active.wake(destinations, name);
     } else {
         count_fewer(destinations, name);
     }
@@ -150,7 +150,7 @@ pub fn free(destinations: &mut Destinations, active: &mut Active, name: &Text, a
         (awake_in active.old.all active.old.names.items) (awake_in active.new.all active.new.names.items) }
 {
     take_from(destinations, name, age);
-    active.wake(name);
+    active.wake(destinations, name);
 }
 
 /// Tells a subscriber's destination that the subscriber has credit. It wakes only where it lists a message from where it
@@ -163,7 +163,7 @@ pub fn credit(destinations: &mut Destinations, active: &mut Active, name: &Text,
     let is_awake = lists_more(destinations, name);
     take_from(destinations, name, age);
     if is_awake {
-        active.wake(name);
+        active.wake(destinations, name);
     }
 }
 
@@ -194,7 +194,7 @@ fn open_told(
 pub fn add_number(
     destinations: &mut Destinations,
     name: &Text,
-    place: Place,
+    place: KeyedPlace,
     told: Option<(usize, u64)>,
 ) -> Result<(), AllocError>
     requires above { All (λ p. p.number < place.number) (queue_of (queue_at destinations.old) name.now).numbers }
@@ -221,7 +221,7 @@ pub fn add_number(
 pub fn add_subscriber(
     destinations: &mut Destinations,
     name: &Text,
-    place: Place,
+    place: KeyedPlace,
 ) -> Result<(), AllocError>
     requires { All (λ p. p.number < place.number) (queue_of (queue_at destinations.old) name.now).subscribers }
     ensures ok { OnOk result (Becomes (with_subscriber place) (queue_at destinations.old) (queue_at destinations.new)
@@ -249,7 +249,7 @@ fn is_ready(standing: &Standing) -> bool
 }
 
 /// The number of a place, or this one where there is none.
-pub fn number_or(place: Option<Place>, number: u64) -> u64
+pub fn number_or(place: Option<KeyedPlace>, number: u64) -> u64
     ensures { result ≡ number_or place number }
 {
     match place {
@@ -259,7 +259,7 @@ pub fn number_or(place: Option<Place>, number: u64) -> u64
 }
 
 /// Whether the message at a place is ready and goes to a destination.
-fn is_open_at(messages: &Messages, place: Place, name: &Text) -> bool
+fn is_open_at(messages: &Messages, place: KeyedPlace, name: &Text) -> bool
     ensures { result ≡ opens messages.now name.now place.number }
 {
     match messages.get(place.number, place.key) {
@@ -278,7 +278,7 @@ fn may_take_more(subscriber: &StoredSubscriber, given: u64) -> bool
 }
 
 /// Whether the subscriber at a place listens on a destination and may take one message more.
-fn is_free_at(subscribers: &Subscribers, given: u64, place: Place, name: &Text) -> bool
+fn is_free_at(subscribers: &Subscribers, given: u64, place: KeyedPlace, name: &Text) -> bool
     ensures { result ≡ takes_more subscribers.now given name.now place.number }
 {
     match subscribers.get(place.number, place.key) {
@@ -291,7 +291,12 @@ fn is_free_at(subscribers: &Subscribers, given: u64, place: Place, name: &Text) 
 }
 
 /// The first ready message of a destination among those up to the last number, from where its queue looks for one.
-fn first_ready(messages: &Messages, queue: &StoredQueue, last: u64, name: &Text) -> Option<Place>
+fn first_ready(
+    messages: &Messages,
+    queue: &StoredQueue,
+    last: u64,
+    name: &Text,
+) -> Option<KeyedPlace>
     ensures { FirstOf (opens messages.now name.now) queue.now.numbers queue.now.ready_from last result }
 {
     let mut from = queue.ready_from();
@@ -316,7 +321,7 @@ fn first_taker(
     given: u64,
     last: u64,
     name: &Text,
-) -> Option<Place>
+) -> Option<KeyedPlace>
     ensures { FirstOf (takes_more subscribers.now given name.now) queue.now.subscribers queue.now.taker_from last
         result }
 {
@@ -339,7 +344,7 @@ pub fn next_ready(
     destinations: &Destinations,
     last: u64,
     name: &Text,
-) -> Option<Place>
+) -> Option<KeyedPlace>
     ensures { FirstOf (opens messages.now name.now) (queue_of (queue_at destinations.now) name.now).numbers
         (queue_of (queue_at destinations.now) name.now).ready_from last result }
 {
@@ -357,7 +362,7 @@ pub fn next_taker(
     given: u64,
     last: u64,
     name: &Text,
-) -> Option<Place>
+) -> Option<KeyedPlace>
     ensures { FirstOf (takes_more subscribers.now given name.now) (queue_of (queue_at destinations.now) name.now).subscribers
         (queue_of (queue_at destinations.now) name.now).taker_from last result }
 {

@@ -6,13 +6,13 @@
 //! stands in its old place.
 //!
 //! What a SEND brought and the names of subscriptions are shared, so that no body is copied. Answers and the end of
-//! subscriptions take no memory. Where memory is refused, a call has changed nothing, but that a dispatch may have
-//! handed out some messages before.
+//! subscriptions take no memory: what they put back has its room from the SEND and the SUBSCRIBE. Where memory is
+//! refused, a call has changed nothing, but that a dispatch may have handed out some messages before.
 //!
 //! What a call costs is in no contract. As the code stands, a message is found by its number and a key, a destination
 //! by its name and a session's subscriptions by its number; an answer goes through the deliveries to the session's
 //! subscriptions, and a deal looks at the destinations where something may be due. So none looks through all messages,
-//! subscriptions or sessions, unless memory was refused before.
+//! subscriptions or sessions.
 //!
 //! ```rust
 //! pub fn a_message_is_accepted(alloc: Global) -> Result<usize, QueueFault> {

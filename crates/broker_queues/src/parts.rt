@@ -22,7 +22,7 @@ ghost use Rattle.std.specs.Prelude.{◌-◌, ◌<◌, ◌^◌, ◌≡◌};
 use crate::active::Active;
 use crate::destinations::{add_number, look_from_told, told_count};
 use broker_book::{QueueFault, Sent, Shared};
-use broker_index::{Destinations, Messages, Place, Sessions, Standing, Subscribers};
+use broker_index::{Destinations, KeyedPlace, Messages, Sessions, Standing, Subscribers};
 use std::alloc::AllocError;
 
 /// The messages, subscribers, destinations and sessions of a book, the destinations where something may be due, and the
@@ -64,14 +64,20 @@ impl Parts {
         requires told { HasTold (queue_at self.old.destinations) sent.now.destination told }
         ensures { Stores (holding_of self.old) sent.now (holding_of self.new) result }
     {
+        self.active.make_room(&self.destinations)?;
         let number = self.last + 1;
         let name = &sent.get().destination;
         let key = self.messages.push(number, sent)?;
-        match add_number(&mut self.destinations, name, Place { number, key }, told) {
+        match add_number(
+            &mut self.destinations,
+            name,
+            KeyedPlace { number, key },
+            told,
+        ) {
             Ok(()) => {
-                // Nothing can fail from here on: a name that can't be noted wakes all.
+                // Nothing can fail from here on: there is room for the name, or else all wake.
                 look_from_told(&mut self.destinations, name, number, told);
-                self.active.wake(name);
+                self.active.wake(&self.destinations, name);
                 self.last = number;
                 Ok(key)
             }

@@ -58,7 +58,6 @@ impl<const FULL: usize> Queues<FULL> {
                     alloc,
                     names: Vec::new(alloc),
                     all: false,
-                    rested: None,
                 },
                 last: 0,
                 given: 0,
@@ -159,16 +158,15 @@ impl<const FULL: usize> Queues<FULL> {
         self.parts.messages.unanswered()
     }
 
-    /// Ends a session's subscription of this name: what is out to it is ready again, in its old place. It does the same
-    /// where memory is refused.
+    /// Ends a session's subscription of this name: what is out to it is ready again, in its old place. It takes no
+    /// memory.
     pub fn release(&mut self, session: u64, id: &Text)
         ensures { self.new ≡ released self.old session id.now }
     {
         self.parts.release(session, id)
     }
 
-    /// Ends all subscriptions of a session: what is out to them is ready again, in its old place. It does the same
-    /// where memory is refused.
+    /// Ends all subscriptions of a session: what is out to them is ready again, in its old place. It takes no memory.
     pub fn end(&mut self, session: u64)
         ensures { self.new ≡ ended self.old session }
     {
@@ -183,7 +181,7 @@ impl<const FULL: usize> Queues<FULL> {
     }
 
     /// An ACK of a session (STOMP 1.2, section "ACK"): the message that is out as this delivery is gone, and in mode
-    /// `client` those of the subscription's earlier deliveries. It does the same where memory is refused.
+    /// `client` those of the subscription's earlier deliveries. It takes no memory.
     ///
     /// # Errors
     /// `NoSuchAck` where no such delivery is out to the session, and then nothing has changed.
@@ -194,8 +192,7 @@ impl<const FULL: usize> Queues<FULL> {
     }
 
     /// A NACK of a session (STOMP 1.2, section "NACK"): the message that is out as this delivery is ready again, in its
-    /// old place, and in mode `client` those of the subscription's earlier deliveries. It does the same where memory is
-    /// refused.
+    /// old place, and in mode `client` those of the subscription's earlier deliveries. It takes no memory.
     ///
     /// # Errors
     /// `NoSuchAck` where no such delivery is out to the session, and then nothing has changed.

@@ -17,7 +17,7 @@ ghost use Rattle.std.specs.Prelude.{◌<◌, ◌≡◌, All, false, find, length
 use crate::destinations::{add_subscriber, free};
 use crate::parts::Parts;
 use broker_book::Subscription;
-use broker_index::Place;
+use broker_index::KeyedPlace;
 use std::alloc::AllocError;
 use stomp_session::Text;
 
@@ -26,7 +26,7 @@ impl Parts {
     ///
     /// # Errors
     /// Where memory is refused; then an idle queue goes at most.
-    fn attach(&mut self, name: &Text, session: u64, place: Place) -> Result<(), AllocError>
+    fn attach(&mut self, name: &Text, session: u64, place: KeyedPlace) -> Result<(), AllocError>
         requires { All (λ p. p.number < place.number) (queue_of (queue_at self.old.destinations) name.now).subscribers }
         ensures { Attaches (holding_of self.old) name.now session place (holding_of self.new) result }
     {
@@ -55,6 +55,7 @@ impl Parts {
         ensures joins { SubscribesTo (holding_of self.old) subscription.now (holding_of self.new) result }
         ensures messages { self.new.messages ≡ self.old.messages }
     {
+        self.active.make_room(&self.destinations)?;
         let place = self.subscribers.push(subscription)?;
         let name = subscription.destination.get();
         match self.attach(name, subscription.session, place) {
@@ -93,7 +94,7 @@ impl Parts {
     }
 
     /// Whether the subscriber at a place has this name.
-    fn is_named_at(&self, place: &Place, session: u64, id: &Text) -> bool
+    fn is_named_at(&self, place: &KeyedPlace, session: u64, id: &Text) -> bool
         ensures { result ≡ is_named_at self.now.subscribers session id.now place.now }
     {
         match self.subscribers.get(place.number, place.key) {
@@ -103,7 +104,7 @@ impl Parts {
     }
 
     /// The first of these places whose subscriber has this name.
-    fn first_named(&self, places: &[Place], session: u64, id: &Text) -> Option<Place>
+    fn first_named(&self, places: &[KeyedPlace], session: u64, id: &Text) -> Option<KeyedPlace>
         ensures { result ≡ find (is_named_at self.now.subscribers session id.now) places.now }
     {
         for place in places {
@@ -115,7 +116,7 @@ impl Parts {
     }
 
     /// The place of a session's subscriber of this name.
-    pub fn named(&self, session: u64, id: &Text) -> Option<Place>
+    pub fn named(&self, session: u64, id: &Text) -> Option<KeyedPlace>
         ensures { result ≡ find (is_named_at self.now.subscribers session id.now)
             (places_at self.now.sessions session) }
     {
@@ -123,7 +124,7 @@ impl Parts {
     }
 
     /// Ends a session's subscription of this name: what is out to it is ready again, in its old place. Where there is
-    /// none, nothing changes. It does the same where memory is refused.
+    /// none, nothing changes. It takes no memory.
     pub fn release(&mut self, session: u64, id: &Text)
         ensures { ReleasesNamed (holding_of self.old) session id.now (holding_of self.new) }
     {
@@ -140,7 +141,7 @@ impl Parts {
     }
 
     /// Whether a delivery to the subscriber at a place is unanswered.
-    fn waits_at(&self, place: &Place) -> bool
+    fn waits_at(&self, place: &KeyedPlace) -> bool
         ensures { result ≡ waits_at self.now.subscribers place.now }
     {
         match self.subscribers.get(place.number, place.key) {
@@ -160,7 +161,7 @@ impl Parts {
     }
 
     /// The place of its oldest one.
-    fn first_place(&self, session: u64) -> Option<Place>
+    fn first_place(&self, session: u64) -> Option<KeyedPlace>
         ensures { result ≡ slice_get (places_at self.now.sessions session) 0 }
     {
         self.sessions.get(session).first().copied()
@@ -175,8 +176,7 @@ impl Parts {
         }
     }
 
-    /// Ends all subscriptions of a session: what is out to them is ready again, in its old place. It does the same
-    /// where memory is refused.
+    /// Ends all subscriptions of a session: what is out to them is ready again, in its old place. It takes no memory.
     pub fn end(&mut self, session: u64)
         ensures { EndsAll (holding_of self.old) session (holding_of self.new) }
     {

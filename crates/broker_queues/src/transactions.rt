@@ -18,7 +18,7 @@ use crate::deliveries::{covers, is_out};
 use crate::destinations::{count, count_fewer};
 use crate::parts::Parts;
 use broker_book::{Accepted, Action, QueueFault, Sent, Shared, Subscription};
-use broker_index::{Destinations, Entry, Place, Standing};
+use broker_index::{Destinations, Entry, KeyedPlace, Standing};
 use std::alloc::AllocError;
 use stomp_session::Text;
 
@@ -118,7 +118,7 @@ impl Parts {
     fn note_one(
         &self,
         entry: &Entry,
-        place: Place,
+        place: KeyedPlace,
         to: &Subscription,
         answered: Option<u64>,
         log: &mut Vec<Logged>,
@@ -147,7 +147,7 @@ impl Parts {
     /// Where memory is refused; then some of them are noted.
     fn note_all(
         &self,
-        place: Place,
+        place: KeyedPlace,
         answered: Option<u64>,
         log: &mut Vec<Logged>,
     ) -> Result<(), AllocError>

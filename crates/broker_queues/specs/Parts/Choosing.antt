@@ -6,7 +6,7 @@ use Rattle.broker_book.specs.declared.parts.Accepted.{Accepted}
 use Rattle.broker_book.specs.Books.{Ready, is_auto}
 use Rattle.broker_book.specs.Steps.{Handed}
 use Rattle.broker_index.specs.Index.{Kept, Subscriber}
-use Rattle.broker_index.specs.declared.places.Place.{Place}
+use Rattle.broker_index.specs.declared.places.KeyedPlace.{KeyedPlace}
 use Rattle.broker_queues.specs.declared.deals.Pick.{Pick}
 use Rattle.broker_queues.specs.Parts.Dealings.{DealsOne}
 use Rattle.broker_queues.specs.Parts.Facts.{kept_at, subscriber_at, may_have}
@@ -56,7 +56,7 @@ earlier None p = p
 earlier (Some best) p = if nat_le best.message.number p.message.number then best else p
 
 -- the pick of a message and of a taker, if there is one
-abbrev pub pick_of : Place → Option Place → Option Pick
+abbrev pub pick_of : KeyedPlace → Option KeyedPlace → Option Pick
 pick_of message None = None
 pick_of message (Some taker) = Some (record { message = message; taker = taker })
 

@@ -8,20 +8,20 @@ use Rattle.broker_book.specs.Steps.{Handed, Deal}
 use Rattle.std.specs.Prelude.{All, IfSome}
 use Rattle.std.specs.Option.{option_map}
 use Rattle.broker_index.specs.Index.{Kept, Subscriber, Queue, Sets, ready_from, taken_from, without_entries}
-use Rattle.broker_index.specs.declared.places.Place.{Place}
+use Rattle.broker_index.specs.declared.places.KeyedPlace.{KeyedPlace}
 use Rattle.broker_queues.specs.Parts.Facts.{kept_at, subscriber_at, lists, may_have, queue_of}
 use Rattle.broker_queues.specs.Parts.Fates.{passes}
 use Rattle.broker_queues.specs.Parts.Storing.{NoneGone}
 use Rattle.broker_queues.specs.Parts.Whole.{Holding, IsSound, Picks, SameCounts, book_of}
 
 -- the number of a place, or this one where there is none
-abbrev pub number_or : Option Place → ℕ → ℕ
+abbrev pub number_or : Option KeyedPlace → ℕ → ℕ
 number_or None number = number
 number_or (Some p) number = p.number
 
 -- the first of these places from a number on that passes a test, among those up to the last number, however they are
 -- ordered
-abbrev pub FirstOf : (ℕ → Bool) → List Place → ℕ → ℕ → Option Place → Type 0
+abbrev pub FirstOf : (ℕ → Bool) → List KeyedPlace → ℕ → ℕ → Option KeyedPlace → Type 0
 FirstOf test places from last None = (m : ℕ) → lists m places ≡ true → from ≤ m → m ≤ last → test m ≡ false
 FirstOf test places from last (Some p) = (test p.number ≡ true)
     × ((m : ℕ) → lists m places ≡ true → from ≤ m → m < p.number → test m ≡ false)
@@ -47,7 +47,7 @@ takes_more subscribers given name age = is_free given name (subscriber_at age su
 -- The first ready message of a destination was looked for; its queue looks for one from there on now, and nothing else
 -- changed.
 pub record SeeksReady (kept : List Kept) (last : ℕ) (name : List ℕ) (old new : List ℕ → Option Queue)
-    (found : Option Place) : Type 0 where
+    (found : Option KeyedPlace) : Type 0 where
   pub numbers : (d : List ℕ) → (queue_of new d).numbers ≡ (queue_of old d).numbers
   pub subscribers : (d : List ℕ) → (queue_of new d).subscribers ≡ (queue_of old d).subscribers
   pub count : SameCounts old new
@@ -59,7 +59,7 @@ pub record SeeksReady (kept : List Kept) (last : ℕ) (name : List ℕ) (old new
 -- The same of the oldest subscriber that may take one message more.
 pub record SeeksTaker (subscribers : List Subscriber) (given : ℕ) (name : List ℕ) (old new : List ℕ → Option Queue)
     (found : Option
-    Place) : Type 0 where
+    KeyedPlace) : Type 0 where
   pub last : ℕ
   pub young : All (λ s. s.age < last) subscribers
   pub numbers : (d : List ℕ) → (queue_of new d).numbers ≡ (queue_of old d).numbers

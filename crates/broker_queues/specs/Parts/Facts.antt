@@ -11,7 +11,7 @@ use Rattle.broker_book.specs.declared.parts.Subscription.{Subscription}
 use Rattle.broker_book.specs.Books.{QueuedMessage, Fate, Ready, Out, out_to, is_for, is_named, is_auto}
 use Rattle.broker_index.specs.Index.{Kept, has_number, is_place_of, Subscriber, has_age, Queue, opened}
 use Rattle.broker_index.specs.declared.places.Entry.{Entry}
-use Rattle.broker_index.specs.declared.places.Place.{Place}
+use Rattle.broker_index.specs.declared.places.KeyedPlace.{KeyedPlace}
 
 -- ---- the book that the parts stand for
 
@@ -51,7 +51,7 @@ abbrev pub destination_at : ℕ → List Subscriber → Option (List ℕ)
 destination_at age subscribers = option_map (λ s. s.subscription.destination) (subscriber_at age subscribers)
 
 -- whether a number is among places
-abbrev pub lists : ℕ → List Place → Bool
+abbrev pub lists : ℕ → List KeyedPlace → Bool
 lists number places = list_any (is_place_of number) places
 
 -- whether a message's number is among deliveries
@@ -109,7 +109,7 @@ AreListening subscribers queues = (a : ℕ) (s : Subscriber) → subscriber_at a
     → lists a (queue_of queues s.subscription.destination).subscribers ≡ true
 
 -- each subscriber is among its session's
-abbrev pub AreOwned : List Subscriber → (ℕ → List Place) → Type 0
+abbrev pub AreOwned : List Subscriber → (ℕ → List KeyedPlace) → Type 0
 AreOwned subscribers sessions = (a : ℕ) (s : Subscriber) → subscriber_at a subscribers ≡ Some s
     → lists a (sessions s.subscription.session) ≡ true
 

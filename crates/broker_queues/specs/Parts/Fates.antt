@@ -9,7 +9,7 @@ use Rattle.broker_book.specs.Steps.{covered}
 use Rattle.broker_index.specs.Index.{Kept, Subscriber}
 use Rattle.broker_index.specs.declared.places.Entry.{Entry}
 use Rattle.std.specs.List.{list_any}
-use Rattle.broker_index.specs.declared.places.Place.{Place}
+use Rattle.broker_index.specs.declared.places.KeyedPlace.{KeyedPlace}
 use Rattle.broker_queues.specs.Parts.Facts.{notes, kept_at, subscriber_at}
 
 -- whether a fate passes a test; what is gone fails
@@ -81,7 +81,7 @@ is_held_of kept number None = false
 is_held_of kept number (Some s) = is_held kept number s
 
 -- whether it is out to the subscriber at a place
-abbrev pub is_held_at : List Kept → List Subscriber → ℕ → Place → Bool
+abbrev pub is_held_at : List Kept → List Subscriber → ℕ → KeyedPlace → Bool
 is_held_at kept subscribers number p = is_held_of kept number (subscriber_at p.number subscribers)
 
 -- the fate of a message that goes out to a subscription, as a delivery of this number unless that is `auto`

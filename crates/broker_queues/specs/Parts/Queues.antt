@@ -5,7 +5,7 @@ use Rattle.std.specs.Option.{option_map}
 use Rattle.std.specs.List.{list_any}
 use Rattle.std.specs.Str.{bytes_eq}
 use Rattle.broker_index.specs.Index.{Queue, is_from}
-use Rattle.broker_index.specs.declared.places.Place.{Place}
+use Rattle.broker_index.specs.declared.places.KeyedPlace.{KeyedPlace}
 use Rattle.broker_queues.specs.Parts.Facts.{IsPast, queue_of}
 use Rattle.broker_queues.specs.Parts.Whole.{Lowers, SameCounts, Wakes}
 
@@ -56,7 +56,7 @@ pub record Marks (again : Bool) (name : List ℕ) (number : ℕ) (old new : List
   pub awake : again ≡ true → now name ≡ true
 
 -- the first message that a queue lists from where it looks for a ready one
-abbrev pub next_of : Queue → Option Place
+abbrev pub next_of : Queue → Option KeyedPlace
 next_of q = find (is_from q.ready_from) q.numbers
 
 -- a destination learns that a subscriber of this age has credit; it wakes, if a message of it may be ready

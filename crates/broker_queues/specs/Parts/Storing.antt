@@ -12,7 +12,7 @@ use Rattle.broker_book.specs.Books.{Fate, out_to, is_named}
 use Rattle.broker_book.specs.Steps.{ended, put_of, released, subscribed}
 use Rattle.broker_index.specs.Index.{Kept, Subscriber, Queue, Sets, empty_queue, is_idle, with_subscriber, without}
 use Rattle.broker_index.specs.declared.places.Entry.{Entry}
-use Rattle.broker_index.specs.declared.places.Place.{Place}
+use Rattle.broker_index.specs.declared.places.KeyedPlace.{KeyedPlace}
 use Rattle.broker_queues.specs.Parts.Fates.{back, fate_of_kept, passes}
 use Rattle.broker_queues.specs.Parts.Queues.{Frees}
 use Rattle.broker_queues.specs.Parts.Undoing.{is_out_fate}
@@ -27,7 +27,7 @@ Becomes change old new name =
     (d : List ℕ) → queue_of new d ≡ (if bytes_eq name d then change (queue_of old d) else queue_of old d)
 
 -- a queue with one living message more
-abbrev pub adding : Place → Queue → Queue
+abbrev pub adding : KeyedPlace → Queue → Queue
 adding place q = record q { numbers = q.numbers ++ place ∷ []; count = q.count + 1 }
 
 -- each queue stays, or was idle and is empty
@@ -174,7 +174,7 @@ pub record IsTidy (h : Holding) : Type 0 where
 -- ---- subscriptions come and go
 
 -- A subscriber is listed at its destination, which learns that it has credit, and at its session.
-pub record Attached (old : Holding) (name : List ℕ) (session : ℕ) (place : Place) (new : Holding) : Type 0 where
+pub record Attached (old : Holding) (name : List ℕ) (session : ℕ) (place : KeyedPlace) (new : Holding) : Type 0 where
   pub between : List ℕ → Option Queue
   pub becomes : Becomes (with_subscriber place) old.queues between name
   pub frees : Frees name place.number between new.queues old.awake new.awake
@@ -182,7 +182,7 @@ pub record Attached (old : Holding) (name : List ℕ) (session : ℕ) (place : P
   pub rest : new ≡ record old { queues = new.queues; sessions = new.sessions; awake = new.awake }
 
 -- it is; where memory is refused, idle queues go at most
-abbrev pub Attaches : {A E : Type 0} → Holding → List ℕ → ℕ → Place → Holding → Result A E → Type 0
+abbrev pub Attaches : {A E : Type 0} → Holding → List ℕ → ℕ → KeyedPlace → Holding → Result A E → Type 0
 Attaches old name session place new (Ok _) = Attached old name session place new
 Attaches old name session place new (Err _) = Closes old.queues new.queues × (new ≡ record old { queues = new.queues })
 
@@ -225,7 +225,7 @@ named_by session id None = false
 named_by session id (Some s) = is_named session id s.subscription
 
 -- whether the subscriber at a place has this name
-abbrev pub is_named_at : List Subscriber → ℕ → List ℕ → Place → Bool
+abbrev pub is_named_at : List Subscriber → ℕ → List ℕ → KeyedPlace → Bool
 is_named_at subscribers session id p = named_by session id (subscriber_at p.number subscribers)
 
 -- a session's subscription of this name has ended

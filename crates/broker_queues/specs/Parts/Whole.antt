@@ -7,7 +7,7 @@ use Rattle.std.specs.Str.{bytes_eq}
 use Rattle.broker_book.specs.declared.parts.Accepted.{Accepted}
 use Rattle.broker_book.specs.Books.{Book, Fate, Ready, Out, is_for, is_named, out_to}
 use Rattle.broker_index.specs.Index.{Kept, Subscriber, Queue, with_fate}
-use Rattle.broker_index.specs.declared.places.Place.{Place}
+use Rattle.broker_index.specs.declared.places.KeyedPlace.{KeyedPlace}
 use Rattle.broker_queues.specs.Parts.Facts.{ArePlaced, AreCounted, AreNoted, AreCredited, IsPast}
 use Rattle.broker_queues.specs.Parts.Facts.{AreListening, AreOwned, AreAhead, AreTakers, AreAwake, AreDistinct}
 use Rattle.broker_queues.specs.Parts.Facts.{rise, kept_at, subscriber_at, session_at, destination_at, lists}
@@ -20,7 +20,7 @@ pub record Holding : Type 0 where
   pub kept : List Kept
   pub subscribers : List Subscriber
   pub queues : List ℕ → Option Queue
-  pub sessions : ℕ → List Place
+  pub sessions : ℕ → List KeyedPlace
   pub awake : List ℕ → Bool
   pub last : ℕ
   pub given : ℕ

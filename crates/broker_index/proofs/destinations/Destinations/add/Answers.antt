@@ -14,7 +14,7 @@ invariant_of-self-2 c =
     (ap (λ qs. queue_at qs c.args.name.now) c.self.view_is ∙ c.requires) in
     let bytes = c.in_ok-text.ensures.ok ∙ c.as_str.ensures in
     let slot = c.insert_reserved-self-inside in
-    let d : Destination = record { name = c.in_ok-copy.field-0; queue = c.new.result } in
+    let d : Destination = record { name = c.in_ok-shared.shared; queue = c.new-2.result } in
     let there = ap (λ n. get_by_text c.insert.new.self n) (sym bytes)
     ∙ leads_there (string_bytes c.in_ok-text.text) c.self.inside.keys c.insert.new.self (Some c.vacant_key.result)
     c.in_ok-insert.ensures.updates ∙ ap (λ (k : ℕ). Some k) (sym (slot.ensures.key ∙ sym c.vacant_key.ensures.value)) in
@@ -25,10 +25,10 @@ invariant_of-self-2 c =
     record {
       found = added_found c.reserve.new.self slot.new.self c.self.inside.keys c.insert.new.self
           (rw slots c.self.invariant.found)
-          slot.result c.args.name.now d slot.ensures.updates c.in_ok-copy.ensures (rw slots none) there others;
+          slot.result c.args.name.now d slot.ensures.updates (c.in_ok-shared.ensures.ok ∙ c.in_ok-copy.ensures) (rw slots none) there others;
       led = added_led c.reserve.new.self slot.new.self c.self.inside.keys c.insert.new.self
           (rw slots c.self.invariant.found)
-          slot.result c.args.name.now d slot.ensures.updates c.in_ok-copy.ensures slot.ensures.was_vacant
+          slot.result c.args.name.now d slot.ensures.updates (c.in_ok-shared.ensures.ok ∙ c.in_ok-copy.ensures) slot.ensures.was_vacant
           (rw slots c.self.invariant.led) there others;
     }
 
@@ -39,7 +39,7 @@ returns-clause-ok c =
     (ap (λ qs. queue_at qs c.args.name.now) c.self.view_is ∙ c.requires) in
     let sets = Sets-added c.reserve.new.self c.insert_reserved-self-inside.new.self c.self.inside.keys c.insert.new.self
     (rw slots c.self.invariant.found) c.insert_reserved-self-inside.result c.args.name.now
-    (record { name = c.in_ok-copy.field-0; queue = c.new.result }) c.insert_reserved-self-inside.ensures.updates
-    c.in_ok-copy.ensures
-    (rw slots none) c.insert_reserved-self-inside.ensures.was_vacant (invariant_of-self-2 c).found c.new.ensures in
+    (record { name = c.in_ok-shared.shared; queue = c.new-2.result }) c.insert_reserved-self-inside.ensures.updates
+    (c.in_ok-shared.ensures.ok ∙ c.in_ok-copy.ensures)
+    (rw slots none) c.insert_reserved-self-inside.ensures.was_vacant (invariant_of-self-2 c).found c.new-2.ensures in
     rw (← c.self.view_is) (rw slots at sets)

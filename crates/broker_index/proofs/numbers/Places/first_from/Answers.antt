@@ -1,6 +1,6 @@
 use Rattle.std.proofs.Common.{◌⊎◌, ◌<◌, ◌≤◌, Some, sym, ap, subst, ◌∙◌}
 use Rattle.std.specs.List.{find, All}
-use Rattle.broker_index.specs.declared.places.Place.{Place}
+use Rattle.broker_index.specs.declared.places.KeyedPlace.{KeyedPlace}
 use Rattle.broker_index.specs.Index.{is_from}
 use Rattle.broker_index.proofs.Searches.{find_at, find_none, least_at}
 use Rattle.broker_index.proofs.numbers.Places.first_from.Goals as goal
@@ -14,7 +14,7 @@ returns-in-Some-clause-found c =
 
 pub returns-in-Some-clause-least : goal.returns-in-Some-clause-least
 returns-in-Some-clause-least c =
-    subst (All (λ (q : Place). (q.number < c.args.number) ⊎ (c.in-Some.place.now.number ≤ q.number))) c.self.view_is
+    subst (All (λ (q : KeyedPlace). (q.number < c.args.number) ⊎ (c.in-Some.place.now.number ≤ q.number))) c.self.view_is
     (least_at c.args.number c.self.inside.places.items c.first_index.result c.in-Some.place.now c.self.invariant
     c.first_index.ensures c.in-Some.ensures.item.3.0 c.in-Some.ensures.lookup)
 

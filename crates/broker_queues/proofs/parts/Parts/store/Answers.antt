@@ -1,7 +1,7 @@
 use Rattle.std.proofs.Common.{◌+◌, ◌∙◌, ap, arith, refl}
 use Rattle.std.specs.Prelude.{filter, not, ◌==◌}
 use Rattle.broker_index.specs.Index.{queue_at}
-use Rattle.broker_index.specs.declared.places.Place.{Place}
+use Rattle.broker_index.specs.declared.places.KeyedPlace.{KeyedPlace}
 use Rattle.broker_queues.specs.Parts.Held.{holding_of}
 use Rattle.broker_queues.specs.Parts.Facts.{queue_of}
 use Rattle.broker_queues.specs.Parts.Storing.{Becomes, adding}
@@ -33,7 +33,7 @@ look_from_told-requires c low =
 pub returns-in-Ok : goal.returns-in-Ok
 returns-in-Ok c =
     let h = holding_of c.args.self.now in
-    let place : Place = record { number = c.args.self.now.last + 1; key = c.in_ok-key.key } in
+    let place : KeyedPlace = record { number = c.args.self.now.last + 1; key = c.in_ok-key.key } in
     let q = queue_at c.add_number.new.destinations in
     let i : Holding = record h {
       kept = c.push.new.self;
@@ -43,16 +43,18 @@ returns-in-Ok c =
     } in
     let b : Becomes (adding place) h.queues q c.args.sent.now.destination = rw c.get.ensures at c.in-Ok.ensures.ok in
     let l = rw c.get.ensures at c.look_from_told.ensures in
+    let wakes = rw (c.make_room.ensures.names, c.make_room.ensures.all) at c.wake.ensures.wakes in
     let awake = rw c.get.ensures at c.wake.ensures.awake in (
       stored h c.requires.sound c.args.sent.now place q i refl b l c.in_ok-key.ensures.ok refl refl refl refl
-          c.wake.ensures.wakes awake,
+          wakes awake,
       lists_only h c.requires.sound c.args.sent.now place q i refl b l,
     )
 
 pub returns-in-Err : goal.returns-in-Err
 returns-in-Err c =
-    shut (holding_of c.args.self.now) c.requires.sound _ c.in-Err.ensures.err
+    rw (c.make_room.ensures.names, c.make_room.ensures.all)
+    (shut (holding_of c.args.self.now) c.requires.sound _ c.in-Err.ensures.err
     (c.remove.ensures ∙ ap (λ kept. filter (λ k. not (k.number == c.args.self.now.last + 1)) kept)
     c.in_ok-key.ensures.ok
     ∙ taken_out (holding_of c.args.self.now) c.requires.sound (c.args.self.now.last + 1) c.args.sent.now refl)
-    refl refl refl refl refl
+    refl refl refl refl refl)

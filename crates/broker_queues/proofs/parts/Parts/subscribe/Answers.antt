@@ -15,20 +15,22 @@ attach-requires c =
 
 pub returns-in_err-place-clause-joins : goal.returns-in_err-place-clause-joins
 returns-in_err-place-clause-joins c =
-    not_joined (holding_of c.args.self.now) _ c.args.subscription.now c.from_residual.result c.from_residual.ensures.0
-    (tidy_same (holding_of c.args.self.now) c.requires.sound c.push.new.self c.in_err-place.ensures.err)
+    rw (c.make_room.ensures.names, c.make_room.ensures.all)
+    (not_joined (holding_of c.args.self.now) _ c.args.subscription.now c.from_residual-in_err-place.result
+    c.from_residual-in_err-place.ensures.0
+    (tidy_same (holding_of c.args.self.now) c.requires.sound c.push.new.self c.in_err-place.ensures.err))
 
 pub returns-in-Ok-clause-joins : goal.returns-in-Ok-clause-joins
 returns-in-Ok-clause-joins c =
     joined (holding_of c.args.self.now) (holding_of c.attach.new.self) c.requires.sound c.args.subscription.now
     c.in_ok-place.place
     c.push.new.self c.in_ok-place.ensures.ok c.in_ok-place.ensures.youngest c.requires.free
-    (rw c.get-name.ensures at c.in-Ok.ensures)
+    (rw (c.get-name.ensures, c.make_room.ensures.names, c.make_room.ensures.all) at c.in-Ok.ensures)
 
 pub returns-in-Err-clause-joins : goal.returns-in-Err-clause-joins
 returns-in-Err-clause-joins c =
     goes_again (holding_of c.args.self.now) (holding_of c.attach.new.self) c.requires.sound c.args.subscription.now
     c.in_ok-place.place
     c.push.new.self c.remove.new.self c.in_ok-place.ensures.ok c.in_ok-place.ensures.youngest c.in-Err.ensures.0
-    c.in-Err.ensures.1
+    (rw (c.make_room.ensures.names, c.make_room.ensures.all) at c.in-Err.ensures.1)
     c.remove.ensures

@@ -1,7 +1,7 @@
 use Rattle.std.proofs.Common.{◌≡◌, ◌++◌, ℕ, map}
 use Rattle.broker_index.specs.Named.{queues_in}
 use Rattle.broker_index.specs.declared.destinations.Destination.{Destination}
-use Rattle.broker_index.proofs.destinations.copied_names.Given as goal
+use Rattle.broker_index.proofs.destinations.shared_names.Given as goal
 
 abbrev pub invariant-loop-destination : goal.invariant-loop-destination
 invariant-loop-destination l =

@@ -1,7 +1,7 @@
 use Rattle.std.proofs.Common.{ℕ, ◌++◌, ◌∷◌, [], List, map, sym, ap, ◌∙◌, append-nil, append_assoc}
 use Rattle.broker_index.specs.declared.destinations.Destination.{Destination}
 use Rattle.broker_index.proofs.Named.{names_of}
-use Rattle.broker_index.proofs.destinations.copied_names.Goals as goal
+use Rattle.broker_index.proofs.destinations.shared_names.Goals as goal
 
 abbrev names : List (ℕ × Destination) → List (List ℕ)
 names ps = map (λ (p : ℕ × Destination). p.1.name) ps
@@ -15,8 +15,8 @@ pub loop-destination-preserved : goal.loop-destination-preserved
 loop-destination-preserved c =
     let before = c.loop-destination.names.items in
     let rest = names c.next.new.self in
-    ap (λ l. l ++ rest) c.in_ok-push.ensures.items ∙ append_assoc before (c.in_ok-copy.field-0 ∷ []) rest
-    ∙ ap (λ n. before ++ n ∷ rest) c.in_ok-copy.ensures ∙ ap (λ ps. before ++ names ps) (sym c.in-Some.ensures.steps)
+    ap (λ l. l ++ rest) c.in_ok-push.ensures.items ∙ append_assoc before (c.in_ok-share.field-0 ∷ []) rest
+    ∙ ap (λ n. before ++ n ∷ rest) c.in_ok-share.ensures ∙ ap (λ ps. before ++ names ps) (sym c.in-Some.ensures.steps)
     ∙ c.loop-destination.invariant
 
 pub returns : goal.returns
