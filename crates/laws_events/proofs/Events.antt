@@ -27,7 +27,7 @@ use Rattle.laws_mail.proofs.Mails.{carried_down_connection, carried_down_session
 use Rattle.laws_mail.proofs.Mails.{unopened_same}
 use Rattle.laws_mail.proofs.Rising.{carried_up_opened, carried_down_opened}
 use Rattle.laws_mail.proofs.Writing.{client_written_good, more_written}
-use Rattle.laws_events.proofs.Replying.{WritesGood, all_fit, answers_good, waiting_good, writes_none}
+use Rattle.laws_events.proofs.Replying.{WritesGood, answers_good, waiting_good, writes_none}
 use Rattle.laws_events.proofs.Rows.{rows_good}
 use Rattle.laws_events.proofs.Sitting.{again, cut_off, linked, moved, opened_channel, passes_any_store, sits_any_store}
 use Rattle.laws_events.proofs.Telling.{drains_good, settles_ok}
@@ -57,11 +57,10 @@ module _ {H K S C : Type 0} (ok : Envelope → Type 0) where
         → GoodMail ok up down o → Passes ok up down s o (with_channel number (Some k) s) o
     written o k session decoder waits wrote h mail =
         let here = linked ok up down number s l is o h in
-        let was : HasWritten l.connection.channel.client.client.out = here.good.wrote in
-        let more =
-        more_written l.connection.channel.client.client.out wrote.frames (all_fit ok wrote.frames wrote.each) was in
+        let was : HasWritten ok l.connection.channel.client.client.out = here.good.wrote in
+        let more = more_written ok l.connection.channel.client.client.out wrote.frames wrote.each was in
         let good : GoodConnection ok k.connection =
-        record { waits = waits; wrote = subst HasWritten (sym wrote.out) more } in
+        record { waits = waits; wrote = subst (HasWritten ok) (sym wrote.out) more } in
         moved ok up down number s l is k o o session good refl h
         (client_written_good ok up down l.connection k.connection wrote.frames o here.opened session decoder wrote.out
         wrote.each

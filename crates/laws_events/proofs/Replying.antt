@@ -74,10 +74,6 @@ module _ (ok : Envelope → Type 0) where
   writes_these frames old new each writes =
       record { frames = frames; each = each; out = ap (λ (c : Client ℕ). c.out) writes.all }
 
-  pub all_fit : (frames : List Content) → AllByRecursion (GoodFrame ok) frames → AreFrames MAX_BODY frames
-  all_fit [] each = tt
-  all_fit (f ∷ frames) each = (each.0.fits, all_fit frames each.1)
-
   -- what a client is told of a letter, which it then settles so far
   abbrev pub MaySettle : Content → Result Taken ReceptionFault → Type 0
   MaySettle f (Ok (Handled position)) =

@@ -91,14 +91,15 @@ module _ (ok : Envelope → Type 0) where
   filled_good : (clean : Type 0) (messages : Messages) (limit : ℕ) (old new : SendState) (r : Result ℕ RelayFault)
       → Fills clean messages limit old new r → clean
       → ((l : Letter) → messages l.pair l.number ≡ Some l.message → ok (envelope.Letter l))
-      → HasWritten old.client.out → WritesGood ok old.client new.client
+      → HasWritten ok old.client.out → WritesGood ok old.client new.client
   filled_good clean messages limit old new r fills c good written =
-      let added = adds_written old.client.out new.client.out (sends_of old fills.letters) fills.sends.wrote written in
+      let added = adds_written ok old.client.out new.client.out (sends_of old fills.letters) fills.sends.wrote
+      written in
       record {
         frames = sends_of old fills.letters;
         each = sends_good messages good old fills.letters fills.sends.each
             (given_stand clean old.marks messages limit fills.letters new.client.receipts.last r fills.gives c)
-            added.1.0;
+            added.1;
         out = added.0;
       }
 
@@ -136,7 +137,7 @@ module _ (ok : Envelope → Type 0) where
           (subst (λ (x : Tables S C). x.unsettled row.pair row.number ≡ Some row.message) (sym same) stands))
 
       -- whatever is sent of an outbox is good
-      pub rows_good : HasWritten l.connection.channel.client.client.out
+      pub rows_good : HasWritten ok l.connection.channel.client.client.out
           → WritesGood ok l.connection.channel.client.client sends.later.connection.channel.client.client
       rows_good written =
           idle_good l.connection.channel.client.client.stage (sending l) (sending sends.later) sends.result

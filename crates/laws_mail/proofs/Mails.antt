@@ -334,6 +334,7 @@ module _ (ok : Envelope → Type 0) where
     waits = subst (GoodNext ok) (sym h.waiting) tt;
     wrote = record {
       frames = connect_frame ∷ [];
+      each = (connect_good ok, tt);
       gone = [];
       wrote = record {
         each = (h.is_frame, tt);
@@ -346,8 +347,8 @@ module _ (ok : Envelope → Type 0) where
       → GoodConnection ok new
   sent_connection count old new sends c = record {
     waits = subst (GoodNext ok) (sym sends.channel.waiting) c.waits;
-    wrote = subst HasWritten (sym (ap (λ (k : Client ℕ). k.out) sends.channel.client))
-        (less_written (going old) count c.wrote);
+    wrote = subst (HasWritten ok) (sym (ap (λ (k : Client ℕ). k.out) sends.channel.client))
+        (less_written ok (going old) count c.wrote);
   }
 
   pub carried_up_connection : (most : ℕ) (old : Connection) (from : Mail) (new : Connection) (to : Mail)

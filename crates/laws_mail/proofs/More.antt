@@ -18,7 +18,7 @@ use Rattle.envelope.specs.declared.message.Envelope.{Envelope}
 use Rattle.schedule_mail.specs.Mails.{Mail}
 use Rattle.schedule_mail.specs.declared.connection.Connection.{Connection}
 use Rattle.laws_mail.specs.Passing.{Brought, GoodBook, GoodConnection, GoodDecided, GoodFrame, GoodNext, GoodMail}
-use Rattle.laws_mail.specs.Passing.{GoodRequest, GoodServer}
+use Rattle.laws_mail.specs.Passing.{GoodRequest, GoodServer, HasWritten}
 use Rattle.laws_mail.specs.Passing.{GoodSession, GoodWaiting, Spelled}
 
 module _ (ok more : Envelope → Type 0) (k : (e : Envelope) → ok e → more e) where
@@ -109,5 +109,16 @@ module _ (ok more : Envelope → Type 0) (k : (e : Envelope) → ok e → more e
   next_more None h = tt
   next_more (Some f) h = frame_more f h
 
+  written_more : (out : List ℕ) → HasWritten ok out → HasWritten more out
+  written_more out h = record {
+    frames = h.frames;
+    each = all_weaker (GoodFrame ok) (GoodFrame more) h.frames frame_more h.each;
+    gone = h.gone;
+    wrote = h.wrote;
+  }
+
   pub connection_more : (c : Connection) → GoodConnection ok c → GoodConnection more c
-  connection_more c h = record { waits = next_more c.channel.waiting h.waits; wrote = h.wrote }
+  connection_more c h = record {
+    waits = next_more c.channel.waiting h.waits;
+    wrote = written_more c.channel.client.client.out h.wrote;
+  }

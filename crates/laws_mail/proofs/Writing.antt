@@ -1,5 +1,5 @@
 -- What a client writes is on its way.
-use Rattle.std.proofs.Common.{◌≡◌, ℕ, ◌<◌, ◌≤◌, List, ◌++◌, take, drop, refl, sym, ap, ◌∙◌, subst, append_assoc, arith}
+use Rattle.std.proofs.Common.{◌≡◌, ℕ, ◌<◌, ◌≤◌, List, [], ◌∷◌, ◌++◌, take, drop, refl, sym, ap, ◌∙◌, subst, append_assoc, arith}
 use Rattle.std.specs.List.{AllByRecursion, flat_map}
 use Rattle.std.proofs.lemmas.List.{append_cancel_left, take-append-drop}
 use Rattle.std.proofs.lemmas.List.Concat.{flat_map-append}
@@ -28,18 +28,26 @@ wrote_more frames more gone out are h = record {
       ∙ sym (flat_map-append canonical frames more);
 }
 
-pub more_written : (out : List ℕ) (frames : List Content) → AreFrames MAX_BODY frames → HasWritten out
-    → HasWritten (out ++ canonical_texts frames)
-more_written out frames are h = record {
+-- good frames are frames
+all_fit : (ok : Envelope → Type 0) (frames : List Content) → AllByRecursion (GoodFrame ok) frames → AreFrames MAX_BODY frames
+all_fit ok [] each = tt
+all_fit ok (f ∷ frames) each = (each.0.fits, all_fit ok frames each.1)
+
+pub more_written : (ok : Envelope → Type 0) (out : List ℕ) (frames : List Content) → AllByRecursion (GoodFrame ok) frames
+    → HasWritten ok out
+    → HasWritten ok (out ++ canonical_texts frames)
+more_written ok out frames each h = record {
   frames = h.frames ++ frames;
+  each = all_append (GoodFrame ok) h.frames frames h.each each;
   gone = h.gone;
-  wrote = wrote_more h.frames frames h.gone out are h.wrote;
+  wrote = wrote_more h.frames frames h.gone out (all_fit ok frames each) h.wrote;
 }
 
 -- octets were carried
-pub less_written : (out : List ℕ) (count : ℕ) → HasWritten out → HasWritten (drop count out)
-less_written out count h = record {
+pub less_written : (ok : Envelope → Type 0) (out : List ℕ) (count : ℕ) → HasWritten ok out → HasWritten ok (drop count out)
+less_written ok out count h = record {
   frames = h.frames;
+  each = h.each;
   gone = h.gone ++ take count out;
   wrote = record {
     each = h.wrote.each;
@@ -49,18 +57,15 @@ less_written out count h = record {
 }
 
 -- behind what was written, exactly these frames
-pub adds_written : (old new : List ℕ) (more : List Content) → Adds more old new → HasWritten old
-    → (new ≡ old ++ canonical_texts more) × (AreFrames MAX_BODY more × HasWritten new)
-adds_written old new more adds h =
+pub adds_written : (ok : Envelope → Type 0) (old new : List ℕ) (more : List Content) → Adds more old new → HasWritten ok old
+    → (new ≡ old ++ canonical_texts more) × AreFrames MAX_BODY more
+adds_written ok old new more adds h =
     let w = adds h.frames h.gone h.wrote in
     let text : h.gone ++ new ≡ h.gone ++ (old ++ canonical_texts more) =
     w.whole ∙ flat_map-append canonical h.frames more ∙ ap (λ l. l ++ canonical_texts more) (sym h.wrote.whole)
     ∙ append_assoc h.gone old (canonical_texts more) in (
       append_cancel_left h.gone new (old ++ canonical_texts more) text,
-      (
-        (all_split (IsFrame MAX_BODY) h.frames more w.each).1,
-        record { frames = h.frames ++ more; gone = h.gone; wrote = w },
-      ),
+      (all_split (IsFrame MAX_BODY) h.frames more w.each).1,
     )
 
 -- ---- good frames were written

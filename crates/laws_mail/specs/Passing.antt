@@ -108,16 +108,17 @@ module _ (ok : Envelope → Type 0) where
   GoodNext None = Unit {0}
   GoodNext (Some f) = GoodFrame f
 
--- what a client wrote, of which this is left, are canonical texts of frames
-pub record HasWritten (out : List ℕ) : Type 0 where
+-- what a client wrote, of which this is left, are canonical texts of such frames
+pub record HasWritten (ok : Envelope → Type 0) (out : List ℕ) : Type 0 where
   pub frames : List Content
+  pub each : AllByRecursion (GoodFrame ok) frames
   pub gone : List ℕ
   pub wrote : Wrote frames gone out
 
--- a connection alone: the frame that waits, and what its client wrote
+-- a connection alone: the frame that waits, and what its client wrote, whether or not the broker still has a session for it
 pub record GoodConnection (ok : Envelope → Type 0) (c : Connection) : Type 0 where
   pub waits : GoodNext ok c.channel.waiting
-  pub wrote : HasWritten c.channel.client.client.out
+  pub wrote : HasWritten ok c.channel.client.client.out
 
 -- ---- what is on its way
 

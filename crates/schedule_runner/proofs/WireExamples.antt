@@ -36,7 +36,7 @@ use Rattle.broker_core.specs.Serving.{is_session}
 use Rattle.broker_core.specs.declared.session.Session.{Session}
 use Rattle.relay.specs.declared.relay.Relay.{Relay}
 use Rattle.schedule_mail.specs.Mails.{Mail}
-use Rattle.laws_mail.specs.Passing.{GoodMail, GoodSession, Spelled, at}
+use Rattle.laws_mail.specs.Passing.{GoodFrame, GoodMail, GoodSession, Spelled, at}
 use Rattle.laws_mail.proofs.Frames.{read_envelope-behind, send_receipted_good}
 use Rattle.laws_mail.proofs.Spelling.{first_good, nothing_spelled}
 use Rattle.laws_mail.proofs.Writing.{written_good}
@@ -177,16 +177,17 @@ module _ (any : TheWorld) (relay : Relay) where
         goes = nothing_spelled ok;
       }
 
+  it_is_good : GoodFrame (Sent after) (written 1)
+  it_is_good = send_receipted_good (Sent after) (OfLetter (request 1)) 1 (it_is_an_envelope 1 (omega arith) (omega arith))
+      it_was_sent
+      (it_is_a_frame 1 (omega arith))
+
   on_its_way : Genuine (Sent after) (wired after 1).purchasing (wired after 1).warehouse (wired after 1).billing served
   on_its_way = record {
     up = at 1 (canonical_texts (written 1 ∷ [])) (λ _. []);
     down = at 1 [] (λ _. []);
-    mail = written_good (Sent after) (λ _. []) (λ _. []) 1 (written 1 ∷ []) served it_is_open (
-      send_receipted_good (Sent after) (OfLetter (request 1)) 1 (it_is_an_envelope 1 (omega arith) (omega arith))
-          it_was_sent
-          (it_is_a_frame 1 (omega arith)),
-      tt,
-    ) (served_good (Sent after));
+    mail = written_good (Sent after) (λ _. []) (λ _. []) 1 (written 1 ∷ []) served it_is_open (it_is_good, tt)
+        (served_good (Sent after));
     first = record {
       zero = record {
         texts = (append-nil (canonical (written 1)), refl);
@@ -194,6 +195,7 @@ module _ (any : TheWorld) (relay : Relay) where
           waits = tt;
           wrote = record {
             frames = written 1 ∷ [];
+            each = (it_is_good, tt);
             gone = [];
             wrote = record { each = (it_is_a_frame 1 (omega arith), tt); whole = sym (append-nil (canonical (written 1))) };
           };
