@@ -1,10 +1,10 @@
 -- How the parts of a call on letters come together: a read before a part, and what a part ends with.
-use Rattle.std.proofs.Common.{ℕ, ◌≤◌, ◌≡◌, ◌⊎◌, inl, inr, List, Result, Ok, Err, refl, sym, ap, ◌∙◌, subst, true, arith}
+use Rattle.std.proofs.Common.{ℕ, ◌≡◌, List, Result, Ok, Err, refl, sym, ap, ◌∙◌, subst, true, arith}
 use Rattle.std.proofs.Common.{true≢false}
 use Rattle.activities.specs.Service.{Service}
 use Rattle.activities.proofs.Sameness.{either}
 use Rattle.keep.specs.declared.change.Change.{Change}
-use Rattle.keep.specs.Law.{Never, IsServed, IsCall, Reads, Writes}
+use Rattle.keep.specs.Law.{IsServed, IsCall, Reads, Writes}
 use Rattle.keep.proofs.Arms.{stays_armed, then_served, then_failed}
 use Rattle.keep.specs.Seen.{Seen, IsSound, End, no_memory, failed, unusable, refused}
 use Rattle.keep.specs.Tables.{Tables, changed, ArePlaced}
@@ -17,6 +17,7 @@ use Rattle.endpoint.specs.Deeds.{Kept, kept, Deed, Nothing, DidWithin}
 use Rattle.endpoint.specs.Faults.{end_of}
 use Rattle.endpoint.specs.Matches.{TablesMatchWithin, AllMatchWithin}
 use Rattle.endpoint.specs.Parts.Receiving.{Works}
+use Rattle.endpoint.proofs.Refusals.{if_refused}
 
 module _ {E S C : Type 0} (seen : E → Seen (Tables S C)) (sound : (k : E) → IsSound (seen k)) (ahead : ℕ)
     (service : Service S C) where
@@ -51,15 +52,21 @@ module _ {E S C : Type 0} (seen : E → Seen (Tables S C)) (sound : (k : E) → 
         read_fails gives Memory up h = let d = h.doubt in record {
           call = h.call;
           doubt = h.doubt;
-          clean = λ clean good q. let same = h.clean clean in
-              ((memory (kept (seen old).tables), same), same_match h.call (omega (arith, clean, d)) clean same good);
+          clean = λ clean. let same = h.clean clean in (
+            same,
+            λ good q.
+                ((memory (kept (seen old).tables), same), same_match h.call (omega (arith, clean, d)) clean same good),
+          );
         }
         read_fails gives StoreFailed up h = let d = h.doubt in record {
           call = h.call;
           doubt = h.doubt;
-          clean = λ clean good q. (
-            λ t l. (Nothing, failing (kept (seen old).tables), ap kept (h.clean clean t l)),
-            λ t l. subst Good (sym (h.clean clean t l)) (good_now old (omega (arith, clean, d)) up good),
+          clean = λ clean. (
+            tt,
+            λ good q. (
+              λ t l. (Nothing, failing (kept (seen old).tables), ap kept (h.clean clean t l)),
+              λ t l. subst Good (sym (h.clean clean t l)) (good_now old (omega (arith, clean, d)) up good),
+            ),
           );
         }
         read_fails gives Unusable up h = absurd (true≢false (sym up ∙ h.call.0))
@@ -77,54 +84,61 @@ module _ {E S C : Type 0} (seen : E → Seen (Tables S C)) (sound : (k : E) → 
         -- a transaction that does a deed
         pub write_ends : (cs : List (Change S C)) (d : Deed C) (answer : R) (r : Result Unit EndFault)
             → (seen old).usable ≡ true
-            → ((t : Tables S C) → Good t → Q t → ArePlaced cs t × may (Ok answer) (kept t) d
-            × may (Err StoreFailed) (kept t) d
+            → ((t : Tables S C) → ArePlaced cs t)
+            → ((t : Tables S C) → Good t → Q t → may (Ok answer) (kept t) d × may (Err StoreFailed) (kept t) d
             × DidWithin ahead service (kept t) d (kept (changed cs t)) × Good (changed cs t))
             → Writes seen old new (ArePlaced cs) (changed cs) (end_of r)
             → Works seen old new ahead service Reason Q may (answers answer r)
-        write_ends cs d answer (Ok _) up does h = let e = h.doubt in record {
+        write_ends cs d answer (Ok _) up placed does h = let e = h.doubt in record {
           call = h.call;
           doubt = h.doubt;
-          clean = λ clean good q.
-              let g = good_now old (omega (arith, clean, e)) up good in
-              let it = does (seen old).tables g q in
-              let to = h.clean clean it.0 in (
-                (d, it.1, subst (λ x. DidWithin ahead service (kept (seen old).tables) d (kept x)) (sym to) it.3),
-                all_match new clean h.call.1 (subst Good (sym to) it.4),
-              );
+          clean = λ clean. (
+            tt,
+            λ good q.
+                let g = good_now old (omega (arith, clean, e)) up good in
+                let it = does (seen old).tables g q in
+                let to = h.clean clean (placed (seen old).tables) in (
+                  (d, it.0, subst (λ x. DidWithin ahead service (kept (seen old).tables) d (kept x)) (sym to) it.2),
+                  all_match new clean h.call.1 (subst Good (sym to) it.3),
+                ),
+          );
         }
-        write_ends cs d answer (Err Memory) up does h = let e = h.doubt in record {
+        write_ends cs d answer (Err Memory) up placed does h = let e = h.doubt in record {
           call = h.call;
           doubt = h.doubt;
-          clean = λ clean good q.
-              let g = good_now old (omega (arith, clean, e)) up good in
-              let same = h.clean clean (does (seen old).tables g q).0 in
-              ((memory (kept (seen old).tables), same), all_match new clean h.call.1 (subst Good (sym same) g));
+          clean = λ clean. let same = h.clean clean (placed (seen old).tables) in (
+            same,
+            λ good q.
+                ((memory (kept (seen old).tables), same), same_match h.call (omega (arith, clean, e)) clean same good),
+          );
         }
-        write_ends cs d answer (Err StoreFailed) up does h = let e = h.doubt in record {
+        write_ends cs d answer (Err StoreFailed) up placed does h = let e = h.doubt in record {
           call = h.call;
           doubt = h.doubt;
-          clean = λ clean good q.
-              let g = good_now old (omega (arith, clean, e)) up good in
-              let it = does (seen old).tables g q in (
-                λ t l. either (h.clean clean it.0 t l)
-                    (λ same. (Nothing, failing (kept (seen old).tables), ap kept same))
-                    (λ to. (
-                      d,
-                      it.2,
-                      subst (λ x. DidWithin ahead service (kept (seen old).tables) d (kept x)) (sym to)
-                          it.3,
-                    )),
-                λ t l. either (h.clean clean it.0 t l) (λ same. subst Good (sym same) g)
-                    (λ to. subst Good (sym to) it.4),
-              );
+          clean = λ clean. let ends = h.clean clean (placed (seen old).tables) in (
+            tt,
+            λ good q.
+                let g = good_now old (omega (arith, clean, e)) up good in
+                let it = does (seen old).tables g q in (
+                  λ t l. either (ends t l)
+                      (λ same. (Nothing, failing (kept (seen old).tables), ap kept same))
+                      (λ to. (
+                        d,
+                        it.1,
+                        subst (λ x. DidWithin ahead service (kept (seen old).tables) d (kept x)) (sym to)
+                            it.2,
+                      )),
+                  λ t l. either (ends t l) (λ same. subst Good (sym same) g)
+                      (λ to. subst Good (sym to) it.3),
+                ),
+          );
         }
-        write_ends cs d answer (Err Unusable) up does h = absurd (true≢false (sym up ∙ h.call.0))
-        write_ends cs d answer (Err NotMine) up does h = absurd h.call.1
-        write_ends cs d answer (Err (Business _)) up does h = absurd h.call.1
-        write_ends cs d answer (Err TooEarly) up does h = absurd h.call.1
-        write_ends cs d answer (Err NumberLimit) up does h = absurd h.call.1
-        write_ends cs d answer (Err NotSent) up does h = absurd h.call.1
+        write_ends cs d answer (Err Unusable) up placed does h = absurd (true≢false (sym up ∙ h.call.0))
+        write_ends cs d answer (Err NotMine) up placed does h = absurd h.call.1
+        write_ends cs d answer (Err (Business _)) up placed does h = absurd h.call.1
+        write_ends cs d answer (Err TooEarly) up placed does h = absurd h.call.1
+        write_ends cs d answer (Err NumberLimit) up placed does h = absurd h.call.1
+        write_ends cs d answer (Err NotSent) up placed does h = absurd h.call.1
 
     -- an answer that a read gives, and nothing is done
     pub read_answers : {R V : Type 0} (Reason : EndFault → Type 0) (Q : Tables S C → Type 0)
@@ -137,13 +151,16 @@ module _ {E S C : Type 0} (seen : E → Seen (Tables S C)) (sound : (k : E) → 
     read_answers Reason Q may gives r answer d so h = let e = h.doubt in record {
       call = h.call;
       doubt = h.doubt;
-      clean = λ clean good q.
-          let clean0 : (seen old).doubt ≡ 0 = omega (arith, clean, e) in
-          let told = h.clean clean in
-          let it = so (seen old).tables (good_now old clean0 h.call.0 good) q told.0 in (
-            (d, it.0, subst (λ x. DidWithin ahead service (kept (seen old).tables) d (kept x)) (sym told.1) it.1),
-            same_match h.call clean0 clean told.1 good,
-          );
+      clean = λ clean. (
+        tt,
+        λ good q.
+            let clean0 : (seen old).doubt ≡ 0 = omega (arith, clean, e) in
+            let told = h.clean clean in
+            let it = so (seen old).tables (good_now old clean0 h.call.0 good) q told.0 in (
+              (d, it.0, subst (λ x. DidWithin ahead service (kept (seen old).tables) d (kept x)) (sym told.1) it.1),
+              same_match h.call clean0 clean told.1 good,
+            ),
+      );
     }
 
   -- a growth was refused, and nothing was done
@@ -154,7 +171,7 @@ module _ {E S C : Type 0} (seen : E → Seen (Tables S C)) (sound : (k : E) → 
   no_room k Reason Q may memory up = record {
     call = (up, up, refl, stays_armed (seen k).armed);
     doubt = omega arith;
-    clean = λ clean good q. ((memory (kept (seen k).tables), refl), good);
+    clean = λ clean. (refl, λ good q. ((memory (kept (seen k).tables), refl), good));
   }
 
   -- ---- a part behind a read
@@ -175,12 +192,19 @@ module _ {E S C : Type 0} (seen : E → Seen (Tables S C)) (sound : (k : E) → 
     read_then P Q may gives r result so read work = let d = read.doubt in let e = work.doubt in record {
       call = later (end_of result) read.call work.call;
       doubt = omega (arith, d, e);
-      clean = λ clean good q.
+      clean = λ clean.
           let clean1 : (seen mid).doubt ≡ 0 = omega (arith, clean, e) in
-          let clean0 : (seen old).doubt ≡ 0 = omega (arith, clean1, d) in
           let told = read.clean clean1 in
-          let ready = so (seen old).tables (good_now old clean0 read.call.0 good) q told.0 in
-          let it = work.clean clean (same_match old mid read.call clean0 clean1 told.1 good)
-          (subst P (sym told.1) ready) in
-          (subst (λ x. IsDone ahead service may x (seen new).tables (seen new).may_leave result) told.1 it.0, it.1);
+          let works = work.clean clean in (
+            if_refused ((seen new).tables ≡ (seen mid).tables) ((seen new).tables ≡ (seen old).tables) result
+                (λ same. same ∙ told.1) works.0,
+            λ good q.
+                let clean0 : (seen old).doubt ≡ 0 = omega (arith, clean1, d) in
+                let ready = so (seen old).tables (good_now old clean0 read.call.0 good) q told.0 in
+                let it = works.1 (same_match old mid read.call clean0 clean1 told.1 good) (subst P (sym told.1) ready)
+                in (
+                  subst (λ x. IsDone ahead service may x (seen new).tables (seen new).may_leave result) told.1 it.0,
+                  it.1,
+                ),
+          );
     }

@@ -1,10 +1,10 @@
 -- What the parts of a call on letters come to: a letter that is handled or held, a mark that rises, and the call that a
 -- caller sees.
-use Rattle.std.proofs.Common.{ℕ, suc, ◌+◌, ◌≤◌, ◌<◌, ◌≡◌, ◌⊎◌, inl, inr, List, [], ◌∷◌, Option, Some, None, length}
+use Rattle.std.proofs.Common.{ℕ, suc, ◌≤◌, ◌<◌, ◌≡◌, inl, inr, List, [], ◌∷◌, Some, None, length}
 use Rattle.std.proofs.Common.{Result, Ok, Err, refl}
 use Rattle.std.proofs.Common.{sym, ap}
 use Rattle.std.proofs.Common.{subst, ◌∙◌, arith, length-append, true}
-use Rattle.std.specs.Prelude.{max, ⊤}
+use Rattle.std.specs.Prelude.{⊤}
 use Rattle.base.specs.Entity.{Entity}
 use Rattle.base.specs.declared.limits.TheConstants.{MAX_NUMBER}
 use Rattle.base.specs.declared.pair.Pair.{Pair}
@@ -27,11 +27,12 @@ use Rattle.endpoint.specs.declared.fault.EndFault.{EndFault}
 use Rattle.endpoint.specs.declared.fault.EndFault.TheVariants.{NotMine, Business, TooEarly, StoreFailed, Memory}
 use Rattle.endpoint.specs.declared.fault.EndFault.TheVariants.{Unusable, NumberLimit}
 use Rattle.endpoint.specs.declared.fault.EndFault.TheVariants.{NotSent}
-use Rattle.endpoint.specs.Arrivals.{row_of_letter, IngestMayWithin, DrainMay, SettleMay, IsDone}
+use Rattle.endpoint.specs.Arrivals.{row_of_letter, IngestMayWithin, SettleMay, IsDone}
 use Rattle.endpoint.specs.Calls.{IsCommitCall, IsCommit, Appends, IsMine, MayTurnAway, OfLetter, OfHeldLetter, DoesDeed}
+use Rattle.endpoint.specs.Calls.{IfRefused}
 use Rattle.endpoint.specs.Deeds.{Kept, kept, Deed, Nothing, TakesIn, Holds, Settles, DidWithin}
 use Rattle.endpoint.specs.Faults.{end_of}
-use Rattle.endpoint.specs.Matches.{TablesMatchWithin, MayBeHeld}
+use Rattle.endpoint.specs.Matches.{TablesMatchWithin}
 use Rattle.endpoint.specs.Parts.Handling.{Handles}
 use Rattle.endpoint.specs.Parts.Receiving.{Works, IsNext, IsEarly, IsMissing}
 use Rattle.endpoint.proofs.Arriving.{letter_changes, letter_prepares, held_same, held_new, may_be_held, held_matches}
@@ -57,6 +58,11 @@ held_wider NotSent h = absurd h
 abbrev pub as_ingested : Result Committed EndFault → Result Ingested EndFault
 as_ingested (Ok c) = Ok (ingested.Handled c.pos)
 as_ingested (Err fault) = Err fault
+
+-- it refuses where that does
+as_refused : (A : Type 0) (result : Result Committed EndFault) → IfRefused result A → IfRefused (as_ingested result) A
+as_refused A (Ok c) same = tt
+as_refused A (Err fault) same = same
 
 module _ {E S C : Type 0} (seen : E → Seen (Tables S C)) (sound : (k : E) → IsSound (seen k)) (ahead : ℕ)
     (service : Service S C)
@@ -122,16 +128,19 @@ module _ {E S C : Type 0} (seen : E → Seen (Tables S C)) (sound : (k : E) → 
       let d = h.doubt in record {
         call = told result h.call;
         doubt = h.doubt;
-        clean = λ clean good next.
-            let clean0 : (seen old).doubt ≡ 0 = omega (arith, clean, d) in
-            let matches = good_now seen sound ahead service old clean0 up good in
-            let k = matches.handled l.pair in
-            let did = h.clean clean good (letter_prepares ahead service (seen old).tables l matches next
-            (letter_changes l) refl) in (
-              done (omega (arith, next, k)) result h.call did,
-              commit-matches seen ahead service old new row waiting (sound old) (sound new) clean0 clean good result
-                  h.call did,
-            );
+        clean = λ clean. (
+          as_refused ((seen new).tables ≡ (seen old).tables) result (h.clean clean).0,
+          λ good next.
+              let clean0 : (seen old).doubt ≡ 0 = omega (arith, clean, d) in
+              let matches = good_now seen sound ahead service old clean0 up good in
+              let k = matches.handled l.pair in
+              let did = (h.clean clean).1 good (letter_prepares ahead service (seen old).tables l matches next
+              (letter_changes l) refl) in (
+                done (omega (arith, next, k)) result h.call did,
+                commit-matches seen ahead service old new row waiting (sound old) (sound new) clean0 clean good result
+                    h.call did,
+              ),
+        );
       }
 
 -- ---- a letter that is held, and a mark
@@ -153,10 +162,13 @@ module _ {S C : Type 0} (ahead : ℕ) (service : Service S C) where
       )
 
   abbrev Hold : Letter → List (Change S C) → Tables S C → Type 0
-  Hold l cs t = ArePlaced cs t × IngestMayWithin ahead service l (Ok ingested.Held) (kept t) (Holds l)
+  Hold l cs t = IngestMayWithin ahead service l (Ok ingested.Held) (kept t) (Holds l)
       × IngestMayWithin ahead service l (Err StoreFailed) (kept t) (Holds l)
       × DidWithin ahead service (kept t) (Holds l) (kept (changed cs t))
       × TablesMatchWithin ahead service (changed cs t)
+
+  pub hold_placed : (l : Letter) (cs : List (Change S C)) → cs ≡ Held l ∷ [] → (t : Tables S C) → ArePlaced cs t
+  hold_placed l cs is t = subst (λ (c : List (Change S C)). ArePlaced c t) (sym is) (tt, tt)
 
   pub hold_does : (l : Letter) → l.pair.to.kind ≡ service.kind → l.number ≤ MAX_NUMBER → (cs : List (Change S C))
       → cs ≡ Held l ∷ []
@@ -165,7 +177,6 @@ module _ {S C : Type 0} (ahead : ℕ) (service : Service S C) where
       let may = may_be_held ahead service t h l mine small q.0 in
       let k = h.handled l.pair in let far = q.0.0 in
       subst (λ (c : List (Change S C)). Hold l c t) (sym is) (
-        (tt, tt),
         refl,
         inr (inr refl),
         (
@@ -177,10 +188,14 @@ module _ {S C : Type 0} (ahead : ℕ) (service : Service S C) where
       )
 
   abbrev Mark : Pair → ℕ → List (Change S C) → Tables S C → Type 0
-  Mark p n cs t = ArePlaced cs t × SettleMay service p n (Ok n) (kept t) (Settles p n)
+  Mark p n cs t = SettleMay service p n (Ok n) (kept t) (Settles p n)
       × SettleMay service p n (Err StoreFailed) (kept t) (Settles p n)
       × DidWithin ahead service (kept t) (Settles p n) (kept (changed cs t))
       × TablesMatchWithin ahead service (changed cs t)
+
+  pub mark_placed : (p : Pair) (n : ℕ) (cs : List (Change S C)) → cs ≡ Settled p n ∷ [] → (t : Tables S C)
+      → ArePlaced cs t
+  mark_placed p n cs is t = subst (λ (c : List (Change S C)). ArePlaced c t) (sym is) (tt, tt)
 
   pub mark_does : (p : Pair) (n : ℕ) → p.from.kind ≡ service.kind → (cs : List (Change S C)) → cs ≡ Settled p n ∷ []
       → (t : Tables S C) → TablesMatchWithin ahead service t → (t.settled p < n) × (n ≤ t.sent p) → Mark p n cs t
@@ -188,7 +203,6 @@ module _ {S C : Type 0} (ahead : ℕ) (service : Service S C) where
       let more = q.0 in let there = q.1 in let s = h.sent p in
       let few : n ≤ length (sent_of service.reactions t.journal p) = omega (arith, there, s) in
       subst (λ (c : List (Change S C)). Mark p n c t) (sym is) (
-        (tt, tt),
         (refl, omega (arith, more)),
         inr refl,
         (
@@ -240,5 +254,5 @@ module _ {E S C R : Type 0} (seen : E
   works_does may result w = record {
     call = seen_call result w.call;
     doubt = w.doubt;
-    clean = λ clean good. (w.clean clean good tt).0;
+    clean = λ clean good. ((w.clean clean).1 good tt).0;
   }

@@ -19,7 +19,7 @@ use Rattle.endpoint.specs.Deeds.{Kept, kept, Deed, Nothing, TakesIn, DidWithin, 
 module _ {E S C : Type 0} (seen : E → Seen (Tables S C)) (old new : E) (was : IsSound (seen old))
     (is : IsSound (seen new)) where
   -- a usable store whose tables stay
-  same_stays : IsServed seen old new → (seen old).doubt ≡ 0 → (seen new).doubt ≡ 0
+  pub same_stays : IsServed seen old new → (seen old).doubt ≡ 0 → (seen new).doubt ≡ 0
       → (seen new).tables ≡ (seen old).tables
       → (t : Tables S C) → (seen new).may_leave t → (seen old).may_leave t
   same_stays served clean0 clean same t l =

@@ -27,7 +27,7 @@ module _ {S C : Type 0} where
   -- what sets no row leaves them all
   rows-kept : (cs : List (Change S C)) (t : Tables S C) → SetNoRow cs → (changed cs t).entity ≡ t.entity
   rows-kept [] t none = refl
-  rows-kept (Journal position row ∷ cs) t none = rows-kept cs (changed_by (Journal position row) t) none
+  rows-kept (Journal position row ∷ cs) t none = absurd none
   rows-kept (State e row ∷ cs) t none = absurd none
   rows-kept (Sent l ∷ cs) t none = rows-kept cs (changed_by (Sent l) t) none
   rows-kept (Settled p n ∷ cs) t none = rows-kept cs (changed_by (Settled p n) t) none
@@ -37,7 +37,7 @@ module _ {S C : Type 0} where
 
   none-append : (xs ys : List (Change S C)) → SetNoRow xs → SetNoRow ys → SetNoRow (xs ++ ys)
   none-append [] ys first more = more
-  none-append (Journal position row ∷ xs) ys first more = none-append xs ys first more
+  none-append (Journal position row ∷ xs) ys first more = absurd first
   none-append (State e row ∷ xs) ys first more = absurd first
   none-append (Sent l ∷ xs) ys first more = none-append xs ys first more
   none-append (Settled p n ∷ xs) ys first more = none-append xs ys first more
@@ -56,7 +56,7 @@ module _ {S C : Type 0} (Follows : Option Entity → S → S → Type 0) where
   steps-behind : (xs ys : List (Change S C)) (t : Tables S C) → SetNoRow xs → AreSteps Follows ys (changed xs t)
       → AreSteps Follows (xs ++ ys) t
   steps-behind [] ys t none behind = behind
-  steps-behind (Journal position row ∷ xs) ys t none behind = (tt, steps-behind xs ys _ none behind)
+  steps-behind (Journal position row ∷ xs) ys t none behind = absurd none
   steps-behind (State e row ∷ xs) ys t none behind = absurd none
   steps-behind (Sent l ∷ xs) ys t none behind = (tt, steps-behind xs ys _ none behind)
   steps-behind (Settled p n ∷ xs) ys t none behind = (tt, steps-behind xs ys _ none behind)

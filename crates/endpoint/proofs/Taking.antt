@@ -32,7 +32,7 @@ use Rattle.endpoint.specs.Parts.Handling.{Prepares}
 use Rattle.outbox.specs.Numbering.{numbering}
 use Rattle.outbox.proofs.Sending.{IsOutbox, outbox-same, own, numbering-outbox, numbering-keeps}
 
-pub changed-append : {S C : Type 0} (xs ys : List (Change S C)) (t : Tables S C)
+changed-append : {S C : Type 0} (xs ys : List (Change S C)) (t : Tables S C)
     → changed (xs ++ ys) t ≡ changed ys (changed xs t)
 changed-append [] ys t = refl
 changed-append (x ∷ xs) ys t = changed-append xs ys (changed_by x t)

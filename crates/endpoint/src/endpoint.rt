@@ -5,7 +5,7 @@ ghost use Rattle.activities.specs.Rows.{row_of};
 ghost use Rattle.activities.specs.declared.input.Input.TheVariants.{FromSeat};
 ghost use Rattle.endpoint.specs.Arrivals.{IngestMayWithin, DrainMay, SettleMay};
 ghost use Rattle.endpoint.specs.Calls.{CommitsWithin, ComesByWithin, Finds, StillMatchesWithin, DoesDeed, Stays, OfLetter};
-ghost use Rattle.endpoint.specs.Calls.{OfHeldLetter, OfSettle, Views, Answers, TellsOfEach, Counts};
+ghost use Rattle.endpoint.specs.Calls.{OfHeldLetter, OfSettle, KeepsTables, Views, Answers, TellsOfEach, Counts};
 ghost use Rattle.endpoint.specs.Deeds.{CommitMay};
 ghost use Rattle.endpoint.specs.Faults.{end_of};
 ghost use Rattle.keep.specs.Law.{Reopens, Reads};
@@ -113,6 +113,7 @@ where
         ensures comes { ComesByWithin K.seen self.old self.new W.ahead H.service
             (CommitMay H.service (record { entity = entity.now; input = FromSeat seat command }) result) }
         ensures matches { StillMatchesWithin K.seen self.old self.new W.ahead H.service }
+        ensures unchanged { KeepsTables K.seen self.old self.new result }
     {
         // first: where the store can't be asked, nothing else is told
         if !self.keep.usable() {
@@ -164,6 +165,7 @@ where
         ensures comes { ComesByWithin K.seen self.old self.new W.ahead H.service
             (IngestMayWithin W.ahead H.service letter.now result) }
         ensures matches { StillMatchesWithin K.seen self.old self.new W.ahead H.service }
+        ensures unchanged { KeepsTables K.seen self.old self.new result }
     {
         if !self.keep.usable() {
             return Err(EndFault::Unusable);
@@ -186,6 +188,7 @@ where
             (DrainMay H.service pair.now) result }
         ensures comes { ComesByWithin K.seen self.old self.new W.ahead H.service (DrainMay H.service pair.now result) }
         ensures matches { StillMatchesWithin K.seen self.old self.new W.ahead H.service }
+        ensures unchanged { KeepsTables K.seen self.old self.new result }
     {
         if !self.keep.usable() {
             return Err(EndFault::Unusable);
@@ -210,6 +213,7 @@ where
         ensures comes { ComesByWithin K.seen self.old self.new W.ahead H.service
             (SettleMay H.service pair.now number result) }
         ensures matches { StillMatchesWithin K.seen self.old self.new W.ahead H.service }
+        ensures unchanged { KeepsTables K.seen self.old self.new result }
     {
         if !self.keep.usable() {
             return Err(EndFault::Unusable);

@@ -15,14 +15,13 @@ use Rattle.keep.specs.declared.fault.KeepFault.{KeepFault}
 use Rattle.keep.specs.declared.fault.KeepFault.TheVariants.{Failed, Memory, WrongFile}
 use Rattle.endpoint.specs.Matches.{TablesMatchJournal}
 use Rattle.endpoint.specs.Deeds.{Kept, kept, Did}
-use Rattle.endpoint.proofs.Placed.{placed-append}
-use Rattle.endpoint.proofs.Taking.{changed-append}
 use Rattle.group_commit.specs.Group.{TakesOne, TakesEach}
 use Rattle.group_commit.specs.Parts.Planning.{IsStep, IsGathered, ended, rows_behind}
 use Rattle.group_commit.specs.declared.group.Group.{Group}
 use Rattle.group_commit.specs.declared.grouped.Grouped.{Grouped}
 use Rattle.group_commit.specs.declared.grouped.Grouped.TheVariants as grouped
 use Rattle.group_commit.specs.declared.planning.PlannedStep.{PlannedStep}
+use Rattle.group_commit.proofs.Appending.{changed-append, placed-append}
 use Rattle.group_commit.proofs.Following.{steps-append}
 use Rattle.group_commit.proofs.Reading.{reads_nothing, reads_then, read_gives, read_refused, read_fails}
 

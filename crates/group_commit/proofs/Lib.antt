@@ -1,4 +1,5 @@
 mod Apart
+mod Appending
 mod Ends
 mod Following
 pub mod Reading

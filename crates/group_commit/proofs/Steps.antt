@@ -17,16 +17,15 @@ use Rattle.keep.specs.declared.change.Change.{Change}
 use Rattle.keep.specs.declared.change.Change.TheVariants.{Journal, State, Settled}
 use Rattle.keep.specs.Tables.{Tables, changed, ArePlaced, set_message}
 use Rattle.outbox.specs.Numbering.{numbering, NumbersFit}
-use Rattle.outbox.proofs.Sending.{numbering-keeps}
 use Rattle.endpoint.specs.Arrivals.{row_of_letter}
 use Rattle.endpoint.specs.Calls.{IsCommit}
 use Rattle.endpoint.specs.Deeds.{TakesIn, Settles}
 use Rattle.endpoint.specs.Matches.{TablesMatchJournal}
 use Rattle.endpoint.proofs.Arriving.{letter_changes, letter_prepares}
 use Rattle.endpoint.proofs.Exits.{on_write_ok}
-use Rattle.endpoint.proofs.Finishing.{mark_does}
-use Rattle.endpoint.proofs.Placed.{placed-none, placed-append}
-use Rattle.endpoint.proofs.Taking.{changed-append}
+use Rattle.endpoint.proofs.Finishing.{mark_does, mark_placed}
+use Rattle.endpoint.proofs.Placed.{placed-last}
+use Rattle.endpoint.proofs.Steps.{numbering-sets-none}
 use Rattle.group_commit.specs.Group.{TakesOne}
 use Rattle.group_commit.specs.Parts.Planning.{touches, IsNext}
 use Rattle.group_commit.specs.declared.grouped.Grouped.TheVariants as grouped
@@ -54,14 +53,9 @@ module _ {S C : Type 0} (service : Service S C) where
       abbrev all : List (Change S C)
       all = (letter_changes l ++ letters) ++ rest
 
-      stays : (changed (letter_changes l ++ letters) u).journal ≡ u.journal
-      stays = ap (λ (t : Tables S C). t.journal) (changed-append (letter_changes l) letters u)
-          ∙ numbering-keeps (λ (t : Tables S C). t.journal) (λ _ _. refl) u.sent l.pair.to done.1
-          (changed (letter_changes l) u)
-
       all_placed : ArePlaced all u
-      all_placed = placed-append (letter_changes l ++ letters) rest u (placed-none (letter_changes l ++ letters) u stays)
-          (tt, (placed ∙ ap (λ (j : List (JournalRow C)). length j + 1) (sym stays), tt))
+      all_placed = placed-last (letter_changes l ++ letters) u l.pair.to (row_for service.is_none done.0) position row
+          (numbering-sets-none (letter_changes l) (letter_changes l ++ letters) u.sent l.pair.to done.1 refl tt) placed
 
       room : length u.journal < MAX_NUMBER
       room = let a = is.small in omega (arith, a, placed)
@@ -71,7 +65,7 @@ module _ {S C : Type 0} (service : Service S C) where
       written = on_write_ok HELD_WINDOW service law u u row h mine room refl s0 found
           (set_message l.pair l.number None u.held) done reacted position placed (letter_changes l)
           (letter_prepares HELD_WINDOW service u l h next (letter_changes l) refl) refl done.1 refl
-          (letter_changes l ++ letters) refl u refl fits (changed all u) (λ _. ⊤) position refl (λ _. refl)
+          (letter_changes l ++ letters) refl u refl fits (changed all u) (λ _. ⊤) position refl refl
 
       pub letter_takes : TakesOne service (envelope.Letter l) (grouped.Handled position) u (changed all u)
           × ArePlaced all u
@@ -139,5 +133,7 @@ module _ {S C : Type 0} (service : Service S C) where
         let settled = same.settled p.to in
         let sent = same.sent p.to in
         let it = mark_does HELD_WINDOW service p n mine changes is (changed before t) h
-        (omega (arith, more, settled), omega (arith, there, sent)) in
-        (record { deed = Settles p n; may = it.1; did = it.3; matches = it.4 }, it.0)
+        (omega (arith, more, settled), omega (arith, there, sent)) in (
+          record { deed = Settles p n; may = it.0; did = it.2; matches = it.3 },
+          mark_placed HELD_WINDOW service p n changes is (changed before t),
+        )

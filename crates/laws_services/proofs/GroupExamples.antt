@@ -71,7 +71,7 @@ module _ (l : letter.Letter) (position : ℕ) (t : StockTables) (match : TablesM
       stock_reactions.opening opening (set_message l.pair l.number None t.held) (answer l) refl position placed
       (letter_changes l) (letter_prepares HELD_WINDOW stocks_service t l match next (letter_changes l) refl) refl
       (answer l).1 refl (letter_changes l ++ numbering t.sent l.pair.to (answer l).1) refl t refl fits
-      (behind l position t) (λ _. ⊤) position refl (λ _. refl)
+      (behind l position t) (λ _. ⊤) position refl refl
 
   takes_letter : TakesOne stocks_service (Letter l) (grouped.Handled position) t (behind l position t)
   takes_letter = record {

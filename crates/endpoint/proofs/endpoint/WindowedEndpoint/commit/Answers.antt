@@ -2,11 +2,12 @@
 use Rattle.std.proofs.Common.{◌≡◌, arith, sym, subst}
 use Rattle.keep.specs.Tables.{changed}
 use Rattle.activities.proofs.Journals.{command_row}
-use Rattle.endpoint.specs.Calls.{IsCommit, CommitsWithin}
+use Rattle.endpoint.specs.Calls.{MayRefuse, IsCommit, CommitsWithin, KeepsTables}
 use Rattle.endpoint.specs.Parts.Handling.{SetNoRow}
 use Rattle.endpoint.proofs.Commands.{command-prepares}
 use Rattle.endpoint.proofs.Kept.{commit-matches}
 use Rattle.endpoint.proofs.Links.{commit_comes}
+use Rattle.endpoint.proofs.Refusals.{keeps_tables}
 use Rattle.endpoint.proofs.endpoint.WindowedEndpoint.commit.Goals as goal
 
 pub handle-requires-clause-rows : goal.handle-requires-clause-rows
@@ -31,7 +32,7 @@ returns-clause-commit g c =
           (changed cs (seen keep).tables).held
           (seen c.handle.new.keep).tables (seen c.handle.new.keep).may_leave c.handle.result)
           c.new-changes.ensures.items
-          (h.clean clean good (command-prepares g.W.Window.ahead g.H.Handler.service (seen keep).tables
+          ((h.clean clean).1 good (command-prepares g.W.Window.ahead g.H.Handler.service (seen keep).tables
           c.args.entity.now c.args.seat
           c.args.command
           c.new-changes.result.items matches c.requires c.new-changes.ensures.items));
@@ -62,3 +63,14 @@ returns-clause-matches g c = λ clean good.
     (g.met.K.Keep.sound c.args.self.now) (g.met.K.Keep.sound c.handle.new.keep) (omega (arith, clean, above)) clean good
     c.handle.result
     told.call (told.clean clean good)
+
+pub returns-clause-unchanged : goal.returns-clause-unchanged
+returns-clause-unchanged g c =
+    let seen = g.K.Keep.seen in
+    let keep = c.self.inside.keep in
+    let new = c.handle.new.keep in
+    let row = command_row c.args.entity.now c.args.seat c.args.command in
+    let h = c.handle.ensures in
+    subst (λ k. KeepsTables seen k new c.handle.result) c.self.view_is
+    (keeps_tables seen keep new (g.met.K.Keep.sound keep) (g.met.K.Keep.sound new)
+    (MayRefuse keep new g.H.Handler.service.kind row) c.handle.result h.call.0 h.doubt (λ clean. (h.clean clean).0))
