@@ -1,5 +1,6 @@
 -- What a service processes while it lives, and how its life ends.
-use Rattle.std.proofs.Common.{◌≡◌, ℕ, ◌≤◌, List, [], ◌∷◌, ◌++◌, Option, Some, refl, sym, ap, ◌∙◌, subst, inl}
+use Rattle.std.proofs.Common.{◌≡◌, ◌⊎◌, ℕ, ◌≤◌, Bool, false, List, [], ◌∷◌, ◌++◌, Option, Some, refl, sym, ap, ◌∙◌, subst}
+use Rattle.std.proofs.Common.{inl, inr}
 use Rattle.std.proofs.Math.Arith.{le-zero}
 use Rattle.std.specs.Prelude.{Result, unwrap_or}
 use Rattle.stomp_wire.specs.declared.fault.LinkFault.{LinkFault}
@@ -17,7 +18,8 @@ use Rattle.shared_endpoint.specs.Token.{hand_number}
 use Rattle.shared_endpoint.proofs.Closing.{any_left, any_right}
 use Rattle.service_workers.specs.Lives.{TakesWhatCame, HasTakenWhatCame, LifeStands}
 use Rattle.service_workers.specs.Reads.{Came}
-use Rattle.service_workers.specs.Taking.{CarriedAmong, TakesFrom}
+use Rattle.service_workers.specs.Taking.{CarriedAmong, NoEnvelope, Takes, TakesFrom}
+use Rattle.service_workers.specs.Tokens.{GoesOn, WasUsable}
 use Rattle.service_workers.specs.Written.{HasSpokenIf, HasWrittenIf, MightSpeak, StandsBy}
 use Rattle.service_workers.specs.declared.conn.Conn.{Conn}
 use Rattle.service_workers.proofs.Further.{on_join, on_same}
@@ -29,9 +31,26 @@ pub one_among : {E : Type 0} (xs ys zs : List (ToldToken E)) (w : ToldToken E) �
 one_among xs ys zs w is = any_left (λ k. k ≡ w) (xs ++ ys) zs
     (any_right (λ k. k ≡ w) xs ys (subst (Any (λ k. k ≡ w)) (sym is) (inl refl)))
 
+-- the store was usable, or two connections are no more: so it is of those that go on, for a key that knows the same
+pub still_usable : {E T : Type 0} (seen : E → Seen T) (vs ws : List (ToldToken E)) (a b c d : Bool) → ws ≡ vs → c ≡ a → d ≡ b
+    → WasUsable seen vs ⊎ ((a ≡ false) × (b ≡ false))
+    → WasUsable seen ws ⊎ ((c ≡ false) × (d ≡ false))
+still_usable seen vs ws a b c d same zero one (inl usable) = inl (subst (WasUsable seen) (sym same) usable)
+still_usable seen vs ws a b c d same zero one (inr none) = inr (zero ∙ none.0, one ∙ none.1)
+
 module _ {L : Type 0} (put_gives : L → List ℕ → Result ℕ LinkFault → L → Type 0)
     (take_gives : L → ℕ → Result (List ℕ) LinkFault → L → Type 0) {E S C : Type 0} (seen : E → Seen (Tables S C))
     (service : Service S C) (sound : Type 0) (given : L → Type 0) where
+  -- by calls to which nothing was given
+  pub none_came : (vs ws : List (ToldToken E)) → GoesOn seen service hand_number vs ws → Takes seen service NoEnvelope vs ws
+      → TakesWhatCame put_gives take_gives seen service sound given vs ws
+  none_came vs ws on takes = record {
+    goes_on = on;
+    messages = [];
+    came = λ s. tt;
+    took = so_takes seen service NoEnvelope (CarriedAmong []) (λ e none. none) vs ws takes;
+  }
+
   -- by no call
   pub nothing_came : (vs : List (ToldToken E)) (v : ToldToken E) → vs ≡ v ∷ []
       → TakesWhatCame put_gives take_gives seen service sound given vs vs

@@ -41,7 +41,7 @@ use Rattle.laws_stores.proofs.Founded.{ingest_is, settle_is, drain_is}
 use Rattle.told_lock.specs.declared.view.ToldToken.{ToldToken}
 use Rattle.told_lock.specs.Rule.{IsTold}
 use Rattle.shared_endpoint.specs.History.{fault_in, tells, DidAll, EndsAs, IsLater, Since, Stands, Turn, Turns}
-use Rattle.shared_endpoint.specs.Promises.{Continues, IsGood, IsOneThreads, DoesAt, GroupsAt}
+use Rattle.shared_endpoint.specs.Promises.{Continues, IsGood, IsOneThreads, DoesAt, GroupsAt, LengthAt}
 use Rattle.shared_endpoint.specs.Token.{hand_number, is_of, rows_of}
 use Rattle.service_workers.specs.Batches.{behind, Carry}
 use Rattle.service_workers.specs.Taking.{Only, OnlyLetter, OnlySettle, NoEnvelope, CarriedOrIn, CarriedAmong, TakeIn}
@@ -307,6 +307,19 @@ module _ {E S C : Type 0} (seen : E → Seen (Tables S C)) (service : Service S 
       → Takes seen service (Contains es) vs ws
   group_takes Call es r vs ws law turns = by_tokens (Contains es) Call (fault_in r) vs ws
       (by_answer (Contains es) Call r (GroupsAt service es r) (group_leads es r) law) turns
+
+  length_leads : (r : Result ℕ EndFault) (t u : Tables S C) → LengthAt service r t u → TakesFrom NoEnvelope (kept t) (kept u)
+  length_leads (Ok n) t u at =
+      subst (λ (x : Tables S C). TakesFrom NoEnvelope (kept t) (kept x)) (sym at.1) (takes_same NoEnvelope (kept t))
+  length_leads (Err fault) t u at = absurd at
+
+  -- a look processes nothing
+  pub look_takes : (Call : E → E → Type 0) (r : Result ℕ EndFault) (vs ws : List (ToldToken E))
+      → IsOneThreads seen service hand_number Call r (LengthAt service r)
+      → Turns seen service hand_number vs ws Call (fault_in r)
+      → Takes seen service NoEnvelope vs ws
+  look_takes Call r vs ws law turns = by_tokens NoEnvelope Call (fault_in r) vs ws
+      (by_answer NoEnvelope Call r (LengthAt service r) (length_leads r) law) turns
 
   -- ---- one call where the store failed
 

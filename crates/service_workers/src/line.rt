@@ -221,6 +221,17 @@ where
         false
     }
 
+    /// The connection is no more.
+    pub(crate) fn cut(&mut self)
+        ensures there { self.new.is_there ≡ false }
+        ensures link { self.new.link ≡ self.old.link }
+    {
+        if self.conn.is_some() {
+            self.was = Snapshot::of(&self.conn);
+            self.conn = None;
+        }
+    }
+
     /// Whether letters can be sent on it.
     pub fn is_connected(&self) -> bool {
         match &self.conn {
@@ -536,13 +547,16 @@ where
         conn.write_much()
     }
 
-    /// The connection is no more.
-    pub(crate) fn cut(&mut self)
-        ensures { self.new ≡ record { number = self.old.number; is_there = false } }
+    /// The connection is no more. Whether it was there.
+    pub(crate) fn cut(&mut self) -> bool
+        ensures was { result ≡ self.old.is_there }
+        ensures cut { self.new ≡ record { number = self.old.number; is_there = false } }
     {
-        if self.conn.is_some() {
-            self.was = Snapshot::of(&self.conn);
-            self.conn = None;
+        if self.conn.is_none() {
+            return false;
         }
+        self.was = Snapshot::of(&self.conn);
+        self.conn = None;
+        true
     }
 }

@@ -1,8 +1,9 @@
-use Rattle.std.proofs.Common.{subst, sym}
+use Rattle.std.proofs.Common.{◌∙◌, subst, sym}
 use Rattle.told_lock.specs.Rule.{seen_by}
 use Rattle.shared_endpoint.specs.Keys.{told_hand, shown_hand}
 use Rattle.service_workers.specs.Conns.{or_was}
 use Rattle.service_workers.specs.Written.{HasSpokenIf}
+use Rattle.service_workers.proofs.Lives.{still_usable}
 use Rattle.service_workers.proofs.Written.{spoken_before, spoken_further}
 use Rattle.service_workers.proofs.service.run_service.Goals as goal
 
@@ -17,6 +18,10 @@ returns-clause-ends g c = record {
   );
   ended_read = λ s. (c.end-zero.ensures.read s, (c.end-one.ensures.read s, tt));
 }
+
+pub returns-clause-usable : goal.returns-clause-usable
+returns-clause-usable g c = still_usable g.K.Keep.seen _ _ _ _ _ _ (c.end-one.ensures.knows ∙ c.end-zero.ensures.knows)
+    c.end-zero.ensures.conn c.end-one.ensures.conn c.run_lines-held.ensures.usable
 
 pub new-requires-clause-spoken : goal.new-requires-clause-spoken
 new-requires-clause-spoken g c = λ s.
