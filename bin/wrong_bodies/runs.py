@@ -8,8 +8,11 @@ this body. Besides it names
   same: LINE        a line whose answer stays the same: none or more
   octets: NUMBER    how much the program may have allocated at once; a run that exceeds it answers nothing. Without it there is no bound
 All bodies of a program are built into one program, since that costs as much as one of them. The environment's WRONG_BODY chooses one for
-a run; where none is chosen, the answer to each line has to be that of stdout.
+a run; where none is chosen, the answer to each line has to be that of the program's cases.
 """
+import functools
+import importlib.machinery
+import importlib.util
 import os
 import pathlib
 import re
@@ -41,6 +44,15 @@ pub(crate) fn is_wrong(number: u64) -> bool {
 """
 
 
+@functools.cache
+def said_of(program):
+    """The lines of a program's cases, each with the lines of its answer. bin/cases, which reads them, is a script."""
+    loader = importlib.machinery.SourceFileLoader("cases", str(TOP / "bin/cases"))
+    cases = importlib.util.module_from_spec(importlib.util.spec_from_loader("cases", loader))
+    loader.exec_module(cases)
+    return cases.said_of(program)
+
+
 class ByRun:
     """A wrong body, and the lines of a program that are to show it, and that aren't."""
 
@@ -51,9 +63,8 @@ class ByRun:
         self.program, self.octets = (next((rest.strip() for word, rest in words if word == it), None) for it in ("program", "octets"))
 
     def answers(self):
-        """The answers of its lines, as the program's stdout has them."""
-        lines, answers = ((TOP / "tests" / self.program / it).read_text("utf-8").splitlines() for it in ("stdin", "stdout"))
-        return {line: answer for line, answer in zip(lines, answers) if line in self.shown + self.same}
+        """The answers of its lines, as the program's cases have them."""
+        return {line: "\n".join(answer) for line, answer in said_of(self.program) if line in self.shown + self.same}
 
     def apply(self, crate, condition):
         """Changes a copy of its crate, where WRONG is this condition; returns the first text that isn't there once."""

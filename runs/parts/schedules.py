@@ -2,7 +2,7 @@
 import subprocess
 
 from .processes import SECONDS, program
-from .services import SERVICES, SHOWN as SHOWN_AS
+from .services import REASONS, SERVICES, SHOWN as SHOWN_AS
 
 ALL = 1048576  # more octets than ever wait
 OPEN = [f"open {it} 0" for it in SERVICES]
@@ -16,6 +16,11 @@ SHOWS = [*SHOWN_AS.values(), "pair order/o1 stock/bolt sent 2 settled 2 handled 
 
 def text(*lines):
     return "".join(f"{it}\n" for it in lines)
+
+
+def unopened(service, fault):
+    """What is on standard error where the file of this service can't be opened: the fault alone is the last line."""
+    return text(f"{service}: {REASONS[fault]}", fault)
 
 
 def command(*words, folder=None):

@@ -9,6 +9,9 @@ COMMANDS = {"warehouse": "receive bolt 10", "billing": "limit ann 500", "purchas
 SHOWN = {"order/o1": "order/o1 confirmed stock/bolt 3 confirmed account/ann 500 confirmed",
          "stock/bolt": "stock/bolt on_hand 7 held 0 shipped 3 received 10",
          "account/ann": "account/ann limit 500 billed 500 held 0"}
+# what is printed above the line of a fault of a service's file
+REASONS = {"fault 1 Failed": "the file can't be opened, is damaged, or another program has it",
+           "fault 3 WrongFile": "the file is of another service or version, or no database"}
 ENTITY = dict(zip(SERVICES, SHOWN))
 ROWS = 3
 

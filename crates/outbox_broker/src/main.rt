@@ -28,10 +28,18 @@ use std::{env, io, thread};
 use told::{BrokerLog, TARGET};
 use words::{Settings, USAGE, read_settings};
 
-/// Tells on standard error why the program ends with status 1.
+/// Tells on standard error why the program ends with status 1: the number and the name of the fault alone, so that scripts
+/// can compare the line.
 fn tell_fault(rt: &impl Eprint, fault: ServeFault) -> io::Result<u8> {
     eprintln!(rt; "{fault}")?;
     Ok(1)
+}
+
+/// Tells on standard error that standard output can't be written, and why; the fault's line comes last. The answer is the
+/// status.
+fn tell_unwritten(rt: &impl Eprint, error: io::Error) -> io::Result<u8> {
+    eprintln!(rt; "standard output can't be written: {error}")?;
+    tell_fault(rt, ServeFault::Device)
 }
 
 /// Listens on an address: where port 0 was asked for, on one that the system picks, which is told beside.
@@ -53,17 +61,15 @@ fn listen<R: Net + Print + Eprint>(
     rt: &R,
     address: SocketAddr,
 ) -> io::Result<Result<TcpListener, u8>> {
-    let fault = ServeFault::Device;
     let (listener, port) = match listen_on(rt, address) {
         Ok(bound) => bound,
         Err(error) => {
-            eprintln!(rt; "{fault}: {address} can't be had: {error}")?;
-            return Ok(Err(1));
+            eprintln!(rt; "{address} can't be had: {error}")?;
+            return Ok(Err(tell_fault(rt, ServeFault::Device)?));
         }
     };
     if let Err(error) = tell_port(rt, port) {
-        eprintln!(rt; "{fault}: standard output can't be written: {error}")?;
-        return Ok(Err(1));
+        return Ok(Err(tell_unwritten(rt, error)?));
     }
     Ok(Ok(listener))
 }
@@ -133,7 +139,8 @@ fn tell_error(rt: &HostRuntime, error: io::Error) -> io::Result<u8> {
         ErrorKind::OutOfMemory => tell_fault(rt, ServeFault::Memory),
         // Words that aren't UTF-8, which nothing else here is.
         ErrorKind::InvalidData => tell_bad_words(&mut rt.stderr(), USAGE),
-        _ => Err(error),
+        // Of help or the version. Where it was standard error that failed, this isn't seen either.
+        _ => tell_unwritten(rt, error),
     }
 }
 

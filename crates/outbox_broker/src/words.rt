@@ -66,8 +66,9 @@ Limits:
   a connection  25,740,400 octets that its client doesn't read; then it is dropped
 
 Exit status:
-  1  `fault 2 Device`: the port can't be had or told, and why, or the system refuses to wait for
-     sockets or to tell the time; `fault 34 Memory`: out of memory at the start
+  1  `fault N NAME` is the last line on standard error: 2 Device: the port can't be had or told, and
+     the line above says why, or the system refuses to wait for sockets or to tell the time;
+     34 Memory: out of memory at the start
   2  the words of the command line are at fault";
 
 /// What the words ask for.

@@ -4,7 +4,8 @@
 use programs::run_over;
 use schedule_io::Stores;
 use schedule_program::{FileStores, Runs, run_program};
-use schedule_stores::run_over_files;
+use schedule_stores::{run_events_over_files, run_over_files};
+use schedule_text::Event;
 use sqlite::Start;
 use std::alloc::Global;
 use std::io;
@@ -33,6 +34,16 @@ impl Runs for Services {
         err: &mut E,
     ) -> u8 {
         run_over_files(alloc, stores, input, out, err)
+    }
+
+    fn run_events_over_files<O: Start, S: Start, A: Start, W: Write, E: Write>(
+        alloc: Global,
+        stores: FileStores<O, S, A>,
+        events: Vec<Event>,
+        out: &mut W,
+        err: &mut E,
+    ) -> u8 {
+        run_events_over_files(alloc, stores, events, out, err)
     }
 }
 

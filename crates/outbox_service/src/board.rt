@@ -8,8 +8,9 @@
 //! ----------------  ---------------------------------------------  ----------------------------------------------
 //! life: ending      who answers, at the end of the input or if it  the turn ends, and no other begins: connections
 //!                   fails (`end`)                                  are left by DISCONNECT, and closed
-//! life: ending      whoever meets the store's failure (`heed`)     the same; who answers reads no further line, and
-//!   and broken                                                     the exit status is 1
+//! life: ending      whoever meets the store's failure (`heed`)     the same, but the connections are cut at once; who
+//!   and broken                                                     answers reads no further line, and the exit
+//!                                                                  status is 1
 //! life: over        who serves, as its last step (`close`)         who answers waits for no asking any more
 //! askings: one is   who answers, for the line `connect` (`ask`);   the turn ends, and who serves opens what isn't
 //!   left            there is one at the start                      open

@@ -75,9 +75,10 @@ use words::{Settings, USAGE, read_settings};
 const BAD_GREETING: &str =
     "error: --host, --login and --passcode take one line of 1,000 octets at most";
 
-/// Tells on standard error why the program ends with status 1.
+/// Tells on standard error why the program ends with status 1. The last line is the fault's number and name alone, so that
+/// scripts can compare it; its words stand above it.
 fn tell_fault(rt: &HostRuntime, fault: RunFault) -> io::Result<u8> {
-    eprintln!(rt; "{fault}")?;
+    eprintln!(rt; "{}\n{fault}", fault.words())?;
     Ok(1)
 }
 
@@ -136,7 +137,8 @@ fn tell_error(host: &HostRuntime, error: io::Error) -> io::Result<u8> {
         ErrorKind::OutOfMemory => tell_fault(host, RunFault::Memory),
         // Words that aren't UTF-8, which nothing else here is.
         ErrorKind::InvalidData => tell_bad_words(&mut host.stderr(), USAGE),
-        _ => Err(error),
+        // Standard output can't take help or the version. Where it was standard error, this isn't seen either.
+        _ => tell_fault(host, RunFault::Device),
     }
 }
 

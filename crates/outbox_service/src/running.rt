@@ -117,8 +117,8 @@ where
 
 /// One life of a service: its threads run until the input ends or its store fails. If what was found matched its journal
 /// (`N.sound`) and its file isn't in doubt, all that was put on the links of its connections stands by the journal in the end.
-/// That journal begins with the one that was found; and what was processed since came in MESSAGEs on connections, or was held
-/// when the life began. So it is over whatever links.
+/// That journal begins with the one that was found; and what was processed since came in MESSAGEs on connections, or was held.
+/// So it is over whatever links.
 fn live<N, L, H, K, R>(
     rt: &R,
     site: Site<'_>,

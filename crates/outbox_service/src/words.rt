@@ -1,6 +1,7 @@
 //! The words of the command line.
 
 use crate::sockets::Broker;
+use clap::builder::ValueParser;
 use clap::{Arg, ArgAction, ArgMatches, Command, Error, value_parser};
 use schedule_text::ServiceName;
 use std::alloc::{AllocError, Global};
@@ -68,9 +69,9 @@ version 2, whenever the program is killed.
 
 Exit status:
   0  the input ended
-  1  `fault N NAME: ..` on standard error: 1 Failed, 2 Memory, 3 WrongFile: the file can't be
-     opened, or is of another service or version; 2 Device: a stream failed, or the system refused
-     what is needed; 63 StoreFailed: the store failed; 81 Memory: out of memory at the start
+  1  `fault N NAME` is the last line on standard error: 1 Failed, 2 Memory, 3 WrongFile: the file
+     can't be opened, or is of another service or version; 2 Device: a stream failed, or the system
+     refused what is needed; 63 StoreFailed: the store failed; 81 Memory: out of memory at the start
   2  the words of the command line are at fault";
 
 /// What the words ask for.
@@ -105,7 +106,7 @@ fn with_service<'a>(
     )
 }
 
-/// With `--port`.
+/// With `--port`. No broker listens on port 0.
 fn with_port<'a>(alloc: Global, command: Command<'a>) -> Result<Command<'a>, AllocError> {
     command.arg(
         Arg::new(alloc, "port")
@@ -113,8 +114,20 @@ fn with_port<'a>(alloc: Global, command: Command<'a>) -> Result<Command<'a>, All
             .required(true)
             .action(ArgAction::Set)
             .value_name("PORT")
-            .help("The broker's port")
-            .value_parser(value_parser!(u16)),
+            .help("The broker's port, 1 to 65535")
+            .value_parser(value_parser!(u16).range(1..)),
+    )
+}
+
+/// With `--file`. An empty path is what a variable that isn't set becomes, and names no file.
+fn with_file<'a>(alloc: Global, command: Command<'a>) -> Result<Command<'a>, AllocError> {
+    command.arg(
+        Arg::new(alloc, "file")
+            .long("file")
+            .action(ArgAction::Set)
+            .value_name("PATH")
+            .help("The file of the tables, which SQLite reads; without it they are in memory")
+            .value_parser(ValueParser::NonEmptyString),
     )
 }
 
@@ -186,8 +199,7 @@ fn make_command<'a>(alloc: Global, services: &'a [&'a str]) -> Result<Command<'a
         .after_help(LINES);
     let command = with_service(alloc, command, services)?;
     let command = with_port(alloc, command)?;
-    let file = "The file of the tables, which SQLite reads; without it they are in memory";
-    let command = with_text(alloc, command, "file", "PATH", file)?;
+    let command = with_file(alloc, command)?;
     let command = with_migrate(alloc, command)?;
     add_options(alloc, command)
 }

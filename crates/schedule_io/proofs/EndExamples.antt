@@ -19,12 +19,9 @@ use Rattle.schedule_text.specs.declared.event.Event.{Event}
 use Rattle.schedule_text.specs.declared.event.Event.TheVariants.{Order}
 use Rattle.schedule_text.specs.declared.outcome.Outcome.TheVariants.{NotDone}
 use Rattle.schedule_text.specs.Events.{events_of}
-use Rattle.keep.specs.declared.fault.KeepFault.{KeepFault}
-use Rattle.keep.specs.declared.fault.KeepFault.TheVariants as keep
 use Rattle.schedule_io.specs.declared.fault.RunFault.TheVariants.{BadEvent, Memory, Device, Unopened}
 use Rattle.schedule_io.specs.declared.fault.StoresFault.{StoresFault}
 use Rattle.schedule_io.specs.declared.fault.StoresFault.TheVariants.{Purchasing, Warehouse, Billing}
-use Rattle.schedule_io.specs.StoresFaults.{keep_fault_words}
 use Rattle.schedule_io.specs.Ends.{Writers, lines_of, IsCutOff, IsReadFrom, AreRun, IsRunOf, IsUnread, IsRunFrom, IsEndOf, IsUntold}
 use Rattle.schedule_io.specs.Ends.{fault_line}
 use Rattle.schedule_text.specs.declared.outcome.Outcome.{Outcome}
@@ -221,13 +218,15 @@ words_are_taken keeps are =
 
 -- whatever refers to them
 module _ (keeps : Bor (List (Bor Text))) where
-  -- `--help` asks for help and `--version` for the version, and there is no other option but these, `--keep`, `--dir`
-  -- and `--migrate`
+  -- `--help` asks for help and `--version` for the version, there is no other option but these, `--keep`, `--dir` and
+  -- `--migrate`, and an empty path names no folder
   words_have_faults : (fault_of (command_line keeps) (behind (codes "--help" ∷ [])) ≡ DisplayHelp ∷ [])
       × (fault_of (command_line keeps) (behind (codes "--version" ∷ [])) ≡ DisplayVersion ∷ [])
       × (fault_of (command_line keeps) (behind (codes "--all" ∷ [])) ≡ UnknownArgument ∷ [])
+      × (fault_of (command_line keeps) (behind (codes "--dir" ∷ [] ∷ [])) ≡ InvalidValue ∷ [])
+      × (fault_of (command_line keeps) (behind (codes "--dir=" ∷ [])) ≡ InvalidValue ∷ [])
   unfolding clap_on_literals
-  words_have_faults = (refl, refl, refl)
+  words_have_faults = (refl, refl, refl, refl, refl)
 
   -- a word that begins otherwise isn't `sqlite`
   not_sqlite : (word : List ℕ) → get_or word 0 0 ≢ 115 → Some word ≡ Some (codes "sqlite") → ⊥
@@ -369,22 +368,14 @@ module _ (Run : List Event → List Outcome → Type 0) (Fails : StoresFault →
       nothing : (octet : ℕ) (octets : List ℕ) → [] ≡ octet ∷ octets → ⊥
       nothing octet octets told = absurd (cc)
 
-      spoken : (fault : KeepFault) (service end : List ℕ) → [] ≡ keep_fault_words fault ++ service ++ end → ⊥
-      spoken keep.Failed service end told = nothing _ _ told
-      spoken keep.Memory service end told = nothing _ _ told
-      spoken keep.WrongFile service end told = nothing _ _ told
-
       silent : IsEndOf Run Fails (Some cancels) (hold [] []) (hold refused []) 1 → ⊥
       silent (inl whole) = let status = whole.0 in absurd (cc)
       silent (inr (status, BadEvent number, run, told)) = nothing _ _ told
       silent (inr (status, Memory, run, told)) = nothing _ _ told
       silent (inr (status, Device, run, told)) = nothing _ _ told
-      silent (inr (status, Unopened (Purchasing fault), run, told)) =
-          spoken fault (codes "purchasing") (codes "\n") told
-      silent (inr (status, Unopened (Warehouse fault), run, told)) =
-          spoken fault (codes "warehouse") (codes "\n") told
-      silent (inr (status, Unopened (Billing fault), run, told)) =
-          spoken fault (codes "billing") (codes "\n") told
+      silent (inr (status, Unopened (Purchasing fault), run, told)) = nothing _ _ told
+      silent (inr (status, Unopened (Warehouse fault), run, told)) = nothing _ _ told
+      silent (inr (status, Unopened (Billing fault), run, told)) = nothing _ _ told
 
   -- `err` failed while the faulty line was told: it holds a beginning of that, and the status is 1 as well
   an_end_is_told_in_part : (IsUntold Run Fails (Some faulty) (hold [] []) (hold [] (codes "line")))

@@ -16,10 +16,13 @@ run_faults_are_told : (fault_line (BadEvent 12) ≡ codes "line 12: bad event\n"
 unfolding digits
 run_faults_are_told = (refl, refl, refl)
 
--- which service's store couldn't be opened, and why not
-unopened_stores_are_told : (fault_line (Unopened (Purchasing keep.Failed)) ≡ codes "fault 1 Failed: purchasing\n")
-    × (fault_line (Unopened (Warehouse keep.Memory)) ≡ codes "fault 2 Memory: warehouse\n")
-    × (fault_line (Unopened (Billing keep.WrongFile)) ≡ codes "fault 3 WrongFile: billing\n")
+-- which service's store couldn't be opened, and why not; the fault is the last line, and alone on it
+unopened_stores_are_told : (fault_line (Unopened (Purchasing keep.Failed))
+    ≡ codes "purchasing: the file can't be opened, is damaged, or another program has it\nfault 1 Failed\n")
+    × (fault_line (Unopened (Warehouse keep.Memory))
+    ≡ codes "warehouse: out of memory at the opening of the file\nfault 2 Memory\n")
+    × (fault_line (Unopened (Billing keep.WrongFile))
+    ≡ codes "billing: the file is of another service or version, or no database\nfault 3 WrongFile\n")
 unopened_stores_are_told = (refl, refl, refl)
 
 -- a schedule's fault is the run's: the number of the line, or memory

@@ -26,9 +26,14 @@ keep keeps = record (new_rule (codes "keep")) {
   parser = Some (parser.Names keeps);
 }
 
--- a path behind `--dir`
+-- a path behind `--dir`, which isn't empty
 abbrev pub dir : Rule
-dir = record (new_rule (codes "dir")) { long = Some (codes "dir"); action = Some Set; value_names = 1 }
+dir = record (new_rule (codes "dir")) {
+  long = Some (codes "dir");
+  action = Some Set;
+  value_names = 1;
+  parser = Some parser.NonEmptyString;
+}
 
 -- `--migrate` alone
 abbrev pub migrate : Rule

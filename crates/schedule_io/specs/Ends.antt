@@ -11,15 +11,15 @@ use Rattle.schedule_text.specs.Outcomes.{outcome_lines}
 use Rattle.schedule_io.specs.declared.fault.RunFault.{RunFault}
 use Rattle.schedule_io.specs.declared.fault.RunFault.TheVariants.{BadEvent, Memory, Device, Unopened}
 use Rattle.schedule_io.specs.declared.fault.StoresFault.{StoresFault}
-use Rattle.schedule_io.specs.StoresFaults.{reason_of, service_of}
+use Rattle.schedule_io.specs.StoresFaults.{line_of, reason_of, service_of}
 use Rattle.streams.specs.Written.{AppendsPart}
 
--- the line that tells a fault
+-- the line that tells a fault; where a store couldn't be opened, below one that names the service and says why
 abbrev pub fault_line : RunFault → List ℕ
 fault_line (BadEvent number) = codes "line " ++ decimal number ++ codes ": bad event\n"
 fault_line Memory = codes "fault 81 Memory\n"
 fault_line Device = codes "fault 2 Device\n"
-fault_line (Unopened fault) = reason_of fault ++ service_of fault ++ codes "\n"
+fault_line (Unopened fault) = service_of fault ++ reason_of fault ++ line_of fault
 
 -- the lines that tell outcomes, in order
 abbrev pub lines_of : List Outcome → List ℕ

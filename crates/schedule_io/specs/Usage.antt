@@ -1,5 +1,5 @@
 -- What the words of the command line come to.
-use Rattle.std.specs.Prelude.{◌≡◌, ◌⊎◌, ℕ, true, false, List, [], Option, Result, IfOk, IfErr}
+use Rattle.std.specs.Prelude.{◌≡◌, ◌⊎◌, ℕ, true, false, List, [], Option, Result, Ok, Err, IfOk, IfErr}
 use Rattle.std.specs.Borrow.{Bor}
 use Rattle.clap.specs.Simple.{matches_of}
 use Rattle.clap.specs.Words.{Kinds, IsAmong, Text, fault_of, takes}
@@ -9,9 +9,10 @@ use Rattle.schedule_text.specs.declared.event.Event.{Event}
 use Rattle.schedule_text.specs.declared.outcome.Outcome.{Outcome}
 use Rattle.schedule_io.specs.Asked.{AreKeeps, IsAskedFor, command_line}
 use Rattle.schedule_io.specs.declared.choice.StoreChoice.{StoreChoice}
+use Rattle.schedule_io.specs.declared.fault.RunFault.{RunFault}
 use Rattle.schedule_io.specs.declared.fault.RunFault.TheVariants.{Memory}
 use Rattle.schedule_io.specs.declared.fault.StoresFault.{StoresFault}
-use Rattle.schedule_io.specs.Ends.{Writers, IsEndOf, IsUntold, fault_line}
+use Rattle.schedule_io.specs.Ends.{Writers, AreRun, IsEndOf, IsUntold, fault_line}
 use Rattle.streams.specs.Written.{AppendsPart}
 
 -- what was asked for is told on `out`, with status 0, and a fault of usage on `err`, with status 2; the other stream is
@@ -43,6 +44,14 @@ module _ (Run : List Event → List Outcome → Type 0) (Fails : StoresFault →
   abbrev pub IsStatusOf : Option (List ℕ) → Writers → Writers → ℕ → Type 0
   IsStatusOf input old new status =
       IsEndOf Run Fails input old new status ⊎ ((status ≡ 1) × IsUntold Run Fails input old new)
+
+  -- the status of a run of events: 0 where all were run, and nothing is told on `err`; 1 where a fault is told there, whole
+  -- or in part
+  abbrev pub IsStatusOfEvents : List Event → Writers → Writers → ℕ → Type 0
+  IsStatusOfEvents events old new status =
+      ((status ≡ 0) × (new.err ≡ old.err) × AreRun Run Fails events old.out new.out (Ok tt))
+      ⊎ ((status ≡ 1) × (fault : RunFault) × AreRun Run Fails events old.out new.out (Err fault)
+      × AppendsPart old.err new.err (fault_line fault))
 
 -- what the words of a command line come to: the stores that they ask for, with nothing told; or help, the version, a fault
 -- of theirs or want of memory is told, and the status follows. Words that the command line takes have no fault.

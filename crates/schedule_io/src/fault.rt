@@ -1,7 +1,7 @@
 //! Why a schedule ended before its end.
 
 ghost use Rattle.std.specs.Prelude.{◌≡◌};
-ghost use Rattle.schedule_io.specs.StoresFaults.{reason_of, service_of};
+ghost use Rattle.schedule_io.specs.StoresFaults.{fault_in, line_of, reason_of, service_of};
 
 use keep::KeepFault;
 use schedule_text::ScheduleFault;
@@ -11,28 +11,48 @@ use thiserror::Error;
 #[derive(Clone, Copy, Debug, PartialEq, Eq, Error)]
 pub enum StoresFault {
     /// That of the service that has the orders.
-    #[error("{}{}", self.reason(), self.service())]
+    #[error("{}{}", self.service(), self.reason())]
     Purchasing(KeepFault),
     /// That of the service that has the stocks.
-    #[error("{}{}", self.reason(), self.service())]
+    #[error("{}{}", self.service(), self.reason())]
     Warehouse(KeepFault),
     /// That of the service that has the accounts.
-    #[error("{}{}", self.reason(), self.service())]
+    #[error("{}{}", self.service(), self.reason())]
     Billing(KeepFault),
 }
 
 impl StoresFault {
-    /// Why not, as it's told before the service's name.
-    pub(crate) fn reason(self) -> &'static str
-        ensures { result.now ≡ reason_of self }
+    /// Why not.
+    fn fault(self) -> KeepFault
+        ensures { result ≡ fault_in self }
     {
         let (StoresFault::Purchasing(fault)
         | StoresFault::Warehouse(fault)
         | StoresFault::Billing(fault)) = self;
-        match fault {
-            KeepFault::Failed => "fault 1 Failed: ",
-            KeepFault::Memory => "fault 2 Memory: ",
-            KeepFault::WrongFile => "fault 3 WrongFile: ",
+        fault
+    }
+
+    /// Why not in words, as they follow the service's name.
+    pub(crate) fn reason(self) -> &'static str
+        ensures { result.now ≡ reason_of self }
+    {
+        match self.fault() {
+            KeepFault::Failed => {
+                ": the file can't be opened, is damaged, or another program has it"
+            }
+            KeepFault::Memory => ": out of memory at the opening of the file",
+            KeepFault::WrongFile => ": the file is of another service or version, or no database",
+        }
+    }
+
+    /// The fault's own line, and the end of the line of words above it.
+    pub(crate) fn line(self) -> &'static str
+        ensures { result.now ≡ line_of self }
+    {
+        match self.fault() {
+            KeepFault::Failed => "\nfault 1 Failed\n",
+            KeepFault::Memory => "\nfault 2 Memory\n",
+            KeepFault::WrongFile => "\nfault 3 WrongFile\n",
         }
     }
 

@@ -11,7 +11,8 @@ use std::io;
 use std::io::Write;
 use streams::{write_octets, write_three};
 
-/// Writes why a schedule ended before its end.
+/// Writes why a schedule ended before its end. The line of a fault is the last, and is alone on its line for scripts that
+/// compare it; which service it was of, and why, is said above it.
 fn write_run_fault<E: Write>(err: &mut E, fault: RunFault) -> io::Result<()>
     ensures ok { OnOk result (Appends (E.contents err.old) (E.contents err.new) (fault_line fault)) }
     ensures err { OnErr result (AppendsPart (E.contents err.old) (E.contents err.new) (fault_line fault)) }
@@ -22,9 +23,9 @@ fn write_run_fault<E: Write>(err: &mut E, fault: RunFault) -> io::Result<()>
         RunFault::Device => write_octets(err, b"fault 2 Device\n"),
         RunFault::Unopened(stores) => write_three(
             err,
-            stores.reason().as_bytes(),
             stores.service().as_bytes(),
-            b"\n",
+            stores.reason().as_bytes(),
+            stores.line().as_bytes(),
         ),
     }
 }
@@ -32,7 +33,7 @@ fn write_run_fault<E: Write>(err: &mut E, fault: RunFault) -> io::Result<()>
 /// Tells on `err` why a schedule ended before its end. The status is 1 then.
 ///
 /// # Errors
-/// Where `err` failed: it took a beginning of the line.
+/// Where `err` failed: it took a beginning of that.
 pub fn tell_fault<E: Write>(err: &mut E, fault: RunFault) -> io::Result<u8>
     ensures told { IfOk result (λ status. (status ≡ 1)
         × Appends (E.contents err.old) (E.contents err.new) (fault_line fault)) }

@@ -11,6 +11,7 @@ ghost use Rattle.streams.specs.Written.{AppendsPart};
 use crate::choice::StoreChoice;
 use crate::fault::RunFault;
 use crate::telling::tell_fault;
+use clap::builder::ValueParser;
 use clap::error::ErrorKind;
 use clap::{Arg, ArgAction, ArgMatches, Command, Error};
 use command_line::tell_words;
@@ -89,9 +90,9 @@ What a line is answered, where nothing is shown:
 Exit status:
   0  each line was run, whether it was refused or not
   1  `line N: bad event`: line N is the first that is none of the above, and nothing was run;
-     `fault N NAME: SERVICE`: its file can't be opened, and nothing was run: 1 Failed, 2 Memory,
-     3 WrongFile, which is none of this service, or of another version; with `--migrate` it can't
-     be taken over either, and is as it was;
+     `fault N NAME`, below a line that names a service and says why: its file can't be opened, and
+     nothing was run: 1 Failed, 2 Memory, 3 WrongFile, which is none of this service, or of another
+     version; with `--migrate` it can't be taken over either, and is as it was;
      `fault 81 Memory`: the schedule couldn't be held, and nothing was run;
      `fault 2 Device`: a stream failed
   2  the words of the command line are at fault";
@@ -111,7 +112,9 @@ fn make_command<'a>(alloc: Global, keeps: &'a [&'a str]) -> Result<Command<'a>, 
         .long("dir")
         .action(ArgAction::Set)
         .value_name("PATH")
-        .help("With `--keep sqlite`: in this folder, in three files that SQLite reads");
+        .help("With `--keep sqlite`: in this folder, in three files that SQLite reads")
+        // The files of an empty path would be in the root of the file system.
+        .value_parser(ValueParser::NonEmptyString);
     let migrate = Arg::new(alloc, "migrate")
         .long("migrate")
         .action(ArgAction::SetTrue)

@@ -5,7 +5,6 @@ use Rattle.sqlite_wal.specs.Recovery.{Image}
 use Rattle.std.specs.Prelude.{◌≡◌}
 use Rattle.keep.specs.Seen.{Seen, IsSound}
 use Rattle.keep.specs.Tables.{Tables}
-use Rattle.keep.specs.declared.fault.KeepFault.{KeepFault}
 use Rattle.keep_sqlite.specs.Accounts.{accounts}
 use Rattle.keep_sqlite.specs.Filing.{Filing}
 use Rattle.keep_sqlite.specs.Found.{AreIn, IsFoundIn}
@@ -14,14 +13,6 @@ use Rattle.keep_sqlite.specs.Orders.{orders}
 use Rattle.keep_sqlite.specs.Stocks.{stocks}
 use Rattle.laws_stores.specs.Sight.{AllTables}
 use Rattle.schedule_io.specs.Opened.{IsOpened}
-use Rattle.schedule_io.specs.declared.fault.StoresFault.{StoresFault}
-use Rattle.schedule_io.specs.declared.fault.StoresFault.TheVariants.{Purchasing, Warehouse, Billing}
-
--- why a store couldn't be opened, whosever it is
-abbrev pub fault_of : StoresFault → KeepFault
-fault_of (Purchasing fault) = fault
-fault_of (Warehouse fault) = fault
-fault_of (Billing fault) = fault
 
 -- a store that was opened, as it's seen: while no file is in doubt this is so of its tables, and a stop leaves no others
 pub record IsOpenedWith {T : Type 0} (Has : T → Type 0) (s : Seen T) : Type 0 where

@@ -1,10 +1,13 @@
 -- What is told where the files of a folder are taken over.
+use Rattle.std.specs.Global.{Vec}
 use Rattle.std.specs.Io.KnownBytes.{Appends}
-use Rattle.std.specs.Prelude.{ℕ, List, [], ◌++◌, codes, if◌then◌else◌, nat_eq, Option, Result, Ok, Err}
+use Rattle.std.specs.Prelude.{◌≡◌, ◌⊎◌, ℕ, List, [], ◌++◌, codes, if◌then◌else◌, nat_eq, Option, Result, Ok, Err}
 use Rattle.keep_sqlite.specs.declared.migration.Migrated.{Migrated}
+use Rattle.schedule_io.specs.Ends.{IsReadFrom}
 use Rattle.schedule_io.specs.declared.fault.RunFault.{RunFault}
 use Rattle.schedule_io.specs.declared.fault.RunFault.TheVariants.{BadEvent, Memory, Device, Unopened}
 use Rattle.schedule_io.specs.declared.fault.StoresFault.TheVariants.{Purchasing, Warehouse, Billing}
+use Rattle.schedule_text.specs.declared.event.Event.{Event}
 use Rattle.streams.specs.Written.{AppendsPart}
 
 -- which versions the three files had
@@ -36,3 +39,10 @@ IsTakenOverWith old new (Err (Unopened (Billing fault))) = (v : Versions) × App
 IsTakenOverWith old new (Err Device) = (v : Versions) × AppendsPart old new (all_lines v)
 IsTakenOverWith old new (Err (BadEvent number)) = ⊥
 IsTakenOverWith old new (Err Memory) = ⊥
+
+-- how it ends where a schedule is read before: with its events behind the lines of all three; or none was read, and nothing
+-- is told; or the schedule was read, and a file can't be taken over or the writer fails
+abbrev pub IsReadAndTakenOver : Option (List ℕ) → Option (List ℕ) → Option (List ℕ) → Result (Vec Event) RunFault → Type 0
+IsReadAndTakenOver input old new (Ok events) = IsReadFrom input (Ok events) × IsTakenOverWith old new (Ok tt)
+IsReadAndTakenOver input old new (Err fault) = (IsReadFrom input (Err fault) × (new ≡ old))
+    ⊎ ((events : Vec Event) × IsReadFrom input (Ok events) × IsTakenOverWith old new (Err fault))

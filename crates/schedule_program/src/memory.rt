@@ -5,7 +5,8 @@ ghost use Rattle.keep.specs.Seen.{IsSound};
 ghost use Rattle.keep.specs.Tables.{empty};
 ghost use Rattle.keep.specs.declared.fault.KeepFault.TheVariants.{Failed, Memory};
 ghost use Rattle.laws_stores.specs.Sight.{all_empty};
-ghost use Rattle.schedule_program.specs.Files.{fault_of, IsOpenedWith};
+ghost use Rattle.schedule_io.specs.StoresFaults.{fault_in};
+ghost use Rattle.schedule_program.specs.Files.{IsOpenedWith};
 
 use billing::Accounts;
 use keep::{Keep, KeepFault};
@@ -43,7 +44,7 @@ impl Stores for SqliteStores {
     ghost use Rattle.std.specs.Prelude.{◌≡◌, ◌⊎◌};
     ghost use Rattle.keep.specs.declared.fault.KeepFault.TheVariants.{Failed, Memory};
     ghost use Rattle.laws_stores.specs.Sight.{all_empty};
-    ghost use Rattle.schedule_program.specs.Files.{fault_of};
+    ghost use Rattle.schedule_io.specs.StoresFaults.{fault_in};
 
     type Orders = SqliteKeep<Orders, MemStore>;
 
@@ -53,7 +54,7 @@ impl Stores for SqliteStores {
 
     ghost found = { λ tables. tables ≡ all_empty };
 
-    ghost fails = { λ fault. (fault_of fault ≡ Memory) ⊎ (fault_of fault ≡ Failed) };
+    ghost fails = { λ fault. (fault_in fault ≡ Memory) ⊎ (fault_in fault ≡ Failed) };
 
     fn open(
         self,

@@ -4,16 +4,17 @@ ghost use Rattle.std.specs.Prelude.{◌≡◌, IfOk, OnOk, IfErr};
 ghost use Rattle.std.specs.Io.KnownBytes.{Appends};
 ghost use Rattle.keep_sqlite.specs.Migration.{IsVersions};
 ghost use Rattle.schedule_io.specs.declared.fault.RunFault.TheVariants.{Device};
-ghost use Rattle.schedule_program.specs.Migration.{IsTakenOverWith, line_of};
+ghost use Rattle.schedule_program.specs.Migration.{IsReadAndTakenOver, IsTakenOverWith, line_of};
 ghost use Rattle.streams.specs.Written.{AppendsPart};
 
 use billing::Accounts;
 use keep::KeepFault;
 use keep_sqlite::{Filed, Migrated, Progress, SqliteKeep};
 use purchasing::Orders;
-use schedule_io::{RunFault, StoresFault};
+use schedule_io::{RunFault, StoresFault, read_events};
+use schedule_text::Event;
 use sqlite::{FileFrom, FileStore, Unknown};
-use std::io::Write;
+use std::io::{Read, Write};
 use streams::write_octets;
 use warehouse::Stocks;
 
@@ -72,5 +73,29 @@ pub fn migrate_files<W: Write, P: Progress>(
     match migrate_file::<Accounts, P>(rt, folder, "billing.db", progress) {
         Ok(migrated) => tell_migrated(out, "migrated billing 1 2\n", migrated),
         Err(fault) => Err(RunFault::Unopened(StoresFault::Billing(fault))),
+    }
+}
+
+/// Reads a schedule from `input`, and then takes over the files of a folder, as [`migrate_files`] does. No file is touched
+/// before the whole schedule is read, so one with a faulty line leaves all three as they are.
+///
+/// # Errors
+/// As [`read_events`] reports: nothing was written to `out`. As [`migrate_files`] reports, once the schedule was read.
+pub fn read_and_migrate<R: Read, W: Write, P: Progress>(
+    rt: &HostRuntime,
+    folder: &str,
+    input: &mut R,
+    out: &mut W,
+    progress: &mut P,
+) -> Result<Vec<Event>, RunFault>
+    ensures { IsReadAndTakenOver (R.remaining input.old) (W.contents out.old) (W.contents out.new) result }
+{
+    let events = match read_events(rt.alloc(), input) {
+        Ok(events) => events,
+        Err(fault) => return Err(fault),
+    };
+    match migrate_files(rt, folder, out, progress) {
+        Ok(()) => Ok(events),
+        Err(fault) => Err(fault),
     }
 }

@@ -2,7 +2,7 @@
 
 use crate::files::FileStores;
 use crate::memory::SqliteStores;
-use crate::migration::migrate_files;
+use crate::migration::read_and_migrate;
 use crate::runs::Runs;
 use keep_sqlite::TerminalProgress;
 use schedule_io::{PlainStores, RunFault, StoreChoice, ask, tell_bad_words, tell_fault};
@@ -40,16 +40,21 @@ fn run_in_files<X: Runs>(rt: HostRuntime, folder: &str) -> io::Result<u8> {
     }
 }
 
-/// Takes over the files of a folder that are of version 1, which is told on standard output, and runs the schedule then.
+/// The same once those of the files that are of version 1 were taken over, which is told on standard output.
 fn run_in_migrated<X: Runs>(rt: HostRuntime, folder: &str) -> io::Result<u8> {
-    match migrate_files(
-        &rt,
-        folder,
-        &mut rt.stdout(),
-        &mut TerminalProgress::new(&rt),
-    ) {
-        Ok(()) => run_in_files::<X>(rt, folder),
-        Err(fault) => tell_fault(&mut rt.stderr(), fault),
+    let mut input = BufReader::new(rt.alloc(), rt.reader())?;
+    let mut out = BufWriter::new(rt.alloc(), io::writer(&rt))?;
+    let mut err = rt.stderr();
+    // These lines don't wait in the buffer of `out`: each tells of a file at once, and the next may take minutes.
+    let mut told = rt.stdout();
+    let mut progress = TerminalProgress::new(&rt);
+    let events = match read_and_migrate(&rt, folder, &mut input, &mut told, &mut progress) {
+        Ok(events) => events,
+        Err(fault) => return tell_fault(&mut err, fault),
+    };
+    match FileStores::new(rt, folder, (Unknown, Unknown, Unknown)) {
+        Ok(stores) => Ok(X::run_events_over_files(rt.alloc(), stores, events, &mut out, &mut err)),
+        Err(_) => tell_fault(&mut err, RunFault::Memory),
     }
 }
 

@@ -2,12 +2,14 @@
 
 use crate::files::FileStores;
 use schedule_io::Stores;
+use schedule_text::Event;
 use sqlite::Start;
 use std::alloc::Global;
 use std::io::{Read, Write};
 
-/// Runs schedules. Each reads a schedule from `input`, runs it over these stores, and writes the outcome of each line to
-/// `out`. A fault is told on `err`. The answer is the status: 0 where all lines were run, else 1.
+/// Runs schedules. Each runs the schedule that it reads from `input`, or the events of one that was read, over these stores,
+/// and writes the outcome of each line to `out`. A fault is told on `err`. The answer is the status: 0 where all lines were
+/// run, else 1.
 pub trait Runs {
     /// Over any stores.
     fn run_over<S: Stores, R: Read, W: Write, E: Write>(
@@ -23,6 +25,15 @@ pub trait Runs {
         alloc: Global,
         stores: FileStores<O, S, A>,
         input: &mut R,
+        out: &mut W,
+        err: &mut E,
+    ) -> u8;
+
+    /// Over these files too, the events of a schedule that was read before.
+    fn run_events_over_files<O: Start, S: Start, A: Start, W: Write, E: Write>(
+        alloc: Global,
+        stores: FileStores<O, S, A>,
+        events: Vec<Event>,
         out: &mut W,
         err: &mut E,
     ) -> u8;

@@ -4,7 +4,7 @@ ghost use Rattle.std.specs.Prelude.{⊤};
 ghost use Rattle.sqlite.specs.WalFiles.{image_at};
 ghost use Rattle.schedule_io.specs.Ends.{IsRunFrom};
 ghost use Rattle.programs.specs.Runs.{HasRun};
-ghost use Rattle.schedule_io.specs.Usage.{IsStatusOf};
+ghost use Rattle.schedule_io.specs.Usage.{IsStatusOf, IsStatusOfEvents};
 ghost use Rattle.schedule_program.specs.Files.{AreFoundIn};
 
 use crate::files::run_files;
@@ -14,6 +14,7 @@ use keep_files::FileKeep;
 use purchasing::Orders;
 use schedule_io::{RunFault, read_events, tell_fault};
 use schedule_program::FileStores;
+use schedule_text::Event;
 use sqlite::{FileFrom, FileStore, Start};
 use std::alloc::Global;
 use std::io::{Read, Write};
@@ -56,4 +57,26 @@ pub fn run_over_files<O: Start, S: Start, A: Start, R: Read, W: Write, E: Write>
         Ok(()) => 0,
         Err(fault) => tell_fault(err, fault).unwrap_or(1),
     }
+}
+
+/// Runs the events of a schedule over files, and writes the outcome of each to `out`. A fault is told on `err`. The answer
+/// is the status: 0 where all were run, else 1. It's [`run_over_files`] for a schedule that was read before.
+pub fn run_events_over_files<O: Start, S: Start, A: Start, W: Write, E: Write>(
+    alloc: Global,
+    stores: FileStores<O, S, A>,
+    events: Vec<Event>,
+    out: &mut W,
+    err: &mut E,
+) -> u8
+    ensures { IsStatusOfEvents (HasRun ⟦<FileKeep<Orders, FileStore<FileFrom<O>>> as Keep>⟧.seen
+        ⟦<FileKeep<Stocks, FileStore<FileFrom<S>>> as Keep>⟧.seen
+        ⟦<FileKeep<Accounts, FileStore<FileFrom<A>>> as Keep>⟧.seen
+        (AreFoundIn (image_at O.Start) (image_at S.Start) (image_at A.Start))) (λ _. ⊤) events.items
+        (record { out = W.contents out.old; err = E.contents err.old })
+        (record { out = W.contents out.new; err = E.contents err.new }) result }
+{
+    if let Err(fault) = run_files(alloc, stores, events, out) {
+        return tell_fault(err, fault).unwrap_or(1);
+    }
+    0
 }

@@ -25,10 +25,16 @@ returns c =
     let keep_is : rule_of c.value_parser-keep.result ≡ keep c.args.keeps = ap rule_of c.value_parser-keep.ensures.others
     ∙ ap (λ (r : Rule). record r { parser = c.value_parser-keep.result.value_parser }) base_is
     ∙ ap (λ p. record (keep c.args.keeps) { parser = p }) parser_is in
-    let dir_is : rule_of c.help-dir.result ≡ dir = ap rule_of c.help-dir.ensures ∙ ap rule_of c.value_name-2.ensures
-    ∙ ap (λ (r : Rule). record r { value_names = 1 }) (ap rule_of c.action-2.ensures
+    let folder = c.value_parser-dir.ensures.given in
+    let not_empty : c.value_parser-dir.result.value_parser ≡ Some parser.NonEmptyString =
+    folder.1 ∙ ap (λ p. Some p) folder.2 in
+    let path_is : rule_of c.help-2.result ≡ record dir { parser = None } = ap rule_of c.help-2.ensures
+    ∙ ap rule_of c.value_name-2.ensures ∙ ap (λ (r : Rule). record r { value_names = 1 }) (ap rule_of c.action-2.ensures
     ∙ ap (λ (r : Rule). record r { action = Some Set }) (ap rule_of c.long-2.ensures
     ∙ ap (λ (r : Rule). record r { long = Some (codes "dir") }) c.new-2.ensures.rule)) in
+    let dir_is : rule_of c.value_parser-dir.result ≡ dir = ap rule_of c.value_parser-dir.ensures.others
+    ∙ ap (λ (r : Rule). record r { parser = c.value_parser-dir.result.value_parser }) path_is
+    ∙ ap (λ p. record dir { parser = p }) not_empty in
     let migrate_is : rule_of c.help-migrate.result ≡ migrate = search rules in
     let plain_is = ap app_of_fields c.after_help.ensures ∙ ap app_of_fields c.override_usage.ensures
     ∙ ap app_of_fields c.about.ensures ∙ ap app_of_fields c.version.ensures ∙ ap with_version c.new-4.ensures.app in
@@ -36,8 +42,9 @@ returns c =
     let keep_local : c.value_parser-keep.result.global ≡ false = ap global c.value_parser-keep.ensures.others
     ∙ ap global c.help.ensures ∙ ap global c.default_value.ensures ∙ ap global c.value_name.ensures
     ∙ ap global c.action.ensures ∙ ap global c.long.ensures ∙ c.new.ensures.optional.1 in
-    let dir_local : c.help-dir.result.global ≡ false = ap global c.help-dir.ensures ∙ ap global c.value_name-2.ensures
-    ∙ ap global c.action-2.ensures ∙ ap global c.long-2.ensures ∙ c.new-2.ensures.optional.1 in
+    let dir_local : c.value_parser-dir.result.global ≡ false = ap global c.value_parser-dir.ensures.others
+    ∙ ap global c.help-2.ensures ∙ ap global c.value_name-2.ensures ∙ ap global c.action-2.ensures
+    ∙ ap global c.long-2.ensures ∙ c.new-2.ensures.optional.1 in
     let migrate_local : c.help-migrate.result.global ≡ false = search rules in
     c.in_ok-command.ensures.shape migrate_local
     ∙ ap₂ with_rule (c.in_ok-arg-2.ensures.shape dir_local
