@@ -96,7 +96,8 @@ class Process:
         self.name = name or os.path.basename(words[0])
         self.log = open(log, "ab+") if log else tempfile.TemporaryFile()
         how.setdefault("env", {**os.environ, **(environment or {})})
-        self.process = subprocess.Popen([str(it) for it in words], stdin=subprocess.PIPE, stdout=subprocess.PIPE, stderr=self.log, **how)
+        how.setdefault("stdin", subprocess.PIPE)
+        self.process = subprocess.Popen([str(it) for it in words], stdout=subprocess.PIPE, stderr=self.log, **how)
         self.pid, self.held, self.at_rest, self.most = self.process.pid, b"", 0, 0
         RUNNING.add(self)
 
@@ -187,7 +188,7 @@ class Process:
     def end(self):
         """Kills it, if it runs, and gives all of it back."""
         self.kill()
-        for it in (self.process.stdin, self.process.stdout, self.log):
+        for it in filter(None, (self.process.stdin, self.process.stdout, self.log)):
             try:
                 it.close()
             except BrokenPipeError:
