@@ -9,5 +9,6 @@ stomp_client, honest        a client that writes and reads frames as they are; h
 stomp_model, mutations      what a broker has to answer; octets that are changed at random
 played_broker, mutated_service    the broker of a service, played by the script
 allocations, alloc.c        runs in which one allocation fails
-brokers, proxy, seats, damages    of the services that are killed: their brokers, the proxy between, who gives commands, damaged files
+brokers, proxy, seats, lives, damages    of the services that are killed: their brokers, the proxy between, who gives commands, all of
+                            these from a start to an end, damaged files
 """

@@ -24,7 +24,12 @@ class Restarted:
 
     def start(self):
         words = [*self.words, "--file", self.folder / f"{self.name}.db"]
-        self.one, self.first = Service(self.name, self.port, *words, log=self.folder / f"{self.name}.log"), None
+        log = self.folder / f"{self.name}.log"
+        self.one, self.first = Service(self.name, self.port, *words, log=log, environment=self.environment()), None
+
+    def environment(self):
+        """What its next process has in its environment besides."""
+        return {}
 
     def ask(self, lines):
         """The answers to these lines: fewer if it is killed meanwhile."""
