@@ -6,5 +6,6 @@ pub mod Grouping
 pub mod Closing
 pub mod Telling
 pub mod Ending
+pub mod Failing
 pub mod Witnessing
 pub mod ListExamples

@@ -35,7 +35,7 @@ use Rattle.group_commit.specs.declared.grouped.Grouped.TheVariants as grouped
 use Rattle.told_lock.specs.declared.view.ToldToken.{ToldToken}
 use Rattle.told_lock.specs.Rule.{Every}
 use Rattle.shared_endpoint.specs.Token.{hand_number, is_of, rows_of}
-use Rattle.shared_endpoint.specs.History.{fault_in, tells, Stands, Grows, AreOneCalls, DidAll, Passes, Turn}
+use Rattle.shared_endpoint.specs.History.{fault_in, tells, Stands, Grows, AreOneCalls, DidAll, IsLater, Passes, Turn}
 use Rattle.shared_endpoint.specs.History.{BearsOut}
 use Rattle.shared_endpoint.specs.Keys.{Any, Closes}
 
@@ -210,6 +210,43 @@ module _ {E S C : Type 0} (seen : E → Seen (Tables S C)) (service : Service S 
       → Passes seen service n v w taken fault
       → ((fault ≡ Some StoreFailed) ⊎ (fault ≡ Some Unusable) → (seen w.last).usable ≡ false)
       × ((seen v.last).usable ≡ false → fault ≡ Some Unusable)
+
+  -- What is known in the end behind a call of this token that met the store's failure: it was the last that the store did.
+  -- It was made at an endpoint that had exactly the token's list, and what may be found then is what it left there.
+  pub record WasTheLast (n : ℕ) (v : ToldToken E) (Call : E → E → Type 0) (e : E) : Type 0 where
+    pub taken : E
+    pub matches : AllMatch service (seen taken).may_leave
+    pub continues : Continues n v (seen taken).tables
+    pub call : Call taken e
+
+  -- the call of a good token met the store's failure, and in the end there is this endpoint, where no file is in doubt
+  pub record MetTheFailure (n : ℕ) (v w : ToldToken E) (Call : E → E → Type 0) (e : E) : Type 0 where
+    pub turn : Turn seen service n v w Call (Some StoreFailed)
+    pub good : IsGood v
+    pub later : IsLater seen w.last e
+    pub clean : (seen e).doubt ≡ 0
+
+  abbrev pub IsTheLast : ℕ → (E → E → Type 0) → Type 0
+  IsTheLast n Call = (v w : ToldToken E) (e : E) → MetTheFailure n v w Call e → WasTheLast n v Call e
+
+  -- So it is of a commit of any token, and of each call by which the Hand takes in letters and settles.
+  abbrev pub FailedCallsAreTheLast : Type 0
+  FailedCallsAreTheLast = ((n : ℕ) (row : JournalRow C) → IsTheLast n (λ d f. Commits seen d f service row (Err StoreFailed)))
+      × ((l : Letter) → IsTheLast hand_number
+      (λ d f. DoesDeed seen d f HELD_WINDOW service OfLetter l.pair.to (IngestMay service l) (Err StoreFailed)))
+      × ((p : Pair) → IsTheLast hand_number
+      (λ d f. DoesDeed seen d f HELD_WINDOW service OfHeldLetter p.to (DrainMay service p) (Err StoreFailed)))
+      × ((p : Pair) (number : ℕ) → IsTheLast hand_number
+      (λ d f. DoesDeed seen d f HELD_WINDOW service OfSettle p.from (SettleMay service p number) (Err StoreFailed)))
+      × ((es : List Envelope) → IsTheLast hand_number (λ d f. Groups seen d f service es (Err StoreFailed)))
+
+  -- So a commit that met it is found once at most: of the token there is the list that it had, or that with this row.
+  abbrev pub FailedCommitsAreFoundOnce : Type 0
+  FailedCommitsAreFoundOnce = (n : ℕ) (row : JournalRow C) (v w : ToldToken E) (e : E) → is_of n row.input ≡ true
+      → MetTheFailure n v w (λ d f. Commits seen d f service row (Err StoreFailed)) e
+      → (t : Tables S C) → (seen e).may_leave t
+      → (rows_of n 1 t.journal ≡ rows_of n 1 (seen v.seen).tables.journal)
+      ⊎ ((pos : ℕ) × (rows_of n 1 t.journal ≡ rows_of n 1 (seen v.seen).tables.journal ++ (pos, row) ∷ []))
 
   -- a good token stays good
   abbrev pub TokensStayGood : Type 0

@@ -5,7 +5,7 @@ ghost use Rattle.shared_endpoint.specs.Promises.{IngestsAreOneThreads, DrainsAre
 ghost use Rattle.shared_endpoint.specs.Promises.{GroupsAreOneThreads, HandledIsTheLists, UnsettledAreAboveMarks};
 ghost use Rattle.shared_endpoint.specs.Promises.{JournalsAreOneThreads};
 ghost use Rattle.shared_endpoint.specs.Promises.{ClosesToOneHistory, FailuresAreCounted, FailuresAreForGood, TokensStayGood};
-ghost use Rattle.shared_endpoint.specs.Promises.{WitnessesAreBorneOut};
+ghost use Rattle.shared_endpoint.specs.Promises.{WitnessesAreBorneOut, FailedCallsAreTheLast, FailedCommitsAreFoundOnce};
 
 use activities::Handler;
 use keep::Keep;
@@ -109,6 +109,24 @@ where
     H: Handler,
     K: Keep<State = H::State, Command = H::Command> + Drop,
     ensures { FailuresAreForGood K.seen H.service }
+{}
+
+/// The call that met the store's failure was the last that the store did: what is found in the end is what this call left,
+/// at an endpoint that had exactly the token's list, whatever others asked for meanwhile.
+pub fn failed_calls_are_the_last<H, K>()
+where
+    H: Handler,
+    K: Keep<State = H::State, Command = H::Command> + Drop,
+    ensures { FailedCallsAreTheLast K.seen H.service }
+{}
+
+/// So a commit that was answered `StoreFailed` is found once at most, and no other row of its seat beside those that the seat
+/// knows.
+pub fn failed_commits_are_found_once<H, K>()
+where
+    H: Handler,
+    K: Keep<State = H::State, Command = H::Command> + Drop,
+    ensures { FailedCommitsAreFoundOnce K.seen H.service }
 {}
 
 /// A token that was made of good tables stays good: so the other laws hold of all its calls.

@@ -60,7 +60,8 @@ mod tokens;
 mod witness;
 
 pub use laws::{
-    closes_to_one_history, commits_are_one_threads, drains_are_one_threads, failures_are_counted,
+    closes_to_one_history, commits_are_one_threads, drains_are_one_threads,
+    failed_calls_are_the_last, failed_commits_are_found_once, failures_are_counted,
     failures_are_for_good, groups_are_one_threads, handled_is_the_lists, ingests_are_one_threads,
     journals_are_one_threads, lengths_are_one_threads, settles_are_one_threads, tokens_stay_good,
     unsettled_are_above_marks, views_are_one_threads, witnesses_are_borne_out,
