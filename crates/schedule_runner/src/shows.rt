@@ -183,8 +183,8 @@ where
         shown(self.list(service, Listing::Frames))
     }
 
-    /// The journal of a service.
-    pub(crate) fn journal(&mut self, service: ServiceName) -> Outcome
+    /// The journal of a service, a line for each row, as `Event::Journal` prints it.
+    pub fn journal(&mut self, service: ServiceName) -> Outcome
         ensures { Passes KO.seen KS.seen KA.seen (TellsReading (ListOf KO.seen KS.seen KA.seen service Listing.Journal) result)
             (Both (TellsReading (ListOf KO.seen KS.seen KA.seen service Listing.Journal) result) Same) self.old self.new }
     {
