@@ -2,6 +2,7 @@
 
 ghost use Rattle.std.specs.Prelude.{◌≡◌, ◌≤◌, true, false, is_ok, IfOk, OnOk, OnErr, None};
 ghost use Rattle.sqlite_trees.specs.Tree.{Trees};
+ghost use Rattle.sqlite.specs.Files.{IsNothing};
 ghost use Rattle.sqlite.specs.WalFiles.{image_at};
 ghost use Rattle.keep.specs.Steps.{AreSteps};
 ghost use Rattle.keep.specs.Law.{Reopens, Writes};
@@ -192,7 +193,7 @@ impl<H: Filed, S: Reopenable + Drop> FileKeep<H, S> {
 
 impl<H: Filed, D: Start> FileKeep<H, FileStore<FileFrom<D>>> {
     /// Opens the file at a path with its log beside it, or makes them. `start` stands for what they hold: one value for
-    /// each pair of files.
+    /// each pair of files. Files that hold nothing yet get empty tables, as with [`SqliteKeep::open`].
     ///
     /// # Errors
     /// As [`SqliteKeep::open`], and `Failed` where the system gives no random number.
@@ -204,6 +205,9 @@ impl<H: Filed, D: Start> FileKeep<H, FileStore<FileFrom<D>>> {
         ensures found { IfOk result (λ f. (⟦<FileKeep<H, FileStore<FileFrom<D>>> as Keep>⟧.seen f).doubt ≡ 0
             → IsFoundIn H.filing (image_at D.Start)
             (⟦<FileKeep<H, FileStore<FileFrom<D>>> as Keep>⟧.seen f).tables) }
+        ensures new { IfOk result (λ f. (⟦<FileKeep<H, FileStore<FileFrom<D>>> as Keep>⟧.seen f).doubt ≡ 0
+            → IsNothing (image_at D.Start)
+            → (⟦<FileKeep<H, FileStore<FileFrom<D>>> as Keep>⟧.seen f).tables ≡ empty) }
     {
         let Ok(random) = RandomState::new(rt) else {
             return Err(KeepFault::Failed);

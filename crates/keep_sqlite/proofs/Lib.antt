@@ -15,6 +15,7 @@ mod Journals
 mod NewFiles
 mod Positions
 mod Abouts
+pub mod Blanks
 mod Places
 mod Letters
 mod Marks

@@ -3,6 +3,7 @@
 ghost use Rattle.std.specs.Prelude.{◌≡◌, ◌≤◌, ◌⊎◌, true, false, IsTrue, IfOk, IfErr, IfSome, IsOkAnd, OnOk, Err, Some};
 ghost use Rattle.sqlite_trees.specs.Tree.{Trees};
 ghost use Rattle.sqlite_trees.specs.View.{doubt};
+ghost use Rattle.sqlite.specs.Files.{IsNothing};
 ghost use Rattle.sqlite.specs.Held.{state};
 ghost use Rattle.sqlite.specs.State.{HasCleanDisk};
 ghost use Rattle.last_states.specs.Known.{known_of, Knows};
@@ -422,12 +423,13 @@ impl<H: Filed, S: Alter + Drop> SqliteKeep<H, S> {
 
 impl<H: Filed, D: Start> SqliteKeep<H, FileStore<FileFrom<D>>> {
     /// Opens the file at a path with its log beside it, or makes them: two files that SQLite reads, the second under
-    /// the path with `-wal` behind it. `start` stands for what they hold: one value for each pair of files.
+    /// the path with `-wal` behind it. `start` stands for what they hold: one value for each pair of files. Files that
+    /// hold nothing yet get empty tables, also where an earlier opening was stopped while it made them.
     ///
     /// # Errors
     /// `WrongFile` where the file is no database, or one with other tables, as those of another service or version.
     /// `Failed` where it can't be opened, as one that is open already, and where the positions of its journal aren't
-    /// 1, 2, ... `Memory` where a growth was refused.
+    /// 1, 2, ... `Memory` where an allocation failed.
     pub fn open(rt: &HostRuntime, path: &str, start: D) -> Result<Self, KeepFault>
         ensures usable { IfOk result (λ k. (⟦<SqliteKeep<H, FileStore<FileFrom<D>>> as Keep>⟧.seen k).usable ≡ true) }
         ensures failures { IfOk result (λ k.
@@ -435,6 +437,9 @@ impl<H: Filed, D: Start> SqliteKeep<H, FileStore<FileFrom<D>>> {
         ensures found { IfOk result (λ k. (⟦<SqliteKeep<H, FileStore<FileFrom<D>>> as Keep>⟧.seen k).doubt ≡ 0
             → IsFoundIn H.filing (image_at D.Start)
             (⟦<SqliteKeep<H, FileStore<FileFrom<D>>> as Keep>⟧.seen k).tables) }
+        ensures new { IfOk result (λ k. (⟦<SqliteKeep<H, FileStore<FileFrom<D>>> as Keep>⟧.seen k).doubt ≡ 0
+            → IsNothing (image_at D.Start)
+            → (⟦<SqliteKeep<H, FileStore<FileFrom<D>>> as Keep>⟧.seen k).tables ≡ empty) }
     {
         SqliteKeep::adopt_opened(rt.alloc(), Connection::open_from(rt, path, false, start))
     }

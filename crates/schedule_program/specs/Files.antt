@@ -1,10 +1,10 @@
 -- What the three files of a folder hold, and are found to hold.
-use Rattle.sqlite.specs.Files.{HoldsDatabase}
+use Rattle.sqlite.specs.Files.{HoldsDatabase, IsNothing}
 use Rattle.sqlite_trees.specs.Tree.{Trees}
 use Rattle.sqlite_wal.specs.Recovery.{Image}
-use Rattle.std.specs.Prelude.{◌≡◌}
+use Rattle.std.specs.Prelude.{◌≡◌, ◌⊎◌}
 use Rattle.keep.specs.Seen.{Seen, IsSound}
-use Rattle.keep.specs.Tables.{Tables}
+use Rattle.keep.specs.Tables.{Tables, empty}
 use Rattle.keep_sqlite.specs.Accounts.{accounts}
 use Rattle.keep_sqlite.specs.Filing.{Filing}
 use Rattle.keep_sqlite.specs.Found.{AreIn, IsFoundIn}
@@ -26,11 +26,15 @@ pub record AreFoundIn (purchasing warehouse billing : Image) (t : AllTables) : T
   pub stocks : IsFoundIn stocks warehouse t.warehouse
   pub accounts : IsFoundIn accounts billing t.billing
 
--- an image holds these tables: it's a database with them, or with none where they are empty
-pub record IsHeldIn {S C : Type 0} (filing : Filing S C) (image : Image) (t : Tables S C) : Type 0 where
+-- an image is a database with these tables, or with none where they are empty
+pub record IsDatabaseOf {S C : Type 0} (filing : Filing S C) (image : Image) (t : Tables S C) : Type 0 where
   pub db : Trees
   pub holds : HoldsDatabase image db
   pub tables : AreIn filing db t
+
+-- an image holds these tables: in a database, or, where they are empty, it may hold nothing yet, as a new file
+abbrev pub IsHeldIn : {S C : Type 0} → Filing S C → Image → Tables S C → Type 0
+IsHeldIn filing image t = IsDatabaseOf filing image t ⊎ (IsNothing image × (t ≡ empty))
 
 pub record AreHeldIn (purchasing warehouse billing : Image) (t : AllTables) : Type 0 where
   pub orders : IsHeldIn orders purchasing t.purchasing

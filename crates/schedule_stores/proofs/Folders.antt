@@ -1,6 +1,7 @@
 -- Files are found to hold what they hold.
-use Rattle.std.proofs.Common.{◌≡◌, true, List, [], ◌∷◌, None, sym, ap, subst, ◌∙◌, inl, inr}
+use Rattle.std.proofs.Common.{◌≡◌, true, List, [], ◌∷◌, None, refl, sym, ap, subst, ◌∙◌, inl, inr}
 use Rattle.std.specs.List.{AllZip}
+use Rattle.sqlite.specs.Files.{IsNothing}
 use Rattle.sqlite_catalog.specs.Listing.{IsSound, IsTableRow}
 use Rattle.sqlite_trees.specs.Tree.{Trees}
 use Rattle.sqlite_wal.specs.Recovery.{Image}
@@ -11,6 +12,7 @@ use Rattle.keep.specs.Tables.{Tables, empty}
 use Rattle.endpoint.proofs.Opening.{empty-matches}
 use Rattle.keep_sqlite.specs.Filing.{Filing}
 use Rattle.keep_sqlite.specs.Found.{AreIn, IsFoundIn}
+use Rattle.keep_sqlite.proofs.Blanks.{nothing_found as found_empty}
 use Rattle.laws_stores.proofs.Beginning.{empty_holds, empty_lawful, empty_marks}
 use Rattle.laws_stores.specs.Sight.{AllTables, Sight, OrderTables, StockTables, AccountTables, all_empty}
 use Rattle.laws_stores.specs.Sight.{orders_service, stocks_service, accounts_service}
@@ -48,8 +50,9 @@ module _ {S C : Type 0} (filing : Filing S C) where
   same_in db t u (inr x) (inr y) = y.1 ∙ sym x.1
 
   found_is : (image : Image) (t u : Tables S C) → IsHeldIn filing image t → IsFoundIn filing image u → u ≡ t
-  found_is image t u held found = same_in held.db t u held.tables
+  found_is image t u (inl held) found = same_in held.db t u held.tables
       (subst (λ db. AreIn filing db u) (found.holds held.db held.holds) found.tables)
+  found_is image t u (inr new) found = found_empty filing image u new.0 found ∙ sym new.1
 
 joined : (a b : AllTables) → a.purchasing ≡ b.purchasing → a.warehouse ≡ b.warehouse → a.billing ≡ b.billing → a ≡ b
 joined a b one two three =
@@ -68,11 +71,11 @@ all_found p w b left held t found = joined t left
 -- a file that was taken over holds the tables that its rows told before
 held_from : {S C : Type 0} (first : FirstFiling S C) (filing : Filing S C) (image : Image) (t : Tables S C)
     → IsTakenOverIn first filing image t → IsHeldIn filing image t
-held_from first filing image t taken = record {
+held_from first filing image t taken = inl (record {
   db = taken.db;
   holds = taken.holds;
   tables = inl (taken.renewed.sound, sym taken.told ∙ sym taken.renewed.tables, taken.renewed.about);
-}
+})
 
 pub all_taken_over : (p w b : Image) (t : AllTables) → AreTakenOverIn p w b t → AreHeldIn p w b t
 all_taken_over p w b t taken = record {
@@ -80,6 +83,11 @@ all_taken_over p w b t taken = record {
   stocks = held_from (as_today stocks) stocks w t.warehouse taken.stocks;
   accounts = held_from (as_today accounts) accounts b t.billing taken.accounts;
 }
+
+-- three files that hold nothing yet hold empty tables
+pub new_held : (p w b : Image) → IsNothing p → IsNothing w → IsNothing b → AreHeldIn p w b all_empty
+new_held p w b one two three =
+    record { orders = inr (one, refl); stocks = inr (two, refl); accounts = inr (three, refl) }
 
 -- of three stores that were opened with such tables a stop leaves no others
 pub all_opened : (P : OrderTables → Type 0) (Q : StockTables → Type 0) (R : AccountTables → Type 0)

@@ -1,6 +1,7 @@
 //! What is so of runs over tables of SQL.
 
 ghost use Rattle.std.specs.Prelude.{List};
+ghost use Rattle.sqlite.specs.Files.{IsNothing};
 ghost use Rattle.sqlite.specs.WalFiles.{image_at};
 ghost use Rattle.keep.specs.Seen.{IsSound};
 ghost use Rattle.laws_stores.specs.Sight.{AllTables, AreClean, all_empty};
@@ -60,7 +61,27 @@ pub fn a_run_over_files_goes_on<O: Start, S: Start, A: Start>()
     stores_are_sound::<FileKeep<Accounts, FileStore<FileFrom<A>>>>();
 }
 
-/// The same where the three were of version 1, told good tables by its rows, and were taken over.
+/// A run over a new folder, whose three files hold nothing yet, begins with empty tables and has a good end, while the files
+/// give back what was written to them.
+pub fn a_run_over_new_files_ends_well<O: Start, S: Start, A: Start>()
+    ensures { IsNothing (image_at O.Start) → IsNothing (image_at S.Start) → IsNothing (image_at A.Start)
+        → (events : List Event) (outcomes : List Outcome)
+        (run : HasRun ⟦<FileKeep<Orders, FileStore<FileFrom<O>>> as Keep>⟧.seen
+        ⟦<FileKeep<Stocks, FileStore<FileFrom<S>>> as Keep>⟧.seen
+        ⟦<FileKeep<Accounts, FileStore<FileFrom<A>>> as Keep>⟧.seen
+        (AreFoundIn (image_at O.Start) (image_at S.Start) (image_at A.Start)) events outcomes)
+        → AreClean (sight ⟦<FileKeep<Orders, FileStore<FileFrom<O>>> as Keep>⟧.seen
+        ⟦<FileKeep<Stocks, FileStore<FileFrom<S>>> as Keep>⟧.seen
+        ⟦<FileKeep<Accounts, FileStore<FileFrom<A>>> as Keep>⟧.seen run.last)
+        → GoesOn ⟦<FileKeep<Orders, FileStore<FileFrom<O>>> as Keep>⟧.seen
+        ⟦<FileKeep<Stocks, FileStore<FileFrom<S>>> as Keep>⟧.seen
+        ⟦<FileKeep<Accounts, FileStore<FileFrom<A>>> as Keep>⟧.seen all_empty events outcomes run.first run.last }
+{
+    a_run_over_files_goes_on::<O, S, A>();
+}
+
+/// A run over files goes on as [`a_run_over_files_goes_on`] says where the three were of version 1, told good tables by
+/// its rows, and were taken over.
 pub fn files_taken_over_go_on<O: Start, S: Start, A: Start>()
     ensures { (left : AllTables) → AreGood left
         → AreTakenOverIn (image_at O.Start) (image_at S.Start) (image_at A.Start) left
