@@ -20,6 +20,14 @@ def opened(path):
             yield connection
 
 
+def copy_alone(folder, to, names):
+    """Makes a folder with copies of these databases, each under the name that it is given there, and without their logs."""
+    to.mkdir()
+    for name, other in names.items():
+        shutil.copy(folder / f"{name}.db", to / f"{other}.db")
+    return to
+
+
 def read(path, *texts):
     """The rows of each of these queries."""
     with opened(path) as connection:

@@ -44,15 +44,29 @@ pub struct FileKeep<H: Filed, S: Reopenable + Drop> {
     is_told: bool,
 }
 
-/// Written by hand, since the service is no value that could be dropped.
+/// Copies the log into the database file and closes both, where no call has failed. Behind a failure the files stay as they
+/// are: what a sync has failed of isn't to be written elsewhere.
+fn close<H: Filed, S: Reopenable + Drop>(keep: SqliteKeep<H, S>) {
+    if keep.usable() {
+        let (conn, _failures) = keep.into_conn();
+        conn.into_store().copy_and_close();
+    }
+}
+
+/// A store that is dropped leaves a database file that is whole without its log, so that a copy of that file alone has all
+/// rows. It's written by hand also since the service is no value that could be dropped.
 impl<H: Filed, S: Reopenable + Drop> Drop for FileKeep<H, S> {
     fn drop(self) {
         let FileKeep {
-            access: _access,
+            access,
             failures: _,
             options: _,
             is_told: _,
         } = self;
+        match access {
+            Access::Open(keep) => close(keep),
+            Access::Closed(_files) => {}
+        }
     }
 }
 

@@ -41,6 +41,10 @@ pub trait Reopenable: Alter {
             → (state Self.Store c).committed.trees ≡ db) }
         ensures opened { IfOk result (λ c. HasCleanDisk (state Self.Store c)
             → Opens (state Self.Store c) × IsLive (state Self.Store c)) };
+
+    /// Copies the log into the database file, and closes both. Where that can't be done the log stays as it is: an opening
+    /// reads both files anyway.
+    fn copy_and_close(self);
 }
 
 impl<D: Disk + Drop> Reopenable for FileStore<D> {
@@ -66,5 +70,11 @@ impl<D: Disk + Drop> Reopenable for FileStore<D> {
             Ok(conn) => Ok(conn),
             Err((error, left)) => Err((error, left.into_files())),
         }
+    }
+
+    fn copy_and_close(mut self) {
+        // Nobody is left to whom a failure could be reported, and none loses anything.
+        drop(self.checkpoint());
+        drop(self.close());
     }
 }
