@@ -1,7 +1,7 @@
 """Manual pages made from what `--help` prints: the one place where options, lines and limits are described. They are for bin/package."""
 import re
 
-# An option or a row of a table: a word or more, and after two spaces what is said of it. What goes on with it is further to the right.
+# An option or a row of a table: a word or more, and after two spaces what is said of it. What continues it is further to the right.
 ROW = re.compile(r"(?:  |      (?=--))(\S.*?)(?:  +(\S.*))?")
 
 

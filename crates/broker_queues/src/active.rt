@@ -5,7 +5,7 @@
 //!
 //! Answers and the end of a session wake destinations, and must not allocate. So a name is shared with its queue. The
 //! room to note it is made by the calls that may open a queue, `put` and `subscribe`, before they change anything: they
-//! may fail for want of memory.
+//! may fail, out of memory.
 
 ghost use Rattle.std.specs.Prelude.{◌≡◌, ◌<◌, ◌+◌, true, length, remove, vec_capacity, vec_len, OnOk};
 ghost use Rattle.std.specs.List.{list_any};
@@ -61,7 +61,7 @@ impl Active {
         Ok(())
     }
 
-    /// Notes the name of a destination, which is shared with its queue. It tells whether there was such a queue, and
+    /// Notes the name of a destination, which is shared with its queue. It returns whether there was such a queue, and
     /// room.
     fn note(&mut self, destinations: &Destinations, name: &Text) -> bool
         ensures wakes { Wakes (awake_in self.old.all self.old.names.items)

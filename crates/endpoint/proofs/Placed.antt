@@ -7,7 +7,7 @@ use Rattle.keep.specs.declared.change.Change.TheVariants.{Journal, State, Sent, 
 use Rattle.keep.specs.Tables.{Tables, changed_by, ArePlaced}
 use Rattle.endpoint.specs.Parts.Handling.{SetNoRow}
 
--- a row behind changes that add none
+-- a row after changes that add none
 pub placed-last : {S C : Type 0} (cs : List (Change S C)) (t : Tables S C) (e : Entity) (state : Option S)
     (position : ℕ) (row : JournalRow C) → SetNoRow cs → position ≡ length t.journal + 1
     → ArePlaced (cs ++ State e state ∷ Journal position row ∷ []) t

@@ -44,7 +44,7 @@ pub struct FileKeep<H: Filed, S: Reopenable + Drop> {
     is_told: bool,
 }
 
-/// Copies the log into the database file and closes both, where no call has failed. Behind a failure the files stay as they
+/// Copies the log into the database file and closes both, where no call has failed. After a failure the files stay as they
 /// are: what a sync has failed of isn't to be written elsewhere.
 fn close<H: Filed, S: Reopenable + Drop>(keep: SqliteKeep<H, S>) {
     if keep.usable() {

@@ -423,7 +423,7 @@ impl<H: Filed, S: Alter + Drop> SqliteKeep<H, S> {
 
 impl<H: Filed, D: Start> SqliteKeep<H, FileStore<FileFrom<D>>> {
     /// Opens the file at a path with its log beside it, or makes them: two files that SQLite reads, the second under
-    /// the path with `-wal` behind it. `start` stands for what they hold: one value for each pair of files. Files that
+    /// the path with `-wal` after it. `start` stands for what they hold: one value for each pair of files. Files that
     /// hold nothing yet get empty tables, also where an earlier opening was stopped while it made them.
     ///
     /// # Errors

@@ -28,14 +28,14 @@ use std::{env, io, thread};
 use told::{BrokerLog, TARGET};
 use words::{Settings, USAGE, read_settings};
 
-/// Tells on standard error why the program ends with status 1: the number and the name of the fault alone, so that scripts
+/// Prints on standard error why the program ends with status 1: the number and the name of the fault alone, so that scripts
 /// can compare the line.
 fn tell_fault(rt: &impl Eprint, fault: ServeFault) -> io::Result<u8> {
     eprintln!(rt; "{fault}")?;
     Ok(1)
 }
 
-/// Tells on standard error that standard output can't be written, and why; the fault's line comes last. The answer is the
+/// Prints on standard error that standard output can't be written, and why; the fault's line comes last. The answer is the
 /// status.
 fn tell_unwritten(rt: &impl Eprint, error: io::Error) -> io::Result<u8> {
     eprintln!(rt; "standard output can't be written: {error}")?;

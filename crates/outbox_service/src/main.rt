@@ -75,7 +75,7 @@ use words::{Settings, USAGE, read_settings};
 const BAD_GREETING: &str =
     "error: --host, --login and --passcode take one line of 1,000 octets at most";
 
-/// Tells on standard error why the program ends with status 1. The last line is the fault's number and name alone, so that
+/// Prints on standard error why the program ends with status 1. The last line is the fault's number and name alone, so that
 /// scripts can compare it; its words stand above it.
 fn tell_fault(rt: &HostRuntime, fault: RunFault) -> io::Result<u8> {
     eprintln!(rt; "{}\n{fault}", fault.words())?;

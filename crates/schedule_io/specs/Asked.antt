@@ -26,7 +26,7 @@ keep keeps = record (new_rule (codes "keep")) {
   parser = Some (parser.Names keeps);
 }
 
--- a path behind `--dir`, which isn't empty
+-- a path after `--dir`, which isn't empty
 abbrev pub dir : Rule
 dir = record (new_rule (codes "dir")) {
   long = Some (codes "dir");

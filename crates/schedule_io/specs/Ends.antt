@@ -14,7 +14,7 @@ use Rattle.schedule_io.specs.declared.fault.StoresFault.{StoresFault}
 use Rattle.schedule_io.specs.StoresFaults.{line_of, reason_of, service_of}
 use Rattle.streams.specs.Written.{AppendsPart}
 
--- the line that tells a fault; where a store couldn't be opened, below one that names the service and says why
+-- the line of a fault; where a store couldn't be opened, below one that names the service and says why
 abbrev pub fault_line : RunFault → List ℕ
 fault_line (BadEvent number) = codes "line " ++ decimal number ++ codes ": bad event\n"
 fault_line Memory = codes "fault 81 Memory\n"

@@ -45,7 +45,7 @@ module _ (Run : List Event → List Outcome → Type 0) (Fails : StoresFault →
   IsStatusOf input old new status =
       IsEndOf Run Fails input old new status ⊎ ((status ≡ 1) × IsUntold Run Fails input old new)
 
-  -- the status of a run of events: 0 where all were run, and nothing is told on `err`; 1 where a fault is told there, whole
+  -- the status of a run of events: 0 where all were run, and nothing is printed on `err`; 1 where a fault is printed there, whole
   -- or in part
   abbrev pub IsStatusOfEvents : List Event → Writers → Writers → ℕ → Type 0
   IsStatusOfEvents events old new status =

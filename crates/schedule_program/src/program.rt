@@ -40,12 +40,12 @@ fn run_in_files<X: Runs>(rt: HostRuntime, folder: &str) -> io::Result<u8> {
     }
 }
 
-/// The same once those of the files that are of version 1 were taken over, which is told on standard output.
+/// The same once those of the files that are of version 1 were taken over, which is printed on standard output.
 fn run_in_migrated<X: Runs>(rt: HostRuntime, folder: &str) -> io::Result<u8> {
     let mut input = BufReader::new(rt.alloc(), rt.reader())?;
     let mut out = BufWriter::new(rt.alloc(), io::writer(&rt))?;
     let mut err = rt.stderr();
-    // These lines don't wait in the buffer of `out`: each tells of a file at once, and the next may take minutes.
+    // These lines don't wait in the buffer of `out`: each reports a file at once, and the next may take minutes.
     let mut told = rt.stdout();
     let mut progress = TerminalProgress::new(&rt);
     let events = match read_and_migrate(&rt, folder, &mut input, &mut told, &mut progress) {

@@ -8,7 +8,7 @@ use std::alloc::Global;
 use std::io::{Read, Write};
 
 /// Runs schedules. Each runs the schedule that it reads from `input`, or the events of one that was read, over these stores,
-/// and writes the outcome of each line to `out`. A fault is told on `err`. The answer is the status: 0 where all lines were
+/// and writes the outcome of each line to `out`. A fault is printed on `err`. The answer is the status: 0 where all lines were
 /// run, else 1.
 pub trait Runs {
     /// Over any stores.

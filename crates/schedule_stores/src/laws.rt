@@ -80,8 +80,8 @@ pub fn a_run_over_new_files_ends_well<O: Start, S: Start, A: Start>()
     a_run_over_files_goes_on::<O, S, A>();
 }
 
-/// A run over files goes on as [`a_run_over_files_goes_on`] says where the three were of version 1, told good tables by
-/// its rows, and were taken over.
+/// A run over files goes on as [`a_run_over_files_goes_on`] says where the three were of version 1, whose rows
+/// were good tables, and were migrated.
 pub fn files_taken_over_go_on<O: Start, S: Start, A: Start>()
     ensures { (left : AllTables) → AreGood left
         → AreTakenOverIn (image_at O.Start) (image_at S.Start) (image_at A.Start) left

@@ -59,7 +59,7 @@ pub fn run_over_files<O: Start, S: Start, A: Start, R: Read, W: Write, E: Write>
     }
 }
 
-/// Runs the events of a schedule over files, and writes the outcome of each to `out`. A fault is told on `err`. The answer
+/// Runs the events of a schedule over files, and writes the outcome of each to `out`. A fault is printed on `err`. The answer
 /// is the status: 0 where all were run, else 1. It's [`run_over_files`] for a schedule that was read before.
 pub fn run_events_over_files<O: Start, S: Start, A: Start, W: Write, E: Write>(
     alloc: Global,

@@ -1,4 +1,4 @@
--- What is found behind a call that met the store's failure.
+-- What is found after a call that met the store's failure.
 use Rattle.std.proofs.Common.{◌≡◌, ℕ, suc, List, [], ◌∷◌, ◌++◌, length, sym, ap, ◌∙◌, subst, arith, ⊎_elim}
 use Rattle.std.proofs.Common.{inl, inr}
 use Rattle.activities.specs.Service.{Service}

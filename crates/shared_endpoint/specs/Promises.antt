@@ -211,7 +211,7 @@ module _ {E S C : Type 0} (seen : E → Seen (Tables S C)) (service : Service S 
       → ((fault ≡ Some StoreFailed) ⊎ (fault ≡ Some Unusable) → (seen w.last).usable ≡ false)
       × ((seen v.last).usable ≡ false → fault ≡ Some Unusable)
 
-  -- What is known in the end behind a call of this token that met the store's failure: it was the last that the store did.
+  -- What is known in the end after a call of this token that met the store's failure: it was the last that the store did.
   -- It was made at an endpoint that had exactly the token's list, and what may be found then is what it left there.
   pub record WasTheLast (n : ℕ) (v : ToldToken E) (Call : E → E → Type 0) (e : E) : Type 0 where
     pub taken : E
@@ -229,7 +229,7 @@ module _ {E S C : Type 0} (seen : E → Seen (Tables S C)) (service : Service S 
   abbrev pub IsTheLast : ℕ → (E → E → Type 0) → Type 0
   IsTheLast n Call = (v w : ToldToken E) (e : E) → MetTheFailure n v w Call e → WasTheLast n v Call e
 
-  -- So it is of a commit of any token, and of each call by which the Hand takes in letters and settles.
+  -- So it is of a commit of any token, and of each call by which the Hand processes letters and settles.
   abbrev pub FailedCallsAreTheLast : Type 0
   FailedCallsAreTheLast = ((n : ℕ) (row : JournalRow C) → IsTheLast n (λ d f. Commits seen d f service row (Err StoreFailed)))
       × ((l : Letter) → IsTheLast hand_number
